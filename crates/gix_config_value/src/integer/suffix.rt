@@ -1,0 +1,119 @@
+//! The unit that multiplies an integer.
+ghost use Rattle.std.specs.Prelude.{◌≡◌, Some};
+ghost use Rattle.std.specs.Prelude.{MatchOption, length, ◌≤◌};
+ghost use Rattle.bstr.specs.BStr.{bstr_bytes};
+ghost use Rattle.gix_config_value.specs.Value.{Reads, IsRefused, HasText, IsTextOf};
+ghost use Rattle.gix_config_value.specs.Refusals.{ReadsOr};
+ghost use Rattle.gix_config_value.specs.Suffix.{SuffixText, CanonicalSuffix, suffix_shown};
+ghost use Rattle.gix_config_value.specs.SuffixLaws.{suffix_one_value, suffix_one_text, suffix_canonical_reads, suffix_shown_is_text, suffix_decided};
+ghost use Rattle.std.proofs.Common.{rules};
+
+use crate::canonical::Value;
+use arrayvec::ArrayString;
+use bstr::BStr;
+use std::fmt;
+use std::str::FromStr;
+
+/// A unit: 1024, 1024 * 1024 or 1024 * 1024 * 1024.
+#[derive(Clone, Copy, PartialEq, Eq, PartialOrd, Ord, Hash, Debug)]
+pub enum Suffix {
+    /// `k`, the factor 1024.
+    Kibi,
+    /// `m`, the factor 1048576.
+    Mebi,
+    /// `g`, the factor 1073741824.
+    Gibi,
+}
+
+/// The suffix that one of the six suffix texts names, and `None` for any other text.
+fn suffix_of(text: &[u8]) -> Option<Suffix>
+    ensures { Reads SuffixText text.now result }
+{
+    match text {
+        [b'k' | b'K'] => Some(Suffix::Kibi),
+        [b'm' | b'M'] => Some(Suffix::Mebi),
+        [b'g' | b'G'] => Some(Suffix::Gibi),
+        _ => None,
+    }
+}
+
+impl Suffix {
+    /// The suffix as it is shown.
+    pub(super) fn letter(self) -> &'static str
+        ensures { result.now ≡ suffix_shown self }
+    {
+        match self {
+            Suffix::Kibi => "k",
+            Suffix::Mebi => "m",
+            Suffix::Gibi => "g",
+        }
+    }
+}
+
+impl FromStr for Suffix {
+    type Err = ();
+
+    ghost from_str_gives = { λ s r. ReadsOr SuffixText (λ _. Unit {0}) s r };
+
+    fn from_str(text: &str) -> Result<Suffix, ()> {
+        match suffix_of(text.as_bytes()) {
+            Some(suffix) => Ok(suffix),
+            None => Err(()),
+        }
+    }
+}
+
+impl<'a> TryFrom<BStr<'a>> for Suffix {
+    type Error = ();
+
+    ghost try_from_gives = { λ s r. ReadsOr SuffixText (λ _. Unit {0}) (bstr_bytes s) r };
+
+    fn try_from(input: BStr<'a>) -> Result<Suffix, ()> {
+        match suffix_of(input.as_bytes()) {
+            Some(suffix) => Ok(suffix),
+            None => Err(()),
+        }
+    }
+}
+
+impl fmt::Display for Suffix {
+    ghost output = { λ s. Some (suffix_shown s) };
+
+    fn fmt<W: fmt::Write>(&self, f: &mut fmt::Formatter<W>) -> fmt::Result {
+        f.write_str(self.letter())
+    }
+}
+
+impl Value for Suffix {
+    ghost grammar = { SuffixText };
+
+    ghost canonical = { CanonicalSuffix };
+
+    ghost displayed = { suffix_shown };
+
+    fn read(input: BStr<'_>) -> Option<Suffix> {
+        suffix_of(input.as_bytes())
+    }
+
+    fn has_text(&self) -> bool {
+        true
+    }
+
+    fn text(&self) -> ArrayString<127> {
+        let mut text = ArrayString::new();
+        text.push_str(self.letter());
+        text
+    }
+
+    ghost one_value = { suffix_one_value };
+
+    ghost one_text = { suffix_one_text };
+
+    ghost canonical_reads = { suffix_canonical_reads };
+
+    ghost shown_is_text = { suffix_shown_is_text };
+
+    ghost decided = { suffix_decided };
+
+    ghost equal_is_same = { Prim.search rules };
+}

@@ -1,0 +1,8 @@
+//! The readers of Git configuration values, each proved against the grammar that `specs/` states.
+#![tactic(auto)]
+
+pub mod canonical;
+pub mod errors;
+pub mod integer;
+
+pub use errors::{Error, Fault, Returned};
