@@ -4,5 +4,6 @@
 pub mod canonical;
 pub mod errors;
 pub mod integer;
+pub mod program;
 
 pub use errors::{Error, Fault, Returned};

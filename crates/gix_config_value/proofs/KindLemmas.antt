@@ -1,0 +1,30 @@
+-- What holds of every kind: its name tells it apart, and each text is refused or has a canonical text.
+use Rattle.std.proofs.Common.{◌≡◌, ◌≢◌, ℕ, ◌⊎◌, inl, inr, List, codes, refl}
+use Rattle.gix_config_value.specs.declared.canonical.kind.Kind.{Kind}
+use Rattle.gix_config_value.specs.declared.canonical.kind.Kind.TheVariants as kinds
+use Rattle.gix_config_value.specs.Kinds.{kind_name, KindValue, KindGrammar, KindCanonical}
+use Rattle.gix_config_value.specs.Value.{IsAccepted, IsRefused, HasText, IsTextOf}
+use Rattle.gix_config_value.specs.ValueLaws.{text_told}
+use Rattle.gix_config_value.specs.Suffix.{SuffixText, CanonicalSuffix, suffix_shown}
+use Rattle.gix_config_value.specs.SuffixLaws.{suffix_decided, suffix_shown_is_text}
+
+-- a text is the name of a kind, or of none
+pub kind_told : (name : List ℕ) → ((kind : Kind) × (kind_name kind ≡ name)) ⊎ ((kind : Kind) → kind_name kind ≢ name)
+kind_told name =
+    elim (text_told (codes "suffix") name) [ inl p ↦ inl (kinds.Suffix, p) | inr suffix ↦
+    inr (λ kind. elim kind as (λ k. kind_name k ≢ name) [ kinds.Suffix ↦ suffix ]) ]
+
+abbrev pub HasCanonicalText : {V : Type 0} → (List ℕ → V → Type 0) → (List ℕ → Type 0) → List ℕ → Type 0
+HasCanonicalText {V} grammar canonical t = (s : List ℕ) × ((v : V) × grammar t v × IsTextOf grammar canonical v s)
+
+-- from two laws of `Value`: a text that is not refused has a canonical text of the same value
+decided_with : {V : Type 0} (grammar : List ℕ → V → Type 0) (canonical : List ℕ → Type 0) (displayed : V → List ℕ)
+    → ((t : List ℕ) → IsAccepted grammar t ⊎ IsRefused grammar t) → ((v : V) → HasText grammar v → IsTextOf grammar canonical v (displayed v))
+    → (t : List ℕ) → HasCanonicalText grammar canonical t ⊎ IsRefused grammar t
+decided_with grammar canonical displayed decided shown t = elim (decided t) [
+    inl found ↦ inl (displayed found.0, (found.0, found.1, shown found.0 (t, found.1)))
+  | inr refused ↦ inr refused ]
+
+-- a text that is not refused has a canonical text of the same value
+pub kind_decided : (kind : Kind) (t : List ℕ) → HasCanonicalText (KindGrammar kind) (KindCanonical kind) t ⊎ IsRefused (KindGrammar kind) t
+kind_decided kinds.Suffix t = decided_with SuffixText CanonicalSuffix suffix_shown suffix_decided suffix_shown_is_text t

@@ -1,0 +1,5 @@
+pub mod ReaderWriterLemmas
+pub mod LineLemmas
+pub mod KindLemmas
+pub mod StepLemmas
+pub mod RunLemmas

@@ -1,0 +1,69 @@
+-- Lines: where the first LF or the first space of a list of bytes stands.
+use Rattle.std.proofs.Common.{◌-◌, length-drop, suc, eq-eqb, eqb-true, ◌≡◌, ◌≢◌, ℕ, ◌+◌, ◌<◌, ◌≤◌, ◌==◌, List, [], ◌∷◌, ◌++◌, Bool, true, false, length, take, drop, get_or, refl, sym, ap, ◌∙◌, arith, append_assoc, add-one, drop-cons, length-take, take-append-drop}
+use Rattle.std.specs.List.{AllByRecursion, position_or_len, before_first, after_first}
+use Rattle.std.proofs.lemmas.List.Sums.{position_or_len_is}
+use Rattle.std.proofs.lemmas.List.{get_or-take}
+use Rattle.std.proofs.lemmas.Grind.{common_steps}
+use Rattle.bstr.specs.Find.{Passes, Nowhere, NoneBefore, is_byte}
+use Rattle.std.proofs.Math.Seq.{take-length}
+use Rattle.std.proofs.Math.ListN.{drop_of_length-le}
+use Rattle.gix_config_value.specs.Answers.{ended, IsUnbroken, line_head, line_value}
+use Rattle.gix_config_value.specs.Steps.{CutsLine}
+
+false_from : (b : Bool) → ¬ (b ≡ true) → b ≡ false
+false_from true n = absurd (n refl)
+false_from false n = refl
+
+-- the byte stands nowhere
+pub position_nowhere : (byte : ℕ) (bytes : List ℕ) → Nowhere (Passes (is_byte byte) bytes) 0 (length bytes)
+    → position_or_len (λ b. b == byte) bytes ≡ length bytes
+position_nowhere byte bytes none =
+    position_or_len_is (λ b. b == byte) bytes (length bytes) 0 (omega arith) (λ k below. false_from _ (none k (omega arith) below))
+    (λ below. absurd (omega arith))
+
+-- the byte stands first at place i
+pub position_first : (byte : ℕ) (bytes : List ℕ) (i : ℕ) → NoneBefore (Passes (is_byte byte) bytes) 0 (length bytes) i
+    → Passes (is_byte byte) bytes i → position_or_len (λ b. b == byte) bytes ≡ i
+position_first byte bytes i first passes =
+    position_or_len_is (λ b. b == byte) bytes i 0 (omega (arith, first.high)) (λ k below. false_from _ (first.before k (omega arith) below))
+    (λ _. passes)
+
+-- what holds at each place holds of each element
+pub AllByRecursion-from_places : (P : ℕ → Type 0) (xs : List ℕ) → ((k : ℕ) → k < length xs → P (get_or xs k 0)) → AllByRecursion P xs
+AllByRecursion-from_places P [] each = tt
+AllByRecursion-from_places P (x ∷ xs) each =
+    (each 0 (omega arith), AllByRecursion-from_places P xs (λ k below. each (suc k) (omega arith)))
+
+pub unbroken_nowhere : (bytes : List ℕ) → Nowhere (Passes (is_byte 10) bytes) 0 (length bytes) → IsUnbroken bytes
+unbroken_nowhere bytes none = AllByRecursion-from_places (λ b. b ≢ 10) bytes (λ k below is. none k (omega arith) below (eq-eqb _ 10 is))
+
+pub cuts_first : (bytes : List ℕ) (i : ℕ) → NoneBefore (Passes (is_byte 10) bytes) 0 (length bytes) i → Passes (is_byte 10) bytes i → CutsLine bytes i
+cuts_first bytes i first passes = record {
+  parts =
+    let inside : i < length bytes = first.high in
+    let here : get_or bytes i 0 ≡ 10 = eqb-true _ 10 passes in
+    let from_here : drop i bytes ≡ 10 ∷ drop (i + 1) bytes = rw (add-one, drop-cons bytes i 0) (ap (λ b. b ∷ drop (suc i) bytes) here) in
+    rw append_assoc (sym (take-append-drop i bytes) ∙ ap (λ l. take i bytes ++ l) from_here);
+  unbroken = AllByRecursion-from_places (λ b. b ≢ 10) (take i bytes) (λ k below is.
+    let before : k < i = omega (arith, length-take {A = ℕ}) in
+    first.before k (omega arith) before (eq-eqb _ 10 (sym (get_or-take i bytes k 0 before) ∙ is)));
+}
+
+-- the rest of a slice, as a range to its end
+pub take_rest : (n : ℕ) (xs : List ℕ) → take (length xs - n) (drop n xs) ≡ drop n xs
+take_rest n xs = rw (← length-drop n xs) (take-length (drop n xs))
+
+-- ---- the head of a line and what follows it
+
+pub head_first : (line : List ℕ) (i : ℕ) → position_or_len (λ b. b == 32) line ≡ i → take i line ≡ line_head line
+head_first line i at = ap (λ n. take n line) (sym at)
+
+pub head_nowhere : (line : List ℕ) → position_or_len (λ b. b == 32) line ≡ length line → line ≡ line_head line
+head_nowhere line at = sym (ap (λ n. take n line) at ∙ take-length line)
+
+pub value_first : (line : List ℕ) (i : ℕ) → position_or_len (λ b. b == 32) line ≡ i
+    → take (length line - (i + 1)) (drop (i + 1) line) ≡ line_value line
+value_first line i at = take_rest (i + 1) line ∙ ap (λ n. drop (n + 1) line) (sym at)
+
+pub value_nowhere : (line : List ℕ) → position_or_len (λ b. b == 32) line ≡ length line → [] ≡ line_value line
+value_nowhere line at = sym (ap (λ n. drop (n + 1) line) at ∙ drop_of_length-le line (omega arith))

@@ -1,0 +1,131 @@
+-- What the program answers to its input.
+--
+-- The input is cut into lines at LF. Each line has one outcome, and the output is what the outcomes are shown as,
+-- in order.
+use Rattle.std.specs.Prelude.{◌≡◌, ◌≢◌, ℕ, ◌==◌, List, [], ◌∷◌, ◌++◌, flat_map, Bool, true, false, codes, Option, Result, Ok, Err}
+use Rattle.std.specs.List.{AllByRecursion, AllZip, list_all, before_first, after_first}
+use Rattle.std.specs.Io.KnownBytes.{Consumes, Appends, IsAtEnd}
+use Rattle.std.specs.declared.alloc.AllocError.{AllocError}
+use Rattle.gix_config_value.specs.declared.canonical.kind.Kind.{Kind}
+use Rattle.gix_config_value.specs.declared.program.RunError.{RunError}
+use Rattle.gix_config_value.specs.declared.program.RunError.TheVariants.{Read, Write, Memory}
+use Rattle.gix_config_value.specs.Kinds.{kind_name, KindValue, KindGrammar, KindCanonical}
+use Rattle.gix_config_value.specs.Value.{IsRefused, IsTextOf}
+
+-- ---- lines
+
+-- a line with the LF that ends it
+abbrev pub ended : List ℕ → List ℕ
+ended line = line ++ 10 ∷ []
+
+-- no LF stands in it
+abbrev pub IsUnbroken : List ℕ → Type 0
+IsUnbroken line = AllByRecursion (λ b. b ≢ 10) line
+
+-- the input is these lines, each ended by LF, and then a rest without LF
+pub record IsCut (input : List ℕ) (lines : List (List ℕ)) (rest : List ℕ) : Type 0 where
+  pub joined : input ≡ flat_map ended lines ++ rest
+  pub unbroken : AllByRecursion IsUnbroken lines
+  pub rest_unbroken : IsUnbroken rest
+
+-- the lines that count: a rest without LF is the last line if it is not empty
+abbrev pub counted_lines : List (List ℕ) → List ℕ → List (List ℕ)
+counted_lines lines [] = lines
+counted_lines lines (b ∷ bs) = lines ++ (b ∷ bs) ∷ []
+
+-- what stands before the first space, or the whole line where there is none
+abbrev pub line_head : List ℕ → List ℕ
+line_head line = before_first (λ b. b == 32) line
+
+-- what stands after the first space, or nothing where there is none
+abbrev pub line_value : List ℕ → List ℕ
+line_value line = after_first (λ b. b == 32) line
+
+-- ---- the outcome of a line
+
+pub data Outcome : Type 0 where
+  accepted : List ℕ → Outcome
+  refused : Outcome
+  unknown : Outcome
+
+-- accepted with a canonical text that has the value of the line's text, refused where the kind's grammar gives
+-- the text no value, and unknown where the head of the line is no kind's name
+abbrev pub LineOutcome : List ℕ → Outcome → Type 0
+LineOutcome line (accepted s) = (kind : Kind) × (kind_name kind ≡ line_head line)
+    × ((v : KindValue kind) × KindGrammar kind (line_value line) v × IsTextOf (KindGrammar kind) (KindCanonical kind) v s)
+LineOutcome line refused = (kind : Kind) × (kind_name kind ≡ line_head line) × IsRefused (KindGrammar kind) (line_value line)
+LineOutcome line unknown = (kind : Kind) → kind_name kind ≢ line_head line
+
+-- how an outcome is answered
+abbrev pub outcome_text : Outcome → List ℕ
+outcome_text (accepted s) = codes "ok " ++ s ++ 10 ∷ []
+outcome_text refused = codes "refused" ++ 10 ∷ []
+outcome_text unknown = codes "unknown kind" ++ 10 ∷ []
+
+abbrev pub is_accepted : Outcome → Bool
+is_accepted (accepted s) = true
+is_accepted refused = false
+is_accepted unknown = false
+
+-- ---- the answers to an input
+
+-- each line has its outcome, the output is the answers in order, and `ok` is true exactly where each line is accepted
+pub record LinesAnswered (lines : List (List ℕ)) (output : List ℕ) (ok : Bool) : Type 0 where
+  pub outcomes : List Outcome
+  pub each : AllZip LineOutcome lines outcomes
+  pub written : output ≡ flat_map outcome_text outcomes
+  pub all_accepted : ok ≡ list_all is_accepted outcomes
+
+-- the output is the answers to all lines of the input
+pub record Answers (input output : List ℕ) (ok : Bool) : Type 0 where
+  pub lines : List (List ℕ)
+  pub rest : List ℕ
+  pub cut : IsCut input lines rest
+  pub answered : LinesAnswered (counted_lines lines rest) output ok
+
+-- ---- what a run did to its reader and its writer
+
+-- from a reader that had `unread` and then `left`, and a writer that held `held` and then `holds`:
+-- the reader was read to its end, and what was written is the answers to what was read
+pub record Completes (unread left held holds : Option (List ℕ)) (ok : Bool) : Type 0 where
+  pub input : List ℕ
+  pub output : List ℕ
+  pub consumed : Consumes unread left input
+  pub at_end : IsAtEnd left
+  pub appended : Appends held holds output
+  pub answers : Answers input output ok
+
+-- the answers to the input begin with the output
+abbrev pub IsBeginningOfAnswers : List ℕ → List ℕ → Type 0
+IsBeginningOfAnswers input output = (whole : List ℕ) × (ok : Bool) × Answers input whole ok × ((missing : List ℕ) × (whole ≡ output ++ missing))
+
+-- of the lines that the input has with their LF, the output is the answers to all but these last ones
+pub record AnswersAllBut (more : List (List ℕ)) (input output : List ℕ) : Type 0 where
+  pub lines : List (List ℕ)
+  pub rest : List ℕ
+  pub ok : Bool
+  pub cut : IsCut input (lines ++ more) rest
+  pub answered : LinesAnswered lines output ok
+
+-- which lines are answered after an error: after `Read` exactly those that were read with their LF, after `Memory`
+-- some first ones of those
+abbrev pub AnswersLines : RunError → List ℕ → List ℕ → Type 0
+AnswersLines Read input output = AnswersAllBut [] input output
+AnswersLines Write input output = Unit {0}
+AnswersLines (Memory e) input output = (more : List (List ℕ)) × AnswersAllBut more input output
+
+-- some input was read, and what was written begins the answers to it
+pub record Fails (unread left held holds : Option (List ℕ)) (e : RunError) : Type 0 where
+  pub input : List ℕ
+  pub output : List ℕ
+  pub consumed : Consumes unread left input
+  pub appended : Appends held holds output
+  pub begins : IsBeginningOfAnswers input output
+  pub lines : AnswersLines e input output
+
+-- ---- the exit status
+
+abbrev pub status_of : Result Bool RunError → ℕ
+status_of (Ok true) = 0
+status_of (Ok false) = 1
+status_of (Err e) = 2

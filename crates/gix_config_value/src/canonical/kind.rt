@@ -1,0 +1,59 @@
+//! The kinds of value, as a choice made at run time.
+ghost use Rattle.std.specs.Prelude.{◌≡◌, ◌≢◌, MatchOption, IsSomeAnd};
+ghost use Rattle.bstr.specs.BStr.{bstr_bytes};
+ghost use Rattle.gix_config_value.specs.Kinds.{kind_name, KindGrammar, KindCanonical};
+ghost use Rattle.gix_config_value.specs.Value.{Normalizes, IsOnlyText, Compares};
+ghost use Rattle.gix_config_value.specs.declared.canonical.kind.Kind as kind;
+
+use crate::canonical::{Value, normalize_as};
+use crate::integer::Suffix;
+use arrayvec::ArrayString;
+use bstr::BStr;
+
+/// A kind of value.
+#[derive(Clone, Copy, PartialEq, Eq, Debug)]
+pub enum Kind {
+    /// The units `k`, `m` and `g`.
+    Suffix,
+}
+
+/// The kind of exactly this name.
+pub(crate) fn kind_by_name(name: &[u8]) -> Option<Kind>
+    ensures { MatchOption result ((k : kind.Kind) → kind_name k ≢ name.now) (λ k. kind_name k ≡ name.now) }
+{
+    match name {
+        b"suffix" => Some(Kind::Suffix),
+        _ => None,
+    }
+}
+
+/// The canonical text of this kind that reads to the value of the input, or `None` where the kind's grammar
+/// gives the input no value. A canonical input is answered byte for byte.
+pub fn normalize(kind: Kind, input: BStr<'_>) -> Option<ArrayString<127>>
+    ensures answer { Normalizes (KindGrammar kind) (KindCanonical kind) (bstr_bytes input.entry) result }
+    ensures only { IsOnlyText (KindGrammar kind) (KindCanonical kind) (bstr_bytes input.entry) result }
+    ensures unchanged { KindCanonical kind (bstr_bytes input.entry)
+        → IsSomeAnd result (λ s. s.bytes ≡ bstr_bytes input.entry) }
+{
+    match kind {
+        Kind::Suffix => normalize_as::<Suffix>(input),
+    }
+}
+
+/// Whether two texts of this kind mean the same, or `None` where the kind's grammar gives one of them no value.
+pub fn same(kind: Kind, a: BStr<'_>, b: BStr<'_>) -> Option<bool>
+    ensures { Compares (KindGrammar kind) (KindCanonical kind) (bstr_bytes a.entry) (bstr_bytes b.entry) result }
+{
+    match kind {
+        Kind::Suffix => same_as::<Suffix>(a, b),
+    }
+}
+
+/// Whether two texts of a type mean the same, or `None` where the type's grammar gives one of them no value.
+fn same_as<V: Value>(a: BStr<'_>, b: BStr<'_>) -> Option<bool>
+    ensures { Compares V.grammar V.canonical (bstr_bytes a.entry) (bstr_bytes b.entry) result }
+{
+    let left = V::read(a)?;
+    let right = V::read(b)?;
+    Some(left == right)
+}
