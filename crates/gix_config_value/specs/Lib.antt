@@ -5,3 +5,4 @@ pub mod Refusals
 pub mod ValueLaws
 pub mod Suffix
 pub mod SuffixLaws
+pub mod Integer

@@ -6,3 +6,4 @@ pub mod errors;
 pub mod integer;
 
 pub use errors::{Error, Fault, Returned};
+pub use integer::Integer;
