@@ -6,3 +6,4 @@ pub mod ValueLaws
 pub mod Suffix
 pub mod SuffixLaws
 pub mod Integer
+pub mod IntegerAsFunction

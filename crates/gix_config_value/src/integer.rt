@@ -2,6 +2,7 @@
 ghost use Rattle.std.specs.Prelude.{◌≡◌, Option, Some, None};
 ghost use Rattle.bstr.specs.BStr.{bstr_bytes};
 
+mod scan;
 mod suffix;
 
 pub use suffix::Suffix;
