@@ -5,5 +5,7 @@ pub mod Refusals
 pub mod ValueLaws
 pub mod Suffix
 pub mod SuffixLaws
+pub mod NumeralLaws
 pub mod Integer
 pub mod IntegerAsFunction
+pub mod IntegerLaws
