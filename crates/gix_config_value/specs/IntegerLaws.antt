@@ -67,6 +67,12 @@ record CountedText (base limit n : ℕ) (t : List ℕ) (m : ℕ) (o : Option Suf
   small : m ≤ limit
   unit : SuffixIfAny back o
 
+-- one digit more before a count
+longer : (base limit n c m : ℕ) (cs : List ℕ) (o : Option Suffix) → digit_value c < base
+    → CountedText base limit (n * base + digit_value c) cs m o → CountedText base limit n (c ∷ cs) m o
+longer base limit n c m cs o d k =
+    record { front = c ∷ k.front; back = k.back; parts = ap (λ l. c ∷ l) k.parts; digits = (d, k.digits); number = k.number; small = k.small; unit = k.unit }
+
 counted_from_derived : (base limit : ℕ) (t : List ℕ) (n m : ℕ) (o : Option Suffix) → n ≤ limit
     → counted_from base limit n t ≡ Some (m, o) → CountedText base limit n t m o
 counted_from_derived base limit [] n m o small e =
@@ -80,8 +86,7 @@ counted_from_derived base limit (c ∷ cs) n m o small e =
           → ((k : ℕ) → k ≤ limit → counted_from base limit k cs ≡ Some (m, o) → CountedText base limit k cs m o)
           → CountedText base limit n (c ∷ cs) m o
       turn true true r p q u e more =
-          let k = more (n * base + digit_value c) (grind (arith, nat_tests)) e in
-          record { front = c ∷ k.front; back = k.back; parts = ap (λ l. c ∷ l) k.parts; digits = (grind (arith, nat_tests), k.digits); number = k.number; small = k.small; unit = k.unit }
+          longer base limit n c m cs o (grind (arith, nat_tests)) (more (n * base + digit_value c) (grind (arith, nat_tests)) e)
       turn true false r p q u e more = absurd (none-some _ e)
       turn false d None p q u e more = absurd (none-some _ e)
       turn false d (Some s) p q u e more =

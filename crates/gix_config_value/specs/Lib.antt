@@ -9,3 +9,4 @@ pub mod NumeralLaws
 pub mod Integer
 pub mod IntegerAsFunction
 pub mod IntegerLaws
+pub mod IntegerShownLaws

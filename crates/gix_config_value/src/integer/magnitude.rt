@@ -1,17 +1,16 @@
-//! Integers read in one pass over their bytes.
-ghost use Rattle.std.specs.Prelude.{◌≡◌, ◌≤◌, Some, None};
-ghost use Rattle.gix_config_value.specs.Value.{Reads};
-ghost use Rattle.gix_config_value.specs.Integer.{IntegerText};
-ghost use Rattle.gix_config_value.specs.IntegerAsFunction.{counted, base_of, digits_of, unsigned_of, integer_of};
+//! The magnitude of an integer, and the suffix behind it, read in one pass over the bytes.
+ghost use Rattle.std.specs.Prelude.{◌≡◌, ◌≤◌, Some, None, IfSome};
+ghost use Rattle.gix_config_value.specs.IntegerAsFunction.{counted, base_of, digits_of, unsigned_of};
 
 use super::suffix::suffix_of;
-use super::{Integer, Suffix};
+use super::Suffix;
 
 /// The number that one digit or more write in the base, where it is at most `limit`, and the suffix behind them.
 fn counted(text: &[u8], base: u32, limit: u64) -> Option<(u64, Option<Suffix>)>
     requires low { 2 ≤ base }
     requires high { base ≤ 16 }
-    ensures { result ≡ counted base limit text.now }
+    ensures answer { result ≡ counted base limit text.now }
+    ensures small { IfSome result (λ r. r.0 ≤ limit) }
 {
     let mut number: u64 = 0;
     for (at, byte) in text.iter().enumerate() {
@@ -44,8 +43,9 @@ fn based(text: &[u8]) -> (u32, &[u8])
 }
 
 /// The magnitude of a text without a sign, where it is at most `limit`, and its suffix.
-fn unsigned(text: &[u8], limit: u64) -> Option<(u64, Option<Suffix>)>
-    ensures { result ≡ unsigned_of limit text.now }
+pub(super) fn unsigned(text: &[u8], limit: u64) -> Option<(u64, Option<Suffix>)>
+    ensures answer { result ≡ unsigned_of limit text.now }
+    ensures small { IfSome result (λ r. r.0 ≤ limit) }
 {
     let (base, digits) = based(text);
     counted(digits, base, limit)
