@@ -3,3 +3,4 @@ pub mod LineLemmas
 pub mod KindLemmas
 pub mod StepLemmas
 pub mod RunLemmas
+pub mod IntegerCounting

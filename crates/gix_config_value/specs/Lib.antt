@@ -8,3 +8,8 @@ pub mod SuffixLaws
 pub mod Kinds
 pub mod Answers
 pub mod Steps
+pub mod NumeralLaws
+pub mod Integer
+pub mod IntegerAsFunction
+pub mod IntegerLaws
+pub mod IntegerShownLaws

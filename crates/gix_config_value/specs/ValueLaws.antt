@@ -1,9 +1,10 @@
 -- From a grammar as a function: one value a text, and that each text is accepted or refused.
-use Rattle.std.proofs.Common.{◌≡◌, ℕ, ◌⊎◌, inl, inr, List, Option, Some, None, Bool, true, false, refl}
+use Rattle.std.proofs.Common.{◌≡◌, ℕ, ◌⊎◌, inl, inr, List, Option, Some, None, Bool, true, false, refl, ap, subst}
+use Rattle.std.proofs.lemmas.Option.{same_Some, none-some}
 use Rattle.std.specs.Str.{bytes_eq}
 use Rattle.std.proofs.lemmas.Slice.Eq.{bytes_eq-Decides}
 use Rattle.std.specs.Bool.{Decides}
-use Rattle.gix_config_value.specs.Value.{IsAccepted, IsRefused, IsValueOf}
+use Rattle.gix_config_value.specs.Value.{IsAccepted, IsRefused, Reads, IsValueOf}
 
 -- a text is the word, or it is not
 pub text_told : (t w : List ℕ) → (t ≡ w) ⊎ (¬ (t ≡ w))
@@ -22,3 +23,34 @@ decided_by {V} {grammar} {value_of} law t = told (value_of t) refl where
 pub one_value_by : {V : Type 0} {grammar : List ℕ → V → Type 0} {value_of : List ℕ → Option V} → IsValueOf grammar value_of
     → (t : List ℕ) (v w : V) → grammar t v → grammar t w → v ≡ w
 one_value_by law t v w p q = cc (law.found t v p, law.found t w q)
+
+-- what an exact reader answers is what the function answers
+pub read_by : {V : Type 0} {grammar : List ℕ → V → Type 0} {value_of : List ℕ → Option V} → IsValueOf grammar value_of
+    → (t : List ℕ) (r : Option V) → Reads grammar t r → r ≡ value_of t
+read_by {V} {grammar} {value_of} law t (Some v) h = cc (law.found t v h)
+read_by {V} {grammar} {value_of} law t None h = told (value_of t) refl where
+  told : (o : Option V) → value_of t ≡ o → None ≡ value_of t
+  told None e = cc
+  told (Some v) e = absurd (h v (law.derived t v e))
+
+pub reads_by : {V : Type 0} {grammar : List ℕ → V → Type 0} {value_of : List ℕ → Option V} → IsValueOf grammar value_of
+    → (t : List ℕ) (r : Option V) → r ≡ value_of t → Reads grammar t r
+reads_by law t (Some v) e = law.derived t v (cc (e))
+reads_by law t None e = λ v h. cc (e, law.found t v h)
+
+-- a grammar that gives a text one value at most, and of which each text is told to be accepted or refused, as a function
+pub told_value : {V : Type 0} {grammar : List ℕ → V → Type 0} → ((t : List ℕ) → IsAccepted grammar t ⊎ IsRefused grammar t) → List ℕ → Option V
+told_value decided t = elim (decided t) [ inl a ↦ Some a.0 | inr r ↦ None ]
+
+pub told_value_is : {V : Type 0} {grammar : List ℕ → V → Type 0} (decided : (t : List ℕ) → IsAccepted grammar t ⊎ IsRefused grammar t)
+    → ((t : List ℕ) (v w : V) → grammar t v → grammar t w → v ≡ w) → IsValueOf grammar (told_value decided)
+unfolding told_value
+told_value_is {V} {grammar} decided one = record { found = λ t. found t (decided t); derived = λ t. derived t (decided t) } where
+  choose : (t : List ℕ) → IsAccepted grammar t ⊎ IsRefused grammar t → Option V
+  choose t d = elim d [ inl a ↦ Some a.0 | inr r ↦ None ]
+  found : (t : List ℕ) (d : IsAccepted grammar t ⊎ IsRefused grammar t) (v : V) → grammar t v → elim d [ inl a ↦ Some a.0 | inr r ↦ None ] ≡ Some v
+  found t (inl a) v h = ap Some (one t a.0 v a.1 h)
+  found t (inr r) v h = absurd (r v h)
+  derived : (t : List ℕ) (d : IsAccepted grammar t ⊎ IsRefused grammar t) (v : V) → elim d [ inl a ↦ Some a.0 | inr r ↦ None ] ≡ Some v → grammar t v
+  derived t (inl a) v h = subst (grammar t) (same_Some a.0 v h) a.1
+  derived t (inr r) v h = absurd (none-some v h)

@@ -1,7 +1,154 @@
 //! Integers and their suffixes.
 ghost use Rattle.std.specs.Prelude.{◌≡◌, Option, Some, None};
 ghost use Rattle.bstr.specs.BStr.{bstr_bytes};
+ghost use Rattle.std.proofs.Common.{rules};
+ghost use Rattle.gix_config_value.specs.declared.errors.Fault.TheVariants as faults;
+ghost use Rattle.gix_config_value.specs.Value.{Reads};
+ghost use Rattle.gix_config_value.specs.Refusals.{ReadsBytes, ReadsText};
+ghost use Rattle.gix_config_value.specs.Integer.{IntegerText, CanonicalInteger, integer_shown};
+ghost use Rattle.std.specs.Option.{option_map};
+ghost use Rattle.gix_config_value.specs.IntegerAsFunction.{plain_integer, negative_integer, unsigned_of, integer_of};
+ghost use Rattle.gix_config_value.specs.IntegerLaws.{integer_one_value, integer_decided};
+ghost use Rattle.gix_config_value.specs.IntegerShownLaws.{integer_one_text, integer_canonical_reads, integer_shown_is_text};
 
+mod magnitude;
 mod suffix;
 
+use crate::canonical::Value;
+use crate::errors::{Error, Fault};
+use arrayvec::ArrayString;
+use bstr::BStr;
+use itoa::Buffer;
+use std::fmt;
+
 pub use suffix::Suffix;
+
+/// A number and the suffix that it was written with, kept apart: `1k` and `1024` are two integers.
+#[derive(Clone, Copy, PartialEq, Eq, PartialOrd, Ord, Hash, Debug, Default)]
+pub struct Integer {
+    /// The number before the suffix.
+    pub value: i64,
+    /// The unit that multiplies the number, if it was written with one.
+    pub suffix: Option<Suffix>,
+}
+
+/// The integer that the input writes, or `None` where it writes none. The input is read once, from its
+/// first byte on, and no further than to the byte that refuses it.
+pub fn scan(input: &[u8]) -> Option<Integer>
+    ensures { Reads IntegerText input.now result }
+{
+    signed(input)
+}
+
+/// The integer that a text writes, with a sign or without one.
+fn signed(input: &[u8]) -> Option<Integer>
+    ensures { result ≡ integer_of input.now }
+{
+    match input {
+        [b'-', text @ ..] => negative(text),
+        [b'+', text @ ..] => positive(text),
+        _ => positive(input),
+    }
+}
+
+/// The integer that a text without its `-` writes.
+fn negative(text: &[u8]) -> Option<Integer>
+    ensures { result ≡ option_map negative_integer (unsigned_of 9223372036854775808 text.now) }
+{
+    let (number, suffix) = magnitude::unsigned(text, i64::MIN.unsigned_abs())?;
+    let value = 0_i64.checked_sub_unsigned(number)?;
+    Some(Integer { value, suffix })
+}
+
+/// The integer that a text without a sign writes.
+fn positive(text: &[u8]) -> Option<Integer>
+    ensures { result ≡ option_map plain_integer (unsigned_of 9223372036854775807 text.now) }
+{
+    let (number, suffix) = magnitude::unsigned(text, i64::MAX.unsigned_abs())?;
+    let value = 0_i64.checked_add_unsigned(number)?;
+    Some(Integer { value, suffix })
+}
+
+impl<'a> TryFrom<BStr<'a>> for Integer {
+    type Error = Error<'a>;
+
+    ghost try_from_gives = { ReadsBytes IntegerText faults.Integer };
+
+    /// Refuses with `Fault::Integer` and the whole input where it writes no integer.
+    fn try_from(input: BStr<'a>) -> Result<Integer, Error<'a>> {
+        match Integer::read(input) {
+            Some(integer) => Ok(integer),
+            None => Err(Error { fault: Fault::Integer, input }),
+        }
+    }
+}
+
+impl<'a> TryFrom<&'a str> for Integer {
+    type Error = Error<'a>;
+
+    ghost try_from_gives = { λ s r. ReadsText IntegerText faults.Integer s.now r };
+
+    /// Refuses with `Fault::Integer` and the whole input where it writes no integer.
+    fn try_from(input: &'a str) -> Result<Integer, Error<'a>> {
+        match scan(input.as_bytes()) {
+            Some(integer) => Ok(integer),
+            None => Err(Error { fault: Fault::Integer, input: BStr::from(input) }),
+        }
+    }
+}
+
+impl fmt::Display for Integer {
+    ghost output = { λ v. Some (integer_shown v) };
+
+    fn fmt<W: fmt::Write>(&self, f: &mut fmt::Formatter<W>) -> fmt::Result {
+        f.write_str(self.shown().as_str())
+    }
+}
+
+impl Integer {
+    /// The number in decimal, and the letter of its suffix.
+    fn shown(&self) -> ArrayString<127>
+        ensures { result.bytes ≡ integer_shown self.now }
+    {
+        let mut text = ArrayString::new();
+        text.push_str(Buffer::new().format(self.value));
+        if let Some(suffix) = self.suffix {
+            text.push_str(suffix.letter());
+        }
+        text
+    }
+}
+
+impl Value for Integer {
+    ghost grammar = { IntegerText };
+
+    ghost canonical = { CanonicalInteger };
+
+    ghost displayed = { integer_shown };
+
+    fn read(input: BStr<'_>) -> Option<Integer> {
+        scan(input.as_bytes())
+    }
+
+    fn has_text(&self) -> bool {
+        // The prover knows the range of a field that is read.
+        let _value = self.value;
+        true
+    }
+
+    fn text(&self) -> ArrayString<127> {
+        self.shown()
+    }
+
+    ghost one_value = { integer_one_value };
+
+    ghost one_text = { integer_one_text };
+
+    ghost canonical_reads = { integer_canonical_reads };
+
+    ghost shown_is_text = { integer_shown_is_text };
+
+    ghost decided = { integer_decided };
+
+    ghost equal_is_same = { Prim.search rules };
+}

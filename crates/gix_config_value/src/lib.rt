@@ -7,3 +7,4 @@ pub mod integer;
 pub mod program;
 
 pub use errors::{Error, Fault, Returned};
+pub use integer::Integer;

@@ -26,7 +26,7 @@ pub enum Suffix {
 }
 
 /// The suffix that one of the six suffix texts names, and `None` for any other text.
-fn suffix_of(text: &[u8]) -> Option<Suffix>
+pub(super) fn suffix_of(text: &[u8]) -> Option<Suffix>
     ensures { Reads SuffixText text.now result }
 {
     match text {
