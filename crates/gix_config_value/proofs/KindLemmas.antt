@@ -7,12 +7,18 @@ use Rattle.gix_config_value.specs.Value.{IsAccepted, IsRefused, HasText, IsTextO
 use Rattle.gix_config_value.specs.ValueLaws.{text_told}
 use Rattle.gix_config_value.specs.Suffix.{SuffixText, CanonicalSuffix, suffix_shown}
 use Rattle.gix_config_value.specs.SuffixLaws.{suffix_decided, suffix_shown_is_text}
+use Rattle.gix_config_value.specs.Integer.{IntegerText, CanonicalInteger, integer_shown}
+use Rattle.gix_config_value.specs.IntegerLaws.{integer_decided}
+use Rattle.gix_config_value.specs.IntegerShownLaws.{integer_shown_is_text}
 
 -- a text is the name of a kind, or of none
 pub kind_told : (name : List ℕ) → ((kind : Kind) × (kind_name kind ≡ name)) ⊎ ((kind : Kind) → kind_name kind ≢ name)
 kind_told name =
     elim (text_told (codes "suffix") name) [ inl p ↦ inl (kinds.Suffix, p) | inr suffix ↦
-    inr (λ kind. elim kind as (λ k. kind_name k ≢ name) [ kinds.Suffix ↦ suffix ]) ]
+    elim (text_told (codes "integer") name) [ inl p ↦ inl (kinds.Integer, p) | inr integer ↦
+    inr (λ kind. elim kind as (λ k. kind_name k ≢ name) [
+        kinds.Suffix ↦ suffix
+      | kinds.Integer ↦ integer ]) ] ]
 
 abbrev pub HasCanonicalText : {V : Type 0} → (List ℕ → V → Type 0) → (List ℕ → Type 0) → List ℕ → Type 0
 HasCanonicalText {V} grammar canonical t = (s : List ℕ) × ((v : V) × grammar t v × IsTextOf grammar canonical v s)
@@ -28,3 +34,4 @@ decided_with grammar canonical displayed decided shown t = elim (decided t) [
 -- a text that is not refused has a canonical text of the same value
 pub kind_decided : (kind : Kind) (t : List ℕ) → HasCanonicalText (KindGrammar kind) (KindCanonical kind) t ⊎ IsRefused (KindGrammar kind) t
 kind_decided kinds.Suffix t = decided_with SuffixText CanonicalSuffix suffix_shown suffix_decided suffix_shown_is_text t
+kind_decided kinds.Integer t = decided_with IntegerText CanonicalInteger integer_shown integer_decided integer_shown_is_text t

@@ -6,7 +6,7 @@ ghost use Rattle.gix_config_value.specs.Value.{Normalizes, IsOnlyText, Compares}
 ghost use Rattle.gix_config_value.specs.declared.canonical.kind.Kind as kind;
 
 use crate::canonical::{Value, normalize_as};
-use crate::integer::Suffix;
+use crate::integer::{Integer, Suffix};
 use arrayvec::ArrayString;
 use bstr::BStr;
 
@@ -15,6 +15,8 @@ use bstr::BStr;
 pub enum Kind {
     /// The units `k`, `m` and `g`.
     Suffix,
+    /// Numbers with at most one suffix.
+    Integer,
 }
 
 /// The kind of exactly this name.
@@ -23,6 +25,7 @@ pub(crate) fn kind_by_name(name: &[u8]) -> Option<Kind>
 {
     match name {
         b"suffix" => Some(Kind::Suffix),
+        b"integer" => Some(Kind::Integer),
         _ => None,
     }
 }
@@ -37,6 +40,7 @@ pub fn normalize(kind: Kind, input: BStr<'_>) -> Option<ArrayString<127>>
 {
     match kind {
         Kind::Suffix => normalize_as::<Suffix>(input),
+        Kind::Integer => normalize_as::<Integer>(input),
     }
 }
 
@@ -46,6 +50,7 @@ pub fn same(kind: Kind, a: BStr<'_>, b: BStr<'_>) -> Option<bool>
 {
     match kind {
         Kind::Suffix => same_as::<Suffix>(a, b),
+        Kind::Integer => same_as::<Integer>(a, b),
     }
 }
 
