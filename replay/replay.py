@@ -1,0 +1,35 @@
+"""Replays upstream's answers: python3 replay.py PROGRAM. Prints the first differences, and last 'N passed, M failed'."""
+import pathlib
+import subprocess
+import sys
+
+HERE = pathlib.Path(__file__).resolve().parent
+# kinds that the program does not have yet: their lines are expected as `unknown kind`
+MISSING = [b"boolean", b"name", b"attribute", b"color", b"amount"]
+SHOWN = 20
+
+
+def main():
+    lines = (HERE / "lines.txt").read_bytes()
+    answers = (HERE / "answers.txt").read_bytes().splitlines(keepends=True)
+    # only LF ends a line: a value may hold any other byte
+    inputs = lines.split(b"\n")[:-1]
+    wanted = [b"unknown kind\n" if line.split(b" ")[0] in MISSING else answer for line, answer in zip(inputs, answers, strict=True)]
+    run = subprocess.run([sys.argv[1]], input=lines, stdout=subprocess.PIPE, check=False)
+    given = run.stdout.split(b"\n")
+    ended = given.pop() == b"" and len(given) == len(wanted) and run.returncode == 1
+    failed = 0
+    for line, want, got in zip(inputs, wanted, [answer + b"\n" for answer in given]):
+        if want != got:
+            failed += 1
+            if failed <= SHOWN:
+                print(f"{line!r}: wanted {want!r}, got {got!r}")
+    if not ended:
+        failed += 1
+        print(f"the program ended with status {run.returncode} after {len(given)} of {len(wanted)} answers")
+    print(f"{len(wanted) - failed} passed, {failed} failed")
+    return 1 if failed else 0
+
+
+if __name__ == "__main__":
+    sys.exit(main())
