@@ -11,15 +11,15 @@ SHOWN = 20
 
 def main():
     lines = (HERE / "lines.txt").read_bytes()
-    answers = (HERE / "answers.txt").read_bytes().splitlines(keepends=True)
     # only LF ends a line: a value may hold any other byte
     inputs = lines.split(b"\n")[:-1]
-    wanted = [b"unknown kind\n" if line.split(b" ")[0] in MISSING else answer for line, answer in zip(inputs, answers, strict=True)]
+    answers = (HERE / "answers.txt").read_bytes().split(b"\n")[:-1]
+    wanted = [b"unknown kind" if line.split(b" ")[0] in MISSING else answer for line, answer in zip(inputs, answers, strict=True)]
     run = subprocess.run([sys.argv[1]], input=lines, stdout=subprocess.PIPE, check=False)
     given = run.stdout.split(b"\n")
     ended = given.pop() == b"" and len(given) == len(wanted) and run.returncode == 1
     failed = 0
-    for line, want, got in zip(inputs, wanted, [answer + b"\n" for answer in given]):
+    for line, want, got in zip(inputs, wanted, given):
         if want != got:
             failed += 1
             if failed <= SHOWN:
