@@ -5,3 +5,7 @@ pub mod Refusals
 pub mod ValueLaws
 pub mod Suffix
 pub mod SuffixLaws
+pub mod OneOf
+pub mod Name
+pub mod Attribute
+pub mod Word
