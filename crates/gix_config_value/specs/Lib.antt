@@ -9,3 +9,6 @@ pub mod OneOf
 pub mod Name
 pub mod Attribute
 pub mod Word
+pub mod WordReading
+pub mod OneOfLaws
+pub mod WordLaws
