@@ -12,3 +12,4 @@ pub mod Word
 pub mod WordReading
 pub mod OneOfLaws
 pub mod WordLaws
+pub mod NameLaws

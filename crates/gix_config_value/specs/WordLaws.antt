@@ -19,7 +19,7 @@ use Rattle.gix_config_value.specs.Attribute.{AttributeRow, AttributeText, attrib
 use Rattle.gix_config_value.specs.Name.{HexPair, NameText, name_shown, word_names}
 use Rattle.gix_config_value.specs.Numerals.{place_sum}
 use Rattle.gix_config_value.specs.OneOf.{OneOf}
-use Rattle.gix_config_value.specs.OneOfLaws.{OneOf-map, OneOf-from_map, OneOf-front, OneOf-back, OneOf-from_append, OneOf-flat_map, OneOf-from_flat_map}
+use Rattle.gix_config_value.specs.OneOfLaws.{all-one, both, OneOf-map, OneOf-from_map, OneOf-front, OneOf-back, OneOf-from_append, OneOf-flat_map, OneOf-from_flat_map}
 use Rattle.gix_config_value.specs.SameWord.{SameWord}
 use Rattle.gix_config_value.specs.Value.{IsValueOf, Reads}
 use Rattle.gix_config_value.specs.ValueLaws.{one_value_by}
@@ -39,10 +39,6 @@ is_new row (other ∷ rows) = not (bytes_eq (lowered other.0) (lowered row.0)) &
 abbrev are_apart : List WordRow → Bool
 are_apart [] = true
 are_apart (row ∷ rows) = is_new row rows && are_apart rows
-
-both : (a b : Bool) → (a && b) ≡ true → (a ≡ true) × (b ≡ true)
-both true b h = (refl, h)
-both false b h = cc
 
 fits_cases : (folds : Bool) (t w : List ℕ) → cond folds (bytes_eq (lowered t) (lowered w)) (bytes_eq t w) ≡ true → lowered t ≡ lowered w
 fits_cases true t w h = (bytes_eq-Decides (lowered t) (lowered w)).0 h
@@ -107,11 +103,6 @@ starts_word (c ∷ cs) = is_word_byte c
 word_table-starts : list_all (λ row. starts_word (lowered row.0)) word_table ≡ true
 unfolding attributes word_names
 word_table-starts = refl
-
-all-one : {X : Type 0} (p : X → Bool) (xs : List X) (x : X) → list_all p xs ≡ true → OneOf xs x → p x ≡ true
-all-one p [] x h o = absurd o
-all-one p (y ∷ ys) x h (inl e) = ap p e ∙ (both (p y) (list_all p ys) h).0
-all-one p (y ∷ ys) x h (inr o) = all-one p ys x (both (p y) (list_all p ys) h).1 o
 
 byte_marks : (c : ℕ) → is_word_byte c ≡ true → ((c == 35) ≡ false) × ((c == 43) ≡ false) × (is_ascii_digit c ≡ false)
 byte_marks c h = grind (arith, nat_tests)
@@ -435,3 +426,14 @@ attribute-law = record {
   told t a (Some (items.Attribute b)) e f = let same : b ≡ a = cc in rw (← same) (item-derived t (items.Attribute b) e)
   told t a (Some (items.Name n)) e f = cc
   told t a None e f = cc
+
+-- an answer that reads the text as an item reads it as a name, or as an attribute
+pub reads_name : (t : List ℕ) (r : Option Item) → Reads ItemText t r → Reads NameText t (item_name r)
+reads_name t (Some (items.Name n)) h = h
+reads_name t (Some (items.Attribute a)) h = λ n p. not_both t n a p h
+reads_name t None h = λ n p. h (items.Name n) p
+
+pub reads_attribute : (t : List ℕ) (r : Option Item) → Reads ItemText t r → Reads AttributeText t (item_attribute r)
+reads_attribute t (Some (items.Attribute a)) h = h
+reads_attribute t (Some (items.Name n)) h = λ a p. not_both t n a h p
+reads_attribute t None h = λ a p. h (items.Attribute a) p
