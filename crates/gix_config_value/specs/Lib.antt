@@ -13,3 +13,5 @@ pub mod WordReading
 pub mod OneOfLaws
 pub mod WordLaws
 pub mod NameLaws
+pub mod AttributeShowing
+pub mod AttributeLaws

@@ -1,9 +1,9 @@
 -- The laws of `Value` for names.
-use Rattle.std.proofs.Common.{◌≡◌, ◌≢◌, ℕ, ◌+◌, ◌-◌, ◌*◌, ◌/◌, ◌%◌, ◌^◌, ◌<◌, ◌≤◌, ◌⊎◌, inl, inr, Bool, true, false, cond, ◌==◌, nat_le, List, [], ◌∷◌, ◌++◌, map, length, get_or, codes, decimal, Option, Some, None, refl, sym, ap, ◌∙◌, arith, lit<, lit≤, rules}
+use Rattle.std.proofs.Common.{◌≡◌, ℕ, ◌+◌, ◌-◌, ◌*◌, ◌/◌, ◌%◌, ◌^◌, ◌<◌, ◌≤◌, ◌⊎◌, inl, inr, Bool, true, false, ◌==◌, nat_le, List, [], ◌∷◌, ◌++◌, map, length, get_or, codes, decimal, refl, sym, ap, ◌∙◌, arith, lit<, lit≤}
 use Rattle.std.proofs.lemmas.Bool.Decides.{Decides-eqb, nat_tests}
 use Rattle.std.proofs.lemmas.Bool.{leb-true}
-use Rattle.std.proofs.lemmas.Fmt.{decimal-digits_value, decimal_digit, decimal_is_IsNumeral, decimal_nonempty, first_decimal, length-decimal-le}
-use Rattle.std.proofs.lemmas.Str.Parse.{IsNumeralModel, WeighsDigits, digit_from_value, numerals_by_weight, tells_digits}
+use Rattle.std.proofs.lemmas.Fmt.{decimal-digits_value, decimal_digit, decimal_is_IsNumeral, first_decimal, length-decimal-le}
+use Rattle.std.proofs.lemmas.Str.Parse.{IsNumeralModel, digit_from_value, numerals_by_weight, tells_digits}
 use Rattle.std.specs.Char.{digit_char, digit_value, to_ascii_lowercase}
 use Rattle.std.specs.Int.{IsInRange}
 use Rattle.std.specs.List.{AllByRecursion, list_all}
@@ -14,7 +14,7 @@ use Rattle.gix_config_value.specs.Name.{CanonicalName, HexPair, IsLowerHex, Name
 use Rattle.gix_config_value.specs.Numerals.{place_sum}
 use Rattle.gix_config_value.specs.OneOf.{OneOf}
 use Rattle.gix_config_value.specs.OneOfLaws.{all-one, OneOf-from_map, OneOf-map}
-use Rattle.gix_config_value.specs.Value.{IsAccepted, IsRefused, IsTextOf, HasText, Reads}
+use Rattle.gix_config_value.specs.Value.{IsAccepted, IsRefused, IsTextOf, HasText}
 use Rattle.gix_config_value.specs.ValueLaws.{decided_by, one_value_by}
 use Rattle.gix_config_value.specs.WordLaws.{name-law}
 
@@ -107,10 +107,11 @@ abbrev IsShown : List ℕ → Type 0
 IsShown s = (v : Name) × NameText s v × (s ≡ name_shown v)
 
 rgb-shown : (ds : List ℕ) → length ds ≡ 6 → AllByRecursion IsLowerHex ds → IsShown (35 ∷ ds)
-rgb-shown (a ∷ b ∷ c ∷ d ∷ e ∷ f ∷ []) l h =
-    (names.Rgb (16 * digit_value a + digit_value b) (16 * digit_value c + digit_value d) (16 * digit_value e + digit_value f),
-        NameText.pairs a b c d e f _ _ _ refl (pair_of a b h.0 h.1.0) (pair_of c d h.1.1.0 h.1.1.1.0) (pair_of e f h.1.1.1.1.0 h.1.1.1.1.1.0) refl,
-        six a b c d e f _ _ _ (hex_pair-back a b h.0 h.1.0) (hex_pair-back c d h.1.1.0 h.1.1.1.0) (hex_pair-back e f h.1.1.1.1.0 h.1.1.1.1.1.0))
+rgb-shown (a ∷ b ∷ c ∷ d ∷ e ∷ f ∷ []) l h = (
+  names.Rgb (16 * digit_value a + digit_value b) (16 * digit_value c + digit_value d) (16 * digit_value e + digit_value f),
+  NameText.pairs a b c d e f _ _ _ refl (pair_of a b h.0 h.1.0) (pair_of c d h.1.1.0 h.1.1.1.0) (pair_of e f h.1.1.1.1.0 h.1.1.1.1.1.0) refl,
+  six a b c d e f _ _ _ (hex_pair-back a b h.0 h.1.0) (hex_pair-back c d h.1.1.0 h.1.1.1.0) (hex_pair-back e f h.1.1.1.1.0 h.1.1.1.1.1.0),
+)
 rgb-shown _ l h = absurd (omega (arith, l))
 
 canonical-shown : (s : List ℕ) → CanonicalName s → IsShown s
@@ -190,18 +191,26 @@ rgb-shown_well r g b p q u =
     let x = pair_shown r p in
     let y = pair_shown g q in
     let z = pair_shown b u in
-    let hex : AllByRecursion IsLowerHex (hex_pair r ++ hex_pair g ++ hex_pair b) =
-        ((shown_digit (r / 16) (omega arith)).0, ((shown_digit (r % 16) (omega arith)).0, ((shown_digit (g / 16) (omega arith)).0,
-            ((shown_digit (g % 16) (omega arith)).0, ((shown_digit (b / 16) (omega arith)).0, ((shown_digit (b % 16) (omega arith)).0, tt)))))) in
+    let hex : AllByRecursion IsLowerHex (hex_pair r ++ hex_pair g ++ hex_pair b) = (
+      (shown_digit (r / 16) (omega arith)).0,
+      (
+        (shown_digit (r % 16) (omega arith)).0,
+        (
+          (shown_digit (g / 16) (omega arith)).0,
+          ((shown_digit (g % 16) (omega arith)).0, ((shown_digit (b / 16) (omega arith)).0, ((shown_digit (b % 16) (omega arith)).0, tt))),
+        ),
+      ),
+    ) in
     (NameText.pairs _ _ _ _ _ _ r g b refl x y z refl, CanonicalName.rgb (hex_pair r ++ hex_pair g ++ hex_pair b) refl refl hex, lit≤ tt)
 
 shown-well : (v : Name) → NameFits v → ShownWell v
 shown-well v fits = told (name_told v) fits where
   told : NameKind v → NameFits v → ShownWell v
-  told (inl o) h =
-      (NameText.word o refl,
-          CanonicalName.word (rw (← shown_words) (OneOf-map name_shown word_names v o)),
-          leb-true (length (name_shown v)) 13 (all-one (λ (w : Name). nat_le (length (name_shown w)) 13) word_names v words-short o))
+  told (inl o) h = (
+    NameText.word o refl,
+    CanonicalName.word (rw (← shown_words) (OneOf-map name_shown word_names v o)),
+    leb-true (length (name_shown v)) 13 (all-one (λ (w : Name). nat_le (length (name_shown w)) 13) word_names v words-short o),
+  )
   told (inr (inl (n, e))) h = rw e (ansi-shown n (rw e at h))
   told (inr (inr (r, g, b, e))) h = let k : NameFits (names.Rgb r g b) = rw e at h in rw e (rgb-shown_well r g b k.0 k.1 k.2)
 

@@ -1,5 +1,5 @@
 -- `item_of` is `ItemText`: a text has at most one item, and each text is told.
-use Rattle.std.proofs.Common.{◌≡◌, ◌≢◌, ℕ, ◌+◌, ◌-◌, ◌*◌, ◌^◌, ◌<◌, ◌≤◌, ◌⊎◌, inl, inr, Bool, true, false, cond, not, ◌&&◌, ◌||◌, List, [], ◌∷◌, ◌++◌, map, flat_map, filter, length, codes, Option, Some, None, nat_le, nat_lt, ◌==◌, option_map, refl, sym, ap, ◌∙◌, arith, zero, suc, bytes_eq, lit<, lit≤}
+use Rattle.std.proofs.Common.{◌≡◌, ℕ, ◌+◌, ◌-◌, ◌*◌, ◌^◌, ◌<◌, ◌≤◌, ◌⊎◌, inl, inr, Bool, true, false, cond, not, ◌&&◌, ◌||◌, List, [], ◌∷◌, map, flat_map, length, codes, Option, Some, None, nat_le, nat_lt, ◌==◌, option_map, refl, sym, ap, ◌∙◌, arith, suc, bytes_eq, lit<, lit≤}
 use Rattle.std.proofs.lemmas.Bool.Decides.{Decides-eqb, nat_tests}
 use Rattle.std.proofs.lemmas.Slice.Eq.{bytes_eq-Decides}
 use Rattle.std.proofs.Math.Nat.{le-mul_of_pos_right, one-le-pow, pow-suc}
@@ -7,7 +7,6 @@ use Rattle.std.proofs.lemmas.Bool.{le-leb, leb-true, lt-ltb, ltb-true}
 use Rattle.std.proofs.lemmas.List.{length-map}
 use Rattle.std.proofs.lemmas.Str.Parse.{digit_from_value}
 use Rattle.std.specs.Char.{digit_value, is_ascii_digit, to_ascii_lowercase}
-use Rattle.std.specs.Int.{IsInRange}
 use Rattle.std.specs.List.{list_all}
 use Rattle.std.specs.Str.Parse.{AllDigits, IsNumeral}
 use Rattle.gix_config_value.specs.declared.color.attribute.Attribute.{Attribute}
@@ -20,7 +19,6 @@ use Rattle.gix_config_value.specs.Name.{HexPair, NameText, name_shown, word_name
 use Rattle.gix_config_value.specs.Numerals.{place_sum}
 use Rattle.gix_config_value.specs.OneOf.{OneOf}
 use Rattle.gix_config_value.specs.OneOfLaws.{all-one, both, OneOf-map, OneOf-from_map, OneOf-front, OneOf-back, OneOf-from_append, OneOf-flat_map, OneOf-from_flat_map}
-use Rattle.gix_config_value.specs.SameWord.{SameWord}
 use Rattle.gix_config_value.specs.Value.{IsValueOf, Reads}
 use Rattle.gix_config_value.specs.ValueLaws.{one_value_by}
 use Rattle.gix_config_value.specs.Word.{ItemText}
@@ -71,9 +69,9 @@ row-found (first ∷ rows) row t apart (inl e) f =
 row-found (first ∷ rows) row t apart (inr o) f =
     let b = both (is_new first rows) (are_apart rows) apart in
     found-told first row rows t
-        (λ h. is_new-apart first row rows b.0 o (sym (fits-lowered row t f) ∙ fits-lowered first t h))
-        (row-found rows row t b.1 o f)
-        (fits first t) refl
+    (λ h. is_new-apart first row rows b.0 o (sym (fits-lowered row t f) ∙ fits-lowered first t h))
+    (row-found rows row t b.1 o f)
+    (fits first t) refl
 
 abbrev FoundRow : List WordRow → List ℕ → Item → Type 0
 FoundRow rows t i = (row : WordRow) × OneOf rows row × (fits row t ≡ true) × (row.2 ≡ i)
@@ -203,7 +201,7 @@ decimal-derived : (ds : List ℕ) (n k : ℕ) → n ≤ 255 → decimal_from ds 
 decimal-derived [] n k small h = let e : n ≡ k = cc in (tt, omega arith, omega arith)
 decimal-derived (d ∷ ds) n k small h =
     decimal-derived-told d ds n k (λ small_more e. decimal-derived ds (n * 10 + (d - 48)) k small_more e)
-        (is_ascii_digit d) (nat_le (n * 10 + (d - 48)) 255) refl refl h
+    (is_ascii_digit d) (nat_le (n * 10 + (d - 48)) 255) refl refl h
 
 -- a number of the palette
 pub palette-found : (ds : List ℕ) → IsNumeral 10 ds → place_sum ds 10 ≤ 255 → palette_of ds ≡ Some (place_sum ds 10)
@@ -251,9 +249,9 @@ item_of-digits (d ∷ ds) h = let m = digit_marks d h.1.0 in rw (m.0, m.1, m.2) 
 name-found : (t : List ℕ) (n : Name) → NameText t n → item_of t ≡ Some (items.Name n)
 name-found t n (NameText.word o s) =
     word-item (name_row n) t
-        (OneOf-front (map name_row word_names) ((codes "-1", false, items.Name names.Normal) ∷ flat_map attribute_rows attributes)
-            (name_row n) (OneOf-map name_row word_names n o))
-        ((bytes_eq-Decides (lowered t) (lowered (name_shown n))).1 s)
+    (OneOf-front (map name_row word_names) ((codes "-1", false, items.Name names.Normal) ∷ flat_map attribute_rows attributes)
+    (name_row n) (OneOf-map name_row word_names n o))
+    ((bytes_eq-Decides (lowered t) (lowered (name_shown n))).1 s)
 name-found t n (NameText.minus_one e f) = rw (e, f) minus_one-item
 name-found t n (NameText.palette ds k (inl e) h sum small f) =
     rw (e, f, sum) (item_of-digits ds h ∙ palette_item-found ds h (omega arith))
@@ -273,14 +271,11 @@ spelling-row : (row : AttributeRow) (w : List ℕ) → OneOf attributes row → 
     → OneOf word_table (w, row.1 == 8, attribute_item row.1)
 spelling-row row w o h =
     OneOf-back (map name_row word_names) ((codes "-1", false, items.Name names.Normal) ∷ flat_map attribute_rows attributes)
-        (w, row.1 == 8, attribute_item row.1)
-        (inr (OneOf-flat_map attribute_rows attributes row (w, row.1 == 8, attribute_item row.1) o
-            (OneOf-map (λ (x : List ℕ). (x, row.1 == 8, attribute_item row.1)) (row.2 ∷ row.3) w h)))
+    (w, row.1 == 8, attribute_item row.1)
+    (inr (OneOf-flat_map attribute_rows attributes row (w, row.1 == 8, attribute_item row.1) o
+    (OneOf-map (λ (x : List ℕ). (x, row.1 == 8, attribute_item row.1)) (row.2 ∷ row.3) w h)))
 
-reset_row : AttributeRow
-reset_row = (codes "RESET", 8, codes "reset", [])
-
-reset-known : OneOf attributes (codes "RESET", 8, codes "reset", [])
+pub reset-known : OneOf attributes (codes "RESET", 8, codes "reset", [])
 unfolding attributes
 reset-known = inr (inr (inr (inr (inr (inr (inr (inl refl)))))))
 
@@ -293,8 +288,8 @@ attribute-found t a (AttributeText.word row o h e) =
     ∙ ap Some (attribute_is a row.1 e)
 attribute-found t a (AttributeText.reset s e) =
     word-item (codes "reset", true, attribute_item 8) t
-        (spelling-row (codes "RESET", 8, codes "reset", []) (codes "reset") reset-known (inl refl))
-        ((bytes_eq-Decides (lowered t) (lowered (codes "reset"))).1 s)
+    (spelling-row (codes "RESET", 8, codes "reset", []) (codes "reset") reset-known (inl refl))
+    ((bytes_eq-Decides (lowered t) (lowered (codes "reset"))).1 s)
     ∙ ap Some (attribute_is a 8 e)
 
 item-found : (t : List ℕ) (v : Item) → ItemText t v → item_of t ≡ Some v

@@ -1,8 +1,7 @@
 -- Item text as a function: what the code computes, proved in `WordLaws` to be `ItemText`. The private functions'
 -- contracts cite it, and no public one does.
-use Rattle.std.specs.Prelude.{ℕ, ◌+◌, ◌-◌, ◌*◌, ◌^◌, ◌<◌, ◌≤◌, Bool, true, false, cond, ◌&&◌, List, [], ◌∷◌, ◌++◌, map, flat_map, filter, length, codes, Option, Some, None, nat_le, nat_lt, ◌==◌, bytes_eq, option_map}
+use Rattle.std.specs.Prelude.{ℕ, ◌+◌, ◌-◌, ◌*◌, ◌^◌, Bool, true, false, cond, ◌&&◌, List, [], ◌∷◌, ◌++◌, map, flat_map, filter, length, codes, Option, Some, None, nat_le, nat_lt, ◌==◌, bytes_eq, option_map}
 use Rattle.std.specs.Char.{digit_value, is_ascii_digit, to_ascii_lowercase}
-use Rattle.gix_config_value.specs.declared.color.attribute.Attribute.{Attribute}
 use Rattle.gix_config_value.specs.declared.color.name.Name.{Name}
 use Rattle.gix_config_value.specs.declared.color.name.Name.TheVariants as names
 use Rattle.gix_config_value.specs.declared.color.words.Entry.{Entry}
@@ -81,6 +80,6 @@ abbrev pub item_of : List ℕ → Option Item
 item_of [] = found word_table []
 item_of (c ∷ cs) =
     cond (c == 35) (rgb_item cs)
-        (cond (c == 43) (palette_item cs)
-            (cond (is_ascii_digit c) (palette_item (c ∷ cs))
-                (found word_table (c ∷ cs))))
+    (cond (c == 43) (palette_item cs)
+    (cond (is_ascii_digit c) (palette_item (c ∷ cs))
+    (found word_table (c ∷ cs))))

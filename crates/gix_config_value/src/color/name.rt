@@ -77,7 +77,11 @@ fn hex_digit(number: u8) -> char
     requires { number < 16 }
     ensures { result ≡ digit_char number }
 {
-    if number < 10 { (b'0' + number) as char } else { (b'a' + (number - 10)) as char }
+    if number < 10 {
+        (b'0' + number) as char
+    } else {
+        (b'a' + (number - 10)) as char
+    }
 }
 
 impl Name {
@@ -163,7 +167,10 @@ impl<'a> TryFrom<BStr<'a>> for Name {
     fn try_from(input: BStr<'a>) -> Result<Name, Error<'a>> {
         match name_of(input.as_bytes()) {
             Some(name) => Ok(name),
-            None => Err(Error { fault: Fault::Color, input }),
+            None => Err(Error {
+                fault: Fault::Color,
+                input,
+            }),
         }
     }
 }

@@ -111,7 +111,11 @@ impl Entry {
         ensures { result ≡ fits (row_of self.now) text.now }
     {
         let word = self.text.as_bytes();
-        if self.any_case { text.eq_ignore_ascii_case(word) } else { text == word }
+        if self.any_case {
+            text.eq_ignore_ascii_case(word)
+        } else {
+            text == word
+        }
     }
 }
 
@@ -175,7 +179,11 @@ fn rgb(digits: &[u8]) -> Option<Name>
     ensures { result ≡ rgb_of digits.now }
 {
     match digits {
-        [a, b, c, d, e, f] => Some(Name::Rgb(hex_pair(*a, *b)?, hex_pair(*c, *d)?, hex_pair(*e, *f)?)),
+        [a, b, c, d, e, f] => Some(Name::Rgb(
+            hex_pair(*a, *b)?,
+            hex_pair(*c, *d)?,
+            hex_pair(*e, *f)?,
+        )),
         [a, c, e] => Some(Name::Rgb(hex_pair(*a, *a)?, hex_pair(*c, *c)?, hex_pair(*e, *e)?)),
         _ => None,
     }
@@ -188,7 +196,9 @@ fn read_item(input: &[u8]) -> Option<Item>
     match input {
         [b'#', digits @ ..] => Some(Item::Name(rgb(digits)?)),
         [b'+', digits @ ..] => Some(Item::Name(Name::Ansi(palette_number(digits)?))),
-        [first, ..] if first.is_ascii_digit() => Some(Item::Name(Name::Ansi(palette_number(input)?))),
+        [first, ..] if first.is_ascii_digit() => Some(Item::Name(Name::Ansi(palette_number(
+            input,
+        )?))),
         _ => known_word(input),
     }
 }

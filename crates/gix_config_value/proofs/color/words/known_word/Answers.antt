@@ -1,4 +1,4 @@
-use Rattle.std.proofs.Common.{rules, ◌∙◌}
+use Rattle.std.proofs.Common.{◌∙◌}
 use Rattle.gix_config_value.specs.WordReading.{word_table}
 use Rattle.gix_config_value.specs.WordLaws.{found-of_length}
 use Rattle.gix_config_value.proofs.color.words.known_word.Goals as goal
