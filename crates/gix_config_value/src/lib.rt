@@ -5,5 +5,6 @@ pub mod canonical;
 pub mod color;
 pub mod errors;
 pub mod integer;
+pub mod laws;
 
 pub use errors::{Error, Fault, Returned};
