@@ -4,3 +4,4 @@ pub mod KindLemmas
 pub mod StepLemmas
 pub mod RunLemmas
 pub mod IntegerCounting
+pub mod SeveralAttributes

@@ -13,3 +13,13 @@ pub mod Integer
 pub mod IntegerAsFunction
 pub mod IntegerLaws
 pub mod IntegerShownLaws
+pub mod OneOf
+pub mod Name
+pub mod Attribute
+pub mod Word
+pub mod WordReading
+pub mod OneOfLaws
+pub mod WordLaws
+pub mod NameLaws
+pub mod AttributeShowing
+pub mod AttributeLaws

@@ -2,9 +2,11 @@
 #![tactic(auto)]
 
 pub mod canonical;
+pub mod color;
 pub mod errors;
 pub mod integer;
 pub mod program;
+pub mod laws;
 
 pub use errors::{Error, Fault, Returned};
 pub use integer::Integer;
