@@ -4,25 +4,37 @@ use Rattle.gix_config_value.specs.declared.canonical.kind.Kind.{Kind}
 use Rattle.gix_config_value.specs.declared.canonical.kind.Kind.TheVariants as kinds
 use Rattle.gix_config_value.specs.declared.integer.suffix.Suffix as suffix
 use Rattle.gix_config_value.specs.declared.integer.Integer as integer
+use Rattle.gix_config_value.specs.declared.color.name.Name as name
+use Rattle.gix_config_value.specs.declared.color.attribute.Attribute as attribute
 use Rattle.gix_config_value.specs.Suffix.{SuffixText, CanonicalSuffix}
 use Rattle.gix_config_value.specs.Integer.{IntegerText, CanonicalInteger}
+use Rattle.gix_config_value.specs.Name.{NameText, CanonicalName}
+use Rattle.gix_config_value.specs.Attribute.{AttributeText, CanonicalAttribute}
 
 -- the name that a line begins with
 abbrev pub kind_name : Kind → List ℕ
 kind_name kinds.Suffix = codes "suffix"
 kind_name kinds.Integer = codes "integer"
+kind_name kinds.Name = codes "name"
+kind_name kinds.Attribute = codes "attribute"
 
 -- the values of a kind
 abbrev pub KindValue : Kind → Type 0
 KindValue kinds.Suffix = suffix.Suffix
 KindValue kinds.Integer = integer.Integer
+KindValue kinds.Name = name.Name
+KindValue kinds.Attribute = attribute.Attribute
 
 -- which texts read to which values
 abbrev pub KindGrammar : (kind : Kind) → List ℕ → KindValue kind → Type 0
 KindGrammar kinds.Suffix = SuffixText
 KindGrammar kinds.Integer = IntegerText
+KindGrammar kinds.Name = NameText
+KindGrammar kinds.Attribute = AttributeText
 
 -- the canonical texts
 abbrev pub KindCanonical : Kind → List ℕ → Type 0
 KindCanonical kinds.Suffix = CanonicalSuffix
 KindCanonical kinds.Integer = CanonicalInteger
+KindCanonical kinds.Name = CanonicalName
+KindCanonical kinds.Attribute = CanonicalAttribute

@@ -6,6 +6,7 @@ ghost use Rattle.gix_config_value.specs.Value.{Normalizes, IsOnlyText, Compares}
 ghost use Rattle.gix_config_value.specs.declared.canonical.kind.Kind as kind;
 
 use crate::canonical::{Value, normalize_as};
+use crate::color::{Attribute, Name};
 use crate::integer::{Integer, Suffix};
 use arrayvec::ArrayString;
 use bstr::BStr;
@@ -17,6 +18,10 @@ pub enum Kind {
     Suffix,
     /// Numbers with at most one suffix.
     Integer,
+    /// The names of colors.
+    Name,
+    /// The words of attributes, one at a time.
+    Attribute,
 }
 
 /// The kind of exactly this name.
@@ -26,6 +31,8 @@ pub(crate) fn kind_by_name(name: &[u8]) -> Option<Kind>
     match name {
         b"suffix" => Some(Kind::Suffix),
         b"integer" => Some(Kind::Integer),
+        b"name" => Some(Kind::Name),
+        b"attribute" => Some(Kind::Attribute),
         _ => None,
     }
 }
@@ -41,6 +48,8 @@ pub fn normalize(kind: Kind, input: BStr<'_>) -> Option<ArrayString<127>>
     match kind {
         Kind::Suffix => normalize_as::<Suffix>(input),
         Kind::Integer => normalize_as::<Integer>(input),
+        Kind::Name => normalize_as::<Name>(input),
+        Kind::Attribute => normalize_as::<Attribute>(input),
     }
 }
 
@@ -51,6 +60,8 @@ pub fn same(kind: Kind, a: BStr<'_>, b: BStr<'_>) -> Option<bool>
     match kind {
         Kind::Suffix => same_as::<Suffix>(a, b),
         Kind::Integer => same_as::<Integer>(a, b),
+        Kind::Name => same_as::<Name>(a, b),
+        Kind::Attribute => same_as::<Attribute>(a, b),
     }
 }
 
