@@ -15,9 +15,9 @@ use Rattle.gix_config_value.specs.declared.integer.suffix.Suffix.TheVariants.{Ki
 use Rattle.gix_config_value.specs.Value.{IsValueOf, IsAccepted, IsRefused, HasText, IsTextOf}
 use Rattle.gix_config_value.specs.ValueLaws.{one_value_by, decided_by}
 use Rattle.gix_config_value.specs.Numerals.{place_sum, IsInI64}
-use Rattle.gix_config_value.specs.NumeralLaws.{digits_value_after_ge, place_sum_is}
+use Rattle.gix_config_value.specs.NumeralLaws.{digits_value_after_ge, place_sum_is, range_told}
 use Rattle.gix_config_value.specs.Suffix.{SuffixText, CanonicalSuffix, suffix_shown}
-use Rattle.gix_config_value.specs.Integer.{Magnitude, SignedText, NumberText, IntegerText, SuffixIfAny}
+use Rattle.gix_config_value.specs.Integer.{Magnitude, SignedText, NumberText, IntegerText, SuffixIfAny, product, ProductText, ProductInRange}
 use Rattle.gix_config_value.specs.Integer.Magnitude.{nought, decimal, octal, hexadecimal, binary}
 use Rattle.gix_config_value.specs.Integer.SignedText.{plain, plus, minus}
 use Rattle.gix_config_value.specs.IntegerAsFunction.{suffix_of, suffix_of_is, counted_from, counted, base_of, digits_of, unsigned_of, plain_integer, negative_integer, integer_of}
@@ -344,3 +344,18 @@ integer_one_value = one_value_by integer_of_is
 
 pub integer_decided : (t : List ℕ) → IsAccepted IntegerText t ⊎ IsRefused IntegerText t
 integer_decided = decided_by integer_of_is
+
+-- a text has one product, and it is told whether it has one in range
+pub product_one_value : (t : List ℕ) (y z : ℤ) → ProductText t y → ProductText t z → y ≡ z
+product_one_value t y z p q = p.number ∙ ap product (integer_one_value t p.integer q.integer p.text q.text) ∙ sym q.number
+
+pub product_told : (t : List ℕ) → ((z : ℤ) × ProductInRange t z) ⊎ ((z : ℤ) → ¬ (ProductInRange t z))
+product_told t =
+    elim (integer_decided t) [
+      | inl h ↦
+          elim (range_told (product h.0)) [
+            | inl r ↦ inl (product h.0, record { product_text = record { integer = h.0; text = h.1; number = refl }; in_range = r })
+            | inr r ↦ inr (λ z k. r (subst IsInI64 (product_one_value t z (product h.0) k.product_text record { integer = h.0; text = h.1; number = refl }) k.in_range))
+          ]
+      | inr h ↦ inr (λ z k. h k.product_text.integer k.product_text.text)
+    ]

@@ -13,6 +13,7 @@ use Rattle.gix_config_value.specs.declared.integer.Integer.{Integer}
 use Rattle.gix_config_value.specs.declared.integer.suffix.Suffix.{Suffix}
 use Rattle.gix_config_value.specs.declared.integer.suffix.Suffix.TheVariants.{Kibi, Mebi, Gibi}
 use Rattle.gix_config_value.specs.Value.{IsAccepted, IsRefused, HasText, IsTextOf}
+use Rattle.gix_config_value.specs.ValueLaws.{IsShown, one_text_by, canonical_reads_by}
 use Rattle.gix_config_value.specs.Numerals.{place_sum, IsInI64}
 use Rattle.gix_config_value.specs.NumeralLaws.{place_sum_is}
 use Rattle.gix_config_value.specs.Suffix.{SuffixText, CanonicalSuffix, suffix_shown}
@@ -67,20 +68,19 @@ unit_shown t (inr (inl e)) = (Some Kibi, inl e, e)
 unit_shown t (inr (inr (inl e))) = (Some Mebi, inl e, e)
 unit_shown t (inr (inr (inr e))) = (Some Gibi, inl e, e)
 
-canonical_shown : (t : List ℕ) → CanonicalInteger t → (v : Integer) × IntegerText t v × (t ≡ integer_shown v)
+canonical_shown : (t : List ℕ) → CanonicalInteger t → IsShown IntegerText integer_shown t
 canonical_shown t h =
     let n = number_shown h.front h.number in
     let u = unit_shown h.back h.unit in
-    (record { value = n.number; suffix = u.0 }, record { front = h.front; back = h.back; parts = h.parts; number = n.text; unit = u.1 },
-      h.parts ∙ ap (λ l. l ++ h.back) n.shown ∙ ap (λ l. signed_decimal n.number ++ l) u.2)
+    record { value = record { value = n.number; suffix = u.0 };
+      reads_to = record { front = h.front; back = h.back; parts = h.parts; number = n.text; unit = u.1 };
+      same = h.parts ∙ ap (λ l. l ++ h.back) n.shown ∙ ap (λ l. signed_decimal n.number ++ l) u.2 }
 
 pub integer_canonical_reads : (t : List ℕ) → CanonicalInteger t → IsAccepted IntegerText t
-integer_canonical_reads t h = let k = canonical_shown t h in (k.0, k.1)
+integer_canonical_reads = canonical_reads_by canonical_shown
 
 pub integer_one_text : (s t : List ℕ) (v : Integer) → CanonicalInteger s → CanonicalInteger t → IntegerText s v → IntegerText t v → s ≡ t
-integer_one_text s t v p q r u = shown s p r ∙ sym (shown t q u) where
-  shown : (t : List ℕ) → CanonicalInteger t → IntegerText t v → t ≡ integer_shown v
-  shown t p r = let k = canonical_shown t p in k.2 ∙ ap integer_shown (integer_one_value t k.0 v k.1 r)
+integer_one_text = one_text_by integer_one_value canonical_shown
 
 -- the displayed text of a number in range is a canonical number, of at most 20 bytes
 record IsShownNumber (z : ℤ) (t : List ℕ) : Type 0 where
