@@ -17,7 +17,9 @@ use Rattle.gix_config_value.specs.ValueLaws.{one_value_by, decided_by}
 use Rattle.gix_config_value.specs.Numerals.{place_sum, IsInI64}
 use Rattle.gix_config_value.specs.NumeralLaws.{digits_value_after_ge, place_sum_is, range_told}
 use Rattle.gix_config_value.specs.Suffix.{SuffixText, CanonicalSuffix, suffix_shown}
-use Rattle.gix_config_value.specs.Integer.{Magnitude, SignedText, NumberText, IntegerText, SuffixIfAny, product, ProductText, ProductInRange}
+use Rattle.gix_config_value.specs.Integer.{Magnitude, SignedText, NumberText, IntegerText, SuffixIfAny, product, ProductText, ProductInRange, Refusal}
+use Rattle.gix_config_value.specs.declared.errors.Fault.{Fault}
+use Rattle.gix_config_value.specs.declared.errors.Fault.TheVariants as faults
 use Rattle.gix_config_value.specs.Integer.Magnitude.{nought, decimal, octal, hexadecimal, binary}
 use Rattle.gix_config_value.specs.Integer.SignedText.{plain, plus, minus}
 use Rattle.gix_config_value.specs.IntegerAsFunction.{suffix_of, suffix_of_is, counted_from, counted, base_of, digits_of, unsigned_of, plain_integer, negative_integer, integer_of}
@@ -359,3 +361,20 @@ product_told t =
           ]
       | inr h ↦ inr (λ z k. h k.product_text.integer k.product_text.text)
     ]
+
+-- a text with a product begins with a digit or a sign
+pub product_first : (t : List ℕ) (z : ℤ) → ProductText t z → IsInRange 43 57 (get_or t 0 0)
+product_first t z p = subst (λ l. IsInRange 43 57 (get_or l 0 0)) (sym p.text.parts) (first p.text.number.signed) where
+  first : SignedText p.text.front p.integer.value → IsInRange 43 57 (get_or (p.text.front ++ p.text.back) 0 0)
+  first (plain n m e) = let r = magnitude_first p.text.front n p.text.back m in (omega (arith, r.0), omega (arith, r.1))
+  first (plus m n e k f) = rw e (omega arith, omega arith)
+  first (minus m n e k f) = rw e (omega arith, omega arith)
+
+-- a conversion that refuses no product in range refuses a text only where it has none
+pub refusal_tells : (refuses : ℤ → Type 0) → ((z : ℤ) → IsInI64 z → ¬ (refuses z)) → (t : List ℕ) (f : Fault) → Refusal refuses t f
+    → (z : ℤ) → ¬ (ProductInRange t z)
+refusal_tells refuses never t faults.Boolean r z p = r
+refusal_tells refuses never t faults.Integer r z p = r p.product_text.integer p.product_text.text
+refusal_tells refuses never t faults.Overflow r z p = r.2 (subst IsInI64 (product_one_value t z r.0 p.product_text r.1) p.in_range)
+refusal_tells refuses never t faults.OutOfRange r z p = never r.0 r.1.in_range r.2
+refusal_tells refuses never t faults.Color r z p = r

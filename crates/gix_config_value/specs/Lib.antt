@@ -10,3 +10,5 @@ pub mod Integer
 pub mod IntegerAsFunction
 pub mod IntegerLaws
 pub mod IntegerShownLaws
+pub mod Boolean
+pub mod BooleanLaws

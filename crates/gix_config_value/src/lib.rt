@@ -1,9 +1,11 @@
 //! The readers of Git configuration values, each proved against the grammar that `specs/` states.
 #![tactic(auto)]
 
+pub mod boolean;
 pub mod canonical;
 pub mod errors;
 pub mod integer;
 
+pub use boolean::Boolean;
 pub use errors::{Error, Fault, Returned};
 pub use integer::Integer;
