@@ -1,5 +1,5 @@
 -- The laws of `Value` for booleans. Of integers they use that a text has one product and that it is told.
-use Rattle.std.proofs.Common.{◌≡◌, ◌≢◌, ℕ, ℤ, pos, negsuc, zero, suc, ◌<◌, ◌≤◌, ◌↔◌, ◌⊎◌, inl, inr, Bool, true, false, cond, IsTrue, List, [], ◌∷◌, length, get_or, map, refl, sym, ap, ◌∙◌, subst, arith, codes, lit≤}
+use Rattle.std.proofs.Common.{◌≡◌, ◌≢◌, ℕ, ℤ, pos, negsuc, zero, suc, ◌≤◌, ◌↔◌, ◌⊎◌, inl, inr, Bool, true, false, cond, IsTrue, List, [], ◌∷◌, length, get_or, map, refl, sym, ap, ◌∙◌, subst, arith, codes, lit≤}
 use Rattle.std.proofs.lemmas.Bool.Decides.{nat_tests}
 use Rattle.std.specs.Char.{to_ascii_lowercase}
 use Rattle.gix_config_value.specs.declared.boolean.Boolean.{Boolean}
@@ -80,6 +80,7 @@ boolean_shown_is_canonical v = record { canonical_text = canonical v.0; reads_to
   canonical : (b : Bool) → CanonicalBoolean (cond b (codes "true") (codes "false"))
   canonical true = inl refl
   canonical false = inr refl
+
   short : (b : Bool) → length (cond b (codes "true") (codes "false")) ≤ 127
   short true = lit≤ tt
   short false = lit≤ tt
@@ -124,8 +125,8 @@ boolean_refused t a d p v (counted z h e) = p z h
 pub boolean_decided : (t : List ℕ) → IsAccepted BooleanText t ⊎ IsRefused BooleanText t
 boolean_decided t =
     told (either_told (same_word_told t (codes "yes")) (either_told (same_word_told t (codes "on")) (same_word_told t (codes "true"))))
-      (either_told (text_told t []) (either_told (same_word_told t (codes "no")) (either_told (same_word_told t (codes "off")) (same_word_told t (codes "false")))))
-      (product_told t) where
+    (either_told (text_told t []) (either_told (same_word_told t (codes "no")) (either_told (same_word_told t (codes "off")) (same_word_told t (codes "false")))))
+    (product_told t) where
       told : Told (Affirms t) → Told (Denies t) → ((z : ℤ) × ProductInRange t z) ⊎ ((z : ℤ) → ¬ (ProductInRange t z)) → IsAccepted BooleanText t ⊎ IsRefused BooleanText t
       told (inl a) d p = inl (record { 0 = true }, affirmed a refl)
       told (inr a) (inl d) p = inl (record { 0 = false }, denied d refl)

@@ -48,9 +48,11 @@ unfolding told_value
 told_value_is {V} {grammar} decided one = record { found = λ t. found t (decided t); derived = λ t. derived t (decided t) } where
   choose : (t : List ℕ) → IsAccepted grammar t ⊎ IsRefused grammar t → Option V
   choose t d = elim d [ inl a ↦ Some a.0 | inr r ↦ None ]
+
   found : (t : List ℕ) (d : IsAccepted grammar t ⊎ IsRefused grammar t) (v : V) → grammar t v → elim d [ inl a ↦ Some a.0 | inr r ↦ None ] ≡ Some v
   found t (inl a) v h = ap Some (one t a.0 v a.1 h)
   found t (inr r) v h = absurd (r v h)
+
   derived : (t : List ℕ) (d : IsAccepted grammar t ⊎ IsRefused grammar t) (v : V) → elim d [ inl a ↦ Some a.0 | inr r ↦ None ] ≡ Some v → grammar t v
   derived t (inl a) v h = subst (grammar t) (same_Some a.0 v h) a.1
   derived t (inr r) v h = absurd (none-some v h)

@@ -82,7 +82,10 @@ impl<'a> TryFrom<BStr<'a>> for Boolean {
     fn try_from(input: BStr<'a>) -> Result<Boolean, Error<'a>> {
         match Boolean::read(input) {
             Some(boolean) => Ok(boolean),
-            None => Err(Error { fault: Fault::Boolean, input }),
+            None => Err(Error {
+                fault: Fault::Boolean,
+                input,
+            }),
         }
     }
 }
@@ -96,7 +99,10 @@ impl<'a> TryFrom<&'a str> for Boolean {
     fn try_from(input: &'a str) -> Result<Boolean, Error<'a>> {
         match truth(input.as_bytes()) {
             Some(boolean) => Ok(boolean),
-            None => Err(Error { fault: Fault::Boolean, input: BStr::from(input) }),
+            None => Err(Error {
+                fault: Fault::Boolean,
+                input: BStr::from(input),
+            }),
         }
     }
 }
@@ -110,7 +116,10 @@ impl TryFrom<BString> for Boolean {
     fn try_from(input: BString) -> Result<Boolean, Returned<BString>> {
         match truth(input.as_bytes()) {
             Some(boolean) => Ok(boolean),
-            None => Err(Returned { fault: Fault::Boolean, input }),
+            None => Err(Returned {
+                fault: Fault::Boolean,
+                input,
+            }),
         }
     }
 }
@@ -124,7 +133,10 @@ impl<'a> TryFrom<CowSlice<'a, u8>> for Boolean {
     fn try_from(input: CowSlice<'a, u8>) -> Result<Boolean, Returned<CowSlice<'a, u8>>> {
         match truth(input.as_slice()) {
             Some(boolean) => Ok(boolean),
-            None => Err(Returned { fault: Fault::Boolean, input }),
+            None => Err(Returned {
+                fault: Fault::Boolean,
+                input,
+            }),
         }
     }
 }

@@ -24,7 +24,6 @@ use bstr::{BStr, BString};
 use itoa::Buffer;
 use std::borrow::CowSlice;
 use std::fmt;
-
 pub use suffix::Suffix;
 
 /// A number and the suffix that it was written with, kept apart: `1k` and `1024` are two integers.
@@ -82,7 +81,10 @@ impl<'a> TryFrom<BStr<'a>> for Integer {
     fn try_from(input: BStr<'a>) -> Result<Integer, Error<'a>> {
         match Integer::read(input) {
             Some(integer) => Ok(integer),
-            None => Err(Error { fault: Fault::Integer, input }),
+            None => Err(Error {
+                fault: Fault::Integer,
+                input,
+            }),
         }
     }
 }
@@ -96,7 +98,10 @@ impl TryFrom<BString> for Integer {
     fn try_from(input: BString) -> Result<Integer, Returned<BString>> {
         match scan(input.as_bytes()) {
             Some(integer) => Ok(integer),
-            None => Err(Returned { fault: Fault::Integer, input }),
+            None => Err(Returned {
+                fault: Fault::Integer,
+                input,
+            }),
         }
     }
 }
@@ -110,7 +115,10 @@ impl<'a> TryFrom<CowSlice<'a, u8>> for Integer {
     fn try_from(input: CowSlice<'a, u8>) -> Result<Integer, Returned<CowSlice<'a, u8>>> {
         match scan(input.as_slice()) {
             Some(integer) => Ok(integer),
-            None => Err(Returned { fault: Fault::Integer, input }),
+            None => Err(Returned {
+                fault: Fault::Integer,
+                input,
+            }),
         }
     }
 }
@@ -124,7 +132,10 @@ impl<'a> TryFrom<&'a str> for Integer {
     fn try_from(input: &'a str) -> Result<Integer, Error<'a>> {
         match scan(input.as_bytes()) {
             Some(integer) => Ok(integer),
-            None => Err(Error { fault: Fault::Integer, input: BStr::from(input) }),
+            None => Err(Error {
+                fault: Fault::Integer,
+                input: BStr::from(input),
+            }),
         }
     }
 }
@@ -159,14 +170,23 @@ impl Integer {
         ensures refused { IfErr result (λ e. Refusal (λ z. (x : T.Error) × T.try_from_gives z (Err x)) input.now e.fault) }
     {
         let Some(integer) = scan(input) else {
-            return Err(Error { fault: Fault::Integer, input: BStr::from(input) });
+            return Err(Error {
+                fault: Fault::Integer,
+                input: BStr::from(input),
+            });
         };
         let Some(product) = integer.to_decimal() else {
-            return Err(Error { fault: Fault::Overflow, input: BStr::from(input) });
+            return Err(Error {
+                fault: Fault::Overflow,
+                input: BStr::from(input),
+            });
         };
         match T::try_from(product) {
             Ok(converted) => Ok(converted),
-            Err(_) => Err(Error { fault: Fault::OutOfRange, input: BStr::from(input) }),
+            Err(_) => Err(Error {
+                fault: Fault::OutOfRange,
+                input: BStr::from(input),
+            }),
         }
     }
 

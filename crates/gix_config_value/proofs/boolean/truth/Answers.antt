@@ -1,4 +1,4 @@
-use Rattle.std.proofs.Common.{◌≡◌, ◌≢◌, ◌↔◌, ℕ, ℤ, pos, negsuc, zero, suc, Bool, not, IsTrue, refl, sym, subst, arith, w64, of_z, nat_eq}
+use Rattle.std.proofs.Common.{◌≢◌, ◌↔◌, ℤ, pos, negsuc, zero, suc, not, IsTrue, refl, sym, subst, arith, w64, of_z, nat_eq}
 use Rattle.std.proofs.lemmas.Int.{ints}
 use Rattle.std.proofs.lemmas.Bool.Decides.{nat_tests}
 use Rattle.gix_config_value.specs.Numerals.{IsInI64}
@@ -23,4 +23,4 @@ pub returns-in-Err : goal.returns-in-Err
 returns-in-Err c =
     let a = c.in-Err.ensures.refused in
     boolean_refused c.args.text.now c.in_default.ensures.0 c.in_default.ensures.1
-      (refusal_tells _ (λ z r h. h.1 (fits_from_in_range z r)) c.args.text.now _ a)
+    (refusal_tells _ (λ z r h. h.1 (fits_from_in_range z r)) c.args.text.now _ a)
