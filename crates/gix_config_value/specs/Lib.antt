@@ -23,3 +23,5 @@ pub mod WordLaws
 pub mod NameLaws
 pub mod AttributeShowing
 pub mod AttributeLaws
+pub mod Boolean
+pub mod BooleanLaws

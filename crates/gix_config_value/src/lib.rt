@@ -1,6 +1,7 @@
 //! The readers of Git configuration values, each proved against the grammar that `specs/` states.
 #![tactic(auto)]
 
+pub mod boolean;
 pub mod canonical;
 pub mod color;
 pub mod errors;
@@ -8,5 +9,6 @@ pub mod integer;
 pub mod program;
 pub mod laws;
 
+pub use boolean::Boolean;
 pub use errors::{Error, Fault, Returned};
 pub use integer::Integer;
