@@ -5,3 +5,6 @@ pub mod Refusals
 pub mod ValueLaws
 pub mod Suffix
 pub mod SuffixLaws
+pub mod Path
+pub mod Passwd
+pub mod Interpolation

@@ -4,5 +4,7 @@
 pub mod canonical;
 pub mod errors;
 pub mod integer;
+pub mod path;
 
 pub use errors::{Error, Fault, Returned};
+pub use path::Path;
