@@ -8,3 +8,4 @@ pub mod SuffixLaws
 pub mod Path
 pub mod Passwd
 pub mod Interpolation
+pub mod InterpolationLaws

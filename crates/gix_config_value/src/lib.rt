@@ -4,6 +4,7 @@
 pub mod canonical;
 pub mod errors;
 pub mod integer;
+pub mod laws;
 pub mod path;
 
 pub use errors::{Error, Fault, Returned};

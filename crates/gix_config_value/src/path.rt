@@ -4,8 +4,8 @@ ghost use Rattle.std.specs.Option.{ForSome};
 ghost use Rattle.std.specs.Cow.{cow_slice_items, IsOwnedSlice};
 ghost use Rattle.bstr.specs.BStr.{bstr_bytes};
 ghost use Rattle.bstr.specs.Owned.{bstring_bytes};
-ghost use Rattle.gix_config_value.specs.Path.{IsPathOf};
-ghost use Rattle.gix_config_value.specs.Interpolation.{Interpolated, LooksUp};
+ghost use Rattle.gix_config_value.specs.Path.{IsPathOf, IsEqualPath};
+ghost use Rattle.gix_config_value.specs.Interpolation.{Form, HasForm, Gives, Interpolated, LooksUp};
 
 pub mod interpolate;
 
@@ -72,8 +72,7 @@ impl Path {
 
     /// An equal path. The error is want of memory.
     pub fn clone(&self, alloc: Global) -> Result<Path, AllocError>
-        ensures bytes { IfOk result (λ path. bstring_bytes path.value ≡ bstring_bytes self.now.value) }
-        ensures flag { IfOk result (λ path. path.is_optional ≡ self.now.is_optional) }
+        ensures { IfOk result (IsEqualPath self.now) }
     {
         Ok(Path {
             value: BString::from_slice(alloc, self.as_bytes())?,
@@ -114,7 +113,8 @@ impl Path {
     where
         F: FnOnce(&str) -> Option<&'a str> + Drop,
         requires { ForSome context.home_for_user (λ f. (name : _) → IsUtf8 name.now → F.pre f name) }
-        ensures { Interpolated (LooksUp F.FnOnce) context.entry (bstring_bytes self.now.value) result }
+        ensures answer { Interpolated (LooksUp F.FnOnce) context.entry (bstring_bytes self.now.value) result }
+        ensures at_form { (form : Form) → HasForm (bstring_bytes self.now.value) form → Gives (LooksUp F.FnOnce) context.entry (bstring_bytes self.now.value) form result }
     {
         interpolate::interpolated(alloc, self.as_bytes(), context)
     }

@@ -109,6 +109,16 @@ impl Error<'_> {
     }
 }
 
+/// No lookup, for a `Context` that is written out. The closure is dropped and never called: it only
+/// names the type of the lookup, as in `absent(|_name: &str| None)`.
+pub fn absent<'a, F>(_lookup: F) -> Option<F>
+where
+    F: FnOnce(&str) -> Option<&'a str> + Drop,
+    ensures { result ≡ None }
+{
+    None
+}
+
 impl<'a, F> Default for Context<'a, F> {
     ghost is_default = { λ context. (context.git_install_dir ≡ None) × (context.home_dir ≡ None) × (context.home_for_user ≡ None) };
 
