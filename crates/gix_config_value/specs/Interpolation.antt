@@ -1,5 +1,5 @@
 -- What a path value gives: the path table.
-use Rattle.std.specs.Prelude.{◌≡◌, ◌≢◌, ◌⊎◌, ℕ, nat_eq, List, [], ◌∷◌, ◌++◌, codes, Option, None, Some, option_copied, Result, Ok, Err, string_bytes, IsUtf8, if◌then◌else◌}
+use Rattle.std.specs.Prelude.{◌≡◌, ◌≢◌, ℕ, nat_eq, List, [], ◌∷◌, ◌++◌, codes, Option, None, Some, option_copied, Result, Ok, Err, string_bytes, IsUtf8, if◌then◌else◌}
 use Rattle.std.specs.Fn.{Once, FnOnceReturnsAt}
 use Rattle.std.specs.List.{starts_with, ends_with, AllByRecursion}
 use Rattle.std.specs.declared.string.String.{String}
@@ -52,19 +52,23 @@ GivesText text (Ok s) = string_bytes s ≡ text
 GivesText text (Err (Memory e)) = text ≢ []
 GivesText text (Err _) = ⊥
 
--- bytes that are no UTF-8, at this place; the error lends just these bytes
+-- ill-formed UTF-8 at this place; the error lends just these bytes
 abbrev pub IsIllFormed : Place → List ℕ → Error → Type 0
-IsIllFormed place bytes (IllFormed at input) = (¬ (IsUtf8 bytes)) × (at ≡ place) × (input.now ≡ bytes)
+IsIllFormed place bytes (IllFormed at input) = (at ≡ place) × (input.now ≡ bytes)
 IsIllFormed place bytes _ = ⊥
 
 abbrev pub RefusesBytes : Place → List ℕ → Result (String Global) Error → Type 0
 RefusesBytes place bytes (Err e) = IsIllFormed place bytes e
 RefusesBytes place bytes (Ok s) = ⊥
 
--- the directory, or the directory and the rest joined, where the rest is UTF-8
+-- the bytes have to be UTF-8, or they are refused at this place
+abbrev pub WhereUtf8 : Place → List ℕ → Type 0 → Result (String Global) Error → Type 0
+WhereUtf8 place bytes answer r = (IsUtf8 bytes → answer) × (¬ (IsUtf8 bytes) → RefusesBytes place bytes r)
+
+-- the directory, or the directory and the rest joined
 abbrev pub GivesBelow : Place → List ℕ → Option (List ℕ) → Result (String Global) Error → Type 0
 GivesBelow place dir None r = GivesText dir r
-GivesBelow place dir (Some rest) r = (IsUtf8 rest × GivesText (join dir rest) r) ⊎ RefusesBytes place rest r
+GivesBelow place dir (Some rest) r = WhereUtf8 place rest (GivesText (join dir rest) r) r
 
 -- the same below a directory that the context may lack
 abbrev pub GivesBelowGiven : Error → Place → Option (List ℕ) → Option (List ℕ) → Result (String Global) Error → Type 0
@@ -79,12 +83,11 @@ GivesAnswered (Some dir) rest r = GivesBelow PastUser dir rest r
 abbrev pub GivesBelowUser : {F : Type 0} → (F → List ℕ → Option (List ℕ) → Type 0) → Option F → List ℕ → Option (List ℕ) → Result (String Global) Error → Type 0
 GivesBelowUser answers None name rest r = r ≡ Err LookupMissing
 GivesBelowUser answers (Some f) name rest r =
-    (IsUtf8 name × ((answer : Option (List ℕ)) × answers f name answer × GivesAnswered answer rest r))
-    ⊎ RefusesBytes Username name r
+    WhereUtf8 Username name ((answer : Option (List ℕ)) × answers f name answer × GivesAnswered answer rest r) r
 
 -- the value itself
 abbrev pub GivesValue : List ℕ → Result (String Global) Error → Type 0
-GivesValue value r = (IsUtf8 value × GivesText value r) ⊎ RefusesBytes Whole value r
+GivesValue value r = WhereUtf8 Whole value (GivesText value r) r
 
 -- the path table, by the form of the value; in each form the rows are tried in order
 abbrev pub Gives : {F : Type 0} → (F → List ℕ → Option (List ℕ) → Type 0) → Context F → List ℕ → Form → Result (String Global) Error → Type 0

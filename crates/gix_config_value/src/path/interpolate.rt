@@ -134,7 +134,7 @@ impl<'a, F> Default for Context<'a, F> {
 
 /// The bytes as text. The error is `IllFormed`, with the place and all the bytes.
 fn text_at<'p>(place: Place, bytes: &'p [u8]) -> Result<&'p str, Error<'p>>
-    ensures { MatchResult result (λ text. (text.now ≡ bytes.now) × IsUtf8 bytes.now) (IsIllFormed place bytes.now) }
+    ensures { MatchResult result (λ text. (text.now ≡ bytes.now) × IsUtf8 bytes.now) (λ e. ¬ (IsUtf8 bytes.now) × IsIllFormed place bytes.now e) }
 {
     match str::from_utf8(bytes) {
         Ok(text) => Ok(text),
