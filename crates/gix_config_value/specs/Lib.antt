@@ -25,3 +25,7 @@ pub mod AttributeShowing
 pub mod AttributeLaws
 pub mod Boolean
 pub mod BooleanLaws
+pub mod Path
+pub mod Passwd
+pub mod Interpolation
+pub mod InterpolationLaws

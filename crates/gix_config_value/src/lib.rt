@@ -8,7 +8,10 @@ pub mod errors;
 pub mod integer;
 pub mod program;
 pub mod laws;
+pub mod laws;
+pub mod path;
 
 pub use boolean::Boolean;
 pub use errors::{Error, Fault, Returned};
 pub use integer::Integer;
+pub use path::Path;
