@@ -5,3 +5,6 @@ pub mod Refusals
 pub mod ValueLaws
 pub mod Suffix
 pub mod SuffixLaws
+pub mod Space
+pub mod Words
+pub mod SpaceLaws

@@ -2,6 +2,7 @@
 #![tactic(auto)]
 
 pub mod canonical;
+pub mod color;
 pub mod errors;
 pub mod integer;
 
