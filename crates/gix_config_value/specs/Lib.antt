@@ -5,6 +5,10 @@ pub mod Refusals
 pub mod ValueLaws
 pub mod Suffix
 pub mod SuffixLaws
+pub mod OneOf
+pub mod Name
+pub mod Attribute
+pub mod Word
 pub mod Space
 pub mod Words
 pub mod SpaceLaws

@@ -1,10 +1,6 @@
 -- White space: the 25 code points of Unicode that are white space, each as UTF-8 spells it.
-use Rattle.std.specs.Prelude.{◌≡◌, ℕ, ◌⊎◌, List, [], ◌∷◌}
-
--- one of these texts
-abbrev pub OneOf : List (List ℕ) → List ℕ → Type 0
-OneOf [] text = ⊥
-OneOf (row ∷ rows) text = (text ≡ row) ⊎ OneOf rows text
+use Rattle.std.specs.Prelude.{ℕ, List, [], ◌∷◌}
+use Rattle.gix_config_value.specs.OneOf.{OneOf}
 
 -- U+0009 to U+000D, U+0020, U+0085, U+00A0, U+1680, U+2000 to U+200A, U+2028, U+2029, U+202F, U+205F, U+3000
 unfoldable pub spellings : List (List ℕ)

@@ -1,6 +1,6 @@
 -- Which bytes the spellings of white space have.
-use Rattle.std.proofs.Common.{◌≡◌, ℕ, ◌+◌, ◌≤◌, ◌⊎◌, inl, inr, Bool, true, false, cond, List, [], ◌∷◌, refl, sym, ap, ◌∙◌, arith}
-use Rattle.gix_config_value.specs.Space.{OneOf, spellings, Space}
+use Rattle.std.proofs.Common.{◌≡◌, ℕ, ◌≤◌, ◌⊎◌, [], ◌∷◌, arith}
+use Rattle.gix_config_value.specs.Space.{spellings, Space}
 
 pub narrow_bytes : (a : ℕ) → Space (a ∷ []) → ((9 ≤ a) × (a ≤ 13)) ⊎ (a ≡ 32)
 unfolding spellings
