@@ -12,3 +12,4 @@ pub mod Word
 pub mod Space
 pub mod Words
 pub mod SpaceLaws
+pub mod WordsLaws

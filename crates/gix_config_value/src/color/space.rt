@@ -16,13 +16,20 @@ fn is_double(first: u8, second: u8) -> bool
     first == 0xc2 && matches!(second, 0x85 | 0xa0)
 }
 
+/// Whether this byte ends one of the spellings that begin with `e280`.
+fn ends_general(third: u8) -> bool
+    ensures { IsTrue result ↔ (Space (226 ∷ 128 ∷ third ∷ [])) }
+{
+    matches!(third, 0x80..=0x8a | 0xa8 | 0xa9 | 0xaf)
+}
+
 /// Whether these three bytes are a spelling of white space.
 fn is_triple(first: u8, second: u8, third: u8) -> bool
     ensures { IsTrue result ↔ (Space (first ∷ second ∷ third ∷ [])) }
 {
     match (first, second) {
         (0xe1, 0x9a) => third == 0x80,
-        (0xe2, 0x80) => matches!(third, 0x80..=0x8a | 0xa8 | 0xa9 | 0xaf),
+        (0xe2, 0x80) => ends_general(third),
         (0xe2, 0x81) => third == 0x9f,
         (0xe3, 0x80) => third == 0x80,
         _ => false,
