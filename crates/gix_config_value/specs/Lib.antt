@@ -13,3 +13,6 @@ pub mod Space
 pub mod Words
 pub mod SpaceLaws
 pub mod WordsLaws
+pub mod Color
+pub mod Composition
+pub mod ColorReading

@@ -6,4 +6,5 @@ pub mod color;
 pub mod errors;
 pub mod integer;
 
+pub use color::Color;
 pub use errors::{Error, Fault, Returned};

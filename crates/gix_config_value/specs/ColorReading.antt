@@ -1,0 +1,45 @@
+-- Color text as a function, from the front: what the code computes, proved in `ColorLaws` to be `ColorText`. The
+-- private functions' contracts cite it, and no public one does.
+use Rattle.std.specs.Prelude.{ℕ, List, [], ◌∷◌, Option, None, Some}
+use Rattle.std.specs.Int.RustNames.{bit_or}
+use Rattle.gix_config_value.specs.declared.color.Color.{Color}
+use Rattle.gix_config_value.specs.declared.color.name.Name.{Name}
+use Rattle.gix_config_value.specs.declared.color.words.Item.{Item}
+use Rattle.gix_config_value.specs.declared.color.words.Item.TheVariants as items
+use Rattle.gix_config_value.specs.Words.{words}
+
+unfoldable pub word_item : List ℕ → Option Item
+word_item t = None
+
+-- the color of no word
+abbrev pub no_color : Color
+no_color = record { foreground = None; background = None; attributes = record { 0 = 0 } }
+
+-- the color with one more name: the foreground, else the background, else there is no place for it
+abbrev pub next_name : Option Name → Option Name → ℕ → Name → Option Color
+next_name None background bits n = Some (record { foreground = Some n; background = background; attributes = record { 0 = bits } })
+next_name (Some m) None bits n = Some (record { foreground = Some m; background = Some n; attributes = record { 0 = bits } })
+next_name (Some m) (Some o) bits n = None
+
+-- the color with one more item
+abbrev pub with_item : Color → Item → Option Color
+with_item c (items.Name n) = next_name c.foreground c.background c.attributes.0 n
+with_item c (items.Attribute a) = Some (record { foreground = c.foreground; background = c.background; attributes = record { 0 = bit_or c.attributes.0 a.0 } })
+
+-- the color with the item that a word was found to be
+abbrev pub with_found : Color → Option Item → Option Color
+with_found c None = None
+with_found c (Some i) = with_item c i
+
+-- what is done with the color so far, where there is one
+abbrev pub go_on : Option Color → (Color → Option Color) → Option Color
+go_on None more = None
+go_on (Some c) more = more c
+
+-- the color of these words, behind those that gave the color so far
+abbrev pub read_from : Color → List (List ℕ) → Option Color
+read_from c [] = Some c
+read_from c (w ∷ ws) = go_on (with_found c (word_item w)) (λ d. read_from d ws)
+
+abbrev pub color_of : List ℕ → Option Color
+color_of t = read_from no_color (words t)
