@@ -43,3 +43,11 @@ read_from c (w ∷ ws) = go_on (with_found c (word_item w)) (λ d. read_from d w
 
 abbrev pub color_of : List ℕ → Option Color
 color_of t = read_from no_color (words t)
+
+-- the places of the names of two colors, where each has a background only beside a foreground
+abbrev pub places_of : Option Name → Option Name → Option Name → Option Name → Option (Option Name × Option Name)
+places_of None b g d = Some (g, d)
+places_of (Some n) None g None = Some (Some n, g)
+places_of (Some n) None g (Some m) = None
+places_of (Some n) (Some o) None d = Some (Some n, Some o)
+places_of (Some n) (Some o) (Some m) d = None

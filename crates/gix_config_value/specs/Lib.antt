@@ -16,3 +16,6 @@ pub mod WordsLaws
 pub mod Color
 pub mod Composition
 pub mod ColorReading
+pub mod ColorStubs
+pub mod ColorLaws
+pub mod CompositionLaws
