@@ -3,6 +3,10 @@ ghost use Rattle.std.specs.Prelude.{◌≡◌, ℕ, ◌≤◌, ◌↔◌, ◌⊎
 ghost use Rattle.bstr.specs.BStr.{bstr_bytes};
 ghost use Rattle.gix_config_value.specs.Value.{IsRefused, IsAccepted, HasText, Reads, IsTextOf, Normalizes, IsOnlyText};
 
+mod composition;
+
+pub use composition::compose;
+
 use arrayvec::ArrayString;
 use bstr::BStr;
 
