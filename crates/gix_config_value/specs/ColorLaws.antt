@@ -1,9 +1,10 @@
 -- The laws of color text: reading words joined and parted, names placed, and that a text has at most one color.
-use Rattle.std.proofs.Common.{◌≡◌, ℕ, zero, suc, ◌+◌, ◌<◌, ◌≤◌, ◌⊎◌, inl, inr, List, [], ◌∷◌, ◌++◌, length, Option, Some, None, refl, sym, ap, subst, ◌∙◌, append_assoc, length-append, arith}
+use Rattle.std.proofs.Common.{◌≡◌, ◌≢◌, take, drop, slice_range, ℕ, zero, suc, ◌+◌, ◌<◌, ◌≤◌, ◌⊎◌, inl, inr, List, [], ◌∷◌, ◌++◌, length, Option, Some, None, refl, sym, ap, subst, ◌∙◌, append_assoc, length-append, arith}
 use Rattle.std.specs.Int.{bit_at}
 use Rattle.std.specs.Int.RustNames.{bit_or}
 use Rattle.std.specs.Int.Bits.{or_zero_l, or_zero_r}
-use Rattle.std.proofs.lemmas.List.{append-nil}
+use Rattle.std.proofs.lemmas.Bool.Decides.{nat_tests}
+use Rattle.std.proofs.lemmas.List.{append-nil, take_all}
 use Rattle.std.proofs.lemmas.Nat.Bits.{bit_at_or, same_from_bits}
 use Rattle.gix_config_value.specs.declared.color.Color.{Color}
 use Rattle.gix_config_value.specs.declared.color.attribute.Attribute.{Attribute}
@@ -16,10 +17,12 @@ use Rattle.gix_config_value.specs.ColorReading.{word_item, no_color, next_name, 
 use Rattle.gix_config_value.specs.ColorStubs.{word_item-value}
 use Rattle.gix_config_value.specs.Composition.{named}
 use Rattle.gix_config_value.specs.Name.{NameText}
-use Rattle.gix_config_value.specs.Value.{IsAccepted, IsRefused, IsValueOf}
+use Rattle.gix_config_value.specs.Value.{IsAccepted, IsRefused, Reads, IsValueOf}
 use Rattle.gix_config_value.specs.ValueLaws.{decided_by, one_value_by}
 use Rattle.gix_config_value.specs.Word.{ItemText}
-use Rattle.gix_config_value.specs.Words.{words}
+use Rattle.gix_config_value.specs.Words.{piece, words}
+use Rattle.gix_config_value.specs.WordsLaws.{IsWithoutSpace, words_step, words_last, eqb_told}
+use Rattle.gix_config_value.specs.Space.{Space}
 
 pub or_assoc : (a b c : ℕ) → bit_or (bit_or a b) c ≡ bit_or a (bit_or b c)
 or_assoc a b c = same_from_bits _ _ (λ i. simp bit_at_or (omega arith))
@@ -196,3 +199,72 @@ color_one_value t v w p q = one_value_by color_of-value t v w p q
 
 pub color_decided : (t : List ℕ) → IsAccepted ColorText t ⊎ IsRefused ColorText t
 color_decided t = decided_by color_of-value t
+
+-- what an exact reader answers is what the grammar gives as a function
+pub reads_by : {V : Type 0} {grammar : List ℕ → V → Type 0} {value_of : List ℕ → Option V} → IsValueOf grammar value_of
+    → (t : List ℕ) (r : Option V) → value_of t ≡ r → Reads grammar t r
+reads_by law t None e = λ v h. cc (e, law.found t v h)
+reads_by law t (Some v) e = law.derived t v e
+
+pub read_is : {V : Type 0} {grammar : List ℕ → V → Type 0} {value_of : List ℕ → Option V} → IsValueOf grammar value_of
+    → (t : List ℕ) (r : Option V) → Reads grammar t r → value_of t ≡ r
+read_is {V} {grammar} {value_of} law t None h = told (value_of t) refl where
+  told : (o : Option V) → value_of t ≡ o → value_of t ≡ None
+  told None e = e
+  told (Some v) e = absurd (h v (law.derived t v e))
+read_is law t (Some v) h = law.found t v h
+
+go_on_only : (o : Option Color) → go_on o (λ d. Some d) ≡ o
+go_on_only None = refl
+go_on_only (Some c) = refl
+
+go_on_both : (o : Option Color) (more : Color → Option Color) → go_on o more ≡ go_on (go_on o (λ d. Some d)) more
+go_on_both None more = refl
+go_on_both (Some c) more = refl
+
+-- one more word, by the item that it was found to be
+pub read_word : (c : Color) (t : List ℕ) (r : Option Item) → t ≢ [] → Reads ItemText t r → read_from c (piece t) ≡ with_found c r
+read_word c [] r n h = absurd (n refl)
+read_word c (x ∷ t) r n h = rw (read_is word_item-value (x ∷ t) r h) (go_on_only (with_found c r))
+
+-- a piece, and the words behind it
+read_piece : (c : Color) (t : List ℕ) (ws : List (List ℕ)) → read_from c (piece t ++ ws) ≡ go_on (read_from c (piece t)) (λ d. read_from d ws)
+read_piece c [] ws = refl
+read_piece c (x ∷ t) ws = go_on_both (with_found c (word_item (x ∷ t))) (λ d. read_from d ws)
+
+-- a text whose first word is n bytes long, and s bytes of white space behind it
+pub read_step : (c : Color) (text : List ℕ) (n s : ℕ) → IsWithoutSpace text n → n + s ≤ length text → Space (slice_range text n (n + s))
+    → read_from c (words text) ≡ go_on (read_from c (piece (take n text))) (λ d. read_from d (words (drop (n + s) text)))
+read_step c text n s h l k = ap (λ ws. read_from c ws) (words_step text n s h l k) ∙ read_piece c (take n text) (words (drop (n + s) text))
+
+pub read_last : (c : Color) (text : List ℕ) → IsWithoutSpace text (length text) → read_from c (words text) ≡ read_from c (piece text)
+read_last c text h = ap (λ ws. read_from c ws) (words_last text h)
+
+-- the walk: what the words of the input read to is what the color so far and the words of the rest read to
+pub walk_refused : (input rest : List ℕ) (c : Color) (n s : ℕ) → read_from no_color (words input) ≡ read_from c (words rest)
+    → IsWithoutSpace rest n → n + s ≤ length rest → (0 < s → Space (slice_range rest n (n + s))) → (s ≡ 0 → n ≡ length rest)
+    → read_from c (piece (take n rest)) ≡ None → Reads ColorText input None
+walk_refused input rest c n s same clear within parted last e =
+    elim (eqb_told s 0) [
+      | inl z ↦
+          let all : n ≡ length rest = last z.1 in
+          let clear_all : IsWithoutSpace rest (length rest) = subst (λ (n : ℕ). IsWithoutSpace rest n) all clear in
+          reads_by color_of-value input None (same ∙ (read_last c rest clear_all ∙ (ap (λ t. read_from c (piece t)) (sym (take_all n rest (omega arith))) ∙ e)))
+      | inr z ↦
+          let some : 0 < s = grind (arith, nat_tests) in
+          reads_by color_of-value input None (same ∙ (read_step c rest n s clear within (parted some) ∙ ap (λ o. go_on o (λ d. read_from d (words (drop (n + s) rest)))) e))
+    ]
+
+pub walk_done : (input rest : List ℕ) (c d : Color) (n s : ℕ) → read_from no_color (words input) ≡ read_from c (words rest)
+    → IsWithoutSpace rest n → (s ≡ 0 → n ≡ length rest) → s ≡ 0
+    → read_from c (piece (take n rest)) ≡ Some d → ColorText input d
+walk_done input rest c d n s same clear last z e =
+    let all : n ≡ length rest = last z in
+    let clear_all : IsWithoutSpace rest (length rest) = subst (λ (n : ℕ). IsWithoutSpace rest n) all clear in
+    color_of-value.derived input d (same ∙ (read_last c rest clear_all ∙ (ap (λ t. read_from c (piece t)) (sym (take_all n rest (omega arith))) ∙ e)))
+
+pub walk_goes_on : (input rest : List ℕ) (c d : Color) (n s : ℕ) → read_from no_color (words input) ≡ read_from c (words rest)
+    → IsWithoutSpace rest n → n + s ≤ length rest → (0 < s → Space (slice_range rest n (n + s))) → ¬ (s ≡ 0)
+    → read_from c (piece (take n rest)) ≡ Some d → read_from no_color (words input) ≡ read_from d (words (drop (n + s) rest))
+walk_goes_on input rest c d n s same clear within parted z e =
+    same ∙ (read_step c rest n s clear within (parted (omega arith)) ∙ ap (λ o. go_on o (λ d. read_from d (words (drop (n + s) rest)))) e)

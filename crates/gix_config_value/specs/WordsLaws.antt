@@ -16,7 +16,7 @@ each_row P (row ∷ rows) all text (inl e) = rw e all.0
 each_row P (row ∷ rows) all text (inr h) = each_row P rows all.1 text h
 
 -- a test of equal numbers, told
-eqb_told : (x y : ℕ) → ((x == y ≡ true) × (x ≡ y)) ⊎ (x == y ≡ false)
+pub eqb_told : (x y : ℕ) → ((x == y ≡ true) × (x ≡ y)) ⊎ (x == y ≡ false)
 eqb_told x y = told (x == y) refl (Decides-eqb x y) where
   told : (b : Bool) → x == y ≡ b → Decides (x == y) (x ≡ y) → ((x == y ≡ true) × (x ≡ y)) ⊎ (x == y ≡ false)
   told true e d = inl (e, d.0 e)
