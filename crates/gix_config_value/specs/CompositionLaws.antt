@@ -10,10 +10,10 @@ use Rattle.gix_config_value.specs.Color.{WordsRead, Placed, ColorText, Canonical
 use Rattle.gix_config_value.specs.ColorLaws.{WordsRead-join, PartsRead, WordsRead-split, WordsRead-one, Placed-words, Placed-short, Placed-one, placing, same_color}
 use Rattle.gix_config_value.specs.ColorReading.{places_of}
 use Rattle.gix_config_value.specs.Composition.{named, color_words, Composition, Composes, Joined, Joins, SameWords, ComparesWords}
-use Rattle.gix_config_value.specs.Space.{spellings, Space}
+use Rattle.gix_config_value.specs.Space.{Space}
 use Rattle.gix_config_value.specs.Value.{HasText, IsTextOf, Normalizes, Compares}
 use Rattle.gix_config_value.specs.Words.{words}
-use Rattle.gix_config_value.specs.WordsLaws.{words_joined}
+use Rattle.gix_config_value.specs.WordsLaws.{words_joined, space_byte}
 
 -- a color that has a text has a background only beside a foreground
 pub background_beside : (t : List ℕ) (c : Color) → ColorText t c → c.foreground ≡ None → c.background ≡ None
@@ -78,10 +78,6 @@ compares_words a b (Some same) (v, w, p, q, k, texts) = (λ e. agree (k.0 e), λ
       let placed = Placed-one p.names v.foreground v.background w.foreground w.background p.placed
           (subst (λ (ns : List Name). Placed ns w.foreground w.background) (o.0 ∙ sym m.0) q.placed) in
       same_color v w placed.0 placed.1 (m.1 ∙ sym o.1)
-
-space_byte : Space (32 ∷ [])
-unfolding spellings
-space_byte = inr (inr (inr (inr (inr (inl refl)))))
 
 -- a composition of colors that have texts has one
 pub composition_has_text : (a b c : Color) → HasText ColorText a → HasText ColorText b → Composition a b c → HasText ColorText c

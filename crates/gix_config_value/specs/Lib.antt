@@ -19,3 +19,4 @@ pub mod ColorReading
 pub mod ColorStubs
 pub mod ColorLaws
 pub mod CompositionLaws
+pub mod PlainWords

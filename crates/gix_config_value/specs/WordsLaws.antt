@@ -9,6 +9,10 @@ use Rattle.gix_config_value.specs.OneOf.{OneOf}
 use Rattle.gix_config_value.specs.Space.{spellings, Space}
 use Rattle.gix_config_value.specs.Words.{after, or_else, after_one, after_space, Cut, cut_at, last_cut, piece, words_at, words_within, words}
 
+pub space_byte : Space (32 ∷ [])
+unfolding spellings
+space_byte = inr (inr (inr (inr (inr (inl refl)))))
+
 -- what holds of each row holds of one of them
 pub each_row : (P : List ℕ → Type 0) (rows : List (List ℕ)) → AllByRecursion P rows → (text : List ℕ) → OneOf rows text → P text
 each_row P [] all text h = absurd h
