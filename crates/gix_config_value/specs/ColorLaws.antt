@@ -14,15 +14,19 @@ use Rattle.gix_config_value.specs.declared.color.words.Item.TheVariants as items
 use Rattle.gix_config_value.specs.Attribute.{AttributeText}
 use Rattle.gix_config_value.specs.Color.{WordsRead, Placed, ColorText}
 use Rattle.gix_config_value.specs.ColorReading.{word_item, no_color, next_name, with_item, with_found, go_on, read_from, color_of}
-use Rattle.gix_config_value.specs.ColorStubs.{word_item-value}
 use Rattle.gix_config_value.specs.Composition.{named}
 use Rattle.gix_config_value.specs.Name.{NameText}
 use Rattle.gix_config_value.specs.Value.{IsAccepted, IsRefused, Reads, IsValueOf}
 use Rattle.gix_config_value.specs.ValueLaws.{decided_by, one_value_by}
 use Rattle.gix_config_value.specs.Word.{ItemText}
+use Rattle.gix_config_value.specs.WordLaws.{item-law, item_one_value, not_both}
 use Rattle.gix_config_value.specs.Words.{piece, words}
 use Rattle.gix_config_value.specs.WordsLaws.{IsWithoutSpace, words_step, words_last, eqb_told}
 use Rattle.gix_config_value.specs.Space.{Space}
+
+word_item-value : IsValueOf ItemText word_item
+unfolding word_item
+word_item-value = item-law
 
 pub or_assoc : (a b c : ℕ) → bit_or (bit_or a b) c ≡ bit_or a (bit_or b c)
 or_assoc a b c = same_from_bits _ _ (λ i. simp bit_at_or (omega arith))
@@ -56,18 +60,11 @@ WordsRead-split (w ∷ xs) ys names bits (inr (a, more, t, e, r)) =
     let p = WordsRead-split xs ys names more r in
     record { front_names = p.front_names; back_names = p.back_names; front_bits = bit_or a.0 p.front_bits; back_bits = p.back_bits; front = inr (a, p.front_bits, t, refl, p.front); back = p.back; all_names = p.all_names; all_bits = e ∙ (ap (λ i. bit_or a.0 i) p.all_bits ∙ sym (or_assoc a.0 p.front_bits p.back_bits)) }
 
--- a word has one item
-pub one_item : (w : List ℕ) (i j : Item) → ItemText w i → ItemText w j → i ≡ j
-one_item w i j p q = one_value_by word_item-value w i j p q
-
 one_name : (w : List ℕ) (n m : Name) → NameText w n → NameText w m → n ≡ m
-one_name w n m p q = let e = one_item w (items.Name n) (items.Name m) p q in cc
+one_name w n m p q = let e = item_one_value w (items.Name n) (items.Name m) p q in cc
 
 one_attribute : (w : List ℕ) (a b : Attribute) → AttributeText w a → AttributeText w b → a ≡ b
-one_attribute w a b p q = let e = one_item w (items.Attribute a) (items.Attribute b) p q in cc
-
-not_both : (w : List ℕ) (n : Name) (a : Attribute) → NameText w n → AttributeText w a → ⊥
-not_both w n a p q = let e = one_item w (items.Name n) (items.Attribute a) p q in cc
+one_attribute w a b p q = let e = item_one_value w (items.Attribute a) (items.Attribute b) p q in cc
 
 -- words have one reading
 pub WordsRead-one : (ws : List (List ℕ)) (ns ms : List Name) (i j : ℕ) → WordsRead ws ns i → WordsRead ws ms j → (ns ≡ ms) × (i ≡ j)

@@ -6,10 +6,12 @@ use Rattle.gix_config_value.specs.declared.color.Color.{Color}
 use Rattle.gix_config_value.specs.declared.color.name.Name.{Name}
 use Rattle.gix_config_value.specs.declared.color.words.Item.{Item}
 use Rattle.gix_config_value.specs.declared.color.words.Item.TheVariants as items
+use Rattle.gix_config_value.specs.WordReading.{item_of}
 use Rattle.gix_config_value.specs.Words.{words}
 
+-- what a word stands for
 unfoldable pub word_item : List ℕ → Option Item
-word_item t = None
+word_item t = item_of t
 
 -- the color of no word
 abbrev pub no_color : Color

@@ -9,6 +9,12 @@ pub mod OneOf
 pub mod Name
 pub mod Attribute
 pub mod Word
+pub mod WordReading
+pub mod OneOfLaws
+pub mod WordLaws
+pub mod NameLaws
+pub mod AttributeShowing
+pub mod AttributeLaws
 pub mod Space
 pub mod Words
 pub mod SpaceLaws
@@ -16,7 +22,6 @@ pub mod WordsLaws
 pub mod Color
 pub mod Composition
 pub mod ColorReading
-pub mod ColorStubs
 pub mod ColorLaws
 pub mod CompositionLaws
 pub mod PlainWords

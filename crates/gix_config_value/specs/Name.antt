@@ -1,5 +1,5 @@
 -- Color names: eighteen words, `-1`, palette numbers, and `#` with hexadecimal digits.
-use Rattle.std.specs.Prelude.{◌≡◌, ℕ, ◌+◌, ◌*◌, ◌/◌, ◌%◌, ◌<◌, ◌≤◌, ◌⊎◌, List, [], ◌∷◌, ◌++◌, length, codes, decimal}
+use Rattle.std.specs.Prelude.{◌≡◌, ℕ, ◌+◌, ◌*◌, ◌/◌, ◌%◌, ◌<◌, ◌≤◌, ◌⊎◌, List, [], ◌∷◌, ◌++◌, length, codes, decimal, ⊤}
 use Rattle.std.specs.Char.{digit_value, digit_char}
 use Rattle.std.specs.Int.{IsInRange}
 use Rattle.std.specs.List.{AllByRecursion}
@@ -59,6 +59,12 @@ pub data NameText (t : List ℕ) (n : Name) : Type 0 where
       → n ≡ Rgb r g u → NameText t n
   doubled : (a c e r g u : ℕ) → t ≡ 35 ∷ a ∷ c ∷ e ∷ [] → HexPair a a r → HexPair c c g → HexPair e e u
       → n ≡ Rgb r g u → NameText t n
+
+-- a name as the code keeps it: each number is at most 255
+abbrev pub NameFits : Name → Type 0
+NameFits (Ansi n) = n ≤ 255
+NameFits (Rgb r g b) = (r ≤ 255) × (g ≤ 255) × (b ≤ 255)
+NameFits _ = ⊤
 
 -- the words of the canonical texts
 unfoldable pub lower_words : List (List ℕ)
