@@ -25,3 +25,4 @@ pub mod ColorReading
 pub mod ColorLaws
 pub mod CompositionLaws
 pub mod PlainWords
+pub mod ColorShownLaws
