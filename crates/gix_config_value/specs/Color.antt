@@ -1,13 +1,13 @@
 -- Colors: a foreground, a background and a set of attributes.
 use Rattle.std.specs.Prelude.{◌≡◌, ℕ, ◌≤◌, ◌⊎◌, List, [], ◌∷◌, ◌++◌, length, zero, suc, Option, None, Some}
 use Rattle.std.specs.Bool.{⊤}
-use Rattle.std.specs.Int.RustNames.{bit_or}
+use Rattle.std.specs.Int.RustNames.{bit_and, bit_or}
 use Rattle.std.specs.List.{AllByRecursion, join_with_byte}
 use Rattle.gix_config_value.specs.declared.color.Color.{Color}
 use Rattle.gix_config_value.specs.declared.color.attribute.Attribute.{Attribute}
 use Rattle.gix_config_value.specs.declared.color.name.Name.{Name}
 use Rattle.gix_config_value.specs.Attribute.{AttributeText, attribute_shown, rising_words}
-use Rattle.gix_config_value.specs.Name.{NameText, CanonicalName, name_shown}
+use Rattle.gix_config_value.specs.Name.{NameText, CanonicalName, NameFits, name_shown}
 use Rattle.gix_config_value.specs.Words.{words}
 
 -- each word is a name text or an attribute text: the names that the words have, in order, and the union of the
@@ -68,3 +68,12 @@ pub record CanonicalColor (t : List ℕ) : Type 0 where
   pub named : AllByRecursion CanonicalName names
   pub chosen : Chosen rising_words words
   pub spelled : t ≡ spaced_out (names ++ words)
+
+-- the numbers of a name that is there are bytes
+abbrev pub PartFits : Option Name → Type 0
+PartFits None = ⊤
+PartFits (Some n) = NameFits n
+
+-- no bit is set but 1 to 8 and 21 to 27, which are those that have a constant
+abbrev pub AreKnown : ℕ → Type 0
+AreKnown bits = bit_and bits 266338814 ≡ bits

@@ -1,11 +1,13 @@
 -- Color text as a function, from the front: what the code computes, proved in `ColorLaws` to be `ColorText`. The
 -- private functions' contracts cite it, and no public one does.
-use Rattle.std.specs.Prelude.{ℕ, List, [], ◌∷◌, Option, None, Some}
+use Rattle.std.specs.Prelude.{ℕ, List, [], ◌∷◌, ◌++◌, Option, None, Some}
 use Rattle.std.specs.Int.RustNames.{bit_or}
+use Rattle.std.specs.List.{join_with_byte}
 use Rattle.gix_config_value.specs.declared.color.Color.{Color}
 use Rattle.gix_config_value.specs.declared.color.name.Name.{Name}
 use Rattle.gix_config_value.specs.declared.color.words.Item.{Item}
 use Rattle.gix_config_value.specs.declared.color.words.Item.TheVariants as items
+use Rattle.gix_config_value.specs.Color.{part_shown}
 use Rattle.gix_config_value.specs.WordReading.{item_of}
 use Rattle.gix_config_value.specs.Words.{words}
 
@@ -53,3 +55,7 @@ places_of (Some n) None g None = Some (Some n, g)
 places_of (Some n) None g (Some m) = None
 places_of (Some n) (Some o) None d = Some (Some n, Some o)
 places_of (Some n) (Some o) (Some m) d = None
+
+-- the names as they are shown
+abbrev pub names_shown : Option Name → Option Name → List ℕ
+names_shown f b = join_with_byte 32 (part_shown f ++ part_shown b)

@@ -4,8 +4,11 @@ ghost use Rattle.std.specs.Cow.{cow_slice_items};
 ghost use Rattle.bstr.specs.BStr.{bstr_bytes};
 ghost use Rattle.bstr.specs.Owned.{bstring_bytes};
 ghost use Rattle.gix_config_value.specs.declared.errors.Fault.TheVariants as faults;
-ghost use Rattle.gix_config_value.specs.Color.{ColorText};
-ghost use Rattle.gix_config_value.specs.ColorReading.{no_color, next_name, with_item, read_from};
+ghost use Rattle.gix_config_value.specs.Color.{ColorText, CanonicalColor, PartFits, color_shown};
+ghost use Rattle.gix_config_value.specs.ColorLaws.{color_one_value, color_decided};
+ghost use Rattle.gix_config_value.specs.ColorReading.{no_color, next_name, with_item, read_from, names_shown};
+ghost use Rattle.gix_config_value.specs.ColorShownLaws.{color_equal, color_canonical_reads, color_one_text, color_shown_is_text};
+ghost use Rattle.std.proofs.Common.{rules};
 ghost use Rattle.gix_config_value.specs.Refusals.{ReadsBytes, ReadsText, ReadsOwned};
 ghost use Rattle.gix_config_value.specs.Space.{Space};
 ghost use Rattle.gix_config_value.specs.Value.{Reads};
@@ -22,10 +25,13 @@ pub use name::Name;
 pub use space::space_at;
 pub use words::{Item, word};
 
+use crate::canonical::Value;
 use crate::errors::{Error, Fault, Returned};
+use arrayvec::ArrayString;
 use bitflags::Flags;
 use bstr::{BStr, BString};
 use std::borrow::CowSlice;
+use std::fmt;
 
 /// A color: the two that text is drawn in, and its attributes.
 #[derive(Clone, Copy, PartialEq, Eq, PartialOrd, Ord, Hash, Debug)]
@@ -80,6 +86,55 @@ impl Color {
             return Some(self);
         }
         self.with_item(word(text)?)
+    }
+}
+
+/// The numbers of a name that is there are bytes.
+fn part_fits(part: Option<Name>)
+    ensures { PartFits part }
+{
+    if let Some(name) = part {
+        name::numbers_fit(name);
+    }
+}
+
+impl Color {
+    /// The names as they are shown, with one space between.
+    #[tactic(auto, using(crate::specs::NameLaws::name_short))]
+    fn names_shown(&self) -> ArrayString<127>
+        ensures text { result.bytes ≡ names_shown self.now.foreground self.now.background }
+        ensures room { length result.bytes ≤ 27 }
+    {
+        match (self.foreground, self.background) {
+            (None, None) => ArrayString::new(),
+            (Some(name), None) | (None, Some(name)) => {
+                name::numbers_fit(name);
+                name.shown()
+            }
+            (Some(first), Some(second)) => {
+                name::numbers_fit(first);
+                name::numbers_fit(second);
+                let mut text = first.shown();
+                text.push_str(" ");
+                second.push_to(&mut text);
+                text
+            }
+        }
+    }
+
+    /// The color as it is shown.
+    pub(crate) fn shown(&self) -> ArrayString<127>
+        ensures { result.bytes ≡ color_shown self.now }
+    {
+        let mut text = self.names_shown();
+        if self.attributes.is_empty() {
+            return text;
+        }
+        if self.foreground.is_some() || self.background.is_some() {
+            text.push_str(" ");
+        }
+        self.attributes.push_to(&mut text);
+        text
     }
 }
 
@@ -179,4 +234,46 @@ impl<'a> TryFrom<CowSlice<'a, u8>> for Color {
             None => Err(Returned { fault: Fault::Color, input }),
         }
     }
+}
+
+impl fmt::Display for Color {
+    ghost output = { λ c. Some (color_shown c) };
+
+    fn fmt<W: fmt::Write>(&self, f: &mut fmt::Formatter<W>) -> fmt::Result {
+        f.write_str(self.shown().as_str())
+    }
+}
+
+impl Value for Color {
+    ghost grammar = { ColorText };
+
+    ghost canonical = { CanonicalColor };
+
+    ghost displayed = { color_shown };
+
+    fn read(input: BStr<'_>) -> Option<Color> {
+        color_of(input.as_bytes())
+    }
+
+    fn has_text(&self) -> bool {
+        part_fits(self.foreground);
+        part_fits(self.background);
+        Attribute::all().contains(self.attributes) && (self.background.is_none() || self.foreground.is_some())
+    }
+
+    fn text(&self) -> ArrayString<127> {
+        self.shown()
+    }
+
+    ghost one_value = { color_one_value };
+
+    ghost one_text = { color_one_text };
+
+    ghost canonical_reads = { color_canonical_reads };
+
+    ghost shown_is_text = { color_shown_is_text };
+
+    ghost decided = { color_decided };
+
+    ghost equal_is_same = { color_equal ⟦<Name as PartialEq>⟧.eq (Prim.search rules) };
 }

@@ -184,7 +184,7 @@ impl fmt::Display for Name {
 }
 
 /// Each number of a name is a byte.
-fn numbers_fit(name: Name)
+pub(super) fn numbers_fit(name: Name)
     ensures { NameFits name }
 {
     match name {
