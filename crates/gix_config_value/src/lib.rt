@@ -5,6 +5,7 @@ pub mod canonical;
 pub mod color;
 pub mod errors;
 pub mod integer;
+pub mod laws;
 
 pub use color::Color;
 pub use errors::{Error, Fault, Returned};

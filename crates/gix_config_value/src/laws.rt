@@ -1,0 +1,3 @@
+//! Laws about the definitions, each as the contract of a function that does nothing.
+
+pub mod attributes;
