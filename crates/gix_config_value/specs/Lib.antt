@@ -29,3 +29,14 @@ pub mod Path
 pub mod Passwd
 pub mod Interpolation
 pub mod InterpolationLaws
+pub mod Space
+pub mod Words
+pub mod SpaceLaws
+pub mod WordsLaws
+pub mod Color
+pub mod Composition
+pub mod ColorReading
+pub mod ColorLaws
+pub mod CompositionLaws
+pub mod PlainWords
+pub mod ColorShownLaws

@@ -11,6 +11,7 @@ pub mod path;
 pub mod program;
 
 pub use boolean::Boolean;
+pub use color::Color;
 pub use errors::{Error, Fault, Returned};
 pub use integer::Integer;
 pub use path::Path;

@@ -68,12 +68,12 @@ fn push_hex(text: &mut ArrayString<127>, byte: u8)
     requires { length text.old.bytes + 2 ≤ 127 }
     ensures { text.new.bytes ≡ text.old.bytes ++ hex_pair byte }
 {
-    text.push(hex_digit(byte / 16));
-    text.push(hex_digit(byte % 16));
+    text.push(hex_char(byte / 16));
+    text.push(hex_char(byte % 16));
 }
 
 /// The lower-case hexadecimal digit of a number below 16.
-fn hex_digit(number: u8) -> char
+fn hex_char(number: u8) -> char
     requires { number < 16 }
     ensures { result ≡ digit_char number }
 {
@@ -184,7 +184,7 @@ impl fmt::Display for Name {
 }
 
 /// Each number of a name is a byte.
-fn numbers_fit(name: Name)
+pub(super) fn numbers_fit(name: Name)
     ensures { NameFits name }
 {
     match name {
