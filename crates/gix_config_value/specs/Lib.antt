@@ -29,3 +29,4 @@ pub mod Path
 pub mod Passwd
 pub mod Interpolation
 pub mod InterpolationLaws
+pub mod Settings
