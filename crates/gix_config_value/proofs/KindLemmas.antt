@@ -10,6 +10,8 @@ use Rattle.gix_config_value.specs.SuffixLaws.{suffix_decided, suffix_shown_is_te
 use Rattle.gix_config_value.specs.Integer.{IntegerText, CanonicalInteger, integer_shown}
 use Rattle.gix_config_value.specs.IntegerLaws.{integer_decided}
 use Rattle.gix_config_value.specs.IntegerShownLaws.{integer_shown_is_text}
+use Rattle.gix_config_value.specs.Boolean.{BooleanText, CanonicalBoolean, boolean_shown}
+use Rattle.gix_config_value.specs.BooleanLaws.{boolean_decided, boolean_shown_is_text}
 use Rattle.gix_config_value.specs.Name.{NameText, CanonicalName, name_shown}
 use Rattle.gix_config_value.specs.NameLaws.{name_decided, name_shown_is_text}
 use Rattle.gix_config_value.specs.Attribute.{AttributeText, CanonicalAttribute, attribute_shown}
@@ -20,13 +22,15 @@ pub kind_told : (head : List ℕ) → ((kind : Kind) × (kind_name kind ≡ head
 kind_told head =
     elim (text_told (codes "suffix") head) [ inl p ↦ inl (kinds.Suffix, p) | inr suffix ↦
     elim (text_told (codes "integer") head) [ inl p ↦ inl (kinds.Integer, p) | inr integer ↦
+    elim (text_told (codes "boolean") head) [ inl p ↦ inl (kinds.Boolean, p) | inr boolean ↦
     elim (text_told (codes "name") head) [ inl p ↦ inl (kinds.Name, p) | inr name ↦
     elim (text_told (codes "attribute") head) [ inl p ↦ inl (kinds.Attribute, p) | inr attribute ↦
     inr (λ kind. elim kind as (λ k. kind_name k ≢ head) [
         kinds.Suffix ↦ suffix
       | kinds.Integer ↦ integer
+      | kinds.Boolean ↦ boolean
       | kinds.Name ↦ name
-      | kinds.Attribute ↦ attribute ]) ] ] ] ]
+      | kinds.Attribute ↦ attribute ]) ] ] ] ] ]
 
 abbrev pub HasCanonicalText : {V : Type 0} → (List ℕ → V → Type 0) → (List ℕ → Type 0) → List ℕ → Type 0
 HasCanonicalText {V} grammar canonical t = (s : List ℕ) × ((v : V) × grammar t v × IsTextOf grammar canonical v s)
@@ -43,5 +47,6 @@ decided_with grammar canonical displayed decided shown t = elim (decided t) [
 pub kind_decided : (kind : Kind) (t : List ℕ) → HasCanonicalText (KindGrammar kind) (KindCanonical kind) t ⊎ IsRefused (KindGrammar kind) t
 kind_decided kinds.Suffix t = decided_with SuffixText CanonicalSuffix suffix_shown suffix_decided suffix_shown_is_text t
 kind_decided kinds.Integer t = decided_with IntegerText CanonicalInteger integer_shown integer_decided integer_shown_is_text t
+kind_decided kinds.Boolean t = decided_with BooleanText CanonicalBoolean boolean_shown boolean_decided boolean_shown_is_text t
 kind_decided kinds.Name t = decided_with NameText CanonicalName name_shown name_decided name_shown_is_text t
 kind_decided kinds.Attribute t = decided_with AttributeText CanonicalAttribute (λ a. attribute_shown a.0) attribute_decided attribute_shown_is_text t

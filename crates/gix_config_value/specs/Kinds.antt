@@ -4,10 +4,12 @@ use Rattle.gix_config_value.specs.declared.canonical.kind.Kind.{Kind}
 use Rattle.gix_config_value.specs.declared.canonical.kind.Kind.TheVariants as kinds
 use Rattle.gix_config_value.specs.declared.integer.suffix.Suffix as suffix
 use Rattle.gix_config_value.specs.declared.integer.Integer as integer
+use Rattle.gix_config_value.specs.declared.boolean.Boolean as boolean
 use Rattle.gix_config_value.specs.declared.color.name.Name as name
 use Rattle.gix_config_value.specs.declared.color.attribute.Attribute as attribute
 use Rattle.gix_config_value.specs.Suffix.{SuffixText, CanonicalSuffix}
 use Rattle.gix_config_value.specs.Integer.{IntegerText, CanonicalInteger}
+use Rattle.gix_config_value.specs.Boolean.{BooleanText, CanonicalBoolean}
 use Rattle.gix_config_value.specs.Name.{NameText, CanonicalName}
 use Rattle.gix_config_value.specs.Attribute.{AttributeText, CanonicalAttribute}
 
@@ -15,6 +17,7 @@ use Rattle.gix_config_value.specs.Attribute.{AttributeText, CanonicalAttribute}
 abbrev pub kind_name : Kind → List ℕ
 kind_name kinds.Suffix = codes "suffix"
 kind_name kinds.Integer = codes "integer"
+kind_name kinds.Boolean = codes "boolean"
 kind_name kinds.Name = codes "name"
 kind_name kinds.Attribute = codes "attribute"
 
@@ -22,6 +25,7 @@ kind_name kinds.Attribute = codes "attribute"
 abbrev pub KindValue : Kind → Type 0
 KindValue kinds.Suffix = suffix.Suffix
 KindValue kinds.Integer = integer.Integer
+KindValue kinds.Boolean = boolean.Boolean
 KindValue kinds.Name = name.Name
 KindValue kinds.Attribute = attribute.Attribute
 
@@ -29,6 +33,7 @@ KindValue kinds.Attribute = attribute.Attribute
 abbrev pub KindGrammar : (kind : Kind) → List ℕ → KindValue kind → Type 0
 KindGrammar kinds.Suffix = SuffixText
 KindGrammar kinds.Integer = IntegerText
+KindGrammar kinds.Boolean = BooleanText
 KindGrammar kinds.Name = NameText
 KindGrammar kinds.Attribute = AttributeText
 
@@ -36,5 +41,6 @@ KindGrammar kinds.Attribute = AttributeText
 abbrev pub KindCanonical : Kind → List ℕ → Type 0
 KindCanonical kinds.Suffix = CanonicalSuffix
 KindCanonical kinds.Integer = CanonicalInteger
+KindCanonical kinds.Boolean = CanonicalBoolean
 KindCanonical kinds.Name = CanonicalName
 KindCanonical kinds.Attribute = CanonicalAttribute

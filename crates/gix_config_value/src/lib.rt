@@ -6,10 +6,9 @@ pub mod canonical;
 pub mod color;
 pub mod errors;
 pub mod integer;
-pub mod program;
-pub mod laws;
 pub mod laws;
 pub mod path;
+pub mod program;
 
 pub use boolean::Boolean;
 pub use errors::{Error, Fault, Returned};

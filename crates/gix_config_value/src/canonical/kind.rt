@@ -6,6 +6,7 @@ ghost use Rattle.gix_config_value.specs.Value.{Normalizes, IsOnlyText, Compares}
 ghost use Rattle.gix_config_value.specs.declared.canonical.kind.Kind as kind;
 
 use crate::canonical::{Value, normalize_as};
+use crate::boolean::Boolean;
 use crate::color::{Attribute, Name};
 use crate::integer::{Integer, Suffix};
 use arrayvec::ArrayString;
@@ -18,6 +19,8 @@ pub enum Kind {
     Suffix,
     /// Numbers with at most one suffix.
     Integer,
+    /// Truth values, as words or as numbers.
+    Boolean,
     /// The names of colors.
     Name,
     /// The words of attributes, one at a time.
@@ -31,6 +34,7 @@ pub(crate) fn kind_by_name(name: &[u8]) -> Option<Kind>
     match name {
         b"suffix" => Some(Kind::Suffix),
         b"integer" => Some(Kind::Integer),
+        b"boolean" => Some(Kind::Boolean),
         b"name" => Some(Kind::Name),
         b"attribute" => Some(Kind::Attribute),
         _ => None,
@@ -48,6 +52,7 @@ pub fn normalize(kind: Kind, input: BStr<'_>) -> Option<ArrayString<127>>
     match kind {
         Kind::Suffix => normalize_as::<Suffix>(input),
         Kind::Integer => normalize_as::<Integer>(input),
+        Kind::Boolean => normalize_as::<Boolean>(input),
         Kind::Name => normalize_as::<Name>(input),
         Kind::Attribute => normalize_as::<Attribute>(input),
     }
@@ -60,6 +65,7 @@ pub fn same(kind: Kind, a: BStr<'_>, b: BStr<'_>) -> Option<bool>
     match kind {
         Kind::Suffix => same_as::<Suffix>(a, b),
         Kind::Integer => same_as::<Integer>(a, b),
+        Kind::Boolean => same_as::<Boolean>(a, b),
         Kind::Name => same_as::<Name>(a, b),
         Kind::Attribute => same_as::<Attribute>(a, b),
     }

@@ -6,6 +6,9 @@ returns-in-Suffix c = rw c.in-Suffix.is c.same_as.ensures
 pub returns-in-Integer : goal.returns-in-Integer
 returns-in-Integer c = rw c.in-Integer.is c.same_as-in-Integer.ensures
 
+pub returns-in-Boolean : goal.returns-in-Boolean
+returns-in-Boolean c = rw c.in-Boolean.is c.same_as-in-Boolean.ensures
+
 pub returns-in-Name : goal.returns-in-Name
 returns-in-Name c = rw c.in-Name.is c.same_as-in-Name.ensures
 
