@@ -47,9 +47,15 @@ named_on grammar (e ∷ es) (f ∷ fs) all n (suc i) t named = named_on grammar 
 decides_on : {V : Type 0} (grammar : List ℕ → V → Type 0) (es fs : List (List ℕ × List ℕ)) → AllZip (SameEntry grammar) es fs
     → (n : List ℕ) (i : ℕ) (t : List ℕ) → Decides es n i t → (u : List ℕ) × Decides fs n i u × SameText grammar t u
 decides_on grammar es fs all n i t decides =
-    let here = named_on grammar es fs all n i t decides.named in
-    (here.0, record { named = here.1; last = λ j u above named.
-        let there = named_on grammar fs es (entries_back grammar es fs all) n j u named in decides.last j there.0 above there.1 }, here.2)
+    let here = named_on grammar es fs all n i t decides.named in (
+      here.0,
+      record {
+        named = here.1;
+        last = λ j u above named.
+            let there = named_on grammar fs es (entries_back grammar es fs all) n j u named in decides.last j there.0 above there.1;
+      },
+      here.2,
+    )
 
 finds_on : {V : Type 0} (grammar : List ℕ → V → Type 0) → ((t : List ℕ) (v w : V) → grammar t v → grammar t w → v ≡ w)
     → (es fs : List (List ℕ × List ℕ)) → AllZip (SameEntry grammar) es fs

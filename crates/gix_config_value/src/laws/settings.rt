@@ -9,5 +9,4 @@ use crate::canonical::Value;
 /// answer: the value, whatever the default, or the index of the refusal and the refused text.
 pub fn replaced_values<V: Value>()
     ensures { (es fs : List (List ℕ × List ℕ)) → AllZip (IsReplaced V.grammar V.canonical) es fs → SameAnswers V.grammar es fs }
-{
-}
+{}
