@@ -40,3 +40,4 @@ pub mod ColorLaws
 pub mod CompositionLaws
 pub mod PlainWords
 pub mod ColorShownLaws
+pub mod Settings

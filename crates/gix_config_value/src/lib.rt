@@ -9,6 +9,7 @@ pub mod integer;
 pub mod laws;
 pub mod path;
 pub mod program;
+pub mod settings;
 
 pub use boolean::Boolean;
 pub use color::Color;
