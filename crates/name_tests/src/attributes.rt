@@ -8,134 +8,33 @@ use std::str::FromStr;
 use std::test::Fail;
 
 /// A text, the attribute that it is read as, and how that is shown.
-#[derive(Clone, Copy)]
-struct Row {
-    text: &'static str,
-    attribute: Attribute,
-    shown: &'static str,
-}
+type Row = (&'static str, Attribute, &'static str);
 
 const ROWS: [Row; 24] = [
-    Row {
-        text: "bold",
-        attribute: Attribute::BOLD,
-        shown: "bold",
-    },
-    Row {
-        text: "dim",
-        attribute: Attribute::DIM,
-        shown: "dim",
-    },
-    Row {
-        text: "italic",
-        attribute: Attribute::ITALIC,
-        shown: "italic",
-    },
-    Row {
-        text: "ul",
-        attribute: Attribute::UL,
-        shown: "ul",
-    },
-    Row {
-        text: "blink",
-        attribute: Attribute::BLINK,
-        shown: "blink",
-    },
-    Row {
-        text: "reverse",
-        attribute: Attribute::REVERSE,
-        shown: "reverse",
-    },
-    Row {
-        text: "strike",
-        attribute: Attribute::STRIKE,
-        shown: "strike",
-    },
-    Row {
-        text: "reset",
-        attribute: Attribute::RESET,
-        shown: "reset",
-    },
-    Row {
-        text: "RESET",
-        attribute: Attribute::RESET,
-        shown: "reset",
-    },
-    Row {
-        text: "ReSeT",
-        attribute: Attribute::RESET,
-        shown: "reset",
-    },
-    Row {
-        text: "nodim",
-        attribute: Attribute::NO_DIM,
-        shown: "nodim",
-    },
-    Row {
-        text: "no-dim",
-        attribute: Attribute::NO_DIM,
-        shown: "nodim",
-    },
-    Row {
-        text: "nobold",
-        attribute: Attribute::NO_BOLD,
-        shown: "nobold",
-    },
-    Row {
-        text: "no-bold",
-        attribute: Attribute::NO_BOLD,
-        shown: "nobold",
-    },
-    Row {
-        text: "noitalic",
-        attribute: Attribute::NO_ITALIC,
-        shown: "noitalic",
-    },
-    Row {
-        text: "no-italic",
-        attribute: Attribute::NO_ITALIC,
-        shown: "noitalic",
-    },
-    Row {
-        text: "noul",
-        attribute: Attribute::NO_UL,
-        shown: "noul",
-    },
-    Row {
-        text: "no-ul",
-        attribute: Attribute::NO_UL,
-        shown: "noul",
-    },
-    Row {
-        text: "noblink",
-        attribute: Attribute::NO_BLINK,
-        shown: "noblink",
-    },
-    Row {
-        text: "no-blink",
-        attribute: Attribute::NO_BLINK,
-        shown: "noblink",
-    },
-    Row {
-        text: "noreverse",
-        attribute: Attribute::NO_REVERSE,
-        shown: "noreverse",
-    },
-    Row {
-        text: "no-reverse",
-        attribute: Attribute::NO_REVERSE,
-        shown: "noreverse",
-    },
-    Row {
-        text: "nostrike",
-        attribute: Attribute::NO_STRIKE,
-        shown: "nostrike",
-    },
-    Row {
-        text: "no-strike",
-        attribute: Attribute::NO_STRIKE,
-        shown: "nostrike",
-    },
+    ("bold", Attribute::BOLD, "bold"),
+    ("dim", Attribute::DIM, "dim"),
+    ("italic", Attribute::ITALIC, "italic"),
+    ("ul", Attribute::UL, "ul"),
+    ("blink", Attribute::BLINK, "blink"),
+    ("reverse", Attribute::REVERSE, "reverse"),
+    ("strike", Attribute::STRIKE, "strike"),
+    ("reset", Attribute::RESET, "reset"),
+    ("RESET", Attribute::RESET, "reset"),
+    ("ReSeT", Attribute::RESET, "reset"),
+    ("nodim", Attribute::NO_DIM, "nodim"),
+    ("no-dim", Attribute::NO_DIM, "nodim"),
+    ("nobold", Attribute::NO_BOLD, "nobold"),
+    ("no-bold", Attribute::NO_BOLD, "nobold"),
+    ("noitalic", Attribute::NO_ITALIC, "noitalic"),
+    ("no-italic", Attribute::NO_ITALIC, "noitalic"),
+    ("noul", Attribute::NO_UL, "noul"),
+    ("no-ul", Attribute::NO_UL, "noul"),
+    ("noblink", Attribute::NO_BLINK, "noblink"),
+    ("no-blink", Attribute::NO_BLINK, "noblink"),
+    ("noreverse", Attribute::NO_REVERSE, "noreverse"),
+    ("no-reverse", Attribute::NO_REVERSE, "noreverse"),
+    ("nostrike", Attribute::NO_STRIKE, "nostrike"),
+    ("no-strike", Attribute::NO_STRIKE, "nostrike"),
 ];
 
 /// Texts that are no attribute's; the last three hold the Kelvin sign, the long s and a byte that is not UTF-8.
@@ -164,19 +63,39 @@ const REFUSED: [&[u8]; 22] = [
     b"bold\xff",
 ];
 
-/// A set of bits, and how it is shown.
-#[derive(Clone, Copy)]
-struct Shown {
-    set: Attribute,
-    shown: &'static str,
-    has_text: bool,
+const ALL: &str =
+    "bold dim italic ul blink reverse strike reset nodim nobold noitalic noul noblink noreverse nostrike";
+
+/// Bits, how they are shown, and whether a text is read as them.
+const SETS: [(u32, &'static str, bool); 9] = [
+    (0, "", false),
+    (2, "bold", true),
+    (18, "bold ul", false),
+    (6291840, "strike reset nodim nobold", false),
+    (266338814, ALL, false),
+    (1, "", false),
+    (3, "bold", false),
+    (512, "", false),
+    (4294967295, ALL, false),
+];
+
+fn rows() -> &'static [Row] {
+    &ROWS
+}
+
+fn refused() -> &'static [&'static [u8]] {
+    &REFUSED
+}
+
+fn sets() -> &'static [(u32, &'static str, bool)] {
+    &SETS
 }
 
 #[test]
 fn reads_and_shows_attributes(rt: HostRuntime) -> Result<(), Fail> {
     let alloc = rt.alloc();
-    for row in &ROWS {
-        let (text, attribute) = (row.text, row.attribute);
+    for row in rows() {
+        let (text, attribute, shown) = *row;
         let input = BStr::new(text.as_bytes());
         assert_eq!(rt;
             Attribute::try_from(input),
@@ -193,18 +112,18 @@ fn reads_and_shows_attributes(rt: HostRuntime) -> Result<(), Fail> {
         assert!(rt; attribute.has_text(), "a text of {text}");
         assert_eq!(rt;
             format!(in alloc; "{attribute}")?.as_str(),
-            row.shown,
+            shown,
             "{text} shown"
         );
         let normal = normalize_as::<Attribute>(input).ok_or("refused")?;
-        assert_eq!(rt; normal.as_str(), row.shown, "{text} normalised");
+        assert_eq!(rt; normal.as_str(), shown, "{text} normalised");
     }
     Ok(())
 }
 
 #[test]
 fn refuses_what_is_no_attribute(rt: HostRuntime) {
-    for text in &REFUSED {
+    for text in refused() {
         let input = BStr::new(text);
         assert_eq!(rt;
             Attribute::try_from(input),
@@ -233,62 +152,16 @@ fn refuses_what_is_no_attribute(rt: HostRuntime) {
 #[test]
 fn shows_any_set(rt: HostRuntime) -> Result<(), Fail> {
     let alloc = rt.alloc();
-    let all =
-        "bold dim italic ul blink reverse strike reset nodim nobold noitalic noul noblink noreverse nostrike";
-    let four = Attribute::NO_DIM | Attribute::NO_BOLD | Attribute::RESET | Attribute::STRIKE;
-    let rows = [
-        Shown {
-            set: Attribute::empty(),
-            shown: "",
-            has_text: false,
-        },
-        Shown {
-            set: Attribute::BOLD,
-            shown: "bold",
-            has_text: true,
-        },
-        Shown {
-            set: Attribute::BOLD | Attribute::UL,
-            shown: "bold ul",
-            has_text: false,
-        },
-        Shown {
-            set: four,
-            shown: "strike reset nodim nobold",
-            has_text: false,
-        },
-        Shown {
-            set: Attribute::all(),
-            shown: all,
-            has_text: false,
-        },
-        Shown {
-            set: Attribute::from_bits_retain(1),
-            shown: "",
-            has_text: false,
-        },
-        Shown {
-            set: Attribute::from_bits_retain(3),
-            shown: "bold",
-            has_text: false,
-        },
-        Shown {
-            set: Attribute::from_bits_retain(512),
-            shown: "",
-            has_text: false,
-        },
-        Shown {
-            set: Attribute::from_bits_retain(u32::MAX),
-            shown: all,
-            has_text: false,
-        },
-    ];
-    for row in &rows {
-        let set = row.set;
-        assert_eq!(rt; format!(in alloc; "{set}")?.as_str(), row.shown, "{set:?}");
-        assert_eq!(rt; set.has_text(), row.has_text, "a text of {set:?}");
+    for row in sets() {
+        let (bits, shown, has_text) = *row;
+        let set = Attribute::from_bits_retain(bits);
+        assert_eq!(rt; format!(in alloc; "{set}")?.as_str(), shown, "{set:?}");
+        assert_eq!(rt; set.has_text(), has_text, "a text of {set:?}");
     }
-    assert_eq!(rt; all.len(), 99);
+    let four = Attribute::NO_DIM | Attribute::NO_BOLD | Attribute::RESET | Attribute::STRIKE;
+    assert_eq!(rt; four.bits(), 6291840);
+    assert_eq!(rt; (Attribute::BOLD | Attribute::UL).bits(), 18);
+    assert_eq!(rt; ALL.len(), 99);
     assert_eq!(rt; Attribute::from_str("bold ul"), Err(Fault::Color));
     Ok(())
 }

@@ -7,204 +7,47 @@ use std::str::FromStr;
 use std::test::Fail;
 
 /// A text, the name that it is read as, and how that name is shown.
-#[derive(Clone, Copy)]
-struct Row {
-    text: &'static str,
-    name: Name,
-    shown: &'static str,
-}
+type Row = (&'static str, Name, &'static str);
 
 const ROWS: [Row; 38] = [
-    Row {
-        text: "normal",
-        name: Name::Normal,
-        shown: "normal",
-    },
-    Row {
-        text: "-1",
-        name: Name::Normal,
-        shown: "normal",
-    },
-    Row {
-        text: "NORMAL",
-        name: Name::Normal,
-        shown: "normal",
-    },
-    Row {
-        text: "default",
-        name: Name::Default,
-        shown: "default",
-    },
-    Row {
-        text: "DEFAULT",
-        name: Name::Default,
-        shown: "default",
-    },
-    Row {
-        text: "black",
-        name: Name::Black,
-        shown: "black",
-    },
-    Row {
-        text: "brightblack",
-        name: Name::BrightBlack,
-        shown: "brightblack",
-    },
-    Row {
-        text: "BRIGHTBLACK",
-        name: Name::BrightBlack,
-        shown: "brightblack",
-    },
-    Row {
-        text: "red",
-        name: Name::Red,
-        shown: "red",
-    },
-    Row {
-        text: "RED",
-        name: Name::Red,
-        shown: "red",
-    },
-    Row {
-        text: "brightred",
-        name: Name::BrightRed,
-        shown: "brightred",
-    },
-    Row {
-        text: "BrightRed",
-        name: Name::BrightRed,
-        shown: "brightred",
-    },
-    Row {
-        text: "green",
-        name: Name::Green,
-        shown: "green",
-    },
-    Row {
-        text: "brightgreen",
-        name: Name::BrightGreen,
-        shown: "brightgreen",
-    },
-    Row {
-        text: "yellow",
-        name: Name::Yellow,
-        shown: "yellow",
-    },
-    Row {
-        text: "brightyellow",
-        name: Name::BrightYellow,
-        shown: "brightyellow",
-    },
-    Row {
-        text: "blue",
-        name: Name::Blue,
-        shown: "blue",
-    },
-    Row {
-        text: "brightblue",
-        name: Name::BrightBlue,
-        shown: "brightblue",
-    },
-    Row {
-        text: "magenta",
-        name: Name::Magenta,
-        shown: "magenta",
-    },
-    Row {
-        text: "brightmagenta",
-        name: Name::BrightMagenta,
-        shown: "brightmagenta",
-    },
-    Row {
-        text: "cyan",
-        name: Name::Cyan,
-        shown: "cyan",
-    },
-    Row {
-        text: "brightcyan",
-        name: Name::BrightCyan,
-        shown: "brightcyan",
-    },
-    Row {
-        text: "white",
-        name: Name::White,
-        shown: "white",
-    },
-    Row {
-        text: "brightwhite",
-        name: Name::BrightWhite,
-        shown: "brightwhite",
-    },
-    Row {
-        text: "0",
-        name: Name::Ansi(0),
-        shown: "0",
-    },
-    Row {
-        text: "+0",
-        name: Name::Ansi(0),
-        shown: "0",
-    },
-    Row {
-        text: "000",
-        name: Name::Ansi(0),
-        shown: "0",
-    },
-    Row {
-        text: "+005",
-        name: Name::Ansi(5),
-        shown: "5",
-    },
-    Row {
-        text: "42",
-        name: Name::Ansi(42),
-        shown: "42",
-    },
-    Row {
-        text: "255",
-        name: Name::Ansi(255),
-        shown: "255",
-    },
-    Row {
-        text: "+000255",
-        name: Name::Ansi(255),
-        shown: "255",
-    },
-    Row {
-        text: "#F1b",
-        name: Name::Rgb(255, 17, 187),
-        shown: "#ff11bb",
-    },
-    Row {
-        text: "#ff11bb",
-        name: Name::Rgb(255, 17, 187),
-        shown: "#ff11bb",
-    },
-    Row {
-        text: "#FFF",
-        name: Name::Rgb(255, 255, 255),
-        shown: "#ffffff",
-    },
-    Row {
-        text: "#000",
-        name: Name::Rgb(0, 0, 0),
-        shown: "#000000",
-    },
-    Row {
-        text: "#0a0B0c",
-        name: Name::Rgb(10, 11, 12),
-        shown: "#0a0b0c",
-    },
-    Row {
-        text: "#123456",
-        name: Name::Rgb(18, 52, 86),
-        shown: "#123456",
-    },
-    Row {
-        text: "#9aF",
-        name: Name::Rgb(153, 170, 255),
-        shown: "#99aaff",
-    },
+    ("normal", Name::Normal, "normal"),
+    ("-1", Name::Normal, "normal"),
+    ("NORMAL", Name::Normal, "normal"),
+    ("default", Name::Default, "default"),
+    ("DEFAULT", Name::Default, "default"),
+    ("black", Name::Black, "black"),
+    ("brightblack", Name::BrightBlack, "brightblack"),
+    ("BRIGHTBLACK", Name::BrightBlack, "brightblack"),
+    ("red", Name::Red, "red"),
+    ("RED", Name::Red, "red"),
+    ("brightred", Name::BrightRed, "brightred"),
+    ("BrightRed", Name::BrightRed, "brightred"),
+    ("green", Name::Green, "green"),
+    ("brightgreen", Name::BrightGreen, "brightgreen"),
+    ("yellow", Name::Yellow, "yellow"),
+    ("brightyellow", Name::BrightYellow, "brightyellow"),
+    ("blue", Name::Blue, "blue"),
+    ("brightblue", Name::BrightBlue, "brightblue"),
+    ("magenta", Name::Magenta, "magenta"),
+    ("brightmagenta", Name::BrightMagenta, "brightmagenta"),
+    ("cyan", Name::Cyan, "cyan"),
+    ("brightcyan", Name::BrightCyan, "brightcyan"),
+    ("white", Name::White, "white"),
+    ("brightwhite", Name::BrightWhite, "brightwhite"),
+    ("0", Name::Ansi(0), "0"),
+    ("+0", Name::Ansi(0), "0"),
+    ("000", Name::Ansi(0), "0"),
+    ("+005", Name::Ansi(5), "5"),
+    ("42", Name::Ansi(42), "42"),
+    ("255", Name::Ansi(255), "255"),
+    ("+000255", Name::Ansi(255), "255"),
+    ("#F1b", Name::Rgb(255, 17, 187), "#ff11bb"),
+    ("#ff11bb", Name::Rgb(255, 17, 187), "#ff11bb"),
+    ("#FFF", Name::Rgb(255, 255, 255), "#ffffff"),
+    ("#000", Name::Rgb(0, 0, 0), "#000000"),
+    ("#0a0B0c", Name::Rgb(10, 11, 12), "#0a0b0c"),
+    ("#123456", Name::Rgb(18, 52, 86), "#123456"),
+    ("#9aF", Name::Rgb(153, 170, 255), "#99aaff"),
 ];
 
 /// Texts that are no name's; the last three hold `é`, the Kelvin sign and a byte that is not UTF-8.
@@ -247,11 +90,19 @@ const REFUSED: [&[u8]; 36] = [
     b"r\xff",
 ];
 
+fn rows() -> &'static [Row] {
+    &ROWS
+}
+
+fn refused() -> &'static [&'static [u8]] {
+    &REFUSED
+}
+
 #[test]
 fn reads_and_shows_names(rt: HostRuntime) -> Result<(), Fail> {
     let alloc = rt.alloc();
-    for row in &ROWS {
-        let (text, name) = (row.text, row.name);
+    for row in rows() {
+        let (text, name, shown) = *row;
         let input = BStr::new(text.as_bytes());
         assert_eq!(rt; Name::try_from(input), Ok(name), "bytes of {text}");
         assert_eq!(rt; Name::from_str(text), Ok(name), "text of {text}");
@@ -264,13 +115,13 @@ fn reads_and_shows_names(rt: HostRuntime) -> Result<(), Fail> {
         assert!(rt; name.has_text(), "a text of {text}");
         assert_eq!(rt;
             format!(in alloc; "{name}")?.as_str(),
-            row.shown,
+            shown,
             "{text} shown"
         );
         let normal = normalize_as::<Name>(input).ok_or("refused")?;
-        assert_eq!(rt; normal.as_str(), row.shown, "{text} normalised");
-        let again = normalize_as::<Name>(BStr::new(row.shown.as_bytes())).ok_or("refused")?;
-        assert_eq!(rt; again.as_str(), row.shown, "{text} normalised twice");
+        assert_eq!(rt; normal.as_str(), shown, "{text} normalised");
+        let again = normalize_as::<Name>(BStr::new(shown.as_bytes())).ok_or("refused")?;
+        assert_eq!(rt; again.as_str(), shown, "{text} normalised twice");
     }
     Ok(())
 }
@@ -297,7 +148,7 @@ fn shows_each_palette_number(rt: HostRuntime) -> Result<(), Fail> {
 
 #[test]
 fn refuses_what_is_no_name(rt: HostRuntime) {
-    for text in &REFUSED {
+    for text in refused() {
         let input = BStr::new(text);
         assert_eq!(rt;
             Name::try_from(input),

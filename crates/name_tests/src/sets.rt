@@ -42,26 +42,35 @@ fn answers_by_bits(rt: HostRuntime) -> Result<(), Fail> {
     Ok(())
 }
 
+/// A constant, its bit and its name.
+type Row = (Attribute, u32, &'static str);
+
+const ROWS: [Row; 15] = [
+    (Attribute::BOLD, 1, "BOLD"),
+    (Attribute::DIM, 2, "DIM"),
+    (Attribute::ITALIC, 3, "ITALIC"),
+    (Attribute::UL, 4, "UL"),
+    (Attribute::BLINK, 5, "BLINK"),
+    (Attribute::REVERSE, 6, "REVERSE"),
+    (Attribute::STRIKE, 7, "STRIKE"),
+    (Attribute::RESET, 8, "RESET"),
+    (Attribute::NO_DIM, 21, "NO_DIM"),
+    (Attribute::NO_BOLD, 22, "NO_BOLD"),
+    (Attribute::NO_ITALIC, 23, "NO_ITALIC"),
+    (Attribute::NO_UL, 24, "NO_UL"),
+    (Attribute::NO_BLINK, 25, "NO_BLINK"),
+    (Attribute::NO_REVERSE, 26, "NO_REVERSE"),
+    (Attribute::NO_STRIKE, 27, "NO_STRIKE"),
+];
+
+fn rows() -> &'static [Row] {
+    &ROWS
+}
+
 #[test]
 fn constants_have_their_bits(rt: HostRuntime) {
-    let rows = [
-        (Attribute::BOLD, 1, "BOLD"),
-        (Attribute::DIM, 2, "DIM"),
-        (Attribute::ITALIC, 3, "ITALIC"),
-        (Attribute::UL, 4, "UL"),
-        (Attribute::BLINK, 5, "BLINK"),
-        (Attribute::REVERSE, 6, "REVERSE"),
-        (Attribute::STRIKE, 7, "STRIKE"),
-        (Attribute::RESET, 8, "RESET"),
-        (Attribute::NO_DIM, 21, "NO_DIM"),
-        (Attribute::NO_BOLD, 22, "NO_BOLD"),
-        (Attribute::NO_ITALIC, 23, "NO_ITALIC"),
-        (Attribute::NO_UL, 24, "NO_UL"),
-        (Attribute::NO_BLINK, 25, "NO_BLINK"),
-        (Attribute::NO_REVERSE, 26, "NO_REVERSE"),
-        (Attribute::NO_STRIKE, 27, "NO_STRIKE"),
-    ];
-    for (constant, bit, name) in rows {
+    for row in rows() {
+        let (constant, bit, name) = *row;
         assert_eq!(rt; constant.bits().trailing_zeros(), bit, "the bit of {name}");
         assert_eq!(rt; constant.bits().count_ones(), 1, "one bit of {name}");
         assert_eq!(rt;
