@@ -182,3 +182,63 @@ words_step text n s h l k =
 -- the words of a text in which no spelling stands
 pub words_last : (text : List ℕ) → IsWithoutSpace text (length text) → words text ≡ piece text
 words_last text h = words_none text (let k = uncut (length text) text h in ap last_cut (sym (take_all (length text) text (omega arith))) ∙ k)
+
+-- the parts of a cut
+cut_parts : (text : List ℕ) (cut : Cut) → last_cut text ≡ Some cut → (space : List ℕ) × Space space × (text ≡ cut.0 ++ (space ++ cut.1))
+cut_parts [] cut h = absurd (cc)
+cut_parts (x ∷ text) cut h = at_place x text cut (after_space (x ∷ text)) refl (last_cut text) h (cut_parts text) where
+  at_place : (x : ℕ) (text : List ℕ) (cut : Cut) (here : Option (List ℕ)) → after_space (x ∷ text) ≡ here
+      → (further : Option Cut) → cut_at x here further ≡ Some cut
+      → ((cut : Cut) → further ≡ Some cut → (space : List ℕ) × Space space × (text ≡ cut.0 ++ (space ++ cut.1)))
+      → (space : List ℕ) × Space space × (x ∷ text ≡ cut.0 ++ (space ++ cut.1))
+  at_place x text cut here e (Some c) h more =
+      let k = more c refl in
+      let f : x ∷ c.0 ≡ cut.0 = ap (λ o. front_of o) h in
+      let g : c.1 ≡ cut.1 = ap (λ o. back_of o) h in
+      (k.0, k.1, ap (λ t. x ∷ t) k.2 ∙ (ap (λ t. t ++ (k.0 ++ c.1)) f ∙ ap (λ t. cut.0 ++ (k.0 ++ t)) g)) where
+    front_of : Option Cut → List ℕ
+    front_of None = []
+    front_of (Some c) = c.0
+    back_of : Option Cut → List ℕ
+    back_of None = []
+    back_of (Some c) = c.1
+  at_place x text cut (Some r) e None h more =
+      let k = after_space_is (x ∷ text) r e in
+      let f : [] ≡ cut.0 = ap (λ o. front_of o) h in
+      let g : r ≡ cut.1 = ap (λ o. back_of o) h in
+      (k.0, k.1, k.2 ∙ (ap (λ t. t ++ (k.0 ++ r)) f ∙ ap (λ t. cut.0 ++ (k.0 ++ t)) g)) where
+    front_of : Option Cut → List ℕ
+    front_of None = []
+    front_of (Some c) = c.0
+    back_of : Option Cut → List ℕ
+    back_of None = []
+    back_of (Some c) = c.1
+  at_place x text cut None e None h more = absurd (cc)
+
+-- a text in which no spelling stands has no cut
+no_cut : (text : List ℕ) → ((before space rest : List ℕ) → Space space → ¬ (text ≡ before ++ (space ++ rest))) → last_cut text ≡ None
+no_cut text h =
+    elim (cut_told text) [
+      | inl e ↦ e
+      | inr c ↦ let k = cut_parts text c.0 c.1 in absurd (h c.0.0 k.0 c.0.1 k.1 k.2)
+    ]
+
+pub words_whole : (text : List ℕ) → ((before space rest : List ℕ) → Space space → ¬ (text ≡ before ++ space ++ rest)) → words text ≡ piece text
+words_whole text h = words_none text (no_cut text (λ before space rest s e. h before space rest s (e ∙ sym (append_assoc before space rest))))
+
+space_some : Space [] → ⊥
+unfolding spellings
+space_some h = grind arith
+
+pub words_cut_last : (before space rest : List ℕ) → Space space
+    → ((front other back : List ℕ) → Space other → before ++ space ++ rest ≡ front ++ other ++ back → length front ≤ length before)
+    → words (before ++ space ++ rest) ≡ words before ++ piece rest
+words_cut_last before space rest s h =
+    ap words (append_assoc before space rest) ∙ (words_joined before space rest s ∙ ap (λ ws. words before ++ ws) (words_none rest (no_cut rest behind))) where
+  behind : (b o r : List ℕ) → Space o → ¬ (rest ≡ b ++ (o ++ r))
+  behind b o r t e =
+      let l = h ((before ++ space) ++ b) o r t (ap (λ t. before ++ space ++ t) e ∙ (sym (append_assoc (before ++ space) b (o ++ r)) ∙ sym (append_assoc ((before ++ space) ++ b) o r))) in
+      long space s l where
+    long : (space : List ℕ) → Space space → length ((before ++ space) ++ b) ≤ length before → ⊥
+    long [] s l = space_some s
+    long (x ∷ more) s l = omega (arith, length-append (before ++ x ∷ more) b, length-append before (x ∷ more))

@@ -1,3 +1,4 @@
 //! Laws about the definitions, each as the contract of a function that does nothing.
 
 pub mod attributes;
+pub mod colors;
