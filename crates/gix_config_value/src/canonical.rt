@@ -5,10 +5,9 @@ ghost use Rattle.gix_config_value.specs.Value.{IsRefused, IsAccepted, HasText, R
 
 mod composition;
 
-pub use composition::compose;
-
 use arrayvec::ArrayString;
 use bstr::BStr;
+pub use composition::compose;
 
 /// A kind of value that has texts: which texts read to which value, and which one of them is canonical.
 pub trait Value: Copy + Eq {

@@ -1,4 +1,3 @@
-use Rattle.std.proofs.Common.{◌≡◌, ap, ◌∙◌, append_assoc}
 use Rattle.gix_config_value.specs.CompositionLaws.{joined_reads, reads_joined}
 use Rattle.gix_config_value.proofs.laws.colors.joined_colors.Goals as goal
 

@@ -1,4 +1,4 @@
-use Rattle.std.proofs.Common.{◌≡◌, ap, ◌∙◌, append_assoc}
+use Rattle.std.proofs.Common.{ap, ◌∙◌, append_assoc}
 use Rattle.gix_config_value.specs.Words.{words}
 use Rattle.gix_config_value.specs.WordsLaws.{words_joined}
 use Rattle.gix_config_value.proofs.laws.colors.joined_words.Goals as goal

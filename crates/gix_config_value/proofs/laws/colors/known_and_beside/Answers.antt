@@ -1,4 +1,3 @@
-use Rattle.std.proofs.Common.{◌≡◌, ap, ◌∙◌, append_assoc}
 use Rattle.gix_config_value.specs.ColorShownLaws.{color_has_text}
 use Rattle.gix_config_value.proofs.laws.colors.known_and_beside.Goals as goal
 

@@ -1,4 +1,3 @@
-use Rattle.std.proofs.Common.{◌≡◌, ap, ◌∙◌, append_assoc}
 use Rattle.gix_config_value.specs.WordsLaws.{words_cut_last}
 use Rattle.gix_config_value.proofs.laws.colors.last_words.Goals as goal
 

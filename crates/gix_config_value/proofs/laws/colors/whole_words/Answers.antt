@@ -1,4 +1,3 @@
-use Rattle.std.proofs.Common.{◌≡◌, ap, ◌∙◌, append_assoc}
 use Rattle.gix_config_value.specs.WordsLaws.{words_whole}
 use Rattle.gix_config_value.proofs.laws.colors.whole_words.Goals as goal
 
