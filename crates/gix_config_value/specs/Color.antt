@@ -16,7 +16,7 @@ abbrev pub WordsRead : List (List ℕ) → List Name → ℕ → Type 0
 WordsRead [] names bits = (names ≡ []) × (bits ≡ 0)
 WordsRead (w ∷ ws) names bits =
     ((n : Name) × (more : List Name) × NameText w n × (names ≡ n ∷ more) × WordsRead ws more bits)
-      ⊎ ((a : Attribute) × (more : ℕ) × AttributeText w a × (bits ≡ bit_or a.0 more) × WordsRead ws names more)
+    ⊎ ((a : Attribute) × (more : ℕ) × AttributeText w a × (bits ≡ bit_or a.0 more) × WordsRead ws names more)
 
 -- the first name is the foreground, the second the background, each none where there is no such name; there is
 -- no place for a third

@@ -1,6 +1,5 @@
 -- The laws of color text: reading words joined and parted, names placed, and that a text has at most one color.
-use Rattle.std.proofs.Common.{◌≡◌, ◌≢◌, take, drop, slice_range, ℕ, zero, suc, ◌+◌, ◌<◌, ◌≤◌, ◌⊎◌, inl, inr, List, [], ◌∷◌, ◌++◌, length, Option, Some, None, refl, sym, ap, subst, ◌∙◌, append_assoc, length-append, arith}
-use Rattle.std.specs.Int.{bit_at}
+use Rattle.std.proofs.Common.{◌≡◌, ◌≢◌, take, drop, slice_range, ℕ, ◌+◌, ◌<◌, ◌≤◌, ◌⊎◌, inl, inr, List, [], ◌∷◌, ◌++◌, length, Option, Some, None, refl, sym, ap, subst, ◌∙◌, append_assoc, arith}
 use Rattle.std.specs.Int.RustNames.{bit_or}
 use Rattle.std.specs.Int.Bits.{or_zero_l, or_zero_r}
 use Rattle.std.proofs.lemmas.Bool.Decides.{nat_tests}
@@ -13,7 +12,7 @@ use Rattle.gix_config_value.specs.declared.color.words.Item.{Item}
 use Rattle.gix_config_value.specs.declared.color.words.Item.TheVariants as items
 use Rattle.gix_config_value.specs.Attribute.{AttributeText}
 use Rattle.gix_config_value.specs.Color.{WordsRead, Placed, ColorText}
-use Rattle.gix_config_value.specs.ColorReading.{word_item, no_color, next_name, with_item, with_found, go_on, read_from, color_of}
+use Rattle.gix_config_value.specs.ColorReading.{word_item, no_color, next_name, with_found, go_on, read_from, color_of}
 use Rattle.gix_config_value.specs.Composition.{named}
 use Rattle.gix_config_value.specs.Name.{NameText}
 use Rattle.gix_config_value.specs.Value.{IsAccepted, IsRefused, Reads, IsValueOf}
@@ -141,11 +140,11 @@ reading_found (w ∷ ws) p c ns names bits (inl (n, more, t, e, r)) before after
     let k = rw e at after in
     let d = next_placed ns p.foreground p.background p.attributes.0 n more c.foreground c.background before k in
     rw (word_item-value.found w (items.Name n) t, d.1)
-      (reading_found ws d.0 c (ns ++ n ∷ []) more bits r d.2 (rw append_assoc k) (united ∙ ap (λ a. bit_or a bits) (sym d.3)))
+    (reading_found ws d.0 c (ns ++ n ∷ []) more bits r d.2 (rw append_assoc k) (united ∙ ap (λ a. bit_or a bits) (sym d.3)))
 reading_found (w ∷ ws) p c ns names bits (inr (a, more, t, e, r)) before after united =
     rw (word_item-value.found w (items.Attribute a) t)
-      (reading_found ws (record { foreground = p.foreground; background = p.background; attributes = record { 0 = bit_or p.attributes.0 a.0 } }) c ns names more r before after
-        (united ∙ (ap (λ b. bit_or p.attributes.0 b) e ∙ sym (or_assoc p.attributes.0 a.0 more))))
+    (reading_found ws (record { foreground = p.foreground; background = p.background; attributes = record { 0 = bit_or p.attributes.0 a.0 } }) c ns names more r before after
+    (united ∙ (ap (λ b. bit_or p.attributes.0 b) e ∙ sym (or_assoc p.attributes.0 a.0 more))))
 
 -- what words read from the front read to
 pub record ReadOn (ws : List (List ℕ)) (p c : Color) (ns : List Name) : Type 0 where
@@ -168,6 +167,7 @@ reading_derived (w ∷ ws) p c ns before h = at_item w ws p c ns before (word_it
       let k = next_from ns p.foreground p.background p.attributes.0 n d before e in
       let r = more d (ns ++ n ∷ []) k.0 h in
       record { names = n ∷ r.names; bits = r.bits; read = inl (n, r.names, t, refl, r.read); placed = rw append_assoc at r.placed; united = r.united ∙ ap (λ a. bit_or a r.bits) k.1 }
+
   at_item : (w : List ℕ) (ws : List (List ℕ)) (p c : Color) (ns : List Name) → Placed ns p.foreground p.background
       → (o : Option Item) → word_item w ≡ o → go_on (with_found p o) (λ d. read_from d ws) ≡ Some c
       → ((d : Color) (ms : List Name) → Placed ms d.foreground d.background → read_from d ws ≡ Some c → ReadOn ws d c ms) → ReadOn (w ∷ ws) p c ns

@@ -1,13 +1,13 @@
 -- The laws of `Value` for colors: canonical texts read, one for each color, and it is the displayed text.
-use Rattle.std.proofs.Common.{◌≡◌, ◌≢◌, ℕ, zero, suc, ◌+◌, ◌*◌, ◌^◌, ◌<◌, ◌≤◌, ◌↔◌, ◌⊎◌, inl, inr, min, max, ◌&&◌, nat_le, Bool, true, false, cond, ◌==◌, List, [], ◌∷◌, ◌++◌, length, map, filter, codes, Option, Some, None, bit_and, refl, sym, ap, subst, ◌∙◌, append_assoc, length-append, arith}
+use Rattle.std.proofs.Common.{◌≡◌, ◌≢◌, ℕ, zero, suc, ◌+◌, ◌*◌, ◌^◌, ◌<◌, ◌≤◌, ◌↔◌, ◌⊎◌, inl, inr, ◌&&◌, nat_le, Bool, true, false, ◌==◌, List, [], ◌∷◌, ◌++◌, length, map, filter, Option, Some, None, bit_and, refl, sym, ap, subst, ◌∙◌, length-append, arith}
 use Rattle.std.specs.Bool.{⊤, IsTrue}
 use Rattle.std.specs.Option.{option_eq, is_some}
 use Rattle.std.specs.Prelude.{not}
 use Rattle.bitflags.specs.Sets.{known_bits as known_bits_of, known_from}
 use Rattle.std.specs.Int.{bit_at}
 use Rattle.std.specs.Int.RustNames.{bit_or}
-use Rattle.std.specs.Int.Bits.{or_zero_l, or_zero_r}
-use Rattle.std.specs.List.{AllByRecursion, list_all, join_with_byte}
+use Rattle.std.specs.Int.Bits.{or_zero_l}
+use Rattle.std.specs.List.{AllByRecursion, join_with_byte}
 use Rattle.std.proofs.lemmas.List.{append-nil, map-append, length-map}
 use Rattle.std.proofs.lemmas.Bool.{leb-true}
 use Rattle.std.proofs.lemmas.Nat.{and_comm}
@@ -16,16 +16,16 @@ use Rattle.std.proofs.lemmas.Nat.Bits.{and_pow, bit_at_or, bit_at_and, bit_at-lt
 use Rattle.gix_config_value.specs.declared.color.Color.{Color}
 use Rattle.gix_config_value.specs.declared.color.attribute.Attribute.{Attribute}
 use Rattle.gix_config_value.specs.declared.color.name.Name.{Name}
-use Rattle.gix_config_value.specs.Attribute.{AttributeRow, attributes, attribute_flags, AttributeText, attribute_words, attribute_shown, rising_words}
+use Rattle.gix_config_value.specs.Attribute.{AttributeRow, attributes, attribute_flags, AttributeText, attribute_words, rising_words}
 use Rattle.gix_config_value.specs.Color.{WordsRead, Placed, ColorText, part_shown, set_shown, color_shown, Chosen, spaced_out, CanonicalColor, PartFits, AreKnown}
-use Rattle.gix_config_value.specs.ColorLaws.{or_assoc, WordsRead-join, PartsRead, WordsRead-split, WordsRead-one, Placed-words, Placed-short, Placed-one, placing, same_color, color_one_value}
+use Rattle.gix_config_value.specs.ColorLaws.{WordsRead-join, Placed-words, placing, same_color, color_one_value}
 use Rattle.gix_config_value.specs.Composition.{named}
-use Rattle.gix_config_value.specs.CompositionLaws.{background_beside}
-use Rattle.gix_config_value.specs.Name.{NameText, CanonicalName, NameFits, name_shown}
+use Rattle.gix_config_value.specs.CompositionLaws.{background_beside, some_none}
+use Rattle.gix_config_value.specs.Name.{NameText, CanonicalName, name_shown}
 use Rattle.gix_config_value.specs.NameLaws.{name_canonical_reads, name_one_text, name_short, name_fits, name_shown_is_text, name_has_text}
 use Rattle.gix_config_value.specs.OneOf.{OneOf}
 use Rattle.gix_config_value.specs.OneOfLaws.{both, all-one}
-use Rattle.gix_config_value.specs.PlainWords.{is_plain_word, words_spaced, all_plain_append, chosen_plain, names_plain}
+use Rattle.gix_config_value.specs.PlainWords.{words_spaced, all_plain_append, chosen_plain, names_plain}
 use Rattle.gix_config_value.specs.Value.{IsAccepted, HasText, IsTextOf}
 use Rattle.gix_config_value.specs.Words.{words}
 
@@ -120,9 +120,9 @@ chosen_read (row ∷ rows) low (w ∷ ws) r h (inl c) = with_row (chosen_read ro
   with_row : ChosenRead (row.1 + 1) rows ws → ChosenRead low (row ∷ rows) (w ∷ ws)
   with_row more =
       let set : bit_at (bit_or (2 ^ row.1) more.bits) row.1 ≡ 1 =
-          bit_at_or (2 ^ row.1) more.bits row.1 ∙ rw (bit_at-pow_same row.1) (omega (arith, bit_at-lt more.bits row.1)) in
+      bit_at_or (2 ^ row.1) more.bits row.1 ∙ rw (bit_at-pow_same row.1) (omega (arith, bit_at-lt more.bits row.1)) in
       let rest = set_words_same (row.1 + 1) rows (bit_or (2 ^ row.1) more.bits) more.bits r.1
-          (λ i l. let ne : i ≢ row.1 = omega arith in bit_at_or (2 ^ row.1) more.bits i ∙ rw bit_at-pow_other (omega arith)) in
+      (λ i l. let ne : i ≢ row.1 = omega arith in bit_at_or (2 ^ row.1) more.bits i ∙ rw bit_at-pow_other (omega arith)) in
       record {
         bits = bit_or (2 ^ row.1) more.bits;
         read = inr (record { 0 = 2 ^ row.1 }, more.bits, subst (λ (w : List ℕ). AttributeText w (record { 0 = 2 ^ row.1 })) (sym c.0) h.0, refl, more.read);
@@ -256,22 +256,24 @@ pub shown_spaced : (c : Color) → bit_and c.attributes.0 266338814 ≡ c.attrib
     → color_shown c ≡ spaced_out (map name_shown (named c.foreground ++ named c.background) ++ attribute_words c.attributes.0)
 shown_spaced c e =
     join_set (part_shown c.foreground ++ part_shown c.background) c.attributes.0 e
-      ∙ (ap (λ xs. join_with_byte 32 (xs ++ attribute_words c.attributes.0)) parts
-      ∙ join_spaced (map name_shown (named c.foreground ++ named c.background) ++ attribute_words c.attributes.0)) where
-  parts : part_shown c.foreground ++ part_shown c.background ≡ map name_shown (named c.foreground ++ named c.background)
-  parts = rw (part_named c.foreground, part_named c.background) (sym (map-append name_shown (named c.foreground) (named c.background)))
+    ∙ (ap (λ xs. join_with_byte 32 (xs ++ attribute_words c.attributes.0)) parts
+    ∙ join_spaced (map name_shown (named c.foreground ++ named c.background) ++ attribute_words c.attributes.0)) where
+      parts : part_shown c.foreground ++ part_shown c.background ≡ map name_shown (named c.foreground ++ named c.background)
+      parts = rw (part_named c.foreground, part_named c.background) (sym (map-append name_shown (named c.foreground) (named c.background)))
 
 -- a canonical text reads to a color, and is its displayed text
 pub canonical_shown : (t : List ℕ) → CanonicalColor t → (c : Color) × ColorText t c × (t ≡ color_shown c)
 canonical_shown t h = whole (canonical_names_read h.names h.named) (rising_read h.words h.chosen) where
   spelled_words : words t ≡ h.names ++ h.words
   spelled_words = ap words h.spelled ∙ words_spaced (h.names ++ h.words) (all_plain_append h.names h.words (names_plain h.names h.named) (chosen_plain h.words h.chosen))
+
   whole : NamesRead h.names → ChosenRead 0 attributes h.words → (c : Color) × ColorText t c × (t ≡ color_shown c)
   whole n w = placed (placing n.names (omega (arith, n.as_many, h.at_most_two))) where
     joined : WordsRead (h.names ++ h.words) n.names w.bits
     joined =
         subst (λ (ns : List Name). WordsRead (h.names ++ h.words) ns w.bits) (append-nil n.names)
-          (subst (λ (b : ℕ). WordsRead (h.names ++ h.words) (n.names ++ []) b) (or_zero_l w.bits) (WordsRead-join h.names h.words n.names [] 0 w.bits n.read w.read))
+        (subst (λ (b : ℕ). WordsRead (h.names ++ h.words) (n.names ++ []) b) (or_zero_l w.bits) (WordsRead-join h.names h.words n.names [] 0 w.bits n.read w.read))
+
     placed : (f : Option Name) × (b : Option Name) × Placed n.names f b → (c : Color) × ColorText t c × (t ≡ color_shown c)
     placed (f, b, p) =
         let c : Color = record { foreground = f; background = b; attributes = record { 0 = w.bits } } in
@@ -339,44 +341,45 @@ shown_is_text c h e beside = record {
   reads_to = record {
     names = named c.foreground ++ named c.background;
     read = subst (λ (ws : List (List ℕ)). WordsRead ws (named c.foreground ++ named c.background) c.attributes.0) (sym shown_words)
-      (subst (λ (ns : List Name). WordsRead (map name_shown (named c.foreground ++ named c.background) ++ attribute_words c.attributes.0) ns c.attributes.0) (append-nil (named c.foreground ++ named c.background))
+        (subst (λ (ns : List Name). WordsRead (map name_shown (named c.foreground ++ named c.background) ++ attribute_words c.attributes.0) ns c.attributes.0) (append-nil (named c.foreground ++ named c.background))
         (subst (λ (b : ℕ). WordsRead (map name_shown (named c.foreground ++ named c.background) ++ attribute_words c.attributes.0) ((named c.foreground ++ named c.background) ++ []) b) (or_zero_l c.attributes.0)
-          (WordsRead-join (map name_shown (named c.foreground ++ named c.background)) (attribute_words c.attributes.0) (named c.foreground ++ named c.background) [] 0 c.attributes.0
-            (names_read (named c.foreground ++ named c.background) h) (attribute_words_read c.attributes.0 e))));
+        (WordsRead-join (map name_shown (named c.foreground ++ named c.background)) (attribute_words c.attributes.0) (named c.foreground ++ named c.background) [] 0 c.attributes.0
+        (names_read (named c.foreground ++ named c.background) h) (attribute_words_read c.attributes.0 e))));
     placed = place c.foreground c.background beside;
   };
   short = rw (shown_spaced c e) (spaced_short (map name_shown (named c.foreground ++ named c.background) ++ attribute_words c.attributes.0) 127
-    (omega (arith, weight-append (map name_shown (named c.foreground ++ named c.background)) (attribute_words c.attributes.0), names_weight (named c.foreground ++ named c.background) h, two c.foreground c.background, set_words_weight attributes c.attributes.0, rows_weight)));
+      (omega (arith, weight-append (map name_shown (named c.foreground ++ named c.background)) (attribute_words c.attributes.0), names_weight (named c.foreground ++ named c.background) h, two c.foreground c.background, set_words_weight attributes c.attributes.0, rows_weight)));
 } where
   two : (f b : Option Name) → length (named f ++ named b) ≤ 2
   two None None = omega arith
   two None (Some m) = omega arith
   two (Some n) None = omega arith
   two (Some n) (Some m) = omega arith
+
   place : (f b : Option Name) → (f ≡ None → b ≡ None) → Placed (named f ++ named b) f b
   place None None k = (refl, refl)
-  place None (Some m) k = absurd (some_none m (k refl)) where
-    some_none : (m : Name) → Some m ≡ None → ⊥
-    some_none m e = cc
+  place None (Some m) k = absurd (some_none m (k refl))
   place (Some n) None k = (refl, refl)
   place (Some n) (Some m) k = (refl, refl)
+
   shown_words : words (color_shown c) ≡ map name_shown (named c.foreground ++ named c.background) ++ attribute_words c.attributes.0
   shown_words = ap words (shown_spaced c e) ∙ words_spaced (map name_shown (named c.foreground ++ named c.background) ++ attribute_words c.attributes.0)
-    (all_plain_append (map name_shown (named c.foreground ++ named c.background)) (attribute_words c.attributes.0) (names_plain (map name_shown (named c.foreground ++ named c.background)) (names_canonical (named c.foreground ++ named c.background) h)) (chosen_plain (attribute_words c.attributes.0) (attribute_words_chosen c.attributes.0)))
+      (all_plain_append (map name_shown (named c.foreground ++ named c.background)) (attribute_words c.attributes.0) (names_plain (map name_shown (named c.foreground ++ named c.background)) (names_canonical (named c.foreground ++ named c.background) h)) (chosen_plain (attribute_words c.attributes.0) (attribute_words_chosen c.attributes.0)))
 
 pub color_shown_is_text : (c : Color) → HasText ColorText c → IsTextOf ColorText CanonicalColor c (color_shown c)
 color_shown_is_text c (t, h) =
     shown_is_text c
-      (subst (λ (ns : List Name). AllByRecursion (HasText NameText) ns) (sym (Placed-words h.names c.foreground c.background h.placed)) (names_have_text (words t) h.names c.attributes.0 h.read))
-      (WordsRead-known (words t) h.names c.attributes.0 h.read)
-      (background_beside t c h)
+    (subst (λ (ns : List Name). AllByRecursion (HasText NameText) ns) (sym (Placed-words h.names c.foreground c.background h.placed)) (names_have_text (words t) h.names c.attributes.0 h.read))
+    (WordsRead-known (words t) h.names c.attributes.0 h.read)
+    (background_beside t c h)
 
 -- which colors have a text: those whose set bits are known, with a background only beside a foreground
 pub color_has_text : (c : Color) → PartFits c.foreground → PartFits c.background
     → (HasText ColorText c) ↔ (AreKnown c.attributes.0 × (c.foreground ≡ None → c.background ≡ None))
-color_has_text c f b =
-    (λ h. (WordsRead-known (words h.0) h.1.names c.attributes.0 h.1.read, background_beside h.0 c h.1),
-      λ k. (color_shown c, (shown_is_text c (parts c.foreground c.background f b) k.0 k.1).reads_to)) where
+color_has_text c f b = (
+  λ h. (WordsRead-known (words h.0) h.1.names c.attributes.0 h.1.read, background_beside h.0 c h.1),
+  λ k. (color_shown c, (shown_is_text c (parts c.foreground c.background f b) k.0 k.1).reads_to),
+) where
   parts : (f b : Option Name) → PartFits f → PartFits b → AllByRecursion (HasText NameText) (named f ++ named b)
   parts None None p q = tt
   parts None (Some m) p q = (name_has_text m q, tt)
@@ -392,23 +395,27 @@ color_equal E law v w = (to, from) where
   part_same None (Some m) h = absurd (cc)
   part_same (Some n) None h = absurd (cc)
   part_same (Some n) (Some m) h = ap Some ((law n m).0 h)
+
   part_equal : (f : Option Name) → option_eq E f f ≡ true
   part_equal None = refl
   part_equal (Some n) = (law n n).1 refl
+
   to : IsTrue (option_eq E v.foreground w.foreground && (option_eq E v.background w.background && (v.attributes.0 == w.attributes.0))) → v ≡ w
   to h =
       let k = both (option_eq E v.foreground w.foreground) (option_eq E v.background w.background && (v.attributes.0 == w.attributes.0)) h in
       let l = both (option_eq E v.background w.background) (v.attributes.0 == w.attributes.0) k.1 in
       same_color v w (part_same v.foreground w.foreground k.0) (part_same v.background w.background l.0) ((Decides-eqb v.attributes.0 w.attributes.0).0 l.1)
+
   from : v ≡ w → IsTrue (option_eq E v.foreground w.foreground && (option_eq E v.background w.background && (v.attributes.0 == w.attributes.0)))
   from e = rw (← e) (rw (part_equal v.foreground, part_equal v.background, (Decides-eqb v.attributes.0 v.attributes.0).1 refl) refl)
 
 -- the test whether all set bits are known
 pub known_told : (all bits : ℕ) (r : Bool) → all ≡ known_bits_of attribute_flags → r ≡ (bit_and all bits == bits) → (IsTrue r) ↔ (AreKnown bits)
 unfolding attributes known_from
-known_told all bits r e f =
-    (λ h. and_comm bits 266338814 ∙ (ap (λ m. bit_and m bits) (sym e) ∙ (Decides-eqb (bit_and all bits) bits).0 (sym f ∙ h)),
-      λ h. f ∙ (Decides-eqb (bit_and all bits) bits).1 (ap (λ m. bit_and m bits) e ∙ (and_comm 266338814 bits ∙ h)))
+known_told all bits r e f = (
+  λ h. and_comm bits 266338814 ∙ (ap (λ m. bit_and m bits) (sym e) ∙ (Decides-eqb (bit_and all bits) bits).0 (sym f ∙ h)),
+  λ h. f ∙ (Decides-eqb (bit_and all bits) bits).1 (ap (λ m. bit_and m bits) e ∙ (and_comm 266338814 bits ∙ h)),
+)
 
 -- the test whether a background stands beside a foreground, where there is one
 pub none_told : (o : Option Name) (n : Bool) → is_some o ≡ not n → n ≡ true → o ≡ None
@@ -417,9 +424,5 @@ none_told (Some x) n e h = let k = rw h at e in absurd (cc)
 
 pub beside_told : (f b : Option Name) (n s : Bool) → is_some b ≡ not n → n ≡ false → s ≡ is_some f → (IsTrue s) ↔ (f ≡ None → b ≡ None)
 beside_told None None n s e h k = let l = rw h at e in absurd (cc)
-beside_told None (Some x) n s e h k = (λ t. absurd (cc), λ t. absurd (some_none x (t refl))) where
-  some_none : (m : Name) → Some m ≡ None → ⊥
-  some_none m e = cc
-beside_told (Some y) b n s e h k = (λ t z. absurd (some_none y z), λ t. k) where
-  some_none : (m : Name) → Some m ≡ None → ⊥
-  some_none m e = cc
+beside_told None (Some x) n s e h k = (λ t. absurd (cc), λ t. absurd (some_none x (t refl)))
+beside_told (Some y) b n s e h k = (λ t z. absurd (some_none y z), λ t. k)

@@ -38,8 +38,8 @@ Joined front back c = (a : Color) × (b : Color) × ColorText front a × ColorTe
 abbrev pub Joins : List ℕ → Option ArrayString → Type 0
 Joins t result =
     (front space back : List ℕ) → Space space → t ≡ front ++ space ++ back
-      → MatchOption result ((c : Color) → ¬ (Joined front back c))
-        (λ s. (c : Color) × Joined front back c × IsTextOf ColorText CanonicalColor c s.bytes)
+    → MatchOption result ((c : Color) → ¬ (Joined front back c))
+    (λ s. (c : Color) × Joined front back c × IsTextOf ColorText CanonicalColor c s.bytes)
 
 -- the words of both texts have the same names in the same order, and attributes of the same bits
 abbrev pub SameWords : List ℕ → List ℕ → Type 0

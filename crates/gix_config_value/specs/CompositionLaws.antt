@@ -1,7 +1,6 @@
 -- The laws of composition: the color of a joined text is the composition of its parts' colors, and what follows
 -- from that for the answers of `normalize` and `same`.
-use Rattle.std.proofs.Common.{◌≡◌, ℕ, ◌+◌, ◌<◌, ◌≤◌, ◌↔◌, inl, inr, List, [], ◌∷◌, ◌++◌, length, Option, Some, None, Bool, IsTrue, refl, sym, ap, subst, ◌∙◌, append_assoc, length-append, arith}
-use Rattle.std.specs.Int.RustNames.{bit_or}
+use Rattle.std.proofs.Common.{◌≡◌, ℕ, ◌+◌, ◌<◌, ◌≤◌, List, [], ◌∷◌, ◌++◌, length, Option, Some, None, Bool, refl, sym, ap, subst, ◌∙◌, append_assoc, length-append, arith}
 use Rattle.arrayvec.specs.ArrayString.{ArrayString}
 use Rattle.std.proofs.lemmas.Option.{some_pair_parts}
 use Rattle.gix_config_value.specs.declared.color.Color.{Color}
@@ -11,7 +10,7 @@ use Rattle.gix_config_value.specs.ColorLaws.{WordsRead-join, PartsRead, WordsRea
 use Rattle.gix_config_value.specs.ColorReading.{places_of}
 use Rattle.gix_config_value.specs.Composition.{named, color_words, Composition, Composes, Joined, Joins, SameWords, ComparesWords}
 use Rattle.gix_config_value.specs.Space.{Space}
-use Rattle.gix_config_value.specs.Value.{HasText, IsTextOf, Normalizes, Compares}
+use Rattle.gix_config_value.specs.Value.{HasText, Normalizes, Compares}
 use Rattle.gix_config_value.specs.Words.{words}
 use Rattle.gix_config_value.specs.WordsLaws.{words_joined, space_byte}
 
@@ -33,7 +32,7 @@ joined_reads front space back c s (a, b, p, q, k) =
       names = p.names ++ q.names;
       read = subst (λ (ws : List (List ℕ)). WordsRead ws (p.names ++ q.names) c.attributes.0) w (subst (λ (i : ℕ). WordsRead (words front ++ words back) (p.names ++ q.names) i) (sym k.united) r);
       placed = subst (λ (ns : List Name). Placed ns c.foreground c.background)
-        (ap (λ ns. ns ++ color_words b) (Placed-words p.names a.foreground a.background p.placed) ∙ ap (λ ms. p.names ++ ms) (Placed-words q.names b.foreground b.background q.placed)) k.placed;
+          (ap (λ ns. ns ++ color_words b) (Placed-words p.names a.foreground a.background p.placed) ∙ ap (λ ms. p.names ++ ms) (Placed-words q.names b.foreground b.background q.placed)) k.placed;
     }
 
 -- the color of a joined text is the composition of the colors of its parts
@@ -41,8 +40,7 @@ pub reads_joined : (front space back : List ℕ) (c : Color) → Space space →
 reads_joined front space back c s h = parted (WordsRead-split (words front) (words back) h.names c.attributes.0 read) where
   read : WordsRead (words front ++ words back) h.names c.attributes.0
   read = subst (λ (ws : List (List ℕ)). WordsRead ws h.names c.attributes.0) (ap words (append_assoc front space back) ∙ words_joined front space back s) h.read
-  color_of_part : (ns : List Name) (bits : ℕ) → length ns ≤ 2 → (a : Color) × Placed ns a.foreground a.background × (a.attributes.0 ≡ bits)
-  color_of_part ns bits l = let p = placing ns l in (record { foreground = p.0; background = p.1; attributes = record { 0 = bits } }, p.2, refl)
+
   parted : PartsRead (words front) (words back) h.names c.attributes.0 → Joined front back c
   parted r =
       let short : length r.front_names + length r.back_names ≤ 2 = omega (arith, Placed-short h.names c.foreground c.background h.placed, ap length r.all_names, length-append r.front_names r.back_names) in
@@ -51,11 +49,13 @@ reads_joined front space back c s h = parted (WordsRead-split (words front) (wor
       let front_color : Color = record { foreground = a.0; background = a.1; attributes = record { 0 = r.front_bits } } in
       let back_color : Color = record { foreground = b.0; background = b.1; attributes = record { 0 = r.back_bits } } in
       let names : h.names ≡ color_words front_color ++ color_words back_color =
-          r.all_names ∙ (ap (λ ns. ns ++ r.back_names) (sym (Placed-words r.front_names a.0 a.1 a.2)) ∙ ap (λ ms. color_words front_color ++ ms) (sym (Placed-words r.back_names b.0 b.1 b.2))) in
-      (front_color, back_color,
+      r.all_names ∙ (ap (λ ns. ns ++ r.back_names) (sym (Placed-words r.front_names a.0 a.1 a.2)) ∙ ap (λ ms. color_words front_color ++ ms) (sym (Placed-words r.back_names b.0 b.1 b.2))) in (
+        front_color,
+        back_color,
         record { names = r.front_names; read = r.front; placed = a.2 },
         record { names = r.back_names; read = r.back; placed = b.2 },
-        record { placed = subst (λ (ns : List Name). Placed ns c.foreground c.background) names h.placed; united = r.all_bits })
+        record { placed = subst (λ (ns : List Name). Placed ns c.foreground c.background) names h.placed; united = r.all_bits },
+      )
 
 -- what `normalize` answers for a color text is said for every place at which white space stands in it
 pub normalizes_joins : (t : List ℕ) (result : Option ArrayString) → Normalizes ColorText CanonicalColor t result → Joins t result
@@ -71,19 +71,20 @@ compares_words a b (Some same) (v, w, p, q, k, texts) = (λ e. agree (k.0 e), λ
       let names : q.names ≡ p.names = sym (Placed-words q.names w.foreground w.background q.placed) ∙ (ap (λ (c : Color). color_words c) (sym e) ∙ Placed-words p.names v.foreground v.background p.placed) in
       let bits : w.attributes.0 ≡ v.attributes.0 = ap (λ (c : Color). c.attributes.0) (sym e) in
       (p.names, v.attributes.0, p.read, subst (λ (ns : List Name). WordsRead (words b) ns v.attributes.0) names (subst (λ (i : ℕ). WordsRead (words b) q.names i) bits q.read))
+
   meet : SameWords a b → v ≡ w
   meet (names, bits, r, s) =
       let m = WordsRead-one (words a) p.names names v.attributes.0 bits p.read r in
       let o = WordsRead-one (words b) q.names names w.attributes.0 bits q.read s in
       let placed = Placed-one p.names v.foreground v.background w.foreground w.background p.placed
-          (subst (λ (ns : List Name). Placed ns w.foreground w.background) (o.0 ∙ sym m.0) q.placed) in
+      (subst (λ (ns : List Name). Placed ns w.foreground w.background) (o.0 ∙ sym m.0) q.placed) in
       same_color v w placed.0 placed.1 (m.1 ∙ sym o.1)
 
 -- a composition of colors that have texts has one
 pub composition_has_text : (a b c : Color) → HasText ColorText a → HasText ColorText b → Composition a b c → HasText ColorText c
 composition_has_text a b c (s, p) (t, q) k = (s ++ (32 ∷ []) ++ t, joined_reads s (32 ∷ []) t c space_byte (a, b, p, q, k))
 
-some_none : (n : Name) → Some n ≡ None → ⊥
+pub some_none : (n : Name) → Some n ≡ None → ⊥
 some_none n e = cc
 
 -- the places that the names of two colors have

@@ -1,5 +1,5 @@
 -- Which bytes the spellings of white space have.
-use Rattle.std.proofs.Common.{◌≡◌, ℕ, ◌≤◌, ◌⊎◌, inl, inr, List, [], ◌∷◌, ◌++◌, length, get_or, arith}
+use Rattle.std.proofs.Common.{◌≡◌, ℕ, ◌≤◌, ◌⊎◌, List, [], ◌∷◌, ◌++◌, length, get_or, arith}
 use Rattle.gix_config_value.specs.Space.{spellings, Space}
 
 pub narrow_bytes : (a : ℕ) → Space (a ∷ []) → ((9 ≤ a) × (a ≤ 13)) ⊎ (a ≡ 32)
@@ -12,7 +12,7 @@ double_bytes a b h = grind arith
 
 pub triple_bytes : (a b c : ℕ) → Space (a ∷ b ∷ c ∷ [])
     → ((a ≡ 225) × (b ≡ 154) × (c ≡ 128)) ⊎ ((a ≡ 226) × (b ≡ 128) × (((128 ≤ c) × (c ≤ 138)) ⊎ (c ≡ 168) ⊎ (c ≡ 169) ⊎ (c ≡ 175)))
-      ⊎ ((a ≡ 226) × (b ≡ 129) × (c ≡ 159)) ⊎ ((a ≡ 227) × (b ≡ 128) × (c ≡ 128))
+    ⊎ ((a ≡ 226) × (b ≡ 129) × (c ≡ 159)) ⊎ ((a ≡ 227) × (b ≡ 128) × (c ≡ 128))
 unfolding spellings
 triple_bytes a b c h = grind arith
 
@@ -35,10 +35,12 @@ pub data Begins (text : List ℕ) : Type 0 where
   two : (a b : ℕ) (rest : List ℕ) → text ≡ a ∷ b ∷ rest → Space (a ∷ b ∷ []) → Begins text
   three : (a b c : ℕ) (rest : List ℕ) → text ≡ a ∷ b ∷ c ∷ rest → Space (a ∷ b ∷ c ∷ []) → Begins text
 
-no_empty : Space [] → ⊥
+-- no spelling is empty
+pub no_empty : Space [] → ⊥
 unfolding spellings
 no_empty h = grind arith
 
+-- and none has more than three bytes
 no_longer : (a b c d : ℕ) (more : List ℕ) → Space (a ∷ b ∷ c ∷ d ∷ more) → ⊥
 unfolding spellings
 no_longer a b c d more h = grind arith

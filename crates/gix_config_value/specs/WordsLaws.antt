@@ -1,13 +1,14 @@
 -- The laws of words: the two sentences of their definition, the words of a text that is joined of two by white
 -- space, and the first word of a text that is walked from its front.
-use Rattle.std.proofs.Common.{◌≡◌, ℕ, zero, suc, ◌+◌, ◌-◌, ◌<◌, ◌≤◌, ◌==◌, ◌⊎◌, inl, inr, Bool, true, false, cond, List, [], ◌∷◌, ◌++◌, length, take, drop, slice_range, Option, Some, None, refl, sym, ap, ◌∙◌, append_assoc, length-append, arith}
+use Rattle.std.proofs.Common.{◌≡◌, ℕ, zero, suc, ◌+◌, ◌-◌, ◌<◌, ◌≤◌, ◌==◌, ◌⊎◌, inl, inr, Bool, true, false, List, [], ◌∷◌, ◌++◌, length, take, drop, slice_range, Option, Some, None, refl, sym, ap, ◌∙◌, append_assoc, length-append, arith}
 use Rattle.std.specs.Bool.{Decides}
 use Rattle.std.specs.List.{AllByRecursion}
 use Rattle.std.proofs.lemmas.Bool.Decides.{Decides-eqb}
 use Rattle.std.proofs.lemmas.List.{append-nil, take-append-drop, drop-drop, take_all}
 use Rattle.gix_config_value.specs.OneOf.{OneOf}
 use Rattle.gix_config_value.specs.Space.{spellings, Space}
-use Rattle.gix_config_value.specs.Words.{after, or_else, after_one, after_space, Cut, cut_at, last_cut, piece, words_at, words_within, words}
+use Rattle.gix_config_value.specs.SpaceLaws.{no_empty}
+use Rattle.gix_config_value.specs.Words.{after, or_else, after_one, after_space, Cut, cut_at, last_cut, piece, words_within, words}
 
 pub space_byte : Space (32 ∷ [])
 unfolding spellings
@@ -76,13 +77,13 @@ cut_told text = told (last_cut text) refl where
   told None e = inl e
   told (Some cut) e = inr (cut, e)
 
--- a text in which a spelling stands has a cut
-pub cut_none : (text front space rest : List ℕ) → last_cut text ≡ None → Space space → ¬ (text ≡ front ++ (space ++ rest))
-cut_none text front space rest h s e =
-    elim (cut_told rest) [
-      | inl n ↦ cc (h, ap last_cut e, cut_append front (space ++ rest) [] rest (last_space space rest s n))
-      | inr c ↦ cc (h, ap last_cut e, cut_append front (space ++ rest) (space ++ c.0.0) c.0.1 (cut_append space rest c.0.0 c.0.1 c.1))
-    ]
+abbrev front_of : Option Cut → List ℕ
+front_of None = []
+front_of (Some c) = c.0
+
+abbrev back_of : Option Cut → List ℕ
+back_of None = []
+back_of (Some c) = c.1
 
 -- what stands before the cut is shorter
 cut_shorter : (text : List ℕ) (cut : Cut) → last_cut text ≡ Some cut → length cut.0 < length text
@@ -92,12 +93,9 @@ cut_shorter (x ∷ text) cut h =
       | inr c ↦ let k = rw c.1 at h in let e : x ∷ c.0.0 ≡ cut.0 = ap (λ o. front_of o) k in omega (arith, cut_shorter text c.0 c.1, ap length e)
       | inl n ↦ let k = rw n at h in at_head (after_space (x ∷ text)) k
     ] where
-  front_of : Option Cut → List ℕ
-  front_of None = []
-  front_of (Some c) = c.0
-  at_head : (here : Option (List ℕ)) → cut_at x here None ≡ Some cut → length cut.0 < length (x ∷ text)
-  at_head None k = absurd (cc)
-  at_head (Some r) k = let e : [] ≡ cut.0 = ap (λ o. front_of o) k in omega (arith, ap length e)
+      at_head : (here : Option (List ℕ)) → cut_at x here None ≡ Some cut → length cut.0 < length (x ∷ text)
+      at_head None k = absurd (cc)
+      at_head (Some r) k = let e : [] ≡ cut.0 = ap (λ o. front_of o) k in omega (arith, ap length e)
 
 within_enough : (n m : ℕ) (text : List ℕ) → length text ≤ n → length text ≤ m → words_within n text ≡ words_within m text
 within_enough zero zero text p q = refl
@@ -128,16 +126,16 @@ joined_none : (before space rest : List ℕ) → Space space → last_cut rest �
     → words (before ++ (space ++ rest)) ≡ words before ++ words rest
 joined_none before space rest s e =
     words_some (before ++ (space ++ rest)) (before ++ [], rest) (cut_append before (space ++ rest) [] rest (last_space space rest s e))
-      ∙ rw (append-nil, words_none rest e) refl
+    ∙ rw (append-nil, words_none rest e) refl
 
 joined_some : (before space rest : List ℕ) (cut : Cut) → last_cut rest ≡ Some cut
     → words (before ++ (space ++ cut.0)) ≡ words before ++ words cut.0
     → words (before ++ (space ++ rest)) ≡ words before ++ words rest
 joined_some before space rest cut e h =
     words_some (before ++ (space ++ rest)) (before ++ (space ++ cut.0), cut.1)
-        (cut_append before (space ++ rest) (space ++ cut.0) cut.1 (cut_append space rest cut.0 cut.1 e))
-      ∙ (ap (λ ws. ws ++ piece cut.1) h
-      ∙ (append_assoc (words before) (words cut.0) (piece cut.1) ∙ ap (λ ws. words before ++ ws) (sym (words_some rest cut e))))
+    (cut_append before (space ++ rest) (space ++ cut.0) cut.1 (cut_append space rest cut.0 cut.1 e))
+    ∙ (ap (λ ws. ws ++ piece cut.1) h
+    ∙ (append_assoc (words before) (words cut.0) (piece cut.1) ∙ ap (λ ws. words before ++ ws) (sym (words_some rest cut e))))
 
 words_joined_within : (n : ℕ) (before space rest : List ℕ) → length rest ≤ n → Space space
     → words (before ++ (space ++ rest)) ≡ words before ++ words rest
@@ -167,18 +165,62 @@ uncut (suc n) (x ∷ text) h = rw (uncut n text (λ k l. h (suc k) (omega arith)
   at_head (Some r) e =
       let found = after_space_is (x ∷ take n text) r e in
       absurd (h 0 (omega arith) found.0 (r ++ drop n text) found.1
-        (ap (λ t. x ∷ t) (sym (take-append-drop n text)) ∙ (ap (λ t. t ++ drop n text) found.2 ∙ append_assoc found.0 r (drop n text))))
+      (ap (λ t. x ∷ t) (sym (take-append-drop n text)) ∙ (ap (λ t. t ++ drop n text) found.2 ∙ append_assoc found.0 r (drop n text))))
 
 -- the words of a text at whose place n the first spelling stands, s bytes long
 pub words_step : (text : List ℕ) (n s : ℕ) → IsWithoutSpace text n → n + s ≤ length text → Space (slice_range text n (n + s))
     → words text ≡ piece (take n text) ++ words (drop (n + s) text)
 words_step text n s h l k =
     ap words (parts text n s l) ∙ (words_joined (take n text) (slice_range text n (n + s)) (drop (n + s) text) k
-      ∙ ap (λ ws. ws ++ words (drop (n + s) text)) (words_none (take n text) (uncut n text h))) where
-  parts : (text : List ℕ) (n s : ℕ) → n + s ≤ length text → text ≡ take n text ++ (slice_range text n (n + s) ++ drop (n + s) text)
-  parts text n s l = let e : n + s - n ≡ s = omega arith in
-      rw e (sym (take-append-drop n text) ∙ ap (λ t. take n text ++ t) (sym (take-append-drop s (drop n text)) ∙ ap (λ t. take s (drop n text) ++ t) (drop-drop s n text)))
+    ∙ ap (λ ws. ws ++ words (drop (n + s) text)) (words_none (take n text) (uncut n text h))) where
+      parts : (text : List ℕ) (n s : ℕ) → n + s ≤ length text → text ≡ take n text ++ (slice_range text n (n + s) ++ drop (n + s) text)
+      parts text n s l = let e : n + s - n ≡ s = omega arith in
+          rw e (sym (take-append-drop n text) ∙ ap (λ t. take n text ++ t) (sym (take-append-drop s (drop n text)) ∙ ap (λ t. take s (drop n text) ++ t) (drop-drop s n text)))
 
 -- the words of a text in which no spelling stands
 pub words_last : (text : List ℕ) → IsWithoutSpace text (length text) → words text ≡ piece text
 words_last text h = words_none text (let k = uncut (length text) text h in ap last_cut (sym (take_all (length text) text (omega arith))) ∙ k)
+
+-- the parts of a cut
+cut_parts : (text : List ℕ) (cut : Cut) → last_cut text ≡ Some cut → (space : List ℕ) × Space space × (text ≡ cut.0 ++ (space ++ cut.1))
+cut_parts [] cut h = absurd (cc)
+cut_parts (x ∷ text) cut h = at_place x text cut (after_space (x ∷ text)) refl (last_cut text) h (cut_parts text) where
+  at_place : (x : ℕ) (text : List ℕ) (cut : Cut) (here : Option (List ℕ)) → after_space (x ∷ text) ≡ here
+      → (further : Option Cut) → cut_at x here further ≡ Some cut
+      → ((cut : Cut) → further ≡ Some cut → (space : List ℕ) × Space space × (text ≡ cut.0 ++ (space ++ cut.1)))
+      → (space : List ℕ) × Space space × (x ∷ text ≡ cut.0 ++ (space ++ cut.1))
+  at_place x text cut here e (Some c) h more =
+      let k = more c refl in
+      let f : x ∷ c.0 ≡ cut.0 = ap (λ o. front_of o) h in
+      let g : c.1 ≡ cut.1 = ap (λ o. back_of o) h in
+      (k.0, k.1, ap (λ t. x ∷ t) k.2 ∙ (ap (λ t. t ++ (k.0 ++ c.1)) f ∙ ap (λ t. cut.0 ++ (k.0 ++ t)) g))
+  at_place x text cut (Some r) e None h more =
+      let k = after_space_is (x ∷ text) r e in
+      let f : [] ≡ cut.0 = ap (λ o. front_of o) h in
+      let g : r ≡ cut.1 = ap (λ o. back_of o) h in
+      (k.0, k.1, k.2 ∙ (ap (λ t. t ++ (k.0 ++ r)) f ∙ ap (λ t. cut.0 ++ (k.0 ++ t)) g))
+  at_place x text cut None e None h more = absurd (cc)
+
+-- a text in which no spelling stands has no cut
+no_cut : (text : List ℕ) → ((before space rest : List ℕ) → Space space → ¬ (text ≡ before ++ (space ++ rest))) → last_cut text ≡ None
+no_cut text h =
+    elim (cut_told text) [
+      | inl e ↦ e
+      | inr c ↦ let k = cut_parts text c.0 c.1 in absurd (h c.0.0 k.0 c.0.1 k.1 k.2)
+    ]
+
+pub words_whole : (text : List ℕ) → ((before space rest : List ℕ) → Space space → ¬ (text ≡ before ++ space ++ rest)) → words text ≡ piece text
+words_whole text h = words_none text (no_cut text (λ before space rest s e. h before space rest s (e ∙ sym (append_assoc before space rest))))
+
+pub words_cut_last : (before space rest : List ℕ) → Space space
+    → ((front other back : List ℕ) → Space other → before ++ space ++ rest ≡ front ++ other ++ back → length front ≤ length before)
+    → words (before ++ space ++ rest) ≡ words before ++ piece rest
+words_cut_last before space rest s h =
+    ap words (append_assoc before space rest) ∙ (words_joined before space rest s ∙ ap (λ ws. words before ++ ws) (words_none rest (no_cut rest behind))) where
+      behind : (b o r : List ℕ) → Space o → ¬ (rest ≡ b ++ (o ++ r))
+      behind b o r t e =
+          let l = h ((before ++ space) ++ b) o r t (ap (λ t. before ++ space ++ t) e ∙ (sym (append_assoc (before ++ space) b (o ++ r)) ∙ sym (append_assoc ((before ++ space) ++ b) o r))) in
+          long space s l where
+            long : (space : List ℕ) → Space space → length ((before ++ space) ++ b) ≤ length before → ⊥
+            long [] s l = no_empty s
+            long (x ∷ more) s l = omega (arith, length-append (before ++ x ∷ more) b, length-append before (x ∷ more))

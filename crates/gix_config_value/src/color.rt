@@ -20,18 +20,17 @@ mod name;
 mod space;
 mod words;
 
-pub use attribute::Attribute;
-pub use name::Name;
-pub use space::space_at;
-pub use words::{Item, word};
-
 use crate::canonical::Value;
 use crate::errors::{Error, Fault, Returned};
 use arrayvec::ArrayString;
+pub use attribute::Attribute;
 use bitflags::Flags;
 use bstr::{BStr, BString};
+pub use name::Name;
+pub use space::space_at;
 use std::borrow::CowSlice;
 use std::fmt;
+pub use words::{Item, word};
 
 /// A color: the two that text is drawn in, and its attributes.
 #[derive(Clone, Copy, PartialEq, Eq, PartialOrd, Ord, Hash, Debug)]
@@ -49,7 +48,11 @@ impl Default for Color {
 
     /// The color of the empty text: no names and no attributes.
     fn default() -> Color {
-        Color { foreground: None, background: None, attributes: Attribute::empty() }
+        Color {
+            foreground: None,
+            background: None,
+            attributes: Attribute::empty(),
+        }
     }
 }
 
@@ -59,8 +62,14 @@ impl Color {
         ensures { result ≡ next_name self.foreground self.background self.attributes.0 name }
     {
         match (self.foreground, self.background) {
-            (None, _) => Some(Color { foreground: Some(name), ..self }),
-            (Some(_), None) => Some(Color { background: Some(name), ..self }),
+            (None, _) => Some(Color {
+                foreground: Some(name),
+                ..self
+            }),
+            (Some(_), None) => Some(Color {
+                background: Some(name),
+                ..self
+            }),
             (Some(_), Some(_)) => None,
         }
     }
@@ -160,7 +169,10 @@ fn first_word(text: &[u8]) -> FirstWord
             return FirstWord { length: at, space };
         }
     }
-    FirstWord { length: text.len(), space: 0 }
+    FirstWord {
+        length: text.len(),
+        space: 0,
+    }
 }
 
 /// The color of a text, or `None` where it has none. The text is walked once, from its front.
@@ -189,7 +201,10 @@ impl<'a> TryFrom<BStr<'a>> for Color {
     fn try_from(input: BStr<'a>) -> Result<Color, Error<'a>> {
         match color_of(input.as_bytes()) {
             Some(color) => Ok(color),
-            None => Err(Error { fault: Fault::Color, input }),
+            None => Err(Error {
+                fault: Fault::Color,
+                input,
+            }),
         }
     }
 }
@@ -203,7 +218,10 @@ impl<'a> TryFrom<&'a str> for Color {
     fn try_from(input: &'a str) -> Result<Color, Error<'a>> {
         match color_of(input.as_bytes()) {
             Some(color) => Ok(color),
-            None => Err(Error { fault: Fault::Color, input: BStr::from(input) }),
+            None => Err(Error {
+                fault: Fault::Color,
+                input: BStr::from(input),
+            }),
         }
     }
 }
@@ -217,7 +235,10 @@ impl TryFrom<BString> for Color {
     fn try_from(input: BString) -> Result<Color, Returned<BString>> {
         match color_of(input.as_bytes()) {
             Some(color) => Ok(color),
-            None => Err(Returned { fault: Fault::Color, input }),
+            None => Err(Returned {
+                fault: Fault::Color,
+                input,
+            }),
         }
     }
 }
@@ -231,7 +252,10 @@ impl<'a> TryFrom<CowSlice<'a, u8>> for Color {
     fn try_from(input: CowSlice<'a, u8>) -> Result<Color, Returned<CowSlice<'a, u8>>> {
         match color_of(&input) {
             Some(color) => Ok(color),
-            None => Err(Returned { fault: Fault::Color, input }),
+            None => Err(Returned {
+                fault: Fault::Color,
+                input,
+            }),
         }
     }
 }
@@ -258,7 +282,8 @@ impl Value for Color {
     fn has_text(&self) -> bool {
         part_fits(self.foreground);
         part_fits(self.background);
-        Attribute::all().contains(self.attributes) && (self.background.is_none() || self.foreground.is_some())
+        Attribute::all().contains(self.attributes)
+            && (self.background.is_none() || self.foreground.is_some())
     }
 
     fn text(&self) -> ArrayString<127> {

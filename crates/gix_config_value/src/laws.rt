@@ -3,3 +3,4 @@
 pub mod attributes;
 pub mod paths;
 pub mod settings;
+pub mod colors;

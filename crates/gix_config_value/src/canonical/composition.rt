@@ -36,5 +36,9 @@ pub fn compose(a: Color, b: Color) -> Option<Color>
 {
     let (foreground, background) = places(a, b)?;
     let attributes = a.attributes.union(b.attributes);
-    Some(Color { foreground, background, attributes })
+    Some(Color {
+        foreground,
+        background,
+        attributes,
+    })
 }

@@ -1,4 +1,4 @@
-use Rattle.std.proofs.Common.{◌≡◌, Option, None, sym, subst, ◌∙◌}
+use Rattle.std.proofs.Common.{Option, sym, subst, ◌∙◌}
 use Rattle.gix_config_value.specs.declared.color.Color.{Color}
 use Rattle.gix_config_value.specs.Composition.{Composition, Composes}
 use Rattle.gix_config_value.specs.CompositionLaws.{places_compose, places_refuse, composition_has_text}

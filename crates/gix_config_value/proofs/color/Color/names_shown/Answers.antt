@@ -1,5 +1,4 @@
-use Rattle.std.proofs.Common.{◌≡◌, ◌≤◌, length, arith, ap, length-append}
-use Rattle.gix_config_value.specs.Name.{name_shown}
+use Rattle.std.proofs.Common.{length, arith, ap, length-append}
 use Rattle.gix_config_value.specs.NameLaws.{name_short}
 use Rattle.gix_config_value.proofs.color.Color.names_shown.Goals as goal
 

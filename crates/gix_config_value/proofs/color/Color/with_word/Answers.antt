@@ -1,4 +1,4 @@
-use Rattle.std.proofs.Common.{◌≡◌, ◌≢◌, Some, None, List, [], length, refl, sym, ap, ◌∙◌, arith}
+use Rattle.std.proofs.Common.{◌≢◌, Some, None, [], sym, ◌∙◌, arith}
 use Rattle.std.proofs.lemmas.Bool.Decides.{nat_tests}
 use Rattle.gix_config_value.specs.ColorLaws.{read_word}
 use Rattle.gix_config_value.proofs.color.Color.with_word.Goals as goal

@@ -1,4 +1,3 @@
-use Rattle.std.proofs.Common.{◌≡◌}
 use Rattle.gix_config_value.specs.ColorShownLaws.{color_has_text, known_told, none_told, beside_told}
 use Rattle.gix_config_value.proofs.color.ColorValue.has_text.Goals as goal
 

@@ -1,4 +1,3 @@
-use Rattle.std.proofs.Common.{◌≡◌}
 use Rattle.gix_config_value.specs.ColorShownLaws.{color_shown_is_text}
 use Rattle.gix_config_value.proofs.color.ColorValue.text.Goals as goal
 

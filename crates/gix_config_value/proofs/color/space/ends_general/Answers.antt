@@ -1,4 +1,4 @@
-use Rattle.std.proofs.Common.{refl, arith, ◌≡◌}
+use Rattle.std.proofs.Common.{refl, arith}
 use Rattle.gix_config_value.specs.SpaceLaws.{triple_bytes, bytes_general}
 use Rattle.gix_config_value.proofs.color.space.ends_general.Goals as goal
 

@@ -1,4 +1,4 @@
-use Rattle.std.proofs.Common.{refl, arith, ◌≡◌}
+use Rattle.std.proofs.Common.{refl, arith}
 use Rattle.std.proofs.lemmas.Bool.Decides.{nat_tests}
 use Rattle.gix_config_value.specs.SpaceLaws.{double_bytes, bytes_double}
 use Rattle.gix_config_value.proofs.color.space.is_double.Goals as goal

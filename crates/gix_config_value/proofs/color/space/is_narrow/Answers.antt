@@ -1,4 +1,4 @@
-use Rattle.std.proofs.Common.{refl, arith, ◌≡◌}
+use Rattle.std.proofs.Common.{refl, arith}
 use Rattle.gix_config_value.specs.SpaceLaws.{narrow_bytes, bytes_narrow}
 use Rattle.gix_config_value.proofs.color.space.is_narrow.Goals as goal
 

@@ -1,4 +1,4 @@
-use Rattle.std.proofs.Common.{◌≡◌, arith}
+use Rattle.std.proofs.Common.{arith}
 use Rattle.gix_config_value.specs.SpaceLaws.{begins_not}
 use Rattle.gix_config_value.proofs.color.space.space_length.Goals as goal
 
