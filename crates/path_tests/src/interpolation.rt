@@ -42,7 +42,7 @@ const BOB: Option<&[User]> = Some(&[("bob", "/h/bob")]);
 const A: Option<&[User]> = Some(&[("a", "/h/a")]);
 
 /// Values whose answers need no user.
-const WITHOUT_USERS: [Row; 34] = [
+static WITHOUT_USERS: [Row; 34] = [
     row!(b"", None, None, None, Err(Error::PathMissing), 0),
     row!(
         b"",
@@ -179,7 +179,7 @@ const WITHOUT_USERS: [Row; 34] = [
 ];
 
 /// Values that begin with a user's name.
-const WITH_USERS: [Row; 17] = [
+static WITH_USERS: [Row; 17] = [
     row!(b"~bob", None, None, None, Err(Error::LookupMissing), 0),
     row!(
         b"~a\xff/x",
@@ -354,7 +354,7 @@ fn lends_ill_formed_bytes(rt: HostRuntime) -> Result<(), Fail> {
 }
 
 /// A directory, and its join with the rests `x`, nothing and `/x`.
-const JOINS: [(&str, &str, &str); 5] = [
+static JOINS: [(&str, &str, &str); 5] = [
     ("", "x", ""),
     ("/", "/x", "/"),
     ("/h", "/h/x", "/h/"),
@@ -382,16 +382,16 @@ fn over(alloc: Global, value: &str, dir: &'static str) -> Result<String, AllocEr
 #[test]
 fn joins_each_directory(rt: HostRuntime) -> Result<(), Fail> {
     let alloc = rt.alloc();
-    for (dir, with_name, with_nothing) in JOINS {
+    for (dir, with_name, with_nothing) in &JOINS {
         for front in ["~/", "%(prefix)/", "~a/"] {
             let named = format!(in alloc; "{front}x")?;
             let rooted = format!(in alloc; "{front}/x")?;
             assert_eq!(rt;
                 over(alloc, named.as_str(), dir)?.as_str(),
-                with_name,
+                *with_name,
                 "{front} x"
             );
-            assert_eq!(rt; over(alloc, front, dir)?.as_str(), with_nothing, "{front}");
+            assert_eq!(rt; over(alloc, front, dir)?.as_str(), *with_nothing, "{front}");
             assert_eq!(rt;
                 over(alloc, rooted.as_str(), dir)?.as_str(),
                 "/x",
@@ -423,7 +423,7 @@ fn takes_a_default_context(rt: HostRuntime) -> Result<(), Fail> {
 }
 
 /// An error, its class and its text.
-const ERRORS: [(Error<'static>, Class, &str); 11] = [
+static ERRORS: [(Error<'static>, Class, &str); 11] = [
     (Error::PathMissing, Class::NotFound, "path is missing"),
     (
         Error::InstallDirMissing,
@@ -486,9 +486,9 @@ const ERRORS: [(Error<'static>, Class, &str); 11] = [
 
 #[test]
 fn classes_and_texts_of_errors(rt: HostRuntime) -> Result<(), Fail> {
-    for (error, class, text) in ERRORS {
-        assert_eq!(rt; error.class(), class, "{text}");
-        assert_eq!(rt; format!(in rt.alloc(); "{error}")?.as_str(), text);
+    for (error, class, text) in &ERRORS {
+        assert_eq!(rt; error.class(), *class, "{text}");
+        assert_eq!(rt; format!(in rt.alloc(); "{error}")?.as_str(), *text);
     }
     Ok(())
 }

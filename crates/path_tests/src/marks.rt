@@ -15,7 +15,7 @@ struct Row {
     kept: &'static str,
 }
 
-const ROWS: [Row; 9] = [
+static ROWS: [Row; 9] = [
     Row {
         text: ":(optional):(optional)x",
         is_optional: true,

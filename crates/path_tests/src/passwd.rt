@@ -7,7 +7,7 @@ use std::test::Fail;
 /// Only the second line has seven fields.
 const TWO_LINES: &str = "a:x:1:1::/h/a\na:x:1:1:g:/h/b:/sh";
 
-const ROWS: [(&str, &str, Option<&str>); 15] = [
+static ROWS: [(&str, &str, Option<&str>); 15] = [
     (TWO_LINES, "a", Some("/h/b")),
     (TWO_LINES, "b", None),
     (TWO_LINES, "", None),
@@ -27,8 +27,8 @@ const ROWS: [(&str, &str, Option<&str>); 15] = [
 
 #[test]
 fn finds_the_home(rt: HostRuntime) {
-    for (passwd, name, home) in ROWS {
-        assert_eq!(rt; home_for_user(passwd, name), home, "{name} in {passwd}");
+    for (passwd, name, home) in &ROWS {
+        assert_eq!(rt; home_for_user(passwd, name), *home, "{name} in {passwd}");
     }
 }
 
