@@ -1,7 +1,8 @@
 -- What decides in one list of entries behind another.
-use Rattle.std.proofs.Common.{◌≡◌, ◌<◌, ◌+◌, ◌⊎◌, inl, inr, ℕ, zero, suc, List, [], ◌∷◌, ◌++◌, length, refl, sym, subst, arith}
-use Rattle.std.proofs.lemmas.Option.{slice_get_within, none-some}
-use Rattle.gix_config_value.specs.Settings.{IsNamed, IsAbsent, Decides, Finds, decided, absent, Refuses}
+use Rattle.std.proofs.Common.{◌≡◌, ◌<◌, ◌+◌, ◌⊎◌, inl, inr, ℕ, zero, suc, List, [], ◌∷◌, ◌++◌, length, refl, sym, subst, arith, Result, Ok, Err, IfOk, ap, ◌∙◌, ◌≢◌, Some, Bool, true, false, Bor, MatchBool}
+use Rattle.std.proofs.lemmas.Option.{slice_get_within, none-some, same_Some, slice_get-map, slice_get_cases, get_or_from_slice_get}
+use Rattle.std.specs.List.{slice_get, HoldsAt, AllWithin}
+use Rattle.gix_config_value.specs.Settings.{entry_texts, IsNamed, IsAbsent, Decides, Finds, decided, absent, Refuses}
 
 -- an entry of the second list stands behind those of the first
 named_behind : (es fs : List (List ℕ × List ℕ)) (n : List ℕ) (i j : ℕ) (t : List ℕ) → j ≡ length es + i → IsNamed fs n i t → IsNamed (es ++ fs) n j t
@@ -51,3 +52,36 @@ finds_before grammar es fs n default v nowhere (decided i t decides reads) = dec
 finds_before grammar es fs n default v nowhere (absent none is) = absent (λ j u named. elim (named_in es fs n j u named) [
       inl here ↦ none j u here
     | inr behind ↦ nowhere behind.0 u behind.2 ]) is
+
+-- an answer where there is one: each source that has the name hides those before it
+pub kept_behind : {V E : Type 0} (grammar : List ℕ → V → Type 0) (es fs : List (List ℕ × List ℕ)) (n : List ℕ) (default : V) (r : Result V E)
+    → ((i : ℕ) × (t : List ℕ) × IsNamed fs n i t) → IfOk r (Finds grammar fs n default) → IfOk r (Finds grammar (es ++ fs) n default)
+kept_behind grammar es fs n default (Ok v) has found = finds_behind grammar es fs n default v has found
+kept_behind grammar es fs n default (Err e) has found = tt
+
+pub kept_before : {V E : Type 0} (grammar : List ℕ → V → Type 0) (es fs : List (List ℕ × List ℕ)) (n : List ℕ) (default : V) (r : Result V E)
+    → IsAbsent fs n → IfOk r (Finds grammar es n default) → IfOk r (Finds grammar (es ++ fs) n default)
+kept_before grammar es fs n default (Ok v) nowhere found = finds_before grammar es fs n default v nowhere found
+kept_before grammar es fs n default (Err e) nowhere found = tt
+
+-- ---- whether a name stands among borrowed entries
+
+named_entry : (es : List (Bor (List ℕ) × Bor (List ℕ))) (n : List ℕ) (j : ℕ) (t : List ℕ) → IsNamed (entry_texts es) n j t
+    → (e : Bor (List ℕ) × Bor (List ℕ)) × (slice_get es j ≡ Some e) × (e.0.now ≡ n)
+named_entry [] n j t named = absurd (none-some (n, t) named)
+named_entry (e ∷ es) n zero t named = (e, refl, ap (λ p. p.0) (same_Some _ _ named))
+named_entry (e ∷ es) n (suc j) t named = named_entry es n j t named
+
+entry_within : (es : List (Bor (List ℕ) × Bor (List ℕ))) (i : ℕ) → i < length es → (e : Bor (List ℕ) × Bor (List ℕ)) × (slice_get es i ≡ Some e)
+entry_within es i within = elim (slice_get_cases es i).1 [ inl found ↦ (found.0, found.2) | inr past ↦ absurd (omega (arith, past.0)) ]
+
+pub named_or_absent : (es : List (Bor (List ℕ) × Bor (List ℕ))) (n : List ℕ) (b : Bool)
+    → MatchBool b ((k : ℕ) × (k < length es) × HoldsAt (λ e. e.0.now ≡ n) es k) (AllWithin (λ e. e.0.now ≢ n) es 0 (length es))
+    → MatchBool b ((i : ℕ) × (t : List ℕ) × IsNamed (entry_texts es) n i t) (IsAbsent (entry_texts es) n)
+named_or_absent es n true hit =
+    let found = entry_within es hit.0 hit.1 in
+    let same : found.0.0.now ≡ n = sym (ap (λ e. e.0.now) (get_or_from_slice_get es hit.0 found.0 found.0 found.1)) ∙ hit.2 found.0 in
+    (hit.0, found.0.1.now, rw (slice_get-map, found.1, same))
+named_or_absent es n false none = λ j t named.
+    let found = named_entry es n j t named in
+    none j found.0 (omega arith) (slice_get_within es j found.0 found.1) (ap (λ e. e.0.now) (get_or_from_slice_get es j found.0 found.0 found.1) ∙ found.2)

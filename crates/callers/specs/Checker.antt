@@ -1,5 +1,5 @@
 -- What the checker finds in a file of values of one kind, one a line.
-use Rattle.std.specs.Prelude.{◌≡◌, ℕ, ◌+◌, List, [], ◌∷◌}
+use Rattle.std.specs.Prelude.{◌≡◌, ℕ, ◌+◌, List, [], ◌∷◌, ◌++◌, ◌⊎◌}
 use Rattle.gix_config_value.specs.declared.canonical.kind.Kind.{Kind}
 use Rattle.gix_config_value.specs.Kinds.{KindGrammar, KindCanonical}
 use Rattle.gix_config_value.specs.Value.{Normalizes}
@@ -19,3 +19,8 @@ pub data FindingsFrom (kind : Kind) : ℕ → List (List ℕ) → List Finding �
   found : (number : ℕ) (line : List ℕ) (lines : List (List ℕ)) (finding : Finding) (findings : List Finding)
       → IsFinding kind number line finding → FindingsFrom kind (number + 1) lines findings
       → FindingsFrom kind number (line ∷ lines) (finding ∷ findings)
+
+-- with the findings of the lines before it, and then those of one more line
+abbrev pub GoesOn : Kind → ℕ → List ℕ → List Finding → List Finding → Type 0
+GoesOn kind number line before after = ((after ≡ before) × KindCanonical kind line)
+    ⊎ ((finding : Finding) × (after ≡ before ++ finding ∷ []) × IsFinding kind number line finding)

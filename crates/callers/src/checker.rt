@@ -2,7 +2,7 @@
 ghost use Rattle.std.specs.Prelude.{◌≡◌, ◌++◌, ◌∷◌, [], IfOk, OnOk, MatchOption};
 ghost use Rattle.gix_config_value.specs.Kinds.{KindCanonical};
 ghost use Rattle.callers.specs.Lines.{file_lines};
-ghost use Rattle.callers.specs.Checker.{IsFinding, FindingsFrom};
+ghost use Rattle.callers.specs.Checker.{IsFinding, FindingsFrom, GoesOn};
 
 use crate::lines::cut_line;
 use arrayvec::ArrayString;
@@ -12,7 +12,7 @@ use std::alloc::{AllocError, Global};
 use std::fmt;
 
 /// A line that is not in canonical form.
-#[derive(Clone, Copy, Drop)]
+#[derive(Drop)]
 pub struct Finding {
     /// The number of the line, from 1.
     pub line: usize,
@@ -45,6 +45,21 @@ fn check_line(kind: Kind, number: usize, line: &[u8]) -> Option<Finding>
     })
 }
 
+/// Puts what is found at one line behind the other findings.
+fn push_line(
+    findings: &mut Vec<Finding>,
+    kind: Kind,
+    number: usize,
+    line: &[u8],
+) -> Result<(), AllocError>
+    ensures { OnOk result (GoesOn kind number line.now findings.old.items findings.new.items) }
+{
+    if let Some(finding) = check_line(kind, number, line) {
+        findings.push(finding)?;
+    }
+    Ok(())
+}
+
 /// Checks a file of values of one kind, one a line: a finding for each line that is not canonical, in order.
 pub fn check_file(alloc: Global, kind: Kind, file: &[u8]) -> Result<Vec<Finding>, AllocError>
     ensures { IfOk result (λ v. FindingsFrom kind 1 (file_lines file.now) v.items) }
@@ -53,14 +68,10 @@ pub fn check_file(alloc: Global, kind: Kind, file: &[u8]) -> Result<Vec<Finding>
     let mut rest = file;
     let mut number = 1;
     while let Some((line, tail)) = cut_line(rest) {
-        if let Some(finding) = check_line(kind, number, line) {
-            findings.push(finding)?;
-        }
+        push_line(&mut findings, kind, number, line)?;
         rest = tail;
         number += 1;
     }
-    if let Some(finding) = check_line(kind, number, rest) {
-        findings.push(finding)?;
-    }
+    push_line(&mut findings, kind, number, rest)?;
     Ok(findings)
 }
