@@ -6,4 +6,5 @@ pub mod RunLemmas
 pub mod IntegerCounting
 pub mod SettingsLemmas
 pub mod ReplacedValues
+pub mod OneAnswer
 pub mod SeveralAttributes

@@ -33,9 +33,11 @@ decides_at es n i d within hit later = record { named = named; last = λ j u abo
 pub absent_by : (es : List (Bor (List ℕ) × Bor (List ℕ))) (n : List ℕ) → AllWithin (λ e. e.0.now ≢ n) es 0 (length es) → IsAbsent (entry_texts es) n
 absent_by es n nowhere j t = not_named es n 0 nowhere j t (omega arith)
 
--- the answer at the deciding entry is what its text reads to
-pub answer_read : {V : Type 0} (grammar : List ℕ → V → Type 0) (es : List (List ℕ × List ℕ)) (n : List ℕ) (default : V) (i : ℕ) (input : Bor (List ℕ))
-    (t : List ℕ) (r : Option V) → Decides es n i input.now → t ≡ input.now → Reads grammar t r
-    → MatchResult {E = Refused} (ok_or r (record { index = i; input = input })) (Finds grammar es n default) (λ r. Refuses grammar es n r.index r.input.now)
-answer_read grammar es n default i input t (Some v) decides is reads = decided i input.now decides (subst (λ t. grammar t v) is reads)
-answer_read grammar es n default i input t None decides is reads = record { decides = decides; refused = subst (IsRefused grammar) is reads }
+-- at the deciding entry the answer is what its text reads to
+pub finds_at : {V : Type 0} (grammar : List ℕ → V → Type 0) (es : List (List ℕ × List ℕ)) (n : List ℕ) (default : V) (i : ℕ) (t u : List ℕ) (v : V)
+    → Decides es n i u → t ≡ u → grammar t v → Finds grammar es n default v
+finds_at grammar es n default i t u v decides is reads = decided i u decides (subst (λ x. grammar x v) is reads)
+
+pub refuses_at : {V : Type 0} (grammar : List ℕ → V → Type 0) (es : List (List ℕ × List ℕ)) (n : List ℕ) (i : ℕ) (t u : List ℕ)
+    → Decides es n i u → t ≡ u → IsRefused grammar t → Refuses grammar es n i u
+refuses_at grammar es n i t u decides is refused = record { decides = decides; refused = subst (IsRefused grammar) is refused }

@@ -40,3 +40,9 @@ pub data IsReplaced {V : Type 0} (grammar : List ℕ → V → Type 0) (canonica
 pub record SameAnswers {V : Type 0} (grammar : List ℕ → V → Type 0) (es fs : List (List ℕ × List ℕ)) : Type 0 where
   pub values : (n : List ℕ) (default v : V) → (Finds grammar es n default v) ↔ (Finds grammar fs n default v)
   pub refusals : (n : List ℕ) (i : ℕ) (t : List ℕ) → (Refuses grammar es n i t) ↔ (Refuses grammar fs n i t)
+
+-- a name has one answer at most: one value for each default, or one refusal
+pub record OneAnswer {V : Type 0} (grammar : List ℕ → V → Type 0) (es : List (List ℕ × List ℕ)) : Type 0 where
+  pub value : (n : List ℕ) (default v w : V) → Finds grammar es n default v → Finds grammar es n default w → v ≡ w
+  pub refusal : (n : List ℕ) (i j : ℕ) (t u : List ℕ) → Refuses grammar es n i t → Refuses grammar es n j u → (i ≡ j) × (t ≡ u)
+  pub apart : (n : List ℕ) (default v : V) (i : ℕ) (t : List ℕ) → Finds grammar es n default v → ¬ (Refuses grammar es n i t)

@@ -30,5 +30,8 @@ pub fn lookup<'a, V: Value>(
         return Ok(default);
     };
     let input = entries[index].1;
-    V::read(BStr::new(input)).ok_or(Refused { index, input })
+    match V::read(BStr::new(input)) {
+        Some(value) => Ok(value),
+        None => Err(Refused { index, input }),
+    }
 }

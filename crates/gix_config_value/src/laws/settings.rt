@@ -1,7 +1,7 @@
 //! Laws of settings.
 ghost use Rattle.std.specs.Prelude.{ℕ, List};
 ghost use Rattle.std.specs.List.{AllZip};
-ghost use Rattle.gix_config_value.specs.Settings.{IsReplaced, SameAnswers};
+ghost use Rattle.gix_config_value.specs.Settings.{IsReplaced, SameAnswers, OneAnswer};
 
 use crate::canonical::Value;
 
@@ -10,3 +10,9 @@ use crate::canonical::Value;
 pub fn replaced_values<V: Value>()
     ensures { (es fs : List (List ℕ × List ℕ)) → AllZip (IsReplaced V.grammar V.canonical) es fs → SameAnswers V.grammar es fs }
 {}
+
+/// A name has one answer at most: for each default one value, or one refusal, and never both.
+pub fn one_answer<V: Value>()
+    ensures { (es : List (List ℕ × List ℕ)) → OneAnswer V.grammar es }
+{
+}

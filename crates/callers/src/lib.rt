@@ -1,0 +1,12 @@
+//! Callers of `gix_config_value`, to be read first: each rests on the public contracts alone, and says in its own
+//! contract what its user gets.
+//!
+//! - `entries` reads the `name = value` lines of a configuration file.
+//! - `precedence` resolves one setting over the system's, the user's and the repository's entries.
+//! - `checker` tells which lines of a file are not in canonical form, and what they should be.
+#![tactic(auto)]
+
+pub mod checker;
+pub mod entries;
+mod lines;
+pub mod precedence;
