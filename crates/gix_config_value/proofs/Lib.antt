@@ -4,3 +4,6 @@ pub mod KindLemmas
 pub mod StepLemmas
 pub mod RunLemmas
 pub mod IntegerCounting
+pub mod SettingsLemmas
+pub mod ReplacedValues
+pub mod SeveralAttributes

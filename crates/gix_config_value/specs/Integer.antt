@@ -5,6 +5,9 @@ use Rattle.std.specs.Fmt.{signed_decimal}
 use Rattle.std.specs.Str.Parse.{AllDigits, IsNumeral}
 use Rattle.gix_config_value.specs.declared.integer.Integer.{Integer}
 use Rattle.gix_config_value.specs.declared.integer.suffix.Suffix.{Suffix}
+use Rattle.gix_config_value.specs.declared.errors.Fault.{Fault}
+use Rattle.gix_config_value.specs.declared.errors.Fault.TheVariants as faults
+use Rattle.gix_config_value.specs.Value.{IsRefused}
 use Rattle.gix_config_value.specs.Numerals.{place_sum, IsInI64}
 use Rattle.gix_config_value.specs.Suffix.{SuffixText, CanonicalSuffix, factor, suffix_shown}
 
@@ -47,6 +50,26 @@ factor_if_any (Some s) = factor s
 -- product: the number times the factor of its suffix, without a bound
 abbrev pub product : Integer → ℤ
 product v = v.value *ℤ pos (factor_if_any v.suffix)
+
+-- the text is an integer text with this product
+pub record ProductText (t : List ℕ) (z : ℤ) : Type 0 where
+  pub integer : Integer
+  pub text : IntegerText t integer
+  pub number : z ≡ product integer
+
+-- the same, of a product that is in range
+pub record ProductInRange (t : List ℕ) (z : ℤ) : Type 0 where
+  pub product_text : ProductText t z
+  pub in_range : IsInI64 z
+
+-- why no number is read from a text: it is no integer text, or its product is out of range, or the product
+-- is one that the caller's type refuses
+abbrev pub Refusal : (ℤ → Type 0) → List ℕ → Fault → Type 0
+Refusal refuses t faults.Boolean = ⊥
+Refusal refuses t faults.Integer = IsRefused IntegerText t
+Refusal refuses t faults.Overflow = (z : ℤ) × ProductText t z × ¬ (IsInI64 z)
+Refusal refuses t faults.OutOfRange = (z : ℤ) × ProductInRange t z × refuses z
+Refusal refuses t faults.Color = ⊥
 
 abbrev pub suffix_shown_if_any : Option Suffix → List ℕ
 suffix_shown_if_any None = []

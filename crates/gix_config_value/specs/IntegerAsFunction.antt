@@ -1,5 +1,5 @@
 -- Integer texts, as a function that answers the value: in one pass over the bytes, as they are read.
-use Rattle.std.specs.Prelude.{ℕ, ◌+◌, ◌*◌, Bool, cond, ◌||◌, List, [], ◌∷◌, drop, Option, Some, None, nat_lt, nat_le, ◌==◌, ℤ, pos, neg_ℤ, slice_index}
+use Rattle.std.specs.Prelude.{ℕ, ◌+◌, ◌*◌, cond, ◌||◌, List, [], ◌∷◌, drop, Option, Some, None, nat_lt, nat_le, ◌==◌, pos, neg_ℤ, slice_index}
 use Rattle.std.specs.Option.{option_map}
 use Rattle.std.specs.Char.{digit_value}
 use Rattle.gix_config_value.specs.declared.integer.Integer.{Integer}

@@ -1,5 +1,5 @@
 -- Integer texts have the one value that the function answers, and each integer one canonical text.
-use Rattle.std.proofs.Common.{◌≡◌, ℕ, ℤ, pos, negsuc, neg_ℤ, zero, suc, ◌+◌, ◌*◌, ◌<◌, ◌≤◌, ◌≢◌, ◌⊎◌, inl, inr, Bool, true, false, cond, List, [], ◌∷◌, ◌++◌, length, get_or, drop, Option, Some, None, refl, sym, ap, ◌∙◌, subst, arith, codes}
+use Rattle.std.proofs.Common.{◌≡◌, ℕ, ℤ, pos, neg_ℤ, ◌+◌, ◌*◌, ◌<◌, ◌≤◌, ◌≢◌, ◌⊎◌, inl, inr, Bool, true, false, cond, List, [], ◌∷◌, ◌++◌, get_or, drop, Option, Some, None, refl, sym, ap, ◌∙◌, subst, arith}
 use Rattle.std.proofs.lemmas.Bool.Decides.{nat_tests}
 use Rattle.std.specs.Int.{IsInRange}
 use Rattle.std.proofs.lemmas.Str.Parse.{digit_from_value}
@@ -8,16 +8,18 @@ use Rattle.std.specs.Prelude.{nat_lt, nat_le, ◌==◌, ◌||◌}
 use Rattle.std.proofs.lemmas.Int.{ints}
 use Rattle.std.specs.Option.{option_map}
 use Rattle.std.specs.Char.{digit_value}
-use Rattle.std.specs.Str.Parse.{AllDigits, IsNumeral, digits_value_after, digits_value}
+use Rattle.std.specs.Str.Parse.{AllDigits, IsNumeral, digits_value_after}
 use Rattle.gix_config_value.specs.declared.integer.Integer.{Integer}
 use Rattle.gix_config_value.specs.declared.integer.suffix.Suffix.{Suffix}
 use Rattle.gix_config_value.specs.declared.integer.suffix.Suffix.TheVariants.{Kibi, Mebi, Gibi}
-use Rattle.gix_config_value.specs.Value.{IsValueOf, IsAccepted, IsRefused, HasText, IsTextOf}
+use Rattle.gix_config_value.specs.Value.{IsValueOf, IsAccepted, IsRefused}
 use Rattle.gix_config_value.specs.ValueLaws.{one_value_by, decided_by}
 use Rattle.gix_config_value.specs.Numerals.{place_sum, IsInI64}
-use Rattle.gix_config_value.specs.NumeralLaws.{digits_value_after_ge, place_sum_is}
-use Rattle.gix_config_value.specs.Suffix.{SuffixText, CanonicalSuffix, suffix_shown}
-use Rattle.gix_config_value.specs.Integer.{Magnitude, SignedText, NumberText, IntegerText, SuffixIfAny}
+use Rattle.gix_config_value.specs.NumeralLaws.{digits_value_after_ge, place_sum_is, range_told}
+use Rattle.gix_config_value.specs.Suffix.{SuffixText}
+use Rattle.gix_config_value.specs.Integer.{Magnitude, SignedText, IntegerText, SuffixIfAny, product, ProductText, ProductInRange, Refusal}
+use Rattle.gix_config_value.specs.declared.errors.Fault.{Fault}
+use Rattle.gix_config_value.specs.declared.errors.Fault.TheVariants as faults
 use Rattle.gix_config_value.specs.Integer.Magnitude.{nought, decimal, octal, hexadecimal, binary}
 use Rattle.gix_config_value.specs.Integer.SignedText.{plain, plus, minus}
 use Rattle.gix_config_value.specs.IntegerAsFunction.{suffix_of, suffix_of_is, counted_from, counted, base_of, digits_of, unsigned_of, plain_integer, negative_integer, integer_of}
@@ -51,7 +53,7 @@ counted_from_found base limit l h [] n back (Some s) digits small unit =
     rw e (unit_found base limit n k.0 (Some s) (omega (arith, k.1.low)) (suffix_of_is.found (k.0 ∷ []) s (rw e at unit)))
 counted_from_found base limit l h (c ∷ cs) n back o digits small unit =
     step (digits_value_after_ge base l cs (n * base + digit_value c))
-      (counted_from_found base limit l h cs (n * base + digit_value c) back o digits.1 small unit) where
+    (counted_from_found base limit l h cs (n * base + digit_value c) back o digits.1 small unit) where
       step : n * base + digit_value c ≤ digits_value_after base (n * base + digit_value c) cs
           → counted_from base limit (n * base + digit_value c) (cs ++ back) ≡ Some (digits_value_after base (n * base + digit_value c) cs, o)
           → counted_from base limit n ((c ∷ cs) ++ back) ≡ Some (digits_value_after base (n * base + digit_value c) cs, o)
@@ -80,7 +82,7 @@ counted_from_derived base limit [] n m o small e =
     record { front = []; back = []; parts = refl; digits = tt; number = sym p.0; small = subst (λ x. x ≤ limit) p.0 small; unit = subst (SuffixIfAny []) p.1 refl }
 counted_from_derived base limit (c ∷ cs) n m o small e =
     turn (nat_lt (digit_value c) base) (nat_le (n * base + digit_value c) limit) (suffix_of (c ∷ cs)) refl refl refl e
-      (λ k l h. counted_from_derived base limit cs k m o l h) where
+    (λ k l h. counted_from_derived base limit cs k m o l h) where
       turn : (b d : Bool) (r : Option Suffix) → nat_lt (digit_value c) base ≡ b → nat_le (n * base + digit_value c) limit ≡ d → suffix_of (c ∷ cs) ≡ r
           → cond b (cond d (counted_from base limit (n * base + digit_value c) cs) None) (option_map (λ s. (n, Some s)) r) ≡ Some (m, o)
           → ((k : ℕ) → k ≤ limit → counted_from base limit k cs ≡ Some (m, o) → CountedText base limit k cs m o)
@@ -129,6 +131,7 @@ counted_derived base limit h (c ∷ cs) m o e = first (nat_lt (digit_value c) ba
     fronted : (front back : List ℕ) → c ∷ cs ≡ front ++ back → AllDigits base front → m ≡ digits_value_after base 0 front → SuffixIfAny back o → NumeralText base limit (c ∷ cs) m o
     fronted [] back p ds n u = absurd (no_digit c cs o (subst (λ l. SuffixIfAny l o) (sym p) u) (omega arith))
     fronted (f ∷ fs) back p ds n u = record { front = f ∷ fs; back = back; parts = p; digits = (omega arith, ds); number = n ∙ sym (place_sum_is base (f ∷ fs)); small = k.small; unit = u }
+
   first : (b : Bool) → nat_lt (digit_value c) base ≡ b → cond b (counted_from base limit 0 (c ∷ cs)) None ≡ Some (m, o) → NumeralText base limit (c ∷ cs) m o
   first true d e = whole (grind (arith, nat_tests)) (counted_from_derived base limit (c ∷ cs) 0 m o (omega arith) e)
   first false d e = absurd (none-some _ e)
@@ -162,6 +165,7 @@ SuffixIfAny_second c back (Some s) u = marked (suffix_letter back s u) where
   marked k = rw k.1.alone (λ e. omega (arith, high_of k.0 120 e k.1.high), λ e. omega (arith, high_of k.0 88 e k.1.high), λ e. omega (arith, low_of k.0 98 e k.1.low), λ e. omega (arith, low_of k.0 66 e k.1.low)) where
     high_of : (c d : ℕ) → c ≡ d → digit_value c ≤ 22 → digit_value d ≤ 22
     high_of c d e h = subst (λ x. digit_value x ≤ 22) e h
+
     low_of : (c d : ℕ) → c ≡ d → 16 ≤ digit_value c → 16 ≤ digit_value d
     low_of c d e h = subst (λ x. 16 ≤ digit_value x) e h
 
@@ -183,20 +187,20 @@ magnitude_found : (limit : ℕ) (front back : List ℕ) (n : ℕ) (o : Option Su
     → unsigned_of limit (front ++ back) ≡ Some (n, o)
 magnitude_found limit front back n o (nought e z) small unit =
     rw (e, z) (based limit (48 ∷ back) (48 ∷ back) 8 0 o (octal_base (48 ∷ back) refl (SuffixIfAny_second 48 back o unit))
-      (counted_found 8 limit (omega arith) (omega arith) (48 ∷ []) back o (omega arith, (omega arith, tt)) (omega arith) unit))
+    (counted_found 8 limit (omega arith) (omega arith) (48 ∷ []) back o (omega arith, (omega arith, tt)) (omega arith) unit))
 magnitude_found limit front back n o (decimal d ds e r a s) small unit =
     let p = rw e at s in
     rw e (based limit ((d ∷ ds) ++ back) ((d ∷ ds) ++ back) 10 n o (decimal_base ((d ∷ ds) ++ back) (λ z. omega (arith, r.0)))
-      (counted_found 10 limit (omega arith) (omega arith) (d ∷ ds) back o (omega arith, (decimal_digit d r, a)) (omega (arith, p)) unit ∙ ap (λ x. Some (x, o)) (sym p)))
+    (counted_found 10 limit (omega arith) (omega arith) (d ∷ ds) back o (omega arith, (decimal_digit d r, a)) (omega (arith, p)) unit ∙ ap (λ x. Some (x, o)) (sym p)))
 magnitude_found limit front back n o (octal ds e a s) small unit =
     rw e (based limit (48 ∷ (ds ++ back)) (48 ∷ (ds ++ back)) 8 n o (octal_base (48 ∷ (ds ++ back)) refl (octal_second ds back a))
-      (counted_found 8 limit (omega arith) (omega arith) (48 ∷ ds) back o (omega arith, (omega arith, a.1)) (omega (arith, s)) unit ∙ ap (λ x. Some (x, o)) (omega (arith, s))))
+    (counted_found 8 limit (omega arith) (omega arith) (48 ∷ ds) back o (omega arith, (omega arith, a.1)) (omega (arith, s)) unit ∙ ap (λ x. Some (x, o)) (omega (arith, s))))
 magnitude_found limit front back n o (hexadecimal x ds e m a s) small unit =
     rw e (based limit (48 ∷ x ∷ (ds ++ back)) (ds ++ back) 16 n o (hexadecimal_base (48 ∷ x ∷ (ds ++ back)) refl m)
-      (counted_found 16 limit (omega arith) (omega arith) ds back o a (omega (arith, s)) unit ∙ ap (λ x. Some (x, o)) (sym s)))
+    (counted_found 16 limit (omega arith) (omega arith) ds back o a (omega (arith, s)) unit ∙ ap (λ x. Some (x, o)) (sym s)))
 magnitude_found limit front back n o (binary b ds e m a s) small unit =
     rw e (based limit (48 ∷ b ∷ (ds ++ back)) (ds ++ back) 2 n o (binary_base (48 ∷ b ∷ (ds ++ back)) refl m)
-      (counted_found 2 limit (omega arith) (omega arith) ds back o a (omega (arith, s)) unit ∙ ap (λ x. Some (x, o)) (sym s)))
+    (counted_found 2 limit (omega arith) (omega arith) ds back o a (omega (arith, s)) unit ∙ ap (λ x. Some (x, o)) (sym s)))
 
 -- what is read as a magnitude and a suffix is one
 record UnsignedText (limit : ℕ) (t : List ℕ) (n : ℕ) (o : Option Suffix) : Type 0 where
@@ -209,13 +213,25 @@ record UnsignedText (limit : ℕ) (t : List ℕ) (n : ℕ) (o : Option Suffix) :
 
 hexadecimal_read : (limit x : ℕ) (ds : List ℕ) (n : ℕ) (o : Option Suffix) → (x ≡ 120) ⊎ (x ≡ 88)
     → NumeralText 16 limit ds n o → UnsignedText limit (48 ∷ x ∷ ds) n o
-hexadecimal_read limit x ds n o m k = record { front = 48 ∷ x ∷ k.front; back = k.back; parts = ap (λ l. 48 ∷ x ∷ l) k.parts;
-    magnitude = hexadecimal x k.front refl m k.digits k.number; small = k.small; unit = k.unit }
+hexadecimal_read limit x ds n o m k = record {
+  front = 48 ∷ x ∷ k.front;
+  back = k.back;
+  parts = ap (λ l. 48 ∷ x ∷ l) k.parts;
+  magnitude = hexadecimal x k.front refl m k.digits k.number;
+  small = k.small;
+  unit = k.unit;
+}
 
 binary_read : (limit b : ℕ) (ds : List ℕ) (n : ℕ) (o : Option Suffix) → (b ≡ 98) ⊎ (b ≡ 66)
     → NumeralText 2 limit ds n o → UnsignedText limit (48 ∷ b ∷ ds) n o
-binary_read limit b ds n o m k = record { front = 48 ∷ b ∷ k.front; back = k.back; parts = ap (λ l. 48 ∷ b ∷ l) k.parts;
-    magnitude = binary b k.front refl m k.digits k.number; small = k.small; unit = k.unit }
+binary_read limit b ds n o m k = record {
+  front = 48 ∷ b ∷ k.front;
+  back = k.back;
+  parts = ap (λ l. 48 ∷ b ∷ l) k.parts;
+  magnitude = binary b k.front refl m k.digits k.number;
+  small = k.small;
+  unit = k.unit;
+}
 
 octal_read : (limit : ℕ) (t : List ℕ) (n : ℕ) (o : Option Suffix) → get_or t 0 0 ≡ 48 → NumeralText 8 limit t n o → UnsignedText limit t n o
 octal_read limit t n o z k = record { front = k.front; back = k.back; parts = k.parts; magnitude = from k.front k.digits k.number (rw k.parts at z); small = k.small; unit = k.unit } where
@@ -242,21 +258,23 @@ unsigned_derived limit t n o e =
     turn (get_or t 0 0 == 48) (get_or t 1 0 == 120 || get_or t 1 0 == 88) (get_or t 1 0 == 98 || get_or t 1 0 == 66) refl refl refl e where
       marked : (x y z : ℕ) → (x == y || x == z) ≡ true → (x ≡ y) ⊎ (x ≡ z)
       marked x y z e = grind (arith, nat_tests)
+
       positive : (x y z : ℕ) → (x ≡ y) ⊎ (x ≡ z) → 0 < y → 0 < z → 0 < x
       positive x y z (inl e) p q = omega arith
       positive x y z (inr e) p q = omega arith
+
       turn : (z x b : Bool) → (get_or t 0 0 == 48) ≡ z → (get_or t 1 0 == 120 || get_or t 1 0 == 88) ≡ x → (get_or t 1 0 == 98 || get_or t 1 0 == 66) ≡ b
           → counted (cond z (cond x 16 (cond b 2 8)) 10) limit (cond z (cond x (drop 2 t) (cond b (drop 2 t) t)) t) ≡ Some (n, o) → UnsignedText limit t n o
       turn true true b p q r e =
           let z : get_or t 0 0 ≡ 48 = grind (arith, nat_tests) in
           let m = marked (get_or t 1 0) 120 88 q in
           subst (λ l. UnsignedText limit l n o) (sym (two_bytes t z (positive _ _ _ m (omega arith) (omega arith))))
-            (hexadecimal_read limit (get_or t 1 0) (drop 2 t) n o m (counted_derived 16 limit (omega arith) (drop 2 t) n o e))
+          (hexadecimal_read limit (get_or t 1 0) (drop 2 t) n o m (counted_derived 16 limit (omega arith) (drop 2 t) n o e))
       turn true false true p q r e =
           let z : get_or t 0 0 ≡ 48 = grind (arith, nat_tests) in
           let m = marked (get_or t 1 0) 98 66 r in
           subst (λ l. UnsignedText limit l n o) (sym (two_bytes t z (positive _ _ _ m (omega arith) (omega arith))))
-            (binary_read limit (get_or t 1 0) (drop 2 t) n o m (counted_derived 2 limit (omega arith) (drop 2 t) n o e))
+          (binary_read limit (get_or t 1 0) (drop 2 t) n o m (counted_derived 2 limit (omega arith) (drop 2 t) n o e))
       turn true false false p q r e = octal_read limit t n o (grind (arith, nat_tests)) (counted_derived 8 limit (omega arith) t n o e)
       turn false x b p q r e = decimal_read limit t n o (grind (arith, nat_tests)) (counted_derived 10 limit (omega arith) t n o e)
 
@@ -279,6 +297,7 @@ integer_found : (t : List ℕ) (v : Integer) → IntegerText t v → integer_of 
 integer_found t v h = signed h.number.signed where
   made : (z : ℤ) → v.value ≡ z → (let w : Integer = record { value = z; suffix = v.suffix } in w) ≡ v
   made z e = rw (sym e) refl
+
   signed : SignedText h.front v.value → integer_of t ≡ Some v
   signed (plain n m z) =
       rw h.parts (plain_read (h.front ++ h.back) (magnitude_first h.front n h.back m)
@@ -315,14 +334,32 @@ first_byte (d ∷ ds) c e p = ap (λ x. x ∷ ds) e
 integer_derived : (t : List ℕ) (v : Integer) → integer_of t ≡ Some v → IntegerText t v
 integer_derived t v e = signed (get_or t 0 0 == 45) (get_or t 0 0 == 43) refl refl e where
   minus_read : (m : List ℕ) → t ≡ 45 ∷ m → (x : ℕ × Option Suffix) → UnsignedText 9223372036854775808 m x.0 x.1 → IntegerText t (negative_integer x)
-  minus_read m b x u = record { front = 45 ∷ u.front; back = u.back; parts = b ∙ ap (λ l. 45 ∷ l) u.parts;
-      number = record { signed = minus u.front x.0 refl u.magnitude refl; in_range = in_range_negative x.0 u.small }; unit = u.unit }
+  minus_read m b x u = record {
+    front = 45 ∷ u.front;
+    back = u.back;
+    parts = b ∙ ap (λ l. 45 ∷ l) u.parts;
+    number = record { signed = minus u.front x.0 refl u.magnitude refl; in_range = in_range_negative x.0 u.small };
+    unit = u.unit;
+  }
+
   plus_read : (m : List ℕ) → t ≡ 43 ∷ m → (x : ℕ × Option Suffix) → UnsignedText 9223372036854775807 m x.0 x.1 → IntegerText t (plain_integer x)
-  plus_read m b x u = record { front = 43 ∷ u.front; back = u.back; parts = b ∙ ap (λ l. 43 ∷ l) u.parts;
-      number = record { signed = plus u.front x.0 refl u.magnitude refl; in_range = in_range_plain x.0 u.small }; unit = u.unit }
+  plus_read m b x u = record {
+    front = 43 ∷ u.front;
+    back = u.back;
+    parts = b ∙ ap (λ l. 43 ∷ l) u.parts;
+    number = record { signed = plus u.front x.0 refl u.magnitude refl; in_range = in_range_plain x.0 u.small };
+    unit = u.unit;
+  }
+
   bare_read : (x : ℕ × Option Suffix) → UnsignedText 9223372036854775807 t x.0 x.1 → IntegerText t (plain_integer x)
-  bare_read x u = record { front = u.front; back = u.back; parts = u.parts;
-      number = record { signed = plain x.0 u.magnitude refl; in_range = in_range_plain x.0 u.small }; unit = u.unit }
+  bare_read x u = record {
+    front = u.front;
+    back = u.back;
+    parts = u.parts;
+    number = record { signed = plain x.0 u.magnitude refl; in_range = in_range_plain x.0 u.small };
+    unit = u.unit;
+  }
+
   signed : (b d : Bool) → (get_or t 0 0 == 45) ≡ b → (get_or t 0 0 == 43) ≡ d
       → cond b (option_map negative_integer (unsigned_of 9223372036854775808 (drop 1 t))) (cond d (option_map plain_integer (unsigned_of 9223372036854775807 (drop 1 t))) (option_map plain_integer (unsigned_of 9223372036854775807 t)))
       ≡ Some v → IntegerText t v
@@ -344,3 +381,35 @@ integer_one_value = one_value_by integer_of_is
 
 pub integer_decided : (t : List ℕ) → IsAccepted IntegerText t ⊎ IsRefused IntegerText t
 integer_decided = decided_by integer_of_is
+
+-- a text has one product, and it is told whether it has one in range
+pub product_one_value : (t : List ℕ) (y z : ℤ) → ProductText t y → ProductText t z → y ≡ z
+product_one_value t y z p q = p.number ∙ ap product (integer_one_value t p.integer q.integer p.text q.text) ∙ sym q.number
+
+pub product_told : (t : List ℕ) → ((z : ℤ) × ProductInRange t z) ⊎ ((z : ℤ) → ¬ (ProductInRange t z))
+product_told t =
+    elim (integer_decided t) [
+      | inl h ↦
+          elim (range_told (product h.0)) [
+            | inl r ↦ inl (product h.0, record { product_text = record { integer = h.0; text = h.1; number = refl }; in_range = r })
+            | inr r ↦ inr (λ z k. r (subst IsInI64 (product_one_value t z (product h.0) k.product_text record { integer = h.0; text = h.1; number = refl }) k.in_range))
+          ]
+      | inr h ↦ inr (λ z k. h k.product_text.integer k.product_text.text)
+    ]
+
+-- a text with a product begins with a digit or a sign
+pub product_first : (t : List ℕ) (z : ℤ) → ProductText t z → IsInRange 43 57 (get_or t 0 0)
+product_first t z p = subst (λ l. IsInRange 43 57 (get_or l 0 0)) (sym p.text.parts) (first p.text.number.signed) where
+  first : SignedText p.text.front p.integer.value → IsInRange 43 57 (get_or (p.text.front ++ p.text.back) 0 0)
+  first (plain n m e) = let r = magnitude_first p.text.front n p.text.back m in (omega (arith, r.0), omega (arith, r.1))
+  first (plus m n e k f) = rw e (omega arith, omega arith)
+  first (minus m n e k f) = rw e (omega arith, omega arith)
+
+-- a conversion that refuses no product in range refuses a text only where it has none
+pub refusal_tells : (refuses : ℤ → Type 0) → ((z : ℤ) → IsInI64 z → ¬ (refuses z)) → (t : List ℕ) (f : Fault) → Refusal refuses t f
+    → (z : ℤ) → ¬ (ProductInRange t z)
+refusal_tells refuses never t faults.Boolean r z p = r
+refusal_tells refuses never t faults.Integer r z p = r p.product_text.integer p.product_text.text
+refusal_tells refuses never t faults.Overflow r z p = r.2 (subst IsInI64 (product_one_value t z r.0 p.product_text r.1) p.in_range)
+refusal_tells refuses never t faults.OutOfRange r z p = never r.0 r.1.in_range r.2
+refusal_tells refuses never t faults.Color r z p = r

@@ -1,22 +1,22 @@
 -- Displayed integers are the canonical texts, and each canonical text is that of its value.
-use Rattle.std.proofs.Common.{◌≡◌, ℕ, ℤ, pos, negsuc, neg_ℤ, zero, suc, ◌+◌, ◌*◌, ◌^◌, ◌<◌, ◌≤◌, ◌≢◌, ◌⊎◌, inl, inr, List, [], ◌∷◌, ◌++◌, length, get_or, Option, Some, None, refl, sym, ap, ◌∙◌, subst, arith, codes, length-append}
+use Rattle.std.proofs.Common.{◌≡◌, ℕ, ℤ, pos, negsuc, neg_ℤ, zero, suc, ◌+◌, ◌*◌, ◌^◌, ◌<◌, ◌≤◌, ◌⊎◌, inl, inr, List, [], ◌∷◌, ◌++◌, length, get_or, Option, Some, None, refl, sym, ap, ◌∙◌, subst, arith, length-append}
 use Rattle.std.proofs.lemmas.Int.{ints}
-use Rattle.std.proofs.lemmas.Nat.{pow-add}
 use Rattle.std.proofs.Math.Nat.{one-le-pow}
 use Rattle.std.proofs.lemmas.Fmt.{decimal_is_IsNumeral, first_decimal, decimal_digit, length-decimal-le, decimal-digits_value}
 use Rattle.std.proofs.lemmas.Str.Parse.{digit_from_value, numerals_by_value, tells_digits}
 use Rattle.std.specs.Char.{digit_value}
 use Rattle.std.specs.Fmt.{decimal, signed_decimal}
 use Rattle.std.specs.Int.{IsInRange}
-use Rattle.std.specs.Str.Parse.{AllDigits, IsNumeral, digits_value}
+use Rattle.std.specs.Str.Parse.{AllDigits, IsNumeral}
 use Rattle.gix_config_value.specs.declared.integer.Integer.{Integer}
 use Rattle.gix_config_value.specs.declared.integer.suffix.Suffix.{Suffix}
 use Rattle.gix_config_value.specs.declared.integer.suffix.Suffix.TheVariants.{Kibi, Mebi, Gibi}
-use Rattle.gix_config_value.specs.Value.{IsAccepted, IsRefused, HasText, IsTextOf}
+use Rattle.gix_config_value.specs.Value.{IsAccepted, HasText, IsTextOf}
+use Rattle.gix_config_value.specs.ValueLaws.{IsShown, one_text_by, canonical_reads_by}
 use Rattle.gix_config_value.specs.Numerals.{place_sum, IsInI64}
 use Rattle.gix_config_value.specs.NumeralLaws.{place_sum_is}
-use Rattle.gix_config_value.specs.Suffix.{SuffixText, CanonicalSuffix, suffix_shown}
-use Rattle.gix_config_value.specs.Integer.{Magnitude, SignedText, NumberText, IntegerText, SuffixIfAny, PlainDigits, CanonicalNumber, CanonicalInteger, integer_shown, suffix_shown_if_any}
+use Rattle.gix_config_value.specs.Suffix.{CanonicalSuffix}
+use Rattle.gix_config_value.specs.Integer.{Magnitude, NumberText, IntegerText, SuffixIfAny, PlainDigits, CanonicalNumber, CanonicalInteger, integer_shown, suffix_shown_if_any}
 use Rattle.gix_config_value.specs.Integer.Magnitude.{nought, decimal as plain_digits}
 use Rattle.gix_config_value.specs.Integer.SignedText.{plain, minus}
 use Rattle.gix_config_value.specs.Integer.CanonicalNumber.{nought as zero_alone, positive, negative}
@@ -31,11 +31,13 @@ one_or_more first others r = step (digit_value first) (10 ^ length others) (plac
 digits_shown : (most : ℕ) (t : List ℕ) → most < 2 ^ 64 → PlainDigits most t → decimal (place_sum t 10) ≡ t
 digits_shown most t bound p =
     ap decimal (place_sum_is 10 t) ∙ decimal-digits_value (numerals_by_value (AllDigits 10) tells_digits) t (all t p.spelled) (some t p.spelled)
-      (λ e. absurd (omega (arith, leads t p.spelled, e))) (omega (arith, place_sum_is 10 t, p.small)) where
+    (λ e. absurd (omega (arith, leads t p.spelled, e))) (omega (arith, place_sum_is 10 t, p.small)) where
       all : (t : List ℕ) → t ≡ p.first ∷ p.others → AllDigits 10 t
       all t e = rw e (grind (arith, p.from_one.0, p.from_one.1), p.digits)
+
       some : (t : List ℕ) → t ≡ p.first ∷ p.others → 0 < length t
       some t e = rw e (omega arith)
+
       leads : (t : List ℕ) → t ≡ p.first ∷ p.others → 49 ≤ get_or t 0 0
       leads t e = rw e p.from_one.0
 
@@ -54,12 +56,16 @@ record ShownNumber (t : List ℕ) : Type 0 where
 
 number_shown : (t : List ℕ) → CanonicalNumber t → ShownNumber t
 number_shown t (zero_alone e) = record { number = pos 0; text = record { signed = plain 0 (nought e refl) refl; in_range = record { low = omega (arith, ints); high = omega (arith, ints) } }; shown = e ∙ sym (decimal_digit 0 (omega arith)) }
-number_shown t (positive p) = record { number = pos (place_sum t 10);
-    text = record { signed = plain (place_sum t 10) (digits_magnitude _ t p) refl; in_range = record { low = omega (arith, ints); high = omega (arith, ints, p.small) } };
-    shown = sym (digits_shown _ t (omega arith) p) }
-number_shown t (negative m e p) = record { number = neg_ℤ (pos (place_sum m 10));
-    text = record { signed = minus m (place_sum m 10) e (digits_magnitude _ m p) refl; in_range = record { low = omega (arith, ints, p.small); high = omega (arith, ints) } };
-    shown = e ∙ ap (λ l. 45 ∷ l) (sym (digits_shown _ m (omega arith) p)) ∙ sym (signed_negative (place_sum m 10) (subst (λ l. 0 < place_sum l 10) (sym p.spelled) (one_or_more p.first p.others p.from_one))) }
+number_shown t (positive p) = record {
+  number = pos (place_sum t 10);
+  text = record { signed = plain (place_sum t 10) (digits_magnitude _ t p) refl; in_range = record { low = omega (arith, ints); high = omega (arith, ints, p.small) } };
+  shown = sym (digits_shown _ t (omega arith) p);
+}
+number_shown t (negative m e p) = record {
+  number = neg_ℤ (pos (place_sum m 10));
+  text = record { signed = minus m (place_sum m 10) e (digits_magnitude _ m p) refl; in_range = record { low = omega (arith, ints, p.small); high = omega (arith, ints) } };
+  shown = e ∙ ap (λ l. 45 ∷ l) (sym (digits_shown _ m (omega arith) p)) ∙ sym (signed_negative (place_sum m 10) (subst (λ l. 0 < place_sum l 10) (sym p.spelled) (one_or_more p.first p.others p.from_one)));
+}
 
 unit_shown : (t : List ℕ) → (t ≡ []) ⊎ CanonicalSuffix t → (o : Option Suffix) × SuffixIfAny t o × (t ≡ suffix_shown_if_any o)
 unit_shown t (inl e) = (None, e, e)
@@ -67,20 +73,21 @@ unit_shown t (inr (inl e)) = (Some Kibi, inl e, e)
 unit_shown t (inr (inr (inl e))) = (Some Mebi, inl e, e)
 unit_shown t (inr (inr (inr e))) = (Some Gibi, inl e, e)
 
-canonical_shown : (t : List ℕ) → CanonicalInteger t → (v : Integer) × IntegerText t v × (t ≡ integer_shown v)
+canonical_shown : (t : List ℕ) → CanonicalInteger t → IsShown IntegerText integer_shown t
 canonical_shown t h =
     let n = number_shown h.front h.number in
     let u = unit_shown h.back h.unit in
-    (record { value = n.number; suffix = u.0 }, record { front = h.front; back = h.back; parts = h.parts; number = n.text; unit = u.1 },
-      h.parts ∙ ap (λ l. l ++ h.back) n.shown ∙ ap (λ l. signed_decimal n.number ++ l) u.2)
+    record {
+      value = record { value = n.number; suffix = u.0 };
+      reads_to = record { front = h.front; back = h.back; parts = h.parts; number = n.text; unit = u.1 };
+      same = h.parts ∙ ap (λ l. l ++ h.back) n.shown ∙ ap (λ l. signed_decimal n.number ++ l) u.2;
+    }
 
 pub integer_canonical_reads : (t : List ℕ) → CanonicalInteger t → IsAccepted IntegerText t
-integer_canonical_reads t h = let k = canonical_shown t h in (k.0, k.1)
+integer_canonical_reads = canonical_reads_by canonical_shown
 
 pub integer_one_text : (s t : List ℕ) (v : Integer) → CanonicalInteger s → CanonicalInteger t → IntegerText s v → IntegerText t v → s ≡ t
-integer_one_text s t v p q r u = shown s p r ∙ sym (shown t q u) where
-  shown : (t : List ℕ) → CanonicalInteger t → IntegerText t v → t ≡ integer_shown v
-  shown t p r = let k = canonical_shown t p in k.2 ∙ ap integer_shown (integer_one_value t k.0 v k.1 r)
+integer_one_text = one_text_by integer_one_value canonical_shown
 
 -- the displayed text of a number in range is a canonical number, of at most 20 bytes
 record IsShownNumber (z : ℤ) (t : List ℕ) : Type 0 where
@@ -105,15 +112,19 @@ shown_number (pos zero) r = subst (IsShownNumber (pos 0)) (sym (decimal_digit 0 
 shown_number (pos (suc n)) r =
     let small : suc n ≤ 9223372036854775807 = omega (arith, ints, r.high) in
     let p = decimal_plain 9223372036854775807 (suc n) (omega arith) small (omega arith) in
-    record { canonical_number = positive p;
+    record {
+      canonical_number = positive p;
       text = record { signed = plain (place_sum (decimal (suc n)) 10) (digits_magnitude _ _ p) (ap pos (sym (decimal_sum (suc n) (omega arith)))); in_range = r };
-      short = omega (arith, length-decimal-le 19 (suc n) (omega arith) (omega arith) (omega arith)) }
+      short = omega (arith, length-decimal-le 19 (suc n) (omega arith) (omega arith) (omega arith));
+    }
 shown_number (negsuc n) r =
     let small : suc n ≤ 9223372036854775808 = omega (arith, ints, r.low) in
     let p = decimal_plain 9223372036854775808 (suc n) (omega arith) small (omega arith) in
-    record { canonical_number = negative (decimal (suc n)) refl p;
+    record {
+      canonical_number = negative (decimal (suc n)) refl p;
       text = record { signed = minus (decimal (suc n)) (place_sum (decimal (suc n)) 10) refl (digits_magnitude _ _ p) (ap (λ k. neg_ℤ (pos k)) (sym (decimal_sum (suc n) (omega arith)))); in_range = r };
-      short = omega (arith, length-decimal-le 19 (suc n) (omega arith) (omega arith) (omega arith)) }
+      short = omega (arith, length-decimal-le 19 (suc n) (omega arith) (omega arith) (omega arith));
+    }
 
 shown_unit : (o : Option Suffix) → ((suffix_shown_if_any o ≡ []) ⊎ CanonicalSuffix (suffix_shown_if_any o)) × SuffixIfAny (suffix_shown_if_any o) o × (length (suffix_shown_if_any o) ≤ 1)
 shown_unit None = (inl refl, refl, omega arith)
@@ -128,7 +139,8 @@ integer_shown_in_range v r =
     record {
       canonical_text = record { front = signed_decimal v.value; back = suffix_shown_if_any v.suffix; parts = refl; number = n.canonical_number; unit = u.0 };
       reads_to = record { front = signed_decimal v.value; back = suffix_shown_if_any v.suffix; parts = refl; number = n.text; unit = u.1 };
-      short = omega (arith, length-append (signed_decimal v.value) (suffix_shown_if_any v.suffix), n.short, u.2) }
+      short = omega (arith, length-append (signed_decimal v.value) (suffix_shown_if_any v.suffix), n.short, u.2);
+    }
 
 pub integer_shown_is_text : (v : Integer) → HasText IntegerText v → IsTextOf IntegerText CanonicalInteger v (integer_shown v)
 integer_shown_is_text v h = integer_shown_in_range v h.1.number.in_range

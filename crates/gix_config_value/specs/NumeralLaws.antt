@@ -1,9 +1,11 @@
 -- The place sum is the number that std reads digit by digit from the left.
-use Rattle.std.proofs.Common.{◌≡◌, ℕ, suc, ◌+◌, ◌*◌, ◌^◌, ◌<◌, ◌≤◌, List, [], ◌∷◌, length, refl, arith, ◌∙◌}
+use Rattle.std.proofs.Common.{◌≡◌, ℕ, suc, ◌+◌, ◌*◌, ◌^◌, ◌≤◌, List, [], ◌∷◌, length, arith, ◌∙◌, ℤ, pos, negsuc, ◌⊎◌, inl, inr, w64, FitsSigned}
+use Rattle.std.proofs.lemmas.Bool.{cases_lt}
 use Rattle.std.proofs.Math.Nat.{pow-zero, pow-succ'}
 use Rattle.std.specs.Char.{digit_value}
 use Rattle.std.specs.Str.Parse.{digits_value_after, digits_value}
-use Rattle.gix_config_value.specs.Numerals.{place_sum}
+use Rattle.gix_config_value.specs.Numerals.{place_sum, IsInI64}
+use Rattle.std.proofs.lemmas.Int.{ints}
 
 pub digits_value_after_is : (base n : ℕ) (ds : List ℕ) → digits_value_after base n ds ≡ n * base ^ length ds + place_sum ds base
 digits_value_after_is base n [] = none n base where
@@ -27,3 +29,24 @@ digits_value_after_ge base h (c ∷ cs) n =
     step l where
       step : {m : ℕ} → n * base + digit_value c ≤ m → n ≤ m
       step l = grind arith
+
+-- the range of a number is that of `i64`
+pub in_range_from_fits : (z : ℤ) → FitsSigned w64 z → IsInI64 z
+in_range_from_fits z f = record { low = omega (arith, ints); high = omega (arith, ints) }
+
+pub fits_from_in_range : (z : ℤ) → IsInI64 z → FitsSigned w64 z
+fits_from_in_range (pos n) r = record { sfits = omega (arith, ints, r.high) }
+fits_from_in_range (negsuc n) r = record { sfits = omega (arith, ints, r.low) }
+
+-- a number is in range, or it is not
+pub range_told : (z : ℤ) → IsInI64 z ⊎ (¬ (IsInI64 z))
+range_told (pos n) =
+    elim (cases_lt n 9223372036854775808) [
+      | inl h ↦ inl record { low = omega (arith, ints); high = omega (arith, ints) }
+      | inr h ↦ inr (λ r. omega (arith, ints, r.high))
+    ]
+range_told (negsuc n) =
+    elim (cases_lt n 9223372036854775808) [
+      | inl h ↦ inl record { low = omega (arith, ints); high = omega (arith, ints) }
+      | inr h ↦ inr (λ r. omega (arith, ints, r.low))
+    ]

@@ -15,6 +15,12 @@ factor Kibi = 1024
 factor Mebi = 1048576
 factor Gibi = 1073741824
 
+-- the power of 2 that the factor is
+abbrev pub offset : Suffix → ℕ
+offset Kibi = 10
+offset Mebi = 20
+offset Gibi = 30
+
 -- how a suffix is shown
 abbrev pub suffix_shown : Suffix → List ℕ
 suffix_shown Kibi = codes "k"

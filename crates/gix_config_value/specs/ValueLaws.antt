@@ -1,5 +1,5 @@
 -- From a grammar as a function: one value a text, and that each text is accepted or refused.
-use Rattle.std.proofs.Common.{◌≡◌, ℕ, ◌⊎◌, inl, inr, List, Option, Some, None, Bool, true, false, refl, ap, subst}
+use Rattle.std.proofs.Common.{◌≡◌, ℕ, ◌⊎◌, inl, inr, List, Option, Some, None, Bool, true, false, refl, sym, ap, ◌∙◌, subst}
 use Rattle.std.proofs.lemmas.Option.{same_Some, none-some}
 use Rattle.std.specs.Str.{bytes_eq}
 use Rattle.std.proofs.lemmas.Slice.Eq.{bytes_eq-Decides}
@@ -48,9 +48,38 @@ unfolding told_value
 told_value_is {V} {grammar} decided one = record { found = λ t. found t (decided t); derived = λ t. derived t (decided t) } where
   choose : (t : List ℕ) → IsAccepted grammar t ⊎ IsRefused grammar t → Option V
   choose t d = elim d [ inl a ↦ Some a.0 | inr r ↦ None ]
+
   found : (t : List ℕ) (d : IsAccepted grammar t ⊎ IsRefused grammar t) (v : V) → grammar t v → elim d [ inl a ↦ Some a.0 | inr r ↦ None ] ≡ Some v
   found t (inl a) v h = ap Some (one t a.0 v a.1 h)
   found t (inr r) v h = absurd (r v h)
+
   derived : (t : List ℕ) (d : IsAccepted grammar t ⊎ IsRefused grammar t) (v : V) → elim d [ inl a ↦ Some a.0 | inr r ↦ None ] ≡ Some v → grammar t v
   derived t (inl a) v h = subst (grammar t) (same_Some a.0 v h) a.1
   derived t (inr r) v h = absurd (none-some v h)
+
+-- what each canonical text tells: the value that it has, as which it is shown
+pub record IsShown {V : Type 0} (grammar : List ℕ → V → Type 0) (shown : V → List ℕ) (t : List ℕ) : Type 0 where
+  pub value : V
+  pub reads_to : grammar t value
+  pub same : t ≡ shown value
+
+-- each value has one canonical text where canonical texts are shown ones
+pub one_text_by : {V : Type 0} {grammar : List ℕ → V → Type 0} {shown : V → List ℕ} {canonical : List ℕ → Type 0}
+    → ((t : List ℕ) (v w : V) → grammar t v → grammar t w → v ≡ w) → ((t : List ℕ) → canonical t → IsShown grammar shown t)
+    → (s t : List ℕ) (v : V) → canonical s → canonical t → grammar s v → grammar t v → s ≡ t
+one_text_by {V} {grammar} {shown} {canonical} one law s t v p q r u = as_shown s p r ∙ sym (as_shown t q u) where
+  as_shown : (t : List ℕ) → canonical t → grammar t v → t ≡ shown v
+  as_shown t p r = let k = law t p in k.same ∙ ap shown (one t k.value v k.reads_to r)
+
+pub canonical_reads_by : {V : Type 0} {grammar : List ℕ → V → Type 0} {shown : V → List ℕ} {canonical : List ℕ → Type 0}
+    → ((t : List ℕ) → canonical t → IsShown grammar shown t) → (t : List ℕ) → canonical t → IsAccepted grammar t
+canonical_reads_by law t p = let k = law t p in (k.value, k.reads_to)
+
+-- a fact is told if it holds, or it does not
+abbrev pub Told : Type 0 → Type 0
+Told P = P ⊎ (¬ P)
+
+pub either_told : {P Q : Type 0} → Told P → Told Q → Told (P ⊎ Q)
+either_told (inl p) q = inl (inl p)
+either_told (inr p) (inl q) = inl (inr q)
+either_told (inr p) (inr q) = inr (λ h. elim h [ inl x ↦ p x | inr y ↦ q y ])

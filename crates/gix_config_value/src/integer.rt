@@ -1,11 +1,14 @@
 //! Integers and their suffixes.
-ghost use Rattle.std.specs.Prelude.{◌≡◌, Option, Some, None};
+ghost use Rattle.std.specs.Prelude.{◌≡◌, ℤ, Option, Some, None, SomeIff, IfOk, IfErr, Ok, Err};
 ghost use Rattle.bstr.specs.BStr.{bstr_bytes};
+ghost use Rattle.bstr.specs.Owned.{bstring_bytes};
+ghost use Rattle.std.specs.Cow.{cow_slice_items};
 ghost use Rattle.std.proofs.Common.{rules};
 ghost use Rattle.gix_config_value.specs.declared.errors.Fault.TheVariants as faults;
 ghost use Rattle.gix_config_value.specs.Value.{Reads};
-ghost use Rattle.gix_config_value.specs.Refusals.{ReadsBytes, ReadsText};
-ghost use Rattle.gix_config_value.specs.Integer.{IntegerText, CanonicalInteger, integer_shown};
+ghost use Rattle.gix_config_value.specs.Refusals.{ReadsBytes, ReadsText, ReadsOwned};
+ghost use Rattle.gix_config_value.specs.Integer.{IntegerText, CanonicalInteger, integer_shown, product, ProductInRange, Refusal};
+ghost use Rattle.gix_config_value.specs.Numerals.{IsInI64};
 ghost use Rattle.std.specs.Option.{option_map};
 ghost use Rattle.gix_config_value.specs.IntegerAsFunction.{plain_integer, negative_integer, unsigned_of, integer_of};
 ghost use Rattle.gix_config_value.specs.IntegerLaws.{integer_one_value, integer_decided};
@@ -15,12 +18,12 @@ mod magnitude;
 mod suffix;
 
 use crate::canonical::Value;
-use crate::errors::{Error, Fault};
+use crate::errors::{Error, Fault, Returned};
 use arrayvec::ArrayString;
-use bstr::BStr;
+use bstr::{BStr, BString};
 use itoa::Buffer;
+use std::borrow::CowSlice;
 use std::fmt;
-
 pub use suffix::Suffix;
 
 /// A number and the suffix that it was written with, kept apart: `1k` and `1024` are two integers.
@@ -78,7 +81,44 @@ impl<'a> TryFrom<BStr<'a>> for Integer {
     fn try_from(input: BStr<'a>) -> Result<Integer, Error<'a>> {
         match Integer::read(input) {
             Some(integer) => Ok(integer),
-            None => Err(Error { fault: Fault::Integer, input }),
+            None => Err(Error {
+                fault: Fault::Integer,
+                input,
+            }),
+        }
+    }
+}
+
+impl TryFrom<BString> for Integer {
+    type Error = Returned<BString>;
+
+    ghost try_from_gives = { λ s r. ReadsOwned IntegerText faults.Integer (bstring_bytes s) s r };
+
+    /// Refuses with `Fault::Integer` where the input writes no integer, and hands it back.
+    fn try_from(input: BString) -> Result<Integer, Returned<BString>> {
+        match scan(input.as_bytes()) {
+            Some(integer) => Ok(integer),
+            None => Err(Returned {
+                fault: Fault::Integer,
+                input,
+            }),
+        }
+    }
+}
+
+impl<'a> TryFrom<CowSlice<'a, u8>> for Integer {
+    type Error = Returned<CowSlice<'a, u8>>;
+
+    ghost try_from_gives = { λ s r. ReadsOwned IntegerText faults.Integer (cow_slice_items s) s r };
+
+    /// Refuses with `Fault::Integer` where the input writes no integer, and hands it back.
+    fn try_from(input: CowSlice<'a, u8>) -> Result<Integer, Returned<CowSlice<'a, u8>>> {
+        match scan(input.as_slice()) {
+            Some(integer) => Ok(integer),
+            None => Err(Returned {
+                fault: Fault::Integer,
+                input,
+            }),
         }
     }
 }
@@ -92,7 +132,10 @@ impl<'a> TryFrom<&'a str> for Integer {
     fn try_from(input: &'a str) -> Result<Integer, Error<'a>> {
         match scan(input.as_bytes()) {
             Some(integer) => Ok(integer),
-            None => Err(Error { fault: Fault::Integer, input: BStr::from(input) }),
+            None => Err(Error {
+                fault: Fault::Integer,
+                input: BStr::from(input),
+            }),
         }
     }
 }
@@ -106,6 +149,47 @@ impl fmt::Display for Integer {
 }
 
 impl Integer {
+    /// The number times the factor of its suffix, or `None` where that leaves `i64`.
+    pub fn to_decimal(&self) -> Option<i64>
+        ensures { SomeIff result (IsInI64 (product self.now)) (product self.now) }
+    {
+        match self.suffix {
+            Some(suffix) => self.value.checked_mul(suffix.factor()),
+            None => Some(self.value),
+        }
+    }
+
+    /// The product of the integer that the input writes, as a `T`. Refuses, with the whole input, first with
+    /// `Fault::Integer` where the input writes no integer, then with `Fault::Overflow` where its product leaves
+    /// `i64`, then with `Fault::OutOfRange` where the conversion of the product to `T` fails.
+    pub fn from_bytes<T: TryFrom<i64>>(input: &[u8]) -> Result<T, Error<'_>>
+    where
+        T::Error: Drop,
+        ensures accepted { IfOk result (λ x. (z : ℤ) × ProductInRange input.now z × T.try_from_gives z (Ok x)) }
+        ensures whole { IfErr result (λ e. bstr_bytes e.input ≡ input.now) }
+        ensures refused { IfErr result (λ e. Refusal (λ z. (x : T.Error) × T.try_from_gives z (Err x)) input.now e.fault) }
+    {
+        let Some(integer) = scan(input) else {
+            return Err(Error {
+                fault: Fault::Integer,
+                input: BStr::from(input),
+            });
+        };
+        let Some(product) = integer.to_decimal() else {
+            return Err(Error {
+                fault: Fault::Overflow,
+                input: BStr::from(input),
+            });
+        };
+        match T::try_from(product) {
+            Ok(converted) => Ok(converted),
+            Err(_) => Err(Error {
+                fault: Fault::OutOfRange,
+                input: BStr::from(input),
+            }),
+        }
+    }
+
     /// The number in decimal, and the letter of its suffix.
     fn shown(&self) -> ArrayString<127>
         ensures { result.bytes ≡ integer_shown self.now }

@@ -2,8 +2,8 @@
 ghost use Rattle.std.specs.Prelude.{◌≡◌, ◌≤◌, Some, None, IfSome};
 ghost use Rattle.gix_config_value.specs.IntegerAsFunction.{counted, base_of, digits_of, unsigned_of};
 
-use super::suffix::suffix_of;
 use super::Suffix;
+use super::suffix::suffix_of;
 
 /// The number that one digit or more write in the base, where it is at most `limit`, and the suffix behind them.
 fn counted(text: &[u8], base: u32, limit: u64) -> Option<(u64, Option<Suffix>)>
@@ -21,12 +21,18 @@ fn counted(text: &[u8], base: u32, limit: u64) -> Option<(u64, Option<Suffix>)>
             let suffix = suffix_of(&text[at..])?;
             return Some((number, Some(suffix)));
         };
-        number = number.checked_mul(u64::from(base))?.checked_add(u64::from(digit))?;
+        number = number
+            .checked_mul(u64::from(base))?
+            .checked_add(u64::from(digit))?;
         if number > limit {
             return None;
         }
     }
-    if text.is_empty() { None } else { Some((number, None)) }
+    if text.is_empty() {
+        None
+    } else {
+        Some((number, None))
+    }
 }
 
 /// The base that the first bytes name, and the text from its first digit on.

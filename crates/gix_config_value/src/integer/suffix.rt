@@ -1,10 +1,10 @@
 //! The unit that multiplies an integer.
-ghost use Rattle.std.specs.Prelude.{◌≡◌, Some};
+ghost use Rattle.std.specs.Prelude.{◌≡◌, ◌^◌, Some, pos};
 ghost use Rattle.std.specs.Prelude.{MatchOption, length, ◌≤◌};
 ghost use Rattle.bstr.specs.BStr.{bstr_bytes};
 ghost use Rattle.gix_config_value.specs.Value.{Reads, IsRefused, HasText, IsTextOf};
 ghost use Rattle.gix_config_value.specs.Refusals.{ReadsOr};
-ghost use Rattle.gix_config_value.specs.Suffix.{SuffixText, CanonicalSuffix, suffix_shown};
+ghost use Rattle.gix_config_value.specs.Suffix.{SuffixText, CanonicalSuffix, suffix_shown, factor, offset};
 ghost use Rattle.gix_config_value.specs.SuffixLaws.{suffix_one_value, suffix_one_text, suffix_canonical_reads, suffix_shown_is_text, suffix_decided};
 ghost use Rattle.std.proofs.Common.{rules};
 
@@ -38,6 +38,29 @@ pub(super) fn suffix_of(text: &[u8]) -> Option<Suffix>
 }
 
 impl Suffix {
+    /// The power of 2 that the suffix multiplies by: 10, 20 or 30.
+    pub fn bitwise_offset(self) -> usize
+        ensures offset { result ≡ offset self }
+        ensures power { 2 ^ result ≡ factor self }
+    {
+        match self {
+            Suffix::Kibi => 10,
+            Suffix::Mebi => 20,
+            Suffix::Gibi => 30,
+        }
+    }
+
+    /// What the suffix multiplies by.
+    pub(super) fn factor(self) -> i64
+        ensures { result ≡ pos (factor self) }
+    {
+        match self {
+            Suffix::Kibi => 1024,
+            Suffix::Mebi => 1_048_576,
+            Suffix::Gibi => 1_073_741_824,
+        }
+    }
+
     /// The suffix as it is shown.
     pub(super) fn letter(self) -> &'static str
         ensures { result.now ≡ suffix_shown self }

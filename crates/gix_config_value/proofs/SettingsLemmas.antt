@@ -1,0 +1,41 @@
+-- The deciding entry, from what holds of the borrowed entries at each index.
+use Rattle.std.proofs.Common.{◌≡◌, ◌≢◌, ◌<◌, ◌≤◌, ◌+◌, ℕ, zero, suc, List, [], ◌∷◌, Option, Some, None, MatchResult, Bor, length, get_or, refl, subst, ◌∙◌, ap, arith}
+use Rattle.std.specs.List.{slice_get, HoldsAt, AllWithin}
+use Rattle.std.proofs.lemmas.Option.{slice_get-map, slice_get-get_or, slice_get_within, get_or_from_slice_get, same_Some, none-some}
+use Rattle.gix_config_value.specs.declared.settings.Refused.{Refused}
+use Rattle.gix_config_value.specs.Settings.{entry_texts, IsNamed, IsAbsent, Decides, Finds, decided, Refuses}
+use Rattle.gix_config_value.specs.Value.{IsRefused, Reads}
+use Rattle.std.specs.Option.{ok_or}
+
+-- the entry at a place of which the texts are named
+named_entry : (es : List (Bor (List ℕ) × Bor (List ℕ))) (n : List ℕ) (j : ℕ) (t : List ℕ) → IsNamed (entry_texts es) n j t
+    → (e : Bor (List ℕ) × Bor (List ℕ)) × (slice_get es j ≡ Some e) × (e.0.now ≡ n)
+named_entry [] n j t named = absurd (none-some (n, t) named)
+named_entry (e ∷ es) n zero t named = (e, refl, ap (λ p. p.0) (same_Some _ _ named))
+named_entry (e ∷ es) n (suc j) t named = named_entry es n j t named
+
+-- an index at which no entry has the name
+not_named : (es : List (Bor (List ℕ) × Bor (List ℕ))) (n : List ℕ) (low : ℕ) → AllWithin (λ e. e.0.now ≢ n) es low (length es)
+    → (j : ℕ) (t : List ℕ) → low ≤ j → ¬ (IsNamed (entry_texts es) n j t)
+not_named es n low none j t above named =
+    let found = named_entry es n j t named in
+    none j found.0 above (slice_get_within es j found.0 found.1) (ap (λ e. e.0.now) (get_or_from_slice_get es j found.0 found.0 found.1) ∙ found.2)
+
+-- what a search from the end finds is the deciding entry
+pub decides_at : (es : List (Bor (List ℕ) × Bor (List ℕ))) (n : List ℕ) (i : ℕ) (d : Bor (List ℕ) × Bor (List ℕ))
+    → i < length es → HoldsAt (λ e. e.0.now ≡ n) es i → AllWithin (λ e. e.0.now ≢ n) es (i + 1) (length es)
+    → Decides (entry_texts es) n i (get_or es i d).1.now
+decides_at es n i d within hit later = record { named = named; last = λ j u above. not_named es n (i + 1) later j u (omega arith) } where
+  named : IsNamed (entry_texts es) n i (get_or es i d).1.now
+  named = let e = slice_get-get_or es i d within in rw (slice_get-map, e, hit d)
+
+-- a search that finds nothing shows that no entry has the name
+pub absent_by : (es : List (Bor (List ℕ) × Bor (List ℕ))) (n : List ℕ) → AllWithin (λ e. e.0.now ≢ n) es 0 (length es) → IsAbsent (entry_texts es) n
+absent_by es n nowhere j t = not_named es n 0 nowhere j t (omega arith)
+
+-- the answer at the deciding entry is what its text reads to
+pub answer_read : {V : Type 0} (grammar : List ℕ → V → Type 0) (es : List (List ℕ × List ℕ)) (n : List ℕ) (default : V) (i : ℕ) (input : Bor (List ℕ))
+    (t : List ℕ) (r : Option V) → Decides es n i input.now → t ≡ input.now → Reads grammar t r
+    → MatchResult {E = Refused} (ok_or r (record { index = i; input = input })) (Finds grammar es n default) (λ r. Refuses grammar es n r.index r.input.now)
+answer_read grammar es n default i input t (Some v) decides is reads = decided i input.now decides (subst (λ t. grammar t v) is reads)
+answer_read grammar es n default i input t None decides is reads = record { decides = decides; refused = subst (IsRefused grammar) is reads }

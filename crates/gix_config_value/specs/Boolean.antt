@@ -1,0 +1,27 @@
+-- Booleans: words in any case, and numbers.
+use Rattle.std.specs.Prelude.{◌≡◌, ◌≢◌, ◌↔◌, ◌⊎◌, ℕ, ℤ, pos, List, [], codes, true, false, cond, IsTrue}
+use Rattle.gix_config_value.specs.declared.boolean.Boolean.{Boolean}
+use Rattle.gix_config_value.specs.SameWord.{SameWord}
+use Rattle.gix_config_value.specs.Integer.{ProductInRange}
+
+-- the words for true
+abbrev pub Affirms : List ℕ → Type 0
+Affirms t = SameWord t (codes "yes") ⊎ SameWord t (codes "on") ⊎ SameWord t (codes "true")
+
+-- the words for false, and the empty text
+abbrev pub Denies : List ℕ → Type 0
+Denies t = (t ≡ []) ⊎ SameWord t (codes "no") ⊎ SameWord t (codes "off") ⊎ SameWord t (codes "false")
+
+-- boolean text: a word, or an integer text whose product is in range, which is true where it is not zero
+pub data BooleanText (t : List ℕ) (v : Boolean) : Type 0 where
+  affirmed : Affirms t → v.0 ≡ true → BooleanText t v
+  denied : Denies t → v.0 ≡ false → BooleanText t v
+  counted : (z : ℤ) → ProductInRange t z → (IsTrue v.0 ↔ (z ≢ pos 0)) → BooleanText t v
+
+-- how a boolean is shown
+abbrev pub boolean_shown : Boolean → List ℕ
+boolean_shown v = cond v.0 (codes "true") (codes "false")
+
+-- the canonical texts
+abbrev pub CanonicalBoolean : List ℕ → Type 0
+CanonicalBoolean t = (t ≡ codes "true") ⊎ (t ≡ codes "false")

@@ -1,0 +1,135 @@
+//! One call of `Path::interpolate`, as a line writes it.
+use bstr::BString;
+use gix_config_value::Path;
+use gix_config_value::path::interpolate::{Context, Error, Place};
+use std::alloc::Global;
+use std::cell::Cell;
+
+/// A call and its answer. Every text is written as hexadecimal digits.
+#[derive(Clone, Copy)]
+pub struct Call<'a> {
+    /// The value with its mark.
+    value: &'a str,
+    /// The install directory, or `-`.
+    git_install_dir: &'a str,
+    /// The home directory, or `-`.
+    home_dir: &'a str,
+    /// What the lookup knows, as `user=directory` between commas, or `-` where there is no lookup.
+    lookup: &'a str,
+    /// The flag, the value behind the mark, how often the lookup was called, and the text or the error.
+    pub expected: &'a str,
+}
+
+/// The fields of a line, between tabs.
+pub fn parse(line: &str) -> Option<Call<'_>> {
+    let mut fields = line.splitn(5, '\t');
+    Some(Call {
+        value: fields.next()?,
+        git_install_dir: fields.next()?,
+        home_dir: fields.next()?,
+        lookup: fields.next()?,
+        expected: fields.next()?,
+    })
+}
+
+/// The text of these digits.
+fn text(alloc: Global, digits: &str) -> anyhow::Result<String> {
+    Ok(String::from_utf8(hex::decode(alloc, digits)?)?)
+}
+
+/// The text of these digits, or `None` at `-`.
+fn directory(alloc: Global, field: &str) -> anyhow::Result<Option<String>> {
+    match field {
+        "-" => Ok(None),
+        digits => Ok(Some(text(alloc, digits)?)),
+    }
+}
+
+/// A user and the home directory that the lookup answers.
+#[derive(Drop)]
+struct User {
+    name: String,
+    home: String,
+}
+
+/// The users that the lookup knows.
+fn users(alloc: Global, field: &str) -> anyhow::Result<Vec<User>> {
+    let mut users = Vec::new(alloc);
+    for entry in field.split(',') {
+        if let Some((name, home)) = entry.split_once('=') {
+            users.push(User {
+                name: text(alloc, name)?,
+                home: text(alloc, home)?,
+            })?;
+        }
+    }
+    Ok(users)
+}
+
+/// What the lookup answers.
+fn home_of<'a>(users: &'a [User], name: &str) -> Option<&'a str> {
+    for user in users {
+        if user.name.as_str() == name {
+            return Some(user.home.as_str());
+        }
+    }
+    None
+}
+
+/// What stands in an answer for a place.
+fn place_name(place: Place) -> &'static str {
+    match place {
+        Place::PastPrefix => "PastPrefix",
+        Place::PastHome => "PastHome",
+        Place::Username => "Username",
+        Place::PastUser => "PastUser",
+        Place::Whole => "Whole",
+    }
+}
+
+/// The text or the error, as an answer writes it.
+fn outcome(alloc: Global, given: Result<String, Error<'_>>) -> anyhow::Result<String> {
+    Ok(match given {
+        Ok(text) => format!(in alloc; "ok\t{}", hex::encode(alloc, text)?)?,
+        Err(Error::IllFormed { place, input }) => {
+            format!(in alloc;
+                "IllFormed\t{}\t{}",
+                place_name(place),
+                hex::encode(alloc, input)?
+            )?
+        }
+        Err(Error::PathMissing) => format!(in alloc; "PathMissing")?,
+        Err(Error::InstallDirMissing) => format!(in alloc; "InstallDirMissing")?,
+        Err(Error::HomeMissing) => format!(in alloc; "HomeMissing")?,
+        Err(Error::LookupMissing) => format!(in alloc; "LookupMissing")?,
+        Err(Error::UserNotFound) => format!(in alloc; "UserNotFound")?,
+        Err(Error::Memory(_)) => format!(in alloc; "Memory")?,
+    })
+}
+
+impl Call<'_> {
+    /// What the call gives: the flag, the value, how often the lookup was called, and the text or the error.
+    pub fn answer(&self, alloc: Global) -> anyhow::Result<String> {
+        let path = Path::from(BString::new(hex::decode(alloc, self.value)?));
+        let git_install_dir = directory(alloc, self.git_install_dir)?;
+        let home_dir = directory(alloc, self.home_dir)?;
+        let users = users(alloc, self.lookup)?;
+        let calls = Cell::new(0u32);
+        let lookup = |name: &str| {
+            calls.set(calls.get().wrapping_add(1));
+            home_of(&users, name)
+        };
+        let result = path.interpolate(
+            alloc,
+            Context {
+                git_install_dir: git_install_dir.as_deref(),
+                home_dir: home_dir.as_deref(),
+                home_for_user: (self.lookup != "-").then_some(lookup),
+            },
+        );
+        let outcome = outcome(alloc, result)?;
+        let value = hex::encode(alloc, path.as_bytes())?;
+        let flag = u8::from(path.is_optional);
+        Ok(format!(in alloc; "{flag}\t{value}\t{}\t{outcome}", calls.get())?)
+    }
+}
