@@ -13,8 +13,8 @@ pub struct Line {
 }
 
 pub const SIX: [Line; 6] = [
-    Line { line: "boolean", answer: "unknown kind\n" },
-    Line { line: "color", answer: "unknown kind\n" },
+    Line { line: "boolean", answer: "ok false\n" },
+    Line { line: "color", answer: "ok \n" },
     Line { line: "", answer: "unknown kind\n" },
     Line { line: "Integer 5", answer: "unknown kind\n" },
     Line { line: "integer  5", answer: "refused\n" },
