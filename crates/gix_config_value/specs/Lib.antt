@@ -10,5 +10,7 @@ pub mod Integer
 pub mod IntegerAsFunction
 pub mod IntegerLaws
 pub mod IntegerShownLaws
+pub mod Amount
+pub mod AmountLaws
 pub mod Boolean
 pub mod BooleanLaws
