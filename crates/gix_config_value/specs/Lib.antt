@@ -23,6 +23,8 @@ pub mod WordLaws
 pub mod NameLaws
 pub mod AttributeShowing
 pub mod AttributeLaws
+pub mod Amount
+pub mod AmountLaws
 pub mod Boolean
 pub mod BooleanLaws
 pub mod Path
