@@ -2,7 +2,7 @@
 use Rattle.std.proofs.Common.{◌≡◌, ◌≢◌, ℕ, ◌⊎◌, inl, inr, List, codes}
 use Rattle.gix_config_value.specs.declared.canonical.kind.Kind.{Kind}
 use Rattle.gix_config_value.specs.declared.canonical.kind.Kind.TheVariants as kinds
-use Rattle.gix_config_value.specs.Kinds.{kind_name, KindValue, KindGrammar, KindCanonical}
+use Rattle.gix_config_value.specs.Kinds.{kind_name, KindGrammar, KindCanonical}
 use Rattle.gix_config_value.specs.Value.{IsAccepted, IsRefused, HasText, IsTextOf}
 use Rattle.gix_config_value.specs.ValueLaws.{text_told}
 use Rattle.gix_config_value.specs.Suffix.{SuffixText, CanonicalSuffix, suffix_shown}
@@ -19,6 +19,8 @@ use Rattle.gix_config_value.specs.AttributeLaws.{attribute_decided, attribute_sh
 use Rattle.gix_config_value.specs.Color.{ColorText, CanonicalColor, color_shown}
 use Rattle.gix_config_value.specs.ColorLaws.{color_decided}
 use Rattle.gix_config_value.specs.ColorShownLaws.{color_shown_is_text}
+use Rattle.gix_config_value.specs.Amount.{AmountText, CanonicalAmount, amount_shown}
+use Rattle.gix_config_value.specs.AmountLaws.{amount_decided, amount_shown_is_text}
 
 -- a text is the name of a kind, or of none
 pub kind_told : (head : List ℕ) → ((kind : Kind) × (kind_name kind ≡ head)) ⊎ ((kind : Kind) → kind_name kind ≢ head)
@@ -29,13 +31,15 @@ kind_told head =
     elim (text_told (codes "name") head) [ inl p ↦ inl (kinds.Name, p) | inr name ↦
     elim (text_told (codes "attribute") head) [ inl p ↦ inl (kinds.Attribute, p) | inr attribute ↦
     elim (text_told (codes "color") head) [ inl p ↦ inl (kinds.Color, p) | inr color ↦
+    elim (text_told (codes "amount") head) [ inl p ↦ inl (kinds.Amount, p) | inr amount ↦
     inr (λ kind. elim kind as (λ k. kind_name k ≢ head) [
         kinds.Suffix ↦ suffix
       | kinds.Integer ↦ integer
       | kinds.Boolean ↦ boolean
       | kinds.Name ↦ name
       | kinds.Attribute ↦ attribute
-      | kinds.Color ↦ color ]) ] ] ] ] ] ]
+      | kinds.Color ↦ color
+      | kinds.Amount ↦ amount ]) ] ] ] ] ] ] ]
 
 abbrev pub HasCanonicalText : {V : Type 0} → (List ℕ → V → Type 0) → (List ℕ → Type 0) → List ℕ → Type 0
 HasCanonicalText {V} grammar canonical t = (s : List ℕ) × ((v : V) × grammar t v × IsTextOf grammar canonical v s)
@@ -56,3 +60,4 @@ kind_decided kinds.Boolean t = decided_with BooleanText CanonicalBoolean boolean
 kind_decided kinds.Name t = decided_with NameText CanonicalName name_shown name_decided name_shown_is_text t
 kind_decided kinds.Attribute t = decided_with AttributeText CanonicalAttribute (λ a. attribute_shown a.0) attribute_decided attribute_shown_is_text t
 kind_decided kinds.Color t = decided_with ColorText CanonicalColor color_shown color_decided color_shown_is_text t
+kind_decided kinds.Amount t = decided_with AmountText CanonicalAmount amount_shown amount_decided amount_shown_is_text t

@@ -1,13 +1,12 @@
 -- Lines: where the first LF or the first space of a list of bytes stands.
-use Rattle.std.proofs.Common.{◌-◌, length-drop, suc, eq-eqb, eqb-true, ◌≡◌, ◌≢◌, ℕ, ◌+◌, ◌<◌, ◌≤◌, ◌==◌, List, [], ◌∷◌, ◌++◌, Bool, true, false, length, take, drop, get_or, refl, sym, ap, ◌∙◌, arith, append_assoc, add-one, drop-cons, length-take, take-append-drop}
-use Rattle.std.specs.List.{AllByRecursion, position_or_len, before_first, after_first}
+use Rattle.std.proofs.Common.{◌-◌, length-drop, suc, eq-eqb, eqb-true, ◌≡◌, ◌≢◌, ℕ, ◌+◌, ◌<◌, ◌==◌, List, [], ◌∷◌, ◌++◌, Bool, true, false, length, take, drop, get_or, refl, sym, ap, ◌∙◌, arith, append_assoc, add-one, drop-cons, length-take, take-append-drop}
+use Rattle.std.specs.List.{AllByRecursion, position_or_len}
 use Rattle.std.proofs.lemmas.List.Sums.{position_or_len_is}
 use Rattle.std.proofs.lemmas.List.{get_or-take}
-use Rattle.std.proofs.lemmas.Grind.{common_steps}
 use Rattle.bstr.specs.Find.{Passes, Nowhere, NoneBefore, is_byte}
 use Rattle.std.proofs.Math.Seq.{take-length}
 use Rattle.std.proofs.Math.ListN.{drop_of_length-le}
-use Rattle.gix_config_value.specs.Answers.{ended, IsUnbroken, line_head, line_value}
+use Rattle.gix_config_value.specs.Answers.{IsUnbroken, line_head, line_value}
 use Rattle.gix_config_value.specs.Steps.{CutsLine}
 
 false_from : (b : Bool) → ¬ (b ≡ true) → b ≡ false

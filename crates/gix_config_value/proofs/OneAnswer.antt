@@ -1,9 +1,9 @@
 -- One entry decides, so a name has one answer at most.
-use Rattle.std.proofs.Common.{◌≡◌, ◌<◌, ◌⊎◌, inl, inr, ℕ, List, Some, refl, sym, subst, ap, ◌∙◌}
+use Rattle.std.proofs.Common.{◌≡◌, inl, inr, ℕ, List, Some, sym, subst, ap, ◌∙◌}
 use Rattle.std.specs.List.{slice_get}
 use Rattle.std.proofs.lemmas.Bool.{cases_order}
 use Rattle.std.proofs.lemmas.Option.{same_Some}
-use Rattle.gix_config_value.specs.Settings.{IsNamed, IsAbsent, Decides, Finds, decided, absent, Refuses, OneAnswer}
+use Rattle.gix_config_value.specs.Settings.{Decides, Finds, decided, absent, Refuses, OneAnswer}
 
 decides_once : (es : List (List ℕ × List ℕ)) (n : List ℕ) (i j : ℕ) (t u : List ℕ) → Decides es n i t → Decides es n j u → (i ≡ j) × (t ≡ u)
 decides_once es n i j t u first second = elim (cases_order i j) [

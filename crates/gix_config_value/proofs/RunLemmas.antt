@@ -1,10 +1,10 @@
 -- A run as a whole: how it goes on after a read, how it ends, and what holds where it stops with an error.
-use Rattle.std.proofs.Common.{◌≡◌, ◌≢◌, ◌==◌, ℕ, ◌<◌, List, [], ◌∷◌, ◌++◌, ◌&&◌, length, take, Bool, true, false, Option, None, Some, Result, Ok, Err, IfOk, IfErr, refl, sym, ap, ◌∙◌, append_assoc, append-nil, subst}
+use Rattle.std.proofs.Common.{◌≡◌, ◌≢◌, ◌==◌, ℕ, ◌<◌, List, [], ◌∷◌, ◌++◌, ◌&&◌, length, take, Bool, true, false, Option, Result, Ok, Err, IfOk, IfErr, refl, sym, ap, ◌∙◌, append_assoc, append-nil, subst}
 use Rattle.std.specs.Io.KnownBytes.{Appends, Consumes, Keeps, IsAtEnd}
 use Rattle.gix_config_value.specs.declared.program.RunError.{RunError}
 use Rattle.gix_config_value.specs.declared.program.RunError.TheVariants.{Read, Write, Memory}
-use Rattle.gix_config_value.specs.Answers.{IsCut, Outcome, LineOutcome, outcome_text, is_accepted, Answers, IsBeginningOfAnswers, AnswersAllBut, AnswersLines, Completes, Fails}
-use Rattle.gix_config_value.specs.Steps.{Takes, AnswersLast, Emits, EmitsAnswer, TakesEmitting, MayMiss, WritesPart, Stops, EndsAnswered, EndsEarly, Goes}
+use Rattle.gix_config_value.specs.Answers.{IsCut, Outcome, LineOutcome, outcome_text, is_accepted, IsBeginningOfAnswers, AnswersAllBut, AnswersLines, Completes, Fails}
+use Rattle.gix_config_value.specs.Steps.{Takes, AnswersLast, EmitsAnswer, TakesEmitting, MayMiss, WritesPart, Stops, EndsAnswered, EndsEarly, Goes}
 use Rattle.gix_config_value.proofs.ReaderWriterLemmas.{Keeps-refl, Appends-nil, Appends-trans, Consumes-nil, Consumes-trans, Consumes-kept}
 use Rattle.gix_config_value.proofs.StepLemmas.{Takes-nil, Takes-trans, takes_any, last_any, Answers-last, begins, all_but, Stops-first, Stops-after}
 

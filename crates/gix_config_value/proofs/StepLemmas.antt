@@ -1,5 +1,5 @@
 -- How the steps of a run compose, and that every line and every input has answers.
-use Rattle.std.proofs.Common.{Result, Ok, Err, OnOk, IfErr, ◌+◌, take, drop, take-append-drop, ◌≡◌, ◌≢◌, ℕ, ◌⊎◌, inl, inr, List, [], ◌∷◌, ◌++◌, ◌&&◌, flat_map, Bool, true, false, Option, None, Some, refl, sym, ap, ◌∙◌, append_assoc, append-nil, subst}
+use Rattle.std.proofs.Common.{Result, Ok, Err, OnOk, IfErr, ◌+◌, take, drop, take-append-drop, ◌≡◌, ℕ, inl, inr, List, [], ◌∷◌, ◌++◌, ◌&&◌, flat_map, Bool, true, false, Option, refl, sym, ap, ◌∙◌, append_assoc, append-nil, subst}
 use Rattle.std.specs.List.{AllByRecursion, AllZip, list_all}
 use Rattle.std.specs.Io.KnownBytes.{Appends}
 use Rattle.std.proofs.Math.Bool.{and-true}
@@ -11,9 +11,9 @@ use Rattle.gix_config_value.specs.declared.program.RunError.{RunError}
 use Rattle.gix_config_value.specs.declared.program.RunError.TheVariants.{Write}
 use Rattle.gix_config_value.specs.Kinds.{kind_name, KindValue, KindGrammar, KindCanonical}
 use Rattle.gix_config_value.specs.Value.{IsTextOf}
-use Rattle.gix_config_value.specs.Answers.{ended, IsUnbroken, IsCut, counted_lines, line_head, line_value, Outcome, accepted, refused, unknown, LineOutcome, outcome_text, is_accepted, LinesAnswered, Answers, IsBeginningOfAnswers, AnswersAllBut}
-use Rattle.gix_config_value.specs.Steps.{PutsAnswer, Takes, AnswersLast, Emits, EmitsAnswer, TakesEmitting, MayMiss, WritesPart, Stops, CutsLine, AnswersUpTo}
-use Rattle.gix_config_value.proofs.KindLemmas.{kind_told, kind_decided, HasCanonicalText}
+use Rattle.gix_config_value.specs.Answers.{ended, IsUnbroken, line_head, line_value, Outcome, accepted, refused, unknown, LineOutcome, outcome_text, is_accepted, Answers, IsBeginningOfAnswers, AnswersAllBut}
+use Rattle.gix_config_value.specs.Steps.{PutsAnswer, Takes, AnswersLast, Emits, EmitsAnswer, TakesEmitting, WritesPart, Stops, CutsLine, AnswersUpTo}
+use Rattle.gix_config_value.proofs.KindLemmas.{kind_told, kind_decided}
 use Rattle.gix_config_value.proofs.ReaderWriterLemmas.{Appends-nil, Appends-trans}
 
 -- ---- lists

@@ -5,7 +5,6 @@
 use Rattle.std.specs.Prelude.{◌≡◌, ◌≢◌, ℕ, ◌==◌, List, [], ◌∷◌, ◌++◌, flat_map, Bool, true, false, codes, Option, Result, Ok, Err}
 use Rattle.std.specs.List.{AllByRecursion, AllZip, list_all, before_first, after_first}
 use Rattle.std.specs.Io.KnownBytes.{Consumes, Appends, IsAtEnd}
-use Rattle.std.specs.declared.alloc.AllocError.{AllocError}
 use Rattle.gix_config_value.specs.declared.canonical.kind.Kind.{Kind}
 use Rattle.gix_config_value.specs.declared.program.RunError.{RunError}
 use Rattle.gix_config_value.specs.declared.program.RunError.TheVariants.{Read, Write, Memory}

@@ -9,6 +9,7 @@ use Rattle.gix_config_value.specs.declared.boolean.Boolean as boolean
 use Rattle.gix_config_value.specs.declared.color.name.Name as name
 use Rattle.gix_config_value.specs.declared.color.attribute.Attribute as attribute
 use Rattle.gix_config_value.specs.declared.color.Color as color
+use Rattle.gix_config_value.specs.declared.integer.amount.Amount as amount
 use Rattle.gix_config_value.specs.Suffix.{SuffixText, CanonicalSuffix}
 use Rattle.gix_config_value.specs.Integer.{IntegerText, CanonicalInteger}
 use Rattle.gix_config_value.specs.Boolean.{BooleanText, CanonicalBoolean}
@@ -16,6 +17,7 @@ use Rattle.gix_config_value.specs.Name.{NameText, CanonicalName}
 use Rattle.gix_config_value.specs.Attribute.{AttributeText, CanonicalAttribute}
 use Rattle.gix_config_value.specs.Color.{ColorText, CanonicalColor}
 use Rattle.gix_config_value.specs.Composition.{Joins, ComparesWords}
+use Rattle.gix_config_value.specs.Amount.{AmountText, CanonicalAmount}
 
 -- the name that a line begins with
 abbrev pub kind_name : Kind → List ℕ
@@ -25,6 +27,7 @@ kind_name kinds.Boolean = codes "boolean"
 kind_name kinds.Name = codes "name"
 kind_name kinds.Attribute = codes "attribute"
 kind_name kinds.Color = codes "color"
+kind_name kinds.Amount = codes "amount"
 
 -- the values of a kind
 abbrev pub KindValue : Kind → Type 0
@@ -34,6 +37,7 @@ KindValue kinds.Boolean = boolean.Boolean
 KindValue kinds.Name = name.Name
 KindValue kinds.Attribute = attribute.Attribute
 KindValue kinds.Color = color.Color
+KindValue kinds.Amount = amount.Amount
 
 -- which texts read to which values
 abbrev pub KindGrammar : (kind : Kind) → List ℕ → KindValue kind → Type 0
@@ -43,6 +47,7 @@ KindGrammar kinds.Boolean = BooleanText
 KindGrammar kinds.Name = NameText
 KindGrammar kinds.Attribute = AttributeText
 KindGrammar kinds.Color = ColorText
+KindGrammar kinds.Amount = AmountText
 
 -- the canonical texts
 abbrev pub KindCanonical : Kind → List ℕ → Type 0
@@ -52,6 +57,7 @@ KindCanonical kinds.Boolean = CanonicalBoolean
 KindCanonical kinds.Name = CanonicalName
 KindCanonical kinds.Attribute = CanonicalAttribute
 KindCanonical kinds.Color = CanonicalColor
+KindCanonical kinds.Amount = CanonicalAmount
 
 -- what a normaliser says of a text in which white space stands: for colors, what follows from the texts beside it
 abbrev pub KindJoins : Kind → List ℕ → Option ArrayString → Type 0

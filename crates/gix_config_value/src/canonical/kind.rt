@@ -8,7 +8,7 @@ ghost use Rattle.gix_config_value.specs.declared.canonical.kind.Kind as kind;
 use crate::canonical::{Value, normalize_as};
 use crate::boolean::Boolean;
 use crate::color::{Attribute, Color, Name};
-use crate::integer::{Integer, Suffix};
+use crate::integer::{Amount, Integer, Suffix};
 use arrayvec::ArrayString;
 use bstr::BStr;
 
@@ -27,6 +27,8 @@ pub enum Kind {
     Attribute,
     /// Colors: names of a foreground and a background, and attributes.
     Color,
+    /// Numbers whose product with their suffix fits `i64`.
+    Amount,
 }
 
 /// The kind of exactly this name.
@@ -40,6 +42,7 @@ pub(crate) fn kind_by_name(name: &[u8]) -> Option<Kind>
         b"name" => Some(Kind::Name),
         b"attribute" => Some(Kind::Attribute),
         b"color" => Some(Kind::Color),
+        b"amount" => Some(Kind::Amount),
         _ => None,
     }
 }
@@ -61,6 +64,7 @@ pub fn normalize(kind: Kind, input: BStr<'_>) -> Option<ArrayString<127>>
         Kind::Name => normalize_as::<Name>(input),
         Kind::Attribute => normalize_as::<Attribute>(input),
         Kind::Color => normalize_as::<Color>(input),
+        Kind::Amount => normalize_as::<Amount>(input),
     }
 }
 
@@ -77,6 +81,7 @@ pub fn same(kind: Kind, a: BStr<'_>, b: BStr<'_>) -> Option<bool>
         Kind::Name => same_as::<Name>(a, b),
         Kind::Attribute => same_as::<Attribute>(a, b),
         Kind::Color => same_as::<Color>(a, b),
+        Kind::Amount => same_as::<Amount>(a, b),
     }
 }
 

@@ -1,4 +1,4 @@
-use Rattle.std.proofs.Common.{[], length}
+use Rattle.std.proofs.Common.{length}
 use Rattle.gix_config_value.specs.Steps.{AnswersUpTo}
 use Rattle.gix_config_value.proofs.program.answer_lines.Given as goal
 

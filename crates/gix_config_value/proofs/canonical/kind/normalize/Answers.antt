@@ -18,3 +18,6 @@ returns-in-Attribute c = rw c.in-Attribute.is (record { answer = c.normalize_as-
 
 pub returns-in-Color : goal.returns-in-Color
 returns-in-Color c = rw c.in-Color.is (record { answer = c.normalize_as-in-Color.ensures.answer; only = c.normalize_as-in-Color.ensures.only; unchanged = c.normalize_as-in-Color.ensures.unchanged; joined = normalizes_joins _ _ c.normalize_as-in-Color.ensures.answer })
+
+pub returns-in-Amount : goal.returns-in-Amount
+returns-in-Amount c = rw c.in-Amount.is (record { answer = c.normalize_as-in-Amount.ensures.answer; only = c.normalize_as-in-Amount.ensures.only; unchanged = c.normalize_as-in-Amount.ensures.unchanged; joined = tt })

@@ -18,3 +18,6 @@ returns-in-Attribute c = rw c.in-Attribute.is (record { answer = c.same_as-in-At
 
 pub returns-in-Color : goal.returns-in-Color
 returns-in-Color c = rw c.in-Color.is (record { answer = c.same_as-in-Color.ensures; words = compares_words _ _ _ c.same_as-in-Color.ensures })
+
+pub returns-in-Amount : goal.returns-in-Amount
+returns-in-Amount c = rw c.in-Amount.is (record { answer = c.same_as-in-Amount.ensures; words = tt })
