@@ -7,3 +7,4 @@ pub mod IntegerCounting
 pub mod SettingsLemmas
 pub mod ReplacedValues
 pub mod SeveralAttributes
+pub mod ColorOrder
