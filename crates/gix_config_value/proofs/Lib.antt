@@ -8,3 +8,4 @@ pub mod SettingsLemmas
 pub mod ReplacedValues
 pub mod OneAnswer
 pub mod SeveralAttributes
+pub mod ColorOrder

@@ -43,3 +43,5 @@ pub mod CompositionLaws
 pub mod PlainWords
 pub mod ColorShownLaws
 pub mod Settings
+pub mod Json
+pub mod Orders

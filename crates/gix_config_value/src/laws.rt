@@ -2,5 +2,6 @@
 
 pub mod attributes;
 pub mod colors;
+pub mod orders;
 pub mod paths;
 pub mod settings;

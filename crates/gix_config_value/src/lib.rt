@@ -6,6 +6,7 @@ pub mod canonical;
 pub mod color;
 pub mod errors;
 pub mod integer;
+pub mod json;
 pub mod laws;
 pub mod path;
 pub mod program;

@@ -62,7 +62,7 @@ impl Suffix {
     }
 
     /// The suffix as it is shown.
-    pub(super) fn letter(self) -> &'static str
+    pub(crate) fn letter(self) -> &'static str
         ensures { result.now ≡ suffix_shown self }
     {
         match self {

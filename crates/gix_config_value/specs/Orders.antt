@@ -1,0 +1,67 @@
+-- Orders of the value types.
+use Rattle.std.specs.Prelude.{ℕ, List, [], ◌∷◌}
+use Rattle.std.specs.Option.{option_cmp}
+use Rattle.std.specs.Ordering.{nat_cmp, int_cmp, bool_cmp, then_cmp, on}
+use Rattle.std.specs.Cmp.Lexicographic.{slice_cmp}
+use Rattle.std.specs.declared.cmp.Ordering.{Ordering}
+use Rattle.gix_config_value.specs.declared.boolean.Boolean.{Boolean}
+use Rattle.gix_config_value.specs.declared.color.Color.{Color}
+use Rattle.gix_config_value.specs.declared.color.attribute.Attribute.{Attribute}
+use Rattle.gix_config_value.specs.declared.color.name.Name.{Name}
+use Rattle.gix_config_value.specs.declared.color.name.Name.TheVariants.{Normal, Default, Black, BrightBlack, Red, BrightRed, Green, BrightGreen, Yellow, BrightYellow, Blue, BrightBlue, Magenta, BrightMagenta, Cyan, BrightCyan, White, BrightWhite, Ansi, Rgb}
+use Rattle.gix_config_value.specs.declared.integer.Integer.{Integer}
+use Rattle.gix_config_value.specs.declared.integer.suffix.Suffix.{Suffix}
+use Rattle.gix_config_value.specs.Suffix.{factor}
+
+-- by the factor
+abbrev pub suffix_order : Suffix → Suffix → Ordering
+suffix_order = on factor nat_cmp
+
+-- by the number, then by the suffix, none first
+abbrev pub integer_order : Integer → Integer → Ordering
+integer_order = then_cmp (on (λ v. v.value) int_cmp) (on (λ v. v.suffix) (option_cmp suffix_order))
+
+-- false first
+abbrev pub boolean_order : Boolean → Boolean → Ordering
+boolean_order = on (λ v. v.0) bool_cmp
+
+-- by the number that the bits write
+abbrev pub attribute_order : Attribute → Attribute → Ordering
+attribute_order = on (λ a. a.0) nat_cmp
+
+-- the place of a name: the words from `Normal` to `BrightWhite`, then palette numbers, then red, green and blue
+abbrev pub name_place : Name → ℕ
+name_place Normal = 0
+name_place Default = 1
+name_place Black = 2
+name_place BrightBlack = 3
+name_place Red = 4
+name_place BrightRed = 5
+name_place Green = 6
+name_place BrightGreen = 7
+name_place Yellow = 8
+name_place BrightYellow = 9
+name_place Blue = 10
+name_place BrightBlue = 11
+name_place Magenta = 12
+name_place BrightMagenta = 13
+name_place Cyan = 14
+name_place BrightCyan = 15
+name_place White = 16
+name_place BrightWhite = 17
+name_place (Ansi n) = 18
+name_place (Rgb r g b) = 19
+
+-- the numbers of a name, of which a word has none
+abbrev pub name_numbers : Name → List ℕ
+name_numbers (Ansi n) = n ∷ []
+name_numbers (Rgb r g b) = r ∷ g ∷ b ∷ []
+name_numbers _ = []
+
+-- by the place, then by the numbers from the first on
+abbrev pub name_order : Name → Name → Ordering
+name_order = then_cmp (on name_place nat_cmp) (on name_numbers (slice_cmp nat_cmp))
+
+-- by the foreground, then the background, in each none first, then by the attributes
+abbrev pub color_order : Color → Color → Ordering
+color_order = then_cmp (on (λ c. c.foreground) (option_cmp name_order)) (then_cmp (on (λ c. c.background) (option_cmp name_order)) (on (λ c. c.attributes) attribute_order))
