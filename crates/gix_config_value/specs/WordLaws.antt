@@ -122,6 +122,7 @@ item_of-word [] h = refl
 item_of-word (c ∷ cs) h =
     let m = byte_marks c h in rw (m.0, m.1, m.2) refl
 
+-- a text that fits a row stands for what the row says
 row-item : (row : WordRow) (t : List ℕ) → OneOf word_table row → fits row t ≡ true → item_of t ≡ Some row.2
 row-item row t o f = item_of-word t (starts-fits row t o f) ∙ row-found word_table row t word_table-apart o f
 
@@ -229,9 +230,6 @@ pair-derived a b n h = told (nat_lt (digit_value a) 16) (nat_lt (digit_value b) 
 
 -- ---- names and attributes are found
 
-word-item : (row : WordRow) (t : List ℕ) → OneOf word_table row → fits row t ≡ true → item_of t ≡ Some row.2
-word-item row t o f = row-item row t o f
-
 minus_one-item : item_of (codes "-1") ≡ Some (items.Name names.Normal)
 unfolding attributes word_names
 minus_one-item = refl
@@ -248,7 +246,7 @@ item_of-digits (d ∷ ds) h = let m = digit_marks d h.1.0 in rw (m.0, m.1, m.2) 
 
 name-found : (t : List ℕ) (n : Name) → NameText t n → item_of t ≡ Some (items.Name n)
 name-found t n (NameText.word o s) =
-    word-item (name_row n) t
+    row-item (name_row n) t
     (OneOf-front (map name_row word_names) ((codes "-1", false, items.Name names.Normal) ∷ flat_map attribute_rows attributes)
     (name_row n) (OneOf-map name_row word_names n o))
     ((bytes_eq-Decides (lowered t) (lowered (name_shown n))).1 s)
@@ -284,10 +282,10 @@ attribute_is a bit e = ap (λ n. items.Attribute (record { 0 = n })) (sym e)
 
 attribute-found : (t : List ℕ) (a : Attribute) → AttributeText t a → item_of t ≡ Some (items.Attribute a)
 attribute-found t a (AttributeText.word row o h e) =
-    word-item (t, row.1 == 8, attribute_item row.1) t (spelling-row row t o h) (fits-self t (row.1 == 8) (attribute_item row.1))
+    row-item (t, row.1 == 8, attribute_item row.1) t (spelling-row row t o h) (fits-self t (row.1 == 8) (attribute_item row.1))
     ∙ ap Some (attribute_is a row.1 e)
 attribute-found t a (AttributeText.reset s e) =
-    word-item (codes "reset", true, attribute_item 8) t
+    row-item (codes "reset", true, attribute_item 8) t
     (spelling-row (codes "RESET", 8, codes "reset", []) (codes "reset") reset-known (inl refl))
     ((bytes_eq-Decides (lowered t) (lowered (codes "reset"))).1 s)
     ∙ ap Some (attribute_is a 8 e)

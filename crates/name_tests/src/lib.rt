@@ -3,6 +3,7 @@
 
 #[cfg(test)]
 mod attributes;
+pub mod callers;
 #[cfg(test)]
 mod names;
 #[cfg(test)]

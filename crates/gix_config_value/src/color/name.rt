@@ -139,13 +139,7 @@ impl Name {
 /// Each number of a name is a byte.
 pub(super) fn numbers_fit(name: Name)
     ensures { NameFits name }
-{
-    match name {
-        Name::Ansi(_number) => {}
-        Name::Rgb(_red, _green, _blue) => {}
-        _ => {}
-    }
-}
+{}
 
 /// Some text is read as the name.
 fn has_a_text(name: Name)
