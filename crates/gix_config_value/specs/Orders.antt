@@ -10,6 +10,7 @@ use Rattle.gix_config_value.specs.declared.color.attribute.Attribute.{Attribute}
 use Rattle.gix_config_value.specs.declared.color.name.Name.{Name}
 use Rattle.gix_config_value.specs.declared.color.name.Name.TheVariants.{Normal, Default, Black, BrightBlack, Red, BrightRed, Green, BrightGreen, Yellow, BrightYellow, Blue, BrightBlue, Magenta, BrightMagenta, Cyan, BrightCyan, White, BrightWhite, Ansi, Rgb}
 use Rattle.gix_config_value.specs.declared.integer.Integer.{Integer}
+use Rattle.gix_config_value.specs.declared.integer.amount.Amount.{Amount}
 use Rattle.gix_config_value.specs.declared.integer.suffix.Suffix.{Suffix}
 use Rattle.gix_config_value.specs.Suffix.{factor}
 
@@ -20,6 +21,10 @@ suffix_order = on factor nat_cmp
 -- by the number, then by the suffix, none first
 abbrev pub integer_order : Integer → Integer → Ordering
 integer_order = then_cmp (on (λ v. v.value) int_cmp) (on (λ v. v.suffix) (option_cmp suffix_order))
+
+-- by the number
+abbrev pub amount_order : Amount → Amount → Ordering
+amount_order = on (λ v. v.0) int_cmp
 
 -- false first
 abbrev pub boolean_order : Boolean → Boolean → Ordering

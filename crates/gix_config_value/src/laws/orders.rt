@@ -7,12 +7,13 @@ ghost use Rattle.gix_config_value.specs.declared.color.Color.{Color};
 ghost use Rattle.gix_config_value.specs.declared.color.attribute.Attribute.{Attribute};
 ghost use Rattle.gix_config_value.specs.declared.color.name.Name.{Name};
 ghost use Rattle.gix_config_value.specs.declared.integer.Integer.{Integer};
+ghost use Rattle.gix_config_value.specs.declared.integer.amount.Amount.{Amount};
 ghost use Rattle.gix_config_value.specs.declared.integer.suffix.Suffix.{Suffix};
-ghost use Rattle.gix_config_value.specs.Orders.{suffix_order, integer_order, boolean_order, attribute_order, name_order, color_order};
+ghost use Rattle.gix_config_value.specs.Orders.{suffix_order, integer_order, amount_order, boolean_order, attribute_order, name_order, color_order};
 
 use crate::boolean::Boolean;
 use crate::color::{Attribute, Color, Name};
-use crate::integer::{Integer, Suffix};
+use crate::integer::{Amount, Integer, Suffix};
 use std::hash::Hash;
 
 /// Suffixes are ordered by their factors, and equal ones hash equally.
@@ -35,6 +36,17 @@ pub fn integer_order()
     ensures hashes { (v w : Integer) → IsTrue (⟦<Integer as PartialEq>⟧.eq v w) → ⟦<Integer as Hash>⟧.hash_input v ≡ ⟦<Integer as Hash>⟧.hash_input w }
     ensures default_value { (v : Integer) → ⟦<Integer as Default>⟧.is_default v → v.value ≡ pos 0 }
     ensures default_suffix { (v : Integer) → ⟦<Integer as Default>⟧.is_default v → v.suffix ≡ None }
+{}
+
+/// Amounts are ordered by their numbers, and equal ones hash equally; the default is 0.
+pub fn amount_order()
+    ensures equal { (v w : Amount) → (IsTrue (⟦<Amount as PartialEq>⟧.eq v w)) ↔ (v ≡ w) }
+    ensures order { (v w : Amount) → ⟦<Amount as Ord>⟧.cmp v w ≡ amount_order v w }
+    ensures partial { (v w : Amount) → ⟦<Amount as PartialOrd>⟧.partial_cmp v w ≡ Some (amount_order v w) }
+    ensures total { IsTotalOrder ⟦<Amount as Ord>⟧.cmp }
+    ensures agrees { (v w : Amount) → ⟦<Amount as PartialEq>⟧.eq v w ≡ is_eq (⟦<Amount as Ord>⟧.cmp v w) }
+    ensures hashes { (v w : Amount) → IsTrue (⟦<Amount as PartialEq>⟧.eq v w) → ⟦<Amount as Hash>⟧.hash_input v ≡ ⟦<Amount as Hash>⟧.hash_input w }
+    ensures default { (v : Amount) → ⟦<Amount as Default>⟧.is_default v → v.0 ≡ pos 0 }
 {}
 
 /// False stands before true, and is the default; equal booleans hash equally.
