@@ -7,3 +7,4 @@ mod colors;
 mod composition;
 #[cfg(test)]
 mod spaces;
+pub mod themes;

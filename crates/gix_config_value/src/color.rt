@@ -1,5 +1,5 @@
 //! Color names, attributes and colors.
-ghost use Rattle.std.specs.Prelude.{◌≡◌, ◌+◌, ◌<◌, ◌≤◌, Option, Some, None, length, slice_range};
+ghost use Rattle.std.specs.Prelude.{◌↔◌, IsTrue, ◌≡◌, ◌+◌, ◌<◌, ◌≤◌, Option, Some, None, length, slice_range};
 ghost use Rattle.std.specs.Cow.{cow_slice_items};
 ghost use Rattle.bstr.specs.BStr.{bstr_bytes};
 ghost use Rattle.bstr.specs.Owned.{bstring_bytes};
@@ -11,7 +11,7 @@ ghost use Rattle.gix_config_value.specs.ColorShownLaws.{color_equal, color_canon
 ghost use Rattle.std.proofs.Common.{rules};
 ghost use Rattle.gix_config_value.specs.Refusals.{ReadsBytes, ReadsText, ReadsOwned};
 ghost use Rattle.gix_config_value.specs.Space.{Space};
-ghost use Rattle.gix_config_value.specs.Value.{Reads};
+ghost use Rattle.gix_config_value.specs.Value.{HasText, Reads};
 ghost use Rattle.gix_config_value.specs.Words.{piece};
 ghost use Rattle.gix_config_value.specs.WordsLaws.{IsWithoutSpace};
 
@@ -129,6 +129,17 @@ impl Color {
                 text
             }
         }
+    }
+
+    /// Whether some text reads to this color: all set bits have a constant, and a background stands only beside a
+    /// foreground.
+    fn is_readable(&self) -> bool
+        ensures { IsTrue result ↔ (HasText ColorText self.now) }
+    {
+        part_fits(self.foreground);
+        part_fits(self.background);
+        Attribute::all().contains(self.attributes)
+            && (self.background.is_none() || self.foreground.is_some())
     }
 
     /// The color as it is shown.
@@ -280,10 +291,7 @@ impl Value for Color {
     }
 
     fn has_text(&self) -> bool {
-        part_fits(self.foreground);
-        part_fits(self.background);
-        Attribute::all().contains(self.attributes)
-            && (self.background.is_none() || self.foreground.is_some())
+        self.is_readable()
     }
 
     fn text(&self) -> ArrayString<127> {

@@ -1,5 +1,5 @@
 use Rattle.gix_config_value.specs.ColorShownLaws.{color_has_text, known_told, none_told, beside_told}
-use Rattle.gix_config_value.proofs.color.ColorValue.has_text.Goals as goal
+use Rattle.gix_config_value.proofs.color.Color.is_readable.Goals as goal
 
 pub returns-then-is_none : goal.returns-then-is_none
 returns-then-is_none c =
