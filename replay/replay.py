@@ -5,7 +5,7 @@ import sys
 
 HERE = pathlib.Path(__file__).resolve().parent
 # kinds that the program does not have yet: their lines are expected as `unknown kind`
-MISSING = [b"color", b"amount"]
+MISSING = [b"amount"]
 SHOWN = 20
 
 

@@ -16,6 +16,9 @@ use Rattle.gix_config_value.specs.Name.{NameText, CanonicalName, name_shown}
 use Rattle.gix_config_value.specs.NameLaws.{name_decided, name_shown_is_text}
 use Rattle.gix_config_value.specs.Attribute.{AttributeText, CanonicalAttribute, attribute_shown}
 use Rattle.gix_config_value.specs.AttributeLaws.{attribute_decided, attribute_shown_is_text}
+use Rattle.gix_config_value.specs.Color.{ColorText, CanonicalColor, color_shown}
+use Rattle.gix_config_value.specs.ColorLaws.{color_decided}
+use Rattle.gix_config_value.specs.ColorShownLaws.{color_shown_is_text}
 
 -- a text is the name of a kind, or of none
 pub kind_told : (head : List ℕ) → ((kind : Kind) × (kind_name kind ≡ head)) ⊎ ((kind : Kind) → kind_name kind ≢ head)
@@ -25,12 +28,14 @@ kind_told head =
     elim (text_told (codes "boolean") head) [ inl p ↦ inl (kinds.Boolean, p) | inr boolean ↦
     elim (text_told (codes "name") head) [ inl p ↦ inl (kinds.Name, p) | inr name ↦
     elim (text_told (codes "attribute") head) [ inl p ↦ inl (kinds.Attribute, p) | inr attribute ↦
+    elim (text_told (codes "color") head) [ inl p ↦ inl (kinds.Color, p) | inr color ↦
     inr (λ kind. elim kind as (λ k. kind_name k ≢ head) [
         kinds.Suffix ↦ suffix
       | kinds.Integer ↦ integer
       | kinds.Boolean ↦ boolean
       | kinds.Name ↦ name
-      | kinds.Attribute ↦ attribute ]) ] ] ] ] ]
+      | kinds.Attribute ↦ attribute
+      | kinds.Color ↦ color ]) ] ] ] ] ] ]
 
 abbrev pub HasCanonicalText : {V : Type 0} → (List ℕ → V → Type 0) → (List ℕ → Type 0) → List ℕ → Type 0
 HasCanonicalText {V} grammar canonical t = (s : List ℕ) × ((v : V) × grammar t v × IsTextOf grammar canonical v s)
@@ -50,3 +55,4 @@ kind_decided kinds.Integer t = decided_with IntegerText CanonicalInteger integer
 kind_decided kinds.Boolean t = decided_with BooleanText CanonicalBoolean boolean_shown boolean_decided boolean_shown_is_text t
 kind_decided kinds.Name t = decided_with NameText CanonicalName name_shown name_decided name_shown_is_text t
 kind_decided kinds.Attribute t = decided_with AttributeText CanonicalAttribute (λ a. attribute_shown a.0) attribute_decided attribute_shown_is_text t
+kind_decided kinds.Color t = decided_with ColorText CanonicalColor color_shown color_decided color_shown_is_text t

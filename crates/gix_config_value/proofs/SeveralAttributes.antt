@@ -1,11 +1,11 @@
 -- What several attributes are shown as has a space, and no attribute text has one.
-use Rattle.std.proofs.Common.{◌≡◌, ◌≢◌, ℕ, ◌^◌, inl, inr, Bool, true, false, cond, not, ◌&&◌, List, [], ◌∷◌, ◌++◌, map, filter, codes, refl, sym, ap, ◌∙◌, arith, ◌==◌}
+use Rattle.std.proofs.Common.{◌≡◌, ◌≢◌, ℕ, inl, inr, Bool, true, false, cond, not, ◌&&◌, List, [], ◌∷◌, ◌++◌, map, filter, refl, sym, ap, ◌∙◌, arith, ◌==◌}
 use Rattle.std.proofs.lemmas.Bool.Decides.{Decides-eqb, nat_tests}
 use Rattle.std.specs.Char.{to_ascii_lowercase}
 use Rattle.std.specs.Int.{bit_at}
 use Rattle.std.specs.List.{join_with_byte, list_all}
 use Rattle.gix_config_value.specs.declared.color.attribute.Attribute.{Attribute}
-use Rattle.gix_config_value.specs.Attribute.{AttributeRow, AttributeText, IsKnownBit, attribute_shown, attribute_words, attributes}
+use Rattle.gix_config_value.specs.Attribute.{AttributeRow, AttributeText, IsKnownBit, attribute_shown, attributes}
 use Rattle.gix_config_value.specs.OneOf.{OneOf}
 use Rattle.gix_config_value.specs.OneOfLaws.{all-one, both, OneOf-from_map}
 use Rattle.gix_config_value.specs.Value.{IsRefused}
@@ -31,7 +31,7 @@ lowered (c ∷ cs) h =
 text-no_space : (t : List ℕ) (a : Attribute) → AttributeText t a → no_space t ≡ true
 text-no_space t a (AttributeText.word row o h e) =
     all-one no_space (row.2 ∷ row.3) t
-        (all-one (λ (r : AttributeRow). list_all no_space (r.2 ∷ r.3)) attributes row spellings-no_space o) h
+    (all-one (λ (r : AttributeRow). list_all no_space (r.2 ∷ r.3)) attributes row spellings-no_space o) h
 text-no_space t a (AttributeText.reset s e) = let small : no_space (map to_ascii_lowercase t) ≡ true = rw s refl in lowered t small
 
 -- ---- two words have a space between them

@@ -1,8 +1,9 @@
 -- Booleans: words in any case, and numbers.
-use Rattle.std.specs.Prelude.{◌≡◌, ◌≢◌, ◌↔◌, ◌⊎◌, ℕ, ℤ, pos, List, [], codes, true, false, cond, IsTrue}
+use Rattle.std.specs.Prelude.{◌≡◌, ◌≢◌, ◌↔◌, ◌⊎◌, ℕ, pos, List, [], codes, true, false, cond, IsTrue}
 use Rattle.gix_config_value.specs.declared.boolean.Boolean.{Boolean}
 use Rattle.gix_config_value.specs.SameWord.{SameWord}
-use Rattle.gix_config_value.specs.Integer.{ProductInRange}
+use Rattle.gix_config_value.specs.declared.integer.amount.Amount.{Amount}
+use Rattle.gix_config_value.specs.Amount.{AmountText}
 
 -- the words for true
 abbrev pub Affirms : List ℕ → Type 0
@@ -12,11 +13,11 @@ Affirms t = SameWord t (codes "yes") ⊎ SameWord t (codes "on") ⊎ SameWord t 
 abbrev pub Denies : List ℕ → Type 0
 Denies t = (t ≡ []) ⊎ SameWord t (codes "no") ⊎ SameWord t (codes "off") ⊎ SameWord t (codes "false")
 
--- boolean text: a word, or an integer text whose product is in range, which is true where it is not zero
+-- boolean text: a word, or an amount text, which is true where its number is not zero
 pub data BooleanText (t : List ℕ) (v : Boolean) : Type 0 where
   affirmed : Affirms t → v.0 ≡ true → BooleanText t v
   denied : Denies t → v.0 ≡ false → BooleanText t v
-  counted : (z : ℤ) → ProductInRange t z → (IsTrue v.0 ↔ (z ≢ pos 0)) → BooleanText t v
+  counted : (n : Amount) → AmountText t n → (IsTrue v.0 ↔ (n.0 ≢ pos 0)) → BooleanText t v
 
 -- how a boolean is shown
 abbrev pub boolean_shown : Boolean → List ℕ

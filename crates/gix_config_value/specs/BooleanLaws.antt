@@ -1,4 +1,4 @@
--- The laws of `Value` for booleans. Of integers they use that a text has one product and that it is told.
+-- The laws of `Value` for booleans. Of amounts they use the laws of `Value`, and that their texts begin with no letter.
 use Rattle.std.proofs.Common.{◌≡◌, ◌≢◌, ℕ, ℤ, pos, negsuc, zero, suc, ◌≤◌, ◌↔◌, ◌⊎◌, inl, inr, Bool, true, false, cond, IsTrue, List, [], ◌∷◌, length, get_or, map, refl, sym, ap, ◌∙◌, subst, arith, codes, lit≤}
 use Rattle.std.proofs.lemmas.Bool.Decides.{nat_tests}
 use Rattle.std.specs.Char.{to_ascii_lowercase}
@@ -6,8 +6,10 @@ use Rattle.gix_config_value.specs.declared.boolean.Boolean.{Boolean}
 use Rattle.gix_config_value.specs.Value.{IsAccepted, IsRefused, HasText, IsTextOf}
 use Rattle.gix_config_value.specs.ValueLaws.{IsShown, one_text_by, canonical_reads_by, Told, either_told, text_told}
 use Rattle.gix_config_value.specs.SameWord.{SameWord}
-use Rattle.gix_config_value.specs.Integer.{ProductInRange}
-use Rattle.gix_config_value.specs.IntegerLaws.{product_one_value, product_told, product_first}
+use Rattle.gix_config_value.specs.declared.integer.amount.Amount.{Amount}
+use Rattle.gix_config_value.specs.Amount.{AmountText}
+use Rattle.gix_config_value.specs.AmountLaws.{amount_one_value, amount_decided}
+use Rattle.gix_config_value.specs.IntegerLaws.{product_first}
 use Rattle.gix_config_value.specs.Boolean.{Affirms, Denies, BooleanText, CanonicalBoolean, boolean_shown}
 use Rattle.gix_config_value.specs.Boolean.BooleanText.{affirmed, denied, counted}
 
@@ -25,14 +27,14 @@ affirms_first t (inr (inl h)) = letter_first t (codes "on") (omega arith) h
 affirms_first t (inr (inr h)) = letter_first t (codes "true") (omega arith) h
 
 -- no text is two of these: a word for true, a word for false, a number
-affirms_or_counts : (t : List ℕ) (z : ℤ) → Affirms t → ¬ (ProductInRange t z)
-affirms_or_counts t z a p = omega (arith, affirms_first t a, product_first t z p.product_text)
+affirms_or_counts : (t : List ℕ) (n : Amount) → Affirms t → ¬ (AmountText t n)
+affirms_or_counts t n a p = omega (arith, affirms_first t a, product_first t n.0 p.product_text)
 
-denies_or_counts : (t : List ℕ) (z : ℤ) → Denies t → ¬ (ProductInRange t z)
-denies_or_counts t z (inl e) p = omega (arith, ap (λ l. get_or l 0 0) e, product_first t z p.product_text)
-denies_or_counts t z (inr (inl h)) p = omega (arith, letter_first t (codes "no") (omega arith) h, product_first t z p.product_text)
-denies_or_counts t z (inr (inr (inl h))) p = omega (arith, letter_first t (codes "off") (omega arith) h, product_first t z p.product_text)
-denies_or_counts t z (inr (inr (inr h))) p = omega (arith, letter_first t (codes "false") (omega arith) h, product_first t z p.product_text)
+denies_or_counts : (t : List ℕ) (n : Amount) → Denies t → ¬ (AmountText t n)
+denies_or_counts t n (inl e) p = omega (arith, ap (λ l. get_or l 0 0) e, product_first t n.0 p.product_text)
+denies_or_counts t n (inr (inl h)) p = omega (arith, letter_first t (codes "no") (omega arith) h, product_first t n.0 p.product_text)
+denies_or_counts t n (inr (inr (inl h))) p = omega (arith, letter_first t (codes "off") (omega arith) h, product_first t n.0 p.product_text)
+denies_or_counts t n (inr (inr (inr h))) p = omega (arith, letter_first t (codes "false") (omega arith) h, product_first t n.0 p.product_text)
 
 affirms_or_denies : (t : List ℕ) → Affirms t → ¬ (Denies t)
 affirms_or_denies t a (inl e) = omega (arith, affirms_first t a, ap (λ l. get_or l 0 0) e)
@@ -67,7 +69,7 @@ boolean_one_value t v w (denied a e) (counted z p f) = absurd (denies_or_counts 
 boolean_one_value t v w (counted z p e) (affirmed b f) = absurd (affirms_or_counts t z b p)
 boolean_one_value t v w (counted z p e) (denied b f) = absurd (denies_or_counts t z b p)
 boolean_one_value t v w (counted y p e) (counted z q f) =
-    same_boolean v w (same_truth v.0 w.0 e (subst (λ x. IsTrue w.0 ↔ (x ≢ pos 0)) (product_one_value t z y q.product_text p.product_text) f))
+    same_boolean v w (same_truth v.0 w.0 e (subst (λ x. IsTrue w.0 ↔ (x.0 ≢ pos 0)) (amount_one_value t z y q p) f))
 
 boolean_shown_reads : (v : Boolean) → BooleanText (boolean_shown v) v
 boolean_shown_reads v = shown v.0 refl where
@@ -116,8 +118,8 @@ nonzero_is (negsuc n) = (λ h e. cc (e), λ h. refl)
 same_word_told : (t w : List ℕ) → Told (SameWord t w)
 same_word_told t w = text_told (map to_ascii_lowercase t) (map to_ascii_lowercase w)
 
--- a text that is no word and has no product in range is no boolean text
-pub boolean_refused : (t : List ℕ) → ¬ (Affirms t) → ¬ (Denies t) → ((z : ℤ) → ¬ (ProductInRange t z)) → IsRefused BooleanText t
+-- a text that is no word and no amount text is no boolean text
+pub boolean_refused : (t : List ℕ) → ¬ (Affirms t) → ¬ (Denies t) → IsRefused AmountText t → IsRefused BooleanText t
 boolean_refused t a d p v (affirmed h e) = a h
 boolean_refused t a d p v (denied h e) = d h
 boolean_refused t a d p v (counted z h e) = p z h
@@ -126,9 +128,9 @@ pub boolean_decided : (t : List ℕ) → IsAccepted BooleanText t ⊎ IsRefused 
 boolean_decided t =
     told (either_told (same_word_told t (codes "yes")) (either_told (same_word_told t (codes "on")) (same_word_told t (codes "true"))))
     (either_told (text_told t []) (either_told (same_word_told t (codes "no")) (either_told (same_word_told t (codes "off")) (same_word_told t (codes "false")))))
-    (product_told t) where
-      told : Told (Affirms t) → Told (Denies t) → ((z : ℤ) × ProductInRange t z) ⊎ ((z : ℤ) → ¬ (ProductInRange t z)) → IsAccepted BooleanText t ⊎ IsRefused BooleanText t
+    (amount_decided t) where
+      told : Told (Affirms t) → Told (Denies t) → IsAccepted AmountText t ⊎ IsRefused AmountText t → IsAccepted BooleanText t ⊎ IsRefused BooleanText t
       told (inl a) d p = inl (record { 0 = true }, affirmed a refl)
       told (inr a) (inl d) p = inl (record { 0 = false }, denied d refl)
-      told (inr a) (inr d) (inl p) = inl (record { 0 = nonzero p.0 }, counted p.0 p.1 (nonzero_is p.0))
+      told (inr a) (inr d) (inl p) = inl (record { 0 = nonzero p.0.0 }, counted p.0 p.1 (nonzero_is p.0.0))
       told (inr a) (inr d) (inr p) = inr (boolean_refused t a d p)

@@ -49,12 +49,12 @@ digits_magnitude : (most : ℕ) (t : List ℕ) → PlainDigits most t → Magnit
 digits_magnitude most t p = plain_digits p.first p.others p.spelled p.from_one p.digits refl
 
 -- a canonical number is the displayed text of the number that it writes
-record ShownNumber (t : List ℕ) : Type 0 where
-  number : ℤ
-  text : NumberText t number
-  shown : t ≡ signed_decimal number
+pub record ShownNumber (t : List ℕ) : Type 0 where
+  pub number : ℤ
+  pub text : NumberText t number
+  pub shown : t ≡ signed_decimal number
 
-number_shown : (t : List ℕ) → CanonicalNumber t → ShownNumber t
+pub number_shown : (t : List ℕ) → CanonicalNumber t → ShownNumber t
 number_shown t (zero_alone e) = record { number = pos 0; text = record { signed = plain 0 (nought e refl) refl; in_range = record { low = omega (arith, ints); high = omega (arith, ints) } }; shown = e ∙ sym (decimal_digit 0 (omega arith)) }
 number_shown t (positive p) = record {
   number = pos (place_sum t 10);
@@ -90,10 +90,10 @@ pub integer_one_text : (s t : List ℕ) (v : Integer) → CanonicalInteger s →
 integer_one_text = one_text_by integer_one_value canonical_shown
 
 -- the displayed text of a number in range is a canonical number, of at most 20 bytes
-record IsShownNumber (z : ℤ) (t : List ℕ) : Type 0 where
-  canonical_number : CanonicalNumber t
-  text : NumberText t z
-  short : length t ≤ 20
+pub record IsShownNumber (z : ℤ) (t : List ℕ) : Type 0 where
+  pub canonical_number : CanonicalNumber t
+  pub text : NumberText t z
+  pub short : length t ≤ 20
 
 decimal_plain : (most n : ℕ) → 0 < n → n ≤ most → most < 2 ^ 64 → PlainDigits most (decimal n)
 decimal_plain most n h l b =
@@ -106,7 +106,7 @@ decimal_plain most n h l b =
 decimal_sum : (n : ℕ) → n < 2 ^ 64 → place_sum (decimal n) 10 ≡ n
 decimal_sum n h = place_sum_is 10 (decimal n) ∙ (decimal_is_IsNumeral n h).1
 
-shown_number : (z : ℤ) → IsInI64 z → IsShownNumber z (signed_decimal z)
+pub shown_number : (z : ℤ) → IsInI64 z → IsShownNumber z (signed_decimal z)
 shown_number (pos zero) r = subst (IsShownNumber (pos 0)) (sym (decimal_digit 0 (omega arith)))
     record { canonical_number = zero_alone refl; text = record { signed = plain 0 (nought refl refl) refl; in_range = r }; short = omega arith }
 shown_number (pos (suc n)) r =

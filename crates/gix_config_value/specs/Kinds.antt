@@ -1,5 +1,6 @@
 -- The kinds of value: for each its name, its values, its grammar and its canonical grammar.
-use Rattle.std.specs.Prelude.{ℕ, List, codes}
+use Rattle.std.specs.Prelude.{ℕ, List, codes, Bool, Option}
+use Rattle.arrayvec.specs.ArrayString.{ArrayString}
 use Rattle.gix_config_value.specs.declared.canonical.kind.Kind.{Kind}
 use Rattle.gix_config_value.specs.declared.canonical.kind.Kind.TheVariants as kinds
 use Rattle.gix_config_value.specs.declared.integer.suffix.Suffix as suffix
@@ -7,11 +8,14 @@ use Rattle.gix_config_value.specs.declared.integer.Integer as integer
 use Rattle.gix_config_value.specs.declared.boolean.Boolean as boolean
 use Rattle.gix_config_value.specs.declared.color.name.Name as name
 use Rattle.gix_config_value.specs.declared.color.attribute.Attribute as attribute
+use Rattle.gix_config_value.specs.declared.color.Color as color
 use Rattle.gix_config_value.specs.Suffix.{SuffixText, CanonicalSuffix}
 use Rattle.gix_config_value.specs.Integer.{IntegerText, CanonicalInteger}
 use Rattle.gix_config_value.specs.Boolean.{BooleanText, CanonicalBoolean}
 use Rattle.gix_config_value.specs.Name.{NameText, CanonicalName}
 use Rattle.gix_config_value.specs.Attribute.{AttributeText, CanonicalAttribute}
+use Rattle.gix_config_value.specs.Color.{ColorText, CanonicalColor}
+use Rattle.gix_config_value.specs.Composition.{Joins, ComparesWords}
 
 -- the name that a line begins with
 abbrev pub kind_name : Kind → List ℕ
@@ -20,6 +24,7 @@ kind_name kinds.Integer = codes "integer"
 kind_name kinds.Boolean = codes "boolean"
 kind_name kinds.Name = codes "name"
 kind_name kinds.Attribute = codes "attribute"
+kind_name kinds.Color = codes "color"
 
 -- the values of a kind
 abbrev pub KindValue : Kind → Type 0
@@ -28,6 +33,7 @@ KindValue kinds.Integer = integer.Integer
 KindValue kinds.Boolean = boolean.Boolean
 KindValue kinds.Name = name.Name
 KindValue kinds.Attribute = attribute.Attribute
+KindValue kinds.Color = color.Color
 
 -- which texts read to which values
 abbrev pub KindGrammar : (kind : Kind) → List ℕ → KindValue kind → Type 0
@@ -36,6 +42,7 @@ KindGrammar kinds.Integer = IntegerText
 KindGrammar kinds.Boolean = BooleanText
 KindGrammar kinds.Name = NameText
 KindGrammar kinds.Attribute = AttributeText
+KindGrammar kinds.Color = ColorText
 
 -- the canonical texts
 abbrev pub KindCanonical : Kind → List ℕ → Type 0
@@ -44,3 +51,14 @@ KindCanonical kinds.Integer = CanonicalInteger
 KindCanonical kinds.Boolean = CanonicalBoolean
 KindCanonical kinds.Name = CanonicalName
 KindCanonical kinds.Attribute = CanonicalAttribute
+KindCanonical kinds.Color = CanonicalColor
+
+-- what a normaliser says of a text in which white space stands: for colors, what follows from the texts beside it
+abbrev pub KindJoins : Kind → List ℕ → Option ArrayString → Type 0
+KindJoins kinds.Color t result = Joins t result
+KindJoins _ t result = Unit {0}
+
+-- what a comparison says of the words of two texts: for colors, that these decide
+abbrev pub KindComparesWords : Kind → List ℕ → List ℕ → Option Bool → Type 0
+KindComparesWords kinds.Color a b result = ComparesWords a b result
+KindComparesWords _ a b result = Unit {0}

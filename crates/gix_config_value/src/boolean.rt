@@ -12,7 +12,7 @@ ghost use Rattle.gix_config_value.specs.Boolean.{Affirms, Denies, BooleanText, C
 
 use crate::canonical::Value;
 use crate::errors::{Error, Fault, Returned};
-use crate::integer::Integer;
+use crate::integer::Amount;
 use arrayvec::ArrayString;
 use bstr::{BStr, BString};
 use std::borrow::CowSlice;
@@ -36,15 +36,15 @@ fn word(text: &[u8]) -> Option<bool>
     }
 }
 
-/// The boolean that a text writes: a word's truth value, or whether the product of an integer text is not zero.
+/// The boolean that a text writes: a word's truth value, or whether the number of an amount is not zero.
 fn truth(text: &[u8]) -> Option<Boolean>
     ensures { Reads BooleanText text.now result }
 {
     if let Some(value) = word(text) {
         return Some(Boolean(value));
     }
-    match Integer::from_bytes::<i64>(text) {
-        Ok(number) => Some(Boolean(number != 0)),
+    match Amount::try_from(BStr::from(text)) {
+        Ok(Amount(number)) => Some(Boolean(number != 0)),
         Err(_) => None,
     }
 }

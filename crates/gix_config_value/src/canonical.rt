@@ -3,11 +3,12 @@ ghost use Rattle.std.specs.Prelude.{◌≡◌, ℕ, ◌≤◌, ◌↔◌, ◌⊎
 ghost use Rattle.bstr.specs.BStr.{bstr_bytes};
 ghost use Rattle.gix_config_value.specs.Value.{IsRefused, IsAccepted, HasText, Reads, IsTextOf, Normalizes, IsOnlyText};
 
+mod composition;
 mod kind;
 
+pub use composition::compose;
 pub(crate) use kind::kind_by_name;
-pub use kind::Kind;
-pub use kind::{normalize, same};
+pub use kind::{Kind, normalize, same};
 
 use arrayvec::ArrayString;
 use bstr::BStr;

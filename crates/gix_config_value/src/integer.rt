@@ -14,11 +14,13 @@ ghost use Rattle.gix_config_value.specs.IntegerAsFunction.{plain_integer, negati
 ghost use Rattle.gix_config_value.specs.IntegerLaws.{integer_one_value, integer_decided};
 ghost use Rattle.gix_config_value.specs.IntegerShownLaws.{integer_one_text, integer_canonical_reads, integer_shown_is_text};
 
+mod amount;
 mod magnitude;
 mod suffix;
 
 use crate::canonical::Value;
 use crate::errors::{Error, Fault, Returned};
+pub use amount::Amount;
 use arrayvec::ArrayString;
 use bstr::{BStr, BString};
 use itoa::Buffer;

@@ -1,5 +1,6 @@
 //! Laws over the definitions, each the contract of a function that does nothing.
 
 pub mod attributes;
+pub mod colors;
 pub mod paths;
 pub mod settings;

@@ -12,6 +12,7 @@ pub mod program;
 pub mod settings;
 
 pub use boolean::Boolean;
+pub use color::Color;
 pub use errors::{Error, Fault, Returned};
 pub use integer::Integer;
 pub use path::Path;

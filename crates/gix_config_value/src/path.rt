@@ -51,7 +51,7 @@ impl Path {
     pub fn from_text(alloc: Global, value: &str) -> Result<Path, AllocError>
         ensures { IfOk result (IsPathOf value.now) }
     {
-        Ok(Path::from(BString::from_slice(alloc, value)?))
+        Path::from_bstr(alloc, BStr::from(value))
     }
 
     /// The path of a byte string, copied. The error is want of memory.
@@ -105,6 +105,7 @@ impl Path {
     /// `LookupMissing` where the value needs what the context lacks; `UserNotFound` where the lookup
     /// answers `None`; `IllFormed` where the rest, the name or, in any other value, the whole is no
     /// UTF-8, with those bytes; and `Memory`.
+    #[tactic(auto, using(crate::specs::InterpolationLaws::at_form))]
     pub fn interpolate<'p, 'a, F>(
         &'p self,
         alloc: Global,

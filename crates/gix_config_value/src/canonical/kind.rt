@@ -1,13 +1,13 @@
 //! The kinds of value, as a choice made at run time.
 ghost use Rattle.std.specs.Prelude.{◌≡◌, ◌≢◌, MatchOption, IsSomeAnd};
 ghost use Rattle.bstr.specs.BStr.{bstr_bytes};
-ghost use Rattle.gix_config_value.specs.Kinds.{kind_name, KindGrammar, KindCanonical};
+ghost use Rattle.gix_config_value.specs.Kinds.{kind_name, KindGrammar, KindCanonical, KindJoins, KindComparesWords};
 ghost use Rattle.gix_config_value.specs.Value.{Normalizes, IsOnlyText, Compares};
 ghost use Rattle.gix_config_value.specs.declared.canonical.kind.Kind as kind;
 
 use crate::canonical::{Value, normalize_as};
 use crate::boolean::Boolean;
-use crate::color::{Attribute, Name};
+use crate::color::{Attribute, Color, Name};
 use crate::integer::{Integer, Suffix};
 use arrayvec::ArrayString;
 use bstr::BStr;
@@ -25,6 +25,8 @@ pub enum Kind {
     Name,
     /// The words of attributes, one at a time.
     Attribute,
+    /// Colors: names of a foreground and a background, and attributes.
+    Color,
 }
 
 /// The kind of exactly this name.
@@ -37,17 +39,20 @@ pub(crate) fn kind_by_name(name: &[u8]) -> Option<Kind>
         b"boolean" => Some(Kind::Boolean),
         b"name" => Some(Kind::Name),
         b"attribute" => Some(Kind::Attribute),
+        b"color" => Some(Kind::Color),
         _ => None,
     }
 }
 
 /// The canonical text of this kind that reads to the value of the input, or `None` where the kind's grammar
-/// gives the input no value. A canonical input is answered byte for byte.
+/// gives the input no value. A canonical input is answered byte for byte. A color text in which white space stands
+/// is answered by what stands before it and what follows it: with the canonical text of their composition.
 pub fn normalize(kind: Kind, input: BStr<'_>) -> Option<ArrayString<127>>
     ensures answer { Normalizes (KindGrammar kind) (KindCanonical kind) (bstr_bytes input.entry) result }
     ensures only { IsOnlyText (KindGrammar kind) (KindCanonical kind) (bstr_bytes input.entry) result }
     ensures unchanged { KindCanonical kind (bstr_bytes input.entry)
         → IsSomeAnd result (λ s. s.bytes ≡ bstr_bytes input.entry) }
+    ensures joined { KindJoins kind (bstr_bytes input.entry) result }
 {
     match kind {
         Kind::Suffix => normalize_as::<Suffix>(input),
@@ -55,12 +60,15 @@ pub fn normalize(kind: Kind, input: BStr<'_>) -> Option<ArrayString<127>>
         Kind::Boolean => normalize_as::<Boolean>(input),
         Kind::Name => normalize_as::<Name>(input),
         Kind::Attribute => normalize_as::<Attribute>(input),
+        Kind::Color => normalize_as::<Color>(input),
     }
 }
 
-/// Whether two texts of this kind mean the same, or `None` where the kind's grammar gives one of them no value.
+/// Whether two texts of this kind mean the same, or `None` where the kind's grammar gives one of them no value. For
+/// colors that is whether their words have the same names in the same order, and attributes of the same bits.
 pub fn same(kind: Kind, a: BStr<'_>, b: BStr<'_>) -> Option<bool>
-    ensures { Compares (KindGrammar kind) (KindCanonical kind) (bstr_bytes a.entry) (bstr_bytes b.entry) result }
+    ensures answer { Compares (KindGrammar kind) (KindCanonical kind) (bstr_bytes a.entry) (bstr_bytes b.entry) result }
+    ensures words { KindComparesWords kind (bstr_bytes a.entry) (bstr_bytes b.entry) result }
 {
     match kind {
         Kind::Suffix => same_as::<Suffix>(a, b),
@@ -68,6 +76,7 @@ pub fn same(kind: Kind, a: BStr<'_>, b: BStr<'_>) -> Option<bool>
         Kind::Boolean => same_as::<Boolean>(a, b),
         Kind::Name => same_as::<Name>(a, b),
         Kind::Attribute => same_as::<Attribute>(a, b),
+        Kind::Color => same_as::<Color>(a, b),
     }
 }
 

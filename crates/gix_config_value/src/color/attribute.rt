@@ -1,5 +1,5 @@
 //! Sets of text attributes.
-ghost use Rattle.std.specs.Prelude.{⊤, ◌≡◌, ◌+◌, ◌≤◌, ◌++◌, ◌==◌, length, map, Some};
+ghost use Rattle.std.specs.Prelude.{⊤, ◌≡◌, ◌+◌, ◌≤◌, ◌++◌, ◌==◌, ◌↔◌, length, map, IsTrue, Some};
 ghost use Rattle.std.specs.List.{list_any};
 ghost use Rattle.bstr.specs.BStr.{bstr_bytes};
 ghost use Rattle.gix_config_value.specs.declared.errors.Fault.TheVariants as faults;
@@ -7,7 +7,7 @@ ghost use Rattle.gix_config_value.specs.Attribute.{AttributeText, CanonicalAttri
 ghost use Rattle.gix_config_value.specs.AttributeLaws.{attribute_canonical_reads, attribute_decided, attribute_one_text, attribute_one_value, attribute_shown_is_text};
 ghost use Rattle.gix_config_value.specs.AttributeShowing.{shown_row, shown_rows};
 ghost use Rattle.gix_config_value.specs.Refusals.{ReadsOr, ReadsBytes};
-ghost use Rattle.gix_config_value.specs.Value.{Reads};
+ghost use Rattle.gix_config_value.specs.Value.{HasText, IsTextOf, Reads};
 ghost use Rattle.std.proofs.Common.{rules};
 
 use super::words::{Item, word};
@@ -142,7 +142,8 @@ impl Attribute {
 
     /// The set as it is shown.
     pub(crate) fn shown(self) -> ArrayString<127>
-        ensures { result.bytes ≡ attribute_shown self.0 }
+        ensures bytes { result.bytes ≡ attribute_shown self.0 }
+        ensures text { HasText AttributeText self → IsTextOf AttributeText CanonicalAttribute self result.bytes }
     {
         let mut text = ArrayString::new();
         self.push_to(&mut text);
@@ -162,11 +163,18 @@ impl Attribute {
     }
 }
 
-/// The attribute that the text is a text of.
-fn attribute_of(text: &[u8]) -> Option<Attribute>
-    ensures { Reads AttributeText text.now result }
+/// Whether some text is read as the set.
+fn has_a_text(set: Attribute) -> bool
+    ensures { IsTrue result ↔ (HasText AttributeText set) }
 {
-    match word(text)? {
+    set.is_constant()
+}
+
+/// The attribute that the input is a text of.
+fn attribute_of(input: BStr<'_>) -> Option<Attribute>
+    ensures { Reads AttributeText (bstr_bytes input.entry) result }
+{
+    match word(input.as_bytes())? {
         Item::Attribute(attribute) => Some(attribute),
         Item::Name(_) => None,
     }
@@ -179,7 +187,7 @@ impl FromStr for Attribute {
 
     /// The attribute that the text is a text of, or `Fault::Color`.
     fn from_str(text: &str) -> Result<Attribute, Fault> {
-        match attribute_of(text.as_bytes()) {
+        match attribute_of(BStr::new(text.as_bytes())) {
             Some(attribute) => Ok(attribute),
             None => Err(Fault::Color),
         }
@@ -193,7 +201,7 @@ impl<'a> TryFrom<BStr<'a>> for Attribute {
 
     /// The attribute that the input is a text of, or `Fault::Color` with the whole input.
     fn try_from(input: BStr<'a>) -> Result<Attribute, Error<'a>> {
-        match attribute_of(input.as_bytes()) {
+        match attribute_of(input) {
             Some(attribute) => Ok(attribute),
             None => Err(Error {
                 fault: Fault::Color,
@@ -219,11 +227,11 @@ impl Value for Attribute {
     ghost displayed = { λ a. attribute_shown a.0 };
 
     fn read(input: BStr<'_>) -> Option<Attribute> {
-        attribute_of(input.as_bytes())
+        attribute_of(input)
     }
 
     fn has_text(&self) -> bool {
-        self.is_constant()
+        has_a_text(*self)
     }
 
     fn text(&self) -> ArrayString<127> {

@@ -6,7 +6,7 @@ ghost use Rattle.gix_config_value.specs.declared.errors.Fault.TheVariants as fau
 ghost use Rattle.gix_config_value.specs.Name.{NameText, CanonicalName, NameFits, hex_pair, name_shown};
 ghost use Rattle.gix_config_value.specs.NameLaws.{name_canonical_reads, name_decided, name_one_text, name_one_value, name_shown_is_text};
 ghost use Rattle.gix_config_value.specs.Refusals.{ReadsOr, ReadsBytes};
-ghost use Rattle.gix_config_value.specs.Value.{Reads};
+ghost use Rattle.gix_config_value.specs.Value.{HasText, IsTextOf, Reads};
 ghost use Rattle.std.proofs.Common.{rules};
 
 use super::words::{Item, word};
@@ -68,12 +68,12 @@ fn push_hex(text: &mut ArrayString<127>, byte: u8)
     requires { length text.old.bytes + 2 ≤ 127 }
     ensures { text.new.bytes ≡ text.old.bytes ++ hex_pair byte }
 {
-    text.push(hex_digit(byte / 16));
-    text.push(hex_digit(byte % 16));
+    text.push(hex_char(byte / 16));
+    text.push(hex_char(byte % 16));
 }
 
 /// The lower-case hexadecimal digit of a number below 16.
-fn hex_digit(number: u8) -> char
+fn hex_char(number: u8) -> char
     requires { number < 16 }
     ensures { result ≡ digit_char number }
 {
@@ -126,19 +126,39 @@ impl Name {
 
     /// The name as it is shown.
     pub(crate) fn shown(self) -> ArrayString<127>
-        ensures { result.bytes ≡ name_shown self }
+        ensures bytes { result.bytes ≡ name_shown self }
+        ensures text { IsTextOf NameText CanonicalName self result.bytes }
     {
+        numbers_fit(self);
         let mut text = ArrayString::new();
         self.push_to(&mut text);
         text
     }
 }
 
-/// The name that the text is a text of.
-fn name_of(text: &[u8]) -> Option<Name>
-    ensures { Reads NameText text.now result }
+/// Each number of a name is a byte.
+pub(super) fn numbers_fit(name: Name)
+    ensures { NameFits name }
 {
-    match word(text)? {
+    match name {
+        Name::Ansi(_number) => {}
+        Name::Rgb(_red, _green, _blue) => {}
+        _ => {}
+    }
+}
+
+/// Some text is read as the name.
+fn has_a_text(name: Name)
+    ensures { HasText NameText name }
+{
+    numbers_fit(name);
+}
+
+/// The name that the input is a text of.
+fn name_of(input: BStr<'_>) -> Option<Name>
+    ensures { Reads NameText (bstr_bytes input.entry) result }
+{
+    match word(input.as_bytes())? {
         Item::Name(name) => Some(name),
         Item::Attribute(_) => None,
     }
@@ -151,7 +171,7 @@ impl FromStr for Name {
 
     /// The name that the text is a text of, or `Fault::Color`.
     fn from_str(text: &str) -> Result<Name, Fault> {
-        match name_of(text.as_bytes()) {
+        match name_of(BStr::new(text.as_bytes())) {
             Some(name) => Ok(name),
             None => Err(Fault::Color),
         }
@@ -165,7 +185,7 @@ impl<'a> TryFrom<BStr<'a>> for Name {
 
     /// The name that the input is a text of, or `Fault::Color` with the whole input.
     fn try_from(input: BStr<'a>) -> Result<Name, Error<'a>> {
-        match name_of(input.as_bytes()) {
+        match name_of(input) {
             Some(name) => Ok(name),
             None => Err(Error {
                 fault: Fault::Color,
@@ -183,17 +203,6 @@ impl fmt::Display for Name {
     }
 }
 
-/// Each number of a name is a byte.
-fn numbers_fit(name: Name)
-    ensures { NameFits name }
-{
-    match name {
-        Name::Ansi(_number) => {}
-        Name::Rgb(_red, _green, _blue) => {}
-        _ => {}
-    }
-}
-
 impl Value for Name {
     ghost grammar = { NameText };
 
@@ -202,11 +211,11 @@ impl Value for Name {
     ghost displayed = { name_shown };
 
     fn read(input: BStr<'_>) -> Option<Name> {
-        name_of(input.as_bytes())
+        name_of(input)
     }
 
     fn has_text(&self) -> bool {
-        numbers_fit(*self);
+        has_a_text(*self);
         true
     }
 

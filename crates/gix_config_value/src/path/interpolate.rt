@@ -111,11 +111,12 @@ impl Error<'_> {
 
 /// No lookup, for a `Context` that is written out. The closure is dropped and never called: it only
 /// names the type of the lookup, as in `absent(|_name: &str| None)`.
-pub fn absent<'a, F>(_lookup: F) -> Option<F>
+pub fn absent<'a, F>(lookup: F) -> Option<F>
 where
     F: FnOnce(&str) -> Option<&'a str> + Drop,
     ensures { result ≡ None }
 {
+    drop(lookup);
     None
 }
 

@@ -1,11 +1,9 @@
-use Rattle.std.proofs.Common.{◌≢◌, ◌↔◌, ℤ, pos, negsuc, zero, suc, not, IsTrue, refl, sym, subst, arith, w64, of_z, nat_eq}
+use Rattle.std.proofs.Common.{◌≢◌, ◌↔◌, ℤ, pos, negsuc, zero, suc, not, IsTrue, refl, arith, w64, of_z, nat_eq}
 use Rattle.std.proofs.lemmas.Int.{ints}
 use Rattle.std.proofs.lemmas.Bool.Decides.{nat_tests}
 use Rattle.gix_config_value.specs.Numerals.{IsInI64}
-use Rattle.gix_config_value.specs.NumeralLaws.{fits_from_in_range}
 use Rattle.gix_config_value.specs.Boolean.BooleanText.{counted}
 use Rattle.gix_config_value.specs.BooleanLaws.{boolean_refused}
-use Rattle.gix_config_value.specs.IntegerLaws.{refusal_tells}
 use Rattle.gix_config_value.proofs.boolean.truth.Goals as goal
 
 -- the bits of a number in range are zero where the number is
@@ -15,12 +13,8 @@ truth_of (pos (suc n)) r = (λ h e. cc (e), λ h. grind (arith, nat_tests))
 truth_of (negsuc n) r = (λ h e. cc (e), λ h. grind (arith, nat_tests, ints, r.low))
 
 pub returns-in-Ok : goal.returns-in-Ok
-returns-in-Ok c =
-    let a = c.in-Ok.ensures.accepted in
-    counted a.0 a.1 (subst (λ x. IsTrue (not (nat_eq (of_z w64 x) 0)) ↔ (a.0 ≢ pos 0)) (sym a.2.1) (truth_of a.0 a.1.in_range))
+returns-in-Ok c = let a = rw c.from.ensures at c.in-Ok.ensures in counted c.in-Ok.field-0 a (truth_of c.in-Ok.field-0.0 a.in_range)
 
 pub returns-in-Err : goal.returns-in-Err
 returns-in-Err c =
-    let a = c.in-Err.ensures.refused in
-    boolean_refused c.args.text.now c.in_default.ensures.0 c.in_default.ensures.1
-    (refusal_tells _ (λ z r h. h.1 (fits_from_in_range z r)) c.args.text.now _ a)
+    boolean_refused c.args.text.now c.in_default.ensures.0 c.in_default.ensures.1 (rw c.from.ensures at c.in-Err.ensures.1)
