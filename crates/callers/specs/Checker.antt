@@ -37,7 +37,7 @@ GoesOn kind number line before after = ((after ≡ before) × KindCanonical kind
 
 abbrev pub advice : Option (String Global) → List ℕ
 advice None = codes "has no value"
-advice (Some s) = codes "should be `" ++ string_bytes s ++ codes "`"
+advice (Some s) = codes "should be `" ++ (string_bytes s ++ codes "`")
 
 abbrev pub finding_shown : Finding → List ℕ
-finding_shown finding = codes "line " ++ decimal finding.line ++ codes ": " ++ advice finding.canonical
+finding_shown finding = codes "line " ++ (decimal finding.line ++ (codes ": " ++ advice finding.canonical))

@@ -1,7 +1,7 @@
 //! Which lines of a file are not in canonical form, and what they should be.
 ghost use Rattle.std.specs.Prelude.{◌≡◌, Some, IfOk, OnOk, MatchOption};
 ghost use Rattle.gix_config_value.specs.Kinds.{KindCanonical};
-ghost use Rattle.callers.specs.Lines.{file_lines};
+ghost use Rattle.callers.specs.Lines.{counted_lines};
 ghost use Rattle.callers.specs.Checker.{IsFinding, FindingsFrom, GoesOn, finding_shown};
 
 use crate::lines::cut_line;
@@ -71,9 +71,10 @@ fn push_line(
     Ok(())
 }
 
-/// Checks a file of values of one kind, one a line: a finding for each line that is not canonical, in order.
+/// Checks a file of values of one kind, one a line: a finding for each line that is not canonical, in order. A last
+/// line without LF counts if it is not empty.
 pub fn check_file(alloc: Global, kind: Kind, file: &[u8]) -> Result<Vec<Finding>, AllocError>
-    ensures { IfOk result (λ v. FindingsFrom kind 1 (file_lines file.now) v.items) }
+    ensures { IfOk result (λ v. FindingsFrom kind 1 (counted_lines file.now) v.items) }
 {
     let mut findings = Vec::new(alloc);
     let mut rest = file;
@@ -82,6 +83,9 @@ pub fn check_file(alloc: Global, kind: Kind, file: &[u8]) -> Result<Vec<Finding>
         push_line(alloc, &mut findings, kind, number, line)?;
         rest = tail;
         number += 1;
+    }
+    if rest.is_empty() {
+        return Ok(findings);
     }
     push_line(alloc, &mut findings, kind, number, rest)?;
     Ok(findings)
