@@ -1,2 +1,4 @@
 pub mod Places
 pub mod Joined
+pub mod CheckerLemmas
+pub mod ThemeLemmas

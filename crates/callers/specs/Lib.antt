@@ -2,3 +2,4 @@ pub mod Lines
 pub mod Entries
 pub mod Precedence
 pub mod Checker
+pub mod Theme

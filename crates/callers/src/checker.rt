@@ -1,11 +1,10 @@
 //! Which lines of a file are not in canonical form, and what they should be.
-ghost use Rattle.std.specs.Prelude.{◌≡◌, ◌++◌, ◌∷◌, [], IfOk, OnOk, MatchOption};
+ghost use Rattle.std.specs.Prelude.{◌≡◌, Some, IfOk, OnOk, MatchOption};
 ghost use Rattle.gix_config_value.specs.Kinds.{KindCanonical};
-ghost use Rattle.callers.specs.Lines.{file_lines};
-ghost use Rattle.callers.specs.Checker.{IsFinding, FindingsFrom, GoesOn};
+ghost use Rattle.callers.specs.Lines.{counted_lines};
+ghost use Rattle.callers.specs.Checker.{IsFinding, FindingsFrom, GoesOn, finding_shown};
 
 use crate::lines::cut_line;
-use arrayvec::ArrayString;
 use bstr::BStr;
 use gix_config_value::canonical::{Kind, normalize};
 use std::alloc::{AllocError, Global};
@@ -17,10 +16,12 @@ pub struct Finding {
     /// The number of the line, from 1.
     pub line: usize,
     /// What the line should be, or `None` where it has no value of the kind.
-    pub canonical: Option<ArrayString<127>>,
+    pub canonical: Option<String>,
 }
 
 impl fmt::Display for Finding {
+    ghost output = { λ f. Some (finding_shown f) };
+
     fn fmt<W: fmt::Write>(&self, f: &mut fmt::Formatter<W>) -> fmt::Result {
         match &self.canonical {
             Some(text) => write!(f, "line {}: should be `{}`", self.line, text.as_str()),
@@ -30,23 +31,33 @@ impl fmt::Display for Finding {
 }
 
 /// What is found at one line: nothing where it is canonical.
-fn check_line(kind: Kind, number: usize, line: &[u8]) -> Option<Finding>
-    ensures { MatchOption result (KindCanonical kind line.now) (IsFinding kind number line.now) }
+fn check_line(
+    alloc: Global,
+    kind: Kind,
+    number: usize,
+    line: &[u8],
+) -> Result<Option<Finding>, AllocError>
+    ensures { IfOk result (λ f. MatchOption f (KindCanonical kind line.now) (IsFinding kind number line.now)) }
 {
-    let canonical = normalize(kind, BStr::new(line));
-    if let Some(text) = canonical {
-        if text.as_str().as_bytes() == line {
-            return None;
-        }
+    let Some(text) = normalize(kind, BStr::new(line)) else {
+        return Ok(Some(Finding {
+            line: number,
+            canonical: None,
+        }));
+    };
+    if text.as_str().as_bytes() == line {
+        return Ok(None);
     }
-    Some(Finding {
+    let canonical = String::from_str(alloc, text.as_str())?;
+    Ok(Some(Finding {
         line: number,
-        canonical,
-    })
+        canonical: Some(canonical),
+    }))
 }
 
 /// Puts what is found at one line behind the other findings.
 fn push_line(
+    alloc: Global,
     findings: &mut Vec<Finding>,
     kind: Kind,
     number: usize,
@@ -54,24 +65,28 @@ fn push_line(
 ) -> Result<(), AllocError>
     ensures { OnOk result (GoesOn kind number line.now findings.old.items findings.new.items) }
 {
-    if let Some(finding) = check_line(kind, number, line) {
+    if let Some(finding) = check_line(alloc, kind, number, line)? {
         findings.push(finding)?;
     }
     Ok(())
 }
 
-/// Checks a file of values of one kind, one a line: a finding for each line that is not canonical, in order.
+/// Checks a file of values of one kind, one a line: a finding for each line that is not canonical, in order. A last
+/// line without LF counts if it is not empty.
 pub fn check_file(alloc: Global, kind: Kind, file: &[u8]) -> Result<Vec<Finding>, AllocError>
-    ensures { IfOk result (λ v. FindingsFrom kind 1 (file_lines file.now) v.items) }
+    ensures { IfOk result (λ v. FindingsFrom kind 1 (counted_lines file.now) v.items) }
 {
     let mut findings = Vec::new(alloc);
     let mut rest = file;
     let mut number = 1;
     while let Some((line, tail)) = cut_line(rest) {
-        push_line(&mut findings, kind, number, line)?;
+        push_line(alloc, &mut findings, kind, number, line)?;
         rest = tail;
         number += 1;
     }
-    push_line(&mut findings, kind, number, rest)?;
+    if rest.is_empty() {
+        return Ok(findings);
+    }
+    push_line(alloc, &mut findings, kind, number, rest)?;
     Ok(findings)
 }

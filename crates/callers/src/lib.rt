@@ -3,6 +3,7 @@
 //!
 //! - `entries` reads the `name = value` lines of a configuration file.
 //! - `precedence` resolves one setting over the system's, the user's and the repository's entries.
+//! - `theme` composes a base style with an override, and spells the style in two ways that agree.
 //! - `checker` tells which lines of a file are not in canonical form, and what they should be.
 #![tactic(auto)]
 
@@ -10,3 +11,4 @@ pub mod checker;
 pub mod entries;
 mod lines;
 pub mod precedence;
+pub mod theme;

@@ -1,0 +1,7 @@
+use Rattle.callers.proofs.checker.FindingDisplay.fmt.Goals as goal
+
+pub returns-in-Some-clause-writes : goal.returns-in-Some-clause-writes
+returns-in-Some-clause-writes g c = rw c.in-Some.is (rw c.as_str.ensures.value at c.write.ensures.writes)
+
+pub returns-in-None-clause-writes : goal.returns-in-None-clause-writes
+returns-in-None-clause-writes g c = rw c.in-None.is c.write-in-None.ensures.writes
