@@ -1,0 +1,79 @@
+"""Measures how the program's time grows with its input: python3 growth.py PROGRAM [--runs N].
+
+Each input is measured at its size and at twice that size, side by side, and the smallest processor time of all runs is
+taken, less that of an empty input. A ratio near 2 says that the time grows as the input does. A long line takes less
+time than a process to start, so it stands in its input as often as the table says.
+"""
+import argparse
+import os
+import subprocess
+import sys
+import tempfile
+
+
+def often(times, front, repeated, back=b""):
+    """So many lines, in each of which a part is repeated."""
+    return lambda size: (front + repeated * size + back + b"\n") * times
+
+
+def lines(*texts):
+    """So many lines, taken in turn."""
+    return lambda size: b"".join(text + b"\n" for text in texts) * (size // len(texts))
+
+
+# what it is, its size, and the input of a size
+INPUTS = [
+    ("digits `9`, refused (100 lines)", 100_000, often(100, b"integer ", b"9")),
+    ("zeros, then `7` (100 lines)", 100_000, often(100, b"integer -0", b"0", b"7")),
+    ("zeros of a boolean (100 lines)", 100_000, often(100, b"boolean 0b", b"0")),
+    ("zeros of a name (100 lines)", 100_000, often(100, b"name +", b"0", b"9")),
+    ("`ul ` words (10 lines)", 100_000, often(10, b"color ", b"ul ")),
+    ("words, mixed (10 lines)", 100_000, often(10, b"color ", b"RESET no-ul\t", b"7 #fff")),
+    ("white space U+3000 (10 lines)", 100_000, often(10, b"color ", b"\xe3\x80\x80", b"red")),
+    ("a name of no kind (100 lines)", 100_000, often(100, b"", b"i")),
+    ("short lines", 100_000, lines(b"integer 0x10k")),
+    ("lines of every kind", 100_000, lines(b"suffix K", b"integer -010m", b"boolean Yes", b"name #F1b", b"color red ul blue")),
+    ("one line of 25 and 50 MB, digits", 25_000_000, lambda size: b"integer " + b"9" * size + b"\n"),
+    ("one line of 25 and 50 MB, zeros", 25_000_000, lambda size: b"integer 0x" + b"0" * size + b"7\n"),
+    ("one line of 25 and 50 MB, `ul `", 25_000_000, lambda size: b"color " + b"ul " * (size // 3) + b"\n"),
+]
+
+
+def stored(data):
+    file = tempfile.TemporaryFile()
+    file.write(data)
+    file.flush()
+    return file
+
+
+def seconds(program, file):
+    """The processor time of one run, its own and the system's for it."""
+    file.seek(0)
+    process = subprocess.Popen([program], stdin=file, stdout=subprocess.DEVNULL)
+    _, status, usage = os.wait4(process.pid, 0)
+    process.returncode = os.waitstatus_to_exitcode(status)
+    if process.returncode not in (0, 1):
+        sys.exit(f"the program ended with status {process.returncode}")
+    return usage.ru_utime + usage.ru_stime
+
+
+def main():
+    arguments = argparse.ArgumentParser()
+    arguments.add_argument("program")
+    arguments.add_argument("--runs", type=int, default=15)
+    arguments = arguments.parse_args()
+    nothing = min(seconds(arguments.program, stored(b"")) for _ in range(50))
+    print("| Input | Size | ms | Twice | ms | Ratio |")
+    print("|---|---|---|---|---|---|")
+    for what, size, made in INPUTS:
+        once, twice = stored(made(size)), stored(made(2 * size))
+        least = [float("inf"), float("inf")]
+        for _ in range(arguments.runs):
+            least[0] = min(least[0], seconds(arguments.program, once))
+            least[1] = min(least[1], seconds(arguments.program, twice))
+        first, second = (1000 * max(taken - nothing, 1e-6) for taken in least)
+        print(f"| {what} | {size:,} | {first:.2f} | {2 * size:,} | {second:.2f} | {second / first:.2f} |", flush=True)
+
+
+if __name__ == "__main__":
+    main()
