@@ -13,17 +13,20 @@ pub struct Hoard {
 }
 
 impl Hoard {
-    /// Takes blocks, large ones first, until a request for one byte is refused. Refused where there is no memory for
-    /// the list of blocks.
+    /// Takes blocks, large ones first, until a request for a few bytes is refused, and small ones of each size, since the C
+    /// library keeps freed blocks by their sizes. Refused where there is no memory for the list of blocks.
     pub fn new(alloc: Global) -> Result<Hoard, AllocError> {
         let mut blocks = Vec::with_capacity(alloc, ROOM)?;
-        for shift in 0..47u32 {
+        for shift in 0..36u32 {
             take_all(alloc, &mut blocks, (1usize << 46) >> shift);
+        }
+        for eighths in 0..256usize {
+            take_all(alloc, &mut blocks, 2048 - 8 * eighths);
         }
         Ok(Hoard { blocks })
     }
 
-    /// Whether a block of one byte was refused last, so that nothing is left to give.
+    /// Whether the last blocks were refused, so that nothing is left to give.
     pub fn is_whole(&self) -> bool {
         self.blocks.len() < ROOM
     }

@@ -1,6 +1,6 @@
 //! Runs of the program in which the growth of a line is refused.
 
-use crate::spares::{spares, starved};
+use crate::spares::{spares_for_growths, starved};
 use faulty::{Reader, Writer};
 use gix_config_value::program::{RunError, run, status};
 use std::alloc::AllocError;
@@ -46,7 +46,7 @@ fn refused_after(
     assert_eq!(rt; outcome, Ok(false));
     assert_eq!(rt; whole_answers(&writer.held, answers), Some(answers.len()));
     writer.held.clear();
-    let mut blocks = spares(alloc, sizes)?;
+    let mut blocks = spares_for_growths(alloc, sizes)?;
     let hoard = starved(rt)?;
     blocks.clear();
     let mut reader = Reader::new(input, piece);
@@ -68,44 +68,55 @@ fn refused_after(
     }
 }
 
-/// A block for each growth of a line of 50,000 bytes: it grows by doubling, and the smallest block has 24 bytes.
-static GROWTHS: [usize; 13] = [
+/// The blocks that a line takes as it grows to 50,000 bytes: it doubles, and the smallest block has 24 bytes.
+static SIZES: [usize; 13] = [
     24, 32, 64, 128, 256, 512, 1024, 2048, 4096, 8192, 16_384, 32_768, 65_536,
 ];
 
-#[test]
-fn refuses_six_lines(rt: HostRuntime) -> Result<(), Fail> {
-    for piece in [1usize, 3, 20] {
-        assert!(rt; refused_after(&rt, SIX, piece, &[], &ANSWERS)?.is_some());
-        assert_eq!(rt; refused_after(&rt, SIX, piece, &[24], &ANSWERS)?, None);
+/// The run is refused at each of so many growths in turn, each time after it read further, and then no more.
+fn is_refused_in_turn(
+    rt: &(impl AllocGlobal + Abort),
+    input: &[u8],
+    piece: usize,
+    growths: usize,
+    answers: &[&str],
+) -> Result<(), Fail> {
+    let mut gone = 0usize;
+    for count in 0..growths {
+        let Some(sizes) = SIZES.get(..count) else {
+            return Err("too many growths".into());
+        };
+        match refused_after(rt, input, piece, sizes, answers)? {
+            Some(further) => {
+                assert!(rt; further > gone, "{count} growths of {growths}");
+                gone = further;
+            }
+            None => assert!(rt; false, "{count} growths were enough"),
+        }
     }
-    // Only the last line, which has no LF, crosses the end of a read.
-    assert_eq!(rt; refused_after(&rt, SIX, 1000, &[], &ANSWERS)?, Some(SIX.len()));
+    let Some(sizes) = SIZES.get(..growths) else {
+        return Err("too many growths".into());
+    };
+    assert_eq!(rt; refused_after(rt, input, piece, sizes, answers)?, None);
     Ok(())
 }
 
 #[test]
-fn refuses_each_growth_of_a_line(rt: HostRuntime) -> Result<(), Fail> {
+fn refuses_each_growth_of_six_lines(rt: HostRuntime) -> Result<(), Fail> {
+    for piece in [1, 3, 20] {
+        is_refused_in_turn(&rt, SIX, piece, 1, &ANSWERS)?;
+    }
+    // Only the last line, which has no LF, crosses the end of a read.
+    is_refused_in_turn(&rt, SIX, 1000, 1, &ANSWERS)
+}
+
+#[test]
+fn refuses_each_growth_of_a_long_line(rt: HostRuntime) -> Result<(), Fail> {
     let mut input = Vec::from_slice(rt.alloc(), b"boolean\ninteger -0")?;
     for _ in 0..50_000 {
         input.push(b'0')?;
     }
     input.extend_from_slice(b"7\nInteger 5")?;
     let answers = ["ok false\n", "ok -7\n", "unknown kind\n"];
-    let mut gone = 0usize;
-    for count in 0..GROWTHS.len() {
-        let Some(sizes) = GROWTHS.get(..count) else {
-            return Err("too many blocks".into());
-        };
-        // With one block more the run comes further before it is refused.
-        match refused_after(&rt, &input, 10, sizes, &answers)? {
-            Some(further) => {
-                assert!(rt; further > gone, "{count} blocks");
-                gone = further;
-            }
-            None => assert!(rt; false, "{count} blocks were enough"),
-        }
-    }
-    assert_eq!(rt; refused_after(&rt, &input, 10, &GROWTHS, &answers)?, None);
-    Ok(())
+    is_refused_in_turn(&rt, &input, 10, SIZES.len(), &answers)
 }

@@ -13,6 +13,19 @@ pub fn spares(alloc: Global, sizes: &[usize]) -> Result<Vec<Vec<u8>>, AllocError
     Ok(blocks)
 }
 
+/// Blocks of each size for a vector that grows: eight of each small size. The C library keeps the first seven freed blocks
+/// of a small size where a request finds them, but not a growth.
+pub fn spares_for_growths(alloc: Global, sizes: &[usize]) -> Result<Vec<Vec<u8>>, AllocError> {
+    let mut blocks = Vec::new(alloc);
+    for size in sizes {
+        let count = if *size <= 1024 { 8 } else { 1 };
+        for _ in 0..count {
+            blocks.push(Vec::with_capacity(alloc, *size)?)?;
+        }
+    }
+    Ok(blocks)
+}
+
 /// All memory but the blocks that are held already.
 pub fn starved(rt: &(impl AllocGlobal + Abort)) -> Result<Hoard, AllocError> {
     let hoard = Hoard::new(rt.alloc())?;
@@ -23,5 +36,8 @@ pub fn starved(rt: &(impl AllocGlobal + Abort)) -> Result<Hoard, AllocError> {
 
 /// The next request for memory is refused, for one byte too.
 pub fn is_starved(rt: &(impl AllocGlobal + Abort)) {
-    assert!(rt; Vec::<u8>::with_capacity(rt.alloc(), 1).is_err(), "memory is left");
+    assert!(rt;
+        Vec::<u8>::with_capacity(rt.alloc(), 1).is_err(),
+        "memory is left"
+    );
 }
