@@ -42,6 +42,7 @@ FIRST_TEXTS = [b"", b"1", b"-1", b"0", b"010", b"0x10k", b"-0b11m", b"+922337203
                b"red blue bold ul", b"bold\tred no-dim", b"normal -1 RESET", b"brightmagenta #fff italic strike"]
 KEPT = 4096
 SHOWN = 20
+SECONDS_FOR_A_BATCH = 120
 
 
 class Ended(Exception):
@@ -67,13 +68,19 @@ class Program:
         data = b"".join(line + b"\n" for line in lines)
         sender = threading.Thread(target=self.send, args=(data,))
         sender.start()
+        # a program that leaves a line unanswered would be waited for without end
+        watch = threading.Timer(SECONDS_FOR_A_BATCH, self.process.kill)
+        watch.start()
         answers = []
         for _ in lines:
             answer = self.process.stdout.readline()
             if not answer.endswith(b"\n"):
+                self.process.kill()
+                watch.cancel()
                 sender.join()
                 raise Ended(f"no whole answer to {lines[len(answers)]!r}")
             answers.append(answer[:-1])
+        watch.cancel()
         sender.join()
         self.answered += len(answers)
         self.all_accepted &= all(answer.startswith(b"ok ") for answer in answers)

@@ -20,7 +20,7 @@ const DIGITS: Accepted = &[
     (b'9', "9"),
 ];
 
-static ALONE: [(Kind, usize, Accepted); 6] = [
+static ALONE: [(Kind, usize, Accepted); 7] = [
     (
         Kind::Suffix,
         6,
@@ -44,6 +44,7 @@ static ALONE: [(Kind, usize, Accepted); 6] = [
         ],
     ),
     (Kind::Name, 10, DIGITS),
+    (Kind::Amount, 10, DIGITS),
     (Kind::Attribute, 0, &[]),
     (
         Kind::Color,
@@ -128,7 +129,7 @@ pub static ILL_FORMED: [&[u8]; 5] = [b"\xc0\x80", b"\xed\xa0\x80", b"\xf4\x90\x8
 fn accepted_text(kind: Kind) -> &'static [u8] {
     match kind {
         Kind::Suffix => b"k",
-        Kind::Integer => b"1",
+        Kind::Integer | Kind::Amount => b"1",
         Kind::Boolean => b"true",
         Kind::Name => b"red",
         Kind::Attribute => b"bold",

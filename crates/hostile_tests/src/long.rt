@@ -21,7 +21,7 @@ macro_rules! row {
     };
 }
 
-static ROWS: [Row; 30] = [
+static ROWS: [Row; 33] = [
     row!(Kind::Color, b"", b"ul ", b"", Some("ul")),
     row!(Kind::Integer, b"-0", b"0", b"7", Some("-7")),
     row!(Kind::Integer, b"0b", b"0", b"", Some("0")),
@@ -35,6 +35,9 @@ static ROWS: [Row; 30] = [
     row!(Kind::Integer, b"0x", b"0", b"1g", Some("1g")),
     row!(Kind::Integer, b"0", b"0", b"k", Some("0k")),
     row!(Kind::Boolean, b"0", b"0", b"1", Some("true")),
+    row!(Kind::Amount, b"-0x", b"0", b"1k", Some("-1024")),
+    row!(Kind::Amount, b"", b"9", b"", None),
+    row!(Kind::Amount, b"0x", b"0", b"fffffffffffffffg", None),
     row!(Kind::Integer, b"", b"9", b"", None),
     row!(Kind::Integer, b"-", b"9", b"", None),
     row!(Kind::Integer, b"0x", b"f", b"", None),

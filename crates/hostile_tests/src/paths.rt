@@ -6,6 +6,7 @@ use gix_config_value::Path;
 use gix_config_value::path::interpolate::{Context, Error, Place, absent};
 use std::alloc::{AllocError, Global};
 use std::cell::Cell;
+use std::process::Abort;
 use std::test::Fail;
 
 fn path_of(alloc: Global, front: &[u8], back: &[u8]) -> Result<Path, AllocError> {
@@ -80,38 +81,50 @@ fn reads_each_byte_as_a_path(rt: HostRuntime) -> Result<(), Fail> {
     Ok(())
 }
 
-/// A directory, and what it makes of the rests `x`, nothing and `/x`.
-static JOINS: [(&str, [&str; 3]); 5] = [
-    ("", ["x", "", "/x"]),
-    ("/", ["/x", "/", "/x"]),
-    ("/h", ["/h/x", "/h/", "/x"]),
-    ("/h/", ["/h/x", "/h/", "/x"]),
-    ("/h//", ["/h//x", "/h//", "/x"]),
+/// A directory, a rest, and both joined.
+static JOINS: [(&str, &[u8], &str); 15] = [
+    ("", b"x", "x"),
+    ("", b"", ""),
+    ("", b"/x", "/x"),
+    ("/", b"x", "/x"),
+    ("/", b"", "/"),
+    ("/", b"/x", "/x"),
+    ("/h", b"x", "/h/x"),
+    ("/h", b"", "/h/"),
+    ("/h", b"/x", "/x"),
+    ("/h/", b"x", "/h/x"),
+    ("/h/", b"", "/h/"),
+    ("/h/", b"/x", "/x"),
+    ("/h//", b"x", "/h//x"),
+    ("/h//", b"", "/h//"),
+    ("/h//", b"/x", "/x"),
 ];
+
+/// The directory stands for each directory that a value may name.
+fn joins(rt: &(impl AllocGlobal + Abort), front: &[u8], dir: &'static str, rest: &[u8], joined: &str) -> Result<(), Fail> {
+    let alloc = rt.alloc();
+    let path = path_of(alloc, front, rest)?;
+    let given = path.interpolate(
+        alloc,
+        Context {
+            git_install_dir: Some(dir),
+            home_dir: Some(dir),
+            home_for_user: Some(|_name: &str| Some(dir)),
+        },
+    );
+    match given {
+        Ok(path) => assert_eq!(rt; path.as_str(), joined),
+        Err(_) => assert!(rt; false, "no path"),
+    }
+    Ok(())
+}
 
 #[test]
 fn joins_each_directory_and_rest(rt: HostRuntime) -> Result<(), Fail> {
-    let alloc = rt.alloc();
-    let rests: [&[u8]; 3] = [b"x", b"", b"/x"];
-    for (dir, wanted) in JOINS {
-        for (rest, text) in rests.iter().zip(wanted) {
-            let fronts: [&[u8]; 3] = [b"~/", b"%(prefix)/", b"~a/"];
-            for front in fronts {
-                let path = path_of(alloc, front, rest)?;
-                let given = path.interpolate(
-                    alloc,
-                    Context {
-                        git_install_dir: Some(dir),
-                        home_dir: Some(dir),
-                        home_for_user: Some(|_name: &str| Some(dir)),
-                    },
-                );
-                match given {
-                    Ok(path) => assert_eq!(rt; path.as_str(), text),
-                    Err(error) => assert!(rt; false, "{error} at {text}"),
-                }
-            }
-        }
+    for (dir, rest, joined) in &JOINS {
+        joins(&rt, b"~/", dir, rest, joined)?;
+        joins(&rt, b"%(prefix)/", dir, rest, joined)?;
+        joins(&rt, b"~a/", dir, rest, joined)?;
     }
     Ok(())
 }

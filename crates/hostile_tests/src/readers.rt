@@ -3,20 +3,21 @@
 use bstr::{BStr, BString};
 use gix_config_value::canonical::{Kind, Value, normalize, normalize_as};
 use gix_config_value::color::{Attribute, Name};
-use gix_config_value::integer::Suffix;
+use gix_config_value::integer::{Amount, Suffix};
 use gix_config_value::{Boolean, Color, Fault, Integer};
 use std::borrow::CowSlice;
 use std::process::Abort;
 use std::str::FromStr;
 use std::test::Fail;
 
-pub const KINDS: [Kind; 6] = [
+pub const KINDS: [Kind; 7] = [
     Kind::Suffix,
     Kind::Integer,
     Kind::Boolean,
     Kind::Name,
     Kind::Attribute,
     Kind::Color,
+    Kind::Amount,
 ];
 
 /// Whether a reader that refused gave this fault and the whole input.
@@ -80,6 +81,13 @@ fn reads_integer(rt: &(impl AllocGlobal + Abort), input: &[u8], wanted: Option<&
     Ok(())
 }
 
+fn reads_amount(rt: &(impl AllocGlobal + Abort), input: &[u8], wanted: Option<&str>) -> Result<(), Fail> {
+    let fault = if Integer::read(BStr::new(input)).is_some() { Fault::Overflow } else { Fault::Integer };
+    let value = reads_bytes!(rt, Amount, fault, input, wanted);
+    reads_owned!(rt, Amount, fault, input, value);
+    Ok(())
+}
+
 fn reads_boolean(rt: &(impl AllocGlobal + Abort), input: &[u8], wanted: Option<&str>) -> Result<(), Fail> {
     let value = reads_bytes!(rt, Boolean, Fault::Boolean, input, wanted);
     reads_owned!(rt, Boolean, Fault::Boolean, input, value);
@@ -134,5 +142,6 @@ pub fn is_read(rt: &(impl AllocGlobal + Abort), kind: Kind, input: &[u8], wanted
         Kind::Name => reads_name(rt, input, wanted),
         Kind::Attribute => reads_attribute(rt, input, wanted),
         Kind::Color => reads_color(rt, input, wanted),
+        Kind::Amount => reads_amount(rt, input, wanted),
     }
 }

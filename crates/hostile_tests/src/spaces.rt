@@ -70,7 +70,7 @@ fn parts_words_at_white_space(rt: HostRuntime) -> Result<(), Fail> {
         text.extend_from_slice(b"blue")?;
         is_read(&rt, Kind::Color, &text, Some("red blue"))?;
         is_read(&rt, Kind::Color, space, Some(""))?;
-        for kind in [Kind::Suffix, Kind::Integer, Kind::Boolean, Kind::Name, Kind::Attribute] {
+        for kind in [Kind::Suffix, Kind::Integer, Kind::Boolean, Kind::Name, Kind::Attribute, Kind::Amount] {
             is_read(&rt, kind, &text, None)?;
             is_read(&rt, kind, space, None)?;
         }

@@ -8,6 +8,8 @@
 #[cfg(test)]
 mod interpolation;
 #[cfg(test)]
+mod json;
+#[cfg(test)]
 mod marks;
 #[cfg(test)]
 mod runs;

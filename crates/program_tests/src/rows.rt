@@ -76,6 +76,50 @@ const ROWS: [(&[u8], &str); 65] = [
     (b"\xff\xfe integer", "unknown kind\n"),
 ];
 
+/// Lines of the other kinds.
+const OTHER_ROWS: [(&[u8], &str); 37] = [
+    (b"boolean", "ok false\n"),
+    (b"boolean ", "ok false\n"),
+    (b"boolean Yes", "ok true\n"),
+    (b"boolean OFF", "ok false\n"),
+    (b"boolean 010", "ok true\n"),
+    (b"boolean tru", "refused\n"),
+    (b"boolean true ", "refused\n"),
+    (b"boolean 9223372036854775807k", "refused\n"),
+    (b"name BrightRed", "ok brightred\n"),
+    (b"name +005", "ok 5\n"),
+    (b"name #F1b", "ok #ff11bb\n"),
+    (b"name -1", "ok normal\n"),
+    (b"name", "refused\n"),
+    (b"name bright black", "refused\n"),
+    (b"name 256", "refused\n"),
+    (b"attribute no-ul", "ok noul\n"),
+    (b"attribute RESET", "ok reset\n"),
+    (b"attribute", "refused\n"),
+    (b"attribute Bold", "refused\n"),
+    (b"color", "ok \n"),
+    (b"color ", "ok \n"),
+    (b"color  ul", "ok ul\n"),
+    (b"color bold red ul blue", "ok red blue bold ul\n"),
+    (b"color \xc2\xa0RED\xe3\x80\x80#F1b", "ok red #ff11bb\n"),
+    (b"color\tred", "unknown kind\n"),
+    (b"color red green blue", "refused\n"),
+    (b"color red \xff", "refused\n"),
+    (
+        b"color nostrike noreverse noblink noul noitalic nobold nodim reset strike reverse blink ul italic dim bold BRIGHTmagenta brightMAGENTA",
+        "ok brightmagenta brightmagenta bold dim italic ul blink reverse strike reset nodim nobold noitalic noul noblink noreverse nostrike\n",
+    ),
+    (b"amount 10M", "ok 10485760\n"),
+    (b"amount 0x400", "ok 1024\n"),
+    (b"amount -0k", "ok 0\n"),
+    (b"amount -8589934592g", "ok -9223372036854775808\n"),
+    (b"amount 8589934592g", "refused\n"),
+    (b"amount 08", "refused\n"),
+    (b"amount", "refused\n"),
+    (b"Amount 1", "unknown kind\n"),
+    (b"Color", "unknown kind\n"),
+];
+
 /// A line with one byte repeated in its middle, and its answer.
 struct Long {
     front: &'static [u8],
@@ -85,7 +129,10 @@ struct Long {
     answer: &'static str,
 }
 
-const LONG_ROWS: [Long; 11] = [
+const LONG_ROWS: [Long; 14] = [
+    Long { front: b"boolean 0b", repeated: b'0', times: 100_000, back: b"", answer: "ok false\n" },
+    Long { front: b"name +", repeated: b'0', times: 100_000, back: b"9", answer: "ok 9\n" },
+    Long { front: b"color ul", repeated: b' ', times: 100_000, back: b"red", answer: "ok red ul\n" },
     Long { front: b"integer 0", repeated: b'7', times: 21, back: b"", answer: "ok 9223372036854775807\n" },
     Long { front: b"integer 01", repeated: b'0', times: 21, back: b"", answer: "refused\n" },
     Long { front: b"integer -01", repeated: b'0', times: 21, back: b"", answer: "ok -9223372036854775808\n" },
@@ -110,6 +157,11 @@ struct Line {
 fn all_lines(alloc: Global) -> Result<Vec<Line>, AllocError> {
     let mut lines = Vec::new(alloc);
     for (line, answer) in &ROWS {
+        let mut text = Vec::from_slice(alloc, line)?;
+        text.push(b'\n')?;
+        lines.push(Line { text, answer: *answer })?;
+    }
+    for (line, answer) in &OTHER_ROWS {
         let mut text = Vec::from_slice(alloc, line)?;
         text.push(b'\n')?;
         lines.push(Line { text, answer: *answer })?;

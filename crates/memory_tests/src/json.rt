@@ -1,0 +1,92 @@
+//! JSON values: those that are texts need memory, and the others need none.
+
+use crate::spares::{is_starved, spares, starved};
+use bitflags::Flags;
+use gix_config_value::color::{Attribute, Name};
+use gix_config_value::integer::Suffix;
+use gix_config_value::json::JsonError;
+use gix_config_value::{Boolean, Integer};
+use serde_json::Value;
+use std::alloc::{AllocError, Global};
+use std::process::Abort;
+use std::test::Fail;
+
+/// A value whose JSON value is a text.
+#[derive(Clone, Copy)]
+enum Shown {
+    Suffix(Suffix),
+    Name(Name),
+    Attribute(Attribute),
+}
+
+fn json_of(alloc: Global, shown: Shown) -> Result<Value, JsonError> {
+    match shown {
+        Shown::Suffix(suffix) => suffix.to_json(alloc),
+        Shown::Name(name) => name.to_json(alloc),
+        Shown::Attribute(attribute) => attribute.to_json(alloc),
+    }
+}
+
+fn is_text(rt: &impl Abort, given: &Result<Value, JsonError>, text: &str) {
+    match given {
+        Ok(value) => assert_eq!(rt; value.as_str(), Some(text)),
+        Err(_) => assert!(rt; false, "refused at {text}"),
+    }
+}
+
+/// The text needs one request for memory where it is not empty, and else none.
+fn is_shown_by_one_request(rt: &(impl AllocGlobal + Abort), shown: Shown, text: &str) -> Result<(), Fail> {
+    let alloc = rt.alloc();
+    is_text(rt, &json_of(alloc, shown), text);
+    let mut spare = spares(alloc, &[text.len()])?;
+    let hoard = starved(rt)?;
+    if !text.is_empty() {
+        assert_eq!(rt; json_of(alloc, shown), Err(JsonError::Memory(AllocError)));
+        spare.clear();
+    }
+    let given = json_of(alloc, shown);
+    is_starved(rt);
+    is_text(rt, &given, text);
+    drop(hoard);
+    is_text(rt, &json_of(alloc, shown), text);
+    Ok(())
+}
+
+#[test]
+fn shows_texts_by_one_request(rt: HostRuntime) -> Result<(), Fail> {
+    let rows = [
+        (Shown::Suffix(Suffix::Mebi), "m"),
+        (Shown::Name(Name::Ansi(5)), "5"),
+        (Shown::Name(Name::BrightMagenta), "brightmagenta"),
+        (Shown::Name(Name::Rgb(255, 17, 187)), "#ff11bb"),
+        (Shown::Attribute(Attribute::BOLD.union(Attribute::UL)), "bold ul"),
+        (
+            Shown::Attribute(Attribute::all()),
+            "bold dim italic ul blink reverse strike reset nodim nobold noitalic noul noblink noreverse nostrike",
+        ),
+        (Shown::Attribute(Attribute::empty()), ""),
+        (Shown::Attribute(Attribute::from_bits_retain(1)), ""),
+    ];
+    for (shown, text) in rows {
+        is_shown_by_one_request(&rt, shown, text)?;
+    }
+    Ok(())
+}
+
+#[test]
+fn counts_without_memory(rt: HostRuntime) -> Result<(), Fail> {
+    let alloc = rt.alloc();
+    let sixteen = Integer { value: 16, suffix: Some(Suffix::Kibi) };
+    let past = Integer { value: i64::MAX, suffix: Some(Suffix::Kibi) };
+    for starve in [false, true] {
+        let hoard = if starve { Some(starved(&rt)?) } else { None };
+        let truth = Boolean(true).to_json(alloc);
+        let number = sixteen.to_json(alloc);
+        let refused = past.to_json(alloc);
+        drop(hoard);
+        assert_eq!(rt; truth, Ok(Value::from(true)));
+        assert_eq!(rt; number, Ok(Value::from(16384i64)));
+        assert_eq!(rt; refused, Err(JsonError::Overflow));
+    }
+    Ok(())
+}
