@@ -24,7 +24,14 @@ static ALONE: [(Kind, usize, Accepted); 7] = [
     (
         Kind::Suffix,
         6,
-        &[(b'k', "k"), (b'K', "k"), (b'm', "m"), (b'M', "m"), (b'g', "g"), (b'G', "g")],
+        &[
+            (b'k', "k"),
+            (b'K', "k"),
+            (b'm', "m"),
+            (b'M', "m"),
+            (b'g', "g"),
+            (b'G', "g"),
+        ],
     ),
     (Kind::Integer, 10, DIGITS),
     (
@@ -123,7 +130,13 @@ fn reads_each_beginning(rt: HostRuntime) -> Result<(), Fail> {
 
 /// Bytes that are no UTF-8: an overlong spelling, a surrogate, a code point past the last, a byte that no spelling
 /// has, and a spelling cut off.
-pub static ILL_FORMED: [&[u8]; 5] = [b"\xc0\x80", b"\xed\xa0\x80", b"\xf4\x90\x80\x80", b"\xff", b"\xe2\x82"];
+pub static ILL_FORMED: [&[u8]; 5] = [
+    b"\xc0\x80",
+    b"\xed\xa0\x80",
+    b"\xf4\x90\x80\x80",
+    b"\xff",
+    b"\xe2\x82",
+];
 
 /// A text of the kind that is accepted, and that white space may follow where it may.
 fn accepted_text(kind: Kind) -> &'static [u8] {

@@ -31,7 +31,13 @@ static ROWS: [Row; 33] = [
     row!(Kind::Color, b"", b" ", b"", Some("")),
     row!(Kind::Color, b"", b"\xe3\x80\x80", b"red", Some("red")),
     row!(Kind::Color, b"red", b"\xc2\xa0", b"blue", Some("red blue")),
-    row!(Kind::Color, b"", b"RESET no-ul noul\t", b"7 7", Some("7 7 reset noul")),
+    row!(
+        Kind::Color,
+        b"",
+        b"RESET no-ul noul\t",
+        b"7 7",
+        Some("7 7 reset noul")
+    ),
     row!(Kind::Integer, b"0x", b"0", b"1g", Some("1g")),
     row!(Kind::Integer, b"0", b"0", b"k", Some("0k")),
     row!(Kind::Boolean, b"0", b"0", b"1", Some("true")),

@@ -45,7 +45,14 @@ fn refuses_ill_formed_parts(rt: HostRuntime) -> Result<(), Fail> {
                     }),
                 },
             );
-            assert_eq!(rt; given, Err(Error::IllFormed { place, input: bytes }), "{place}");
+            assert_eq!(rt;
+                given,
+                Err(Error::IllFormed {
+                    place,
+                    input: bytes
+                }),
+                "{place}"
+            );
             assert_eq!(rt; called.get(), calls, "{place}");
         }
     }
@@ -74,7 +81,13 @@ fn reads_each_byte_as_a_path(rt: HostRuntime) -> Result<(), Fail> {
             Err(Error::HomeMissing) => assert_eq!(rt; byte, b'~'),
             Err(error) => {
                 assert!(rt; byte >= 128);
-                assert_eq!(rt; error, Error::IllFormed { place: Place::Whole, input: bytes });
+                assert_eq!(rt;
+                    error,
+                    Error::IllFormed {
+                        place: Place::Whole,
+                        input: bytes
+                    }
+                );
             }
         }
     }
@@ -101,7 +114,13 @@ static JOINS: [(&str, &[u8], &str); 15] = [
 ];
 
 /// The directory stands for each directory that a value may name.
-fn joins(rt: &(impl AllocGlobal + Abort), front: &[u8], dir: &'static str, rest: &[u8], joined: &str) -> Result<(), Fail> {
+fn joins(
+    rt: &(impl AllocGlobal + Abort),
+    front: &[u8],
+    dir: &'static str,
+    rest: &[u8],
+    joined: &str,
+) -> Result<(), Fail> {
     let alloc = rt.alloc();
     let path = path_of(alloc, front, rest)?;
     let given = path.interpolate(

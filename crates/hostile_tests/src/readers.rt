@@ -75,32 +75,56 @@ fn reads_suffix(rt: &impl Abort, input: &[u8], wanted: Option<&str>) {
     }
 }
 
-fn reads_integer(rt: &(impl AllocGlobal + Abort), input: &[u8], wanted: Option<&str>) -> Result<(), Fail> {
+fn reads_integer(
+    rt: &(impl AllocGlobal + Abort),
+    input: &[u8],
+    wanted: Option<&str>,
+) -> Result<(), Fail> {
     let value = reads_bytes!(rt, Integer, Fault::Integer, input, wanted);
     reads_owned!(rt, Integer, Fault::Integer, input, value);
     Ok(())
 }
 
-fn reads_amount(rt: &(impl AllocGlobal + Abort), input: &[u8], wanted: Option<&str>) -> Result<(), Fail> {
-    let fault = if Integer::read(BStr::new(input)).is_some() { Fault::Overflow } else { Fault::Integer };
+fn reads_amount(
+    rt: &(impl AllocGlobal + Abort),
+    input: &[u8],
+    wanted: Option<&str>,
+) -> Result<(), Fail> {
+    let fault = if Integer::read(BStr::new(input)).is_some() {
+        Fault::Overflow
+    } else {
+        Fault::Integer
+    };
     let value = reads_bytes!(rt, Amount, fault, input, wanted);
     reads_owned!(rt, Amount, fault, input, value);
     Ok(())
 }
 
-fn reads_boolean(rt: &(impl AllocGlobal + Abort), input: &[u8], wanted: Option<&str>) -> Result<(), Fail> {
+fn reads_boolean(
+    rt: &(impl AllocGlobal + Abort),
+    input: &[u8],
+    wanted: Option<&str>,
+) -> Result<(), Fail> {
     let value = reads_bytes!(rt, Boolean, Fault::Boolean, input, wanted);
     reads_owned!(rt, Boolean, Fault::Boolean, input, value);
     Ok(())
 }
 
-fn reads_color(rt: &(impl AllocGlobal + Abort), input: &[u8], wanted: Option<&str>) -> Result<(), Fail> {
+fn reads_color(
+    rt: &(impl AllocGlobal + Abort),
+    input: &[u8],
+    wanted: Option<&str>,
+) -> Result<(), Fail> {
     let value = reads_bytes!(rt, Color, Fault::Color, input, wanted);
     reads_owned!(rt, Color, Fault::Color, input, value);
     Ok(())
 }
 
-fn reads_name(rt: &(impl AllocGlobal + Abort), input: &[u8], wanted: Option<&str>) -> Result<(), Fail> {
+fn reads_name(
+    rt: &(impl AllocGlobal + Abort),
+    input: &[u8],
+    wanted: Option<&str>,
+) -> Result<(), Fail> {
     let value = reads_bytes!(rt, Name, Fault::Color, input, wanted);
     if let Ok(text) = str::from_utf8(input) {
         match Name::from_str(text) {
@@ -111,7 +135,11 @@ fn reads_name(rt: &(impl AllocGlobal + Abort), input: &[u8], wanted: Option<&str
     Ok(())
 }
 
-fn reads_attribute(rt: &(impl AllocGlobal + Abort), input: &[u8], wanted: Option<&str>) -> Result<(), Fail> {
+fn reads_attribute(
+    rt: &(impl AllocGlobal + Abort),
+    input: &[u8],
+    wanted: Option<&str>,
+) -> Result<(), Fail> {
     let value = reads_bytes!(rt, Attribute, Fault::Color, input, wanted);
     if let Ok(text) = str::from_utf8(input) {
         match Attribute::from_str(text) {
@@ -124,12 +152,26 @@ fn reads_attribute(rt: &(impl AllocGlobal + Abort), input: &[u8], wanted: Option
 
 /// Every reader of the kind accepts the input where an answer is wanted, and else refuses it with the whole input;
 /// the normaliser answers what is wanted, and that text by itself.
-pub fn is_read(rt: &(impl AllocGlobal + Abort), kind: Kind, input: &[u8], wanted: Option<&str>) -> Result<(), Fail> {
+pub fn is_read(
+    rt: &(impl AllocGlobal + Abort),
+    kind: Kind,
+    input: &[u8],
+    wanted: Option<&str>,
+) -> Result<(), Fail> {
     let answer = normalize(kind, BStr::new(input));
-    assert_eq!(rt; answer.is_some(), wanted.is_some(), "{kind:?}: {}", BStr::new(input));
+    assert_eq!(rt;
+        answer.is_some(),
+        wanted.is_some(),
+        "{kind:?}: {}",
+        BStr::new(input)
+    );
     if let (Some(text), Some(wanted)) = (answer, wanted) {
         assert_eq!(rt; text.as_str(), wanted, "{kind:?}: {}", BStr::new(input));
-        assert_eq!(rt; normalize(kind, BStr::from(wanted)), Some(text), "{kind:?} again: {wanted}");
+        assert_eq!(rt;
+            normalize(kind, BStr::from(wanted)),
+            Some(text),
+            "{kind:?} again: {wanted}"
+        );
     }
     match kind {
         Kind::Suffix => {

@@ -5,7 +5,8 @@ use gix_config_value::canonical::Kind;
 use std::process::Abort;
 use std::test::Fail;
 
-const LONGEST: &str = "brightmagenta brightmagenta bold dim italic ul blink reverse strike reset nodim nobold noitalic noul noblink noreverse nostrike";
+const LONGEST: &str =
+    "brightmagenta brightmagenta bold dim italic ul blink reverse strike reset nodim nobold noitalic noul noblink noreverse nostrike";
 
 static SUFFIXES: [(&[u8], &str); 6] = [
     (b"k", "k"),
@@ -16,15 +17,7 @@ static SUFFIXES: [(&[u8], &str); 6] = [
     (b"G", "g"),
 ];
 
-static NO_SUFFIXES: [&[u8]; 7] = [
-    b"",
-    b"kk",
-    b"k\r",
-    b" k",
-    b"1k",
-    b"t",
-    b"kb",
-];
+static NO_SUFFIXES: [&[u8]; 7] = [b"", b"kk", b"k\r", b" k", b"1k", b"t", b"kb"];
 
 static INTEGERS: [(&[u8], &str); 34] = [
     (b"0x10k", "16k"),
@@ -54,7 +47,10 @@ static INTEGERS: [(&[u8], &str); 34] = [
     (b"-2k", "-2k"),
     (b"256", "256"),
     (b"-1", "-1"),
-    (b"-0b1000000000000000000000000000000000000000000000000000000000000000", "-9223372036854775808"),
+    (
+        b"-0b1000000000000000000000000000000000000000000000000000000000000000",
+        "-9223372036854775808",
+    ),
     (b"-9223372036854775808G", "-9223372036854775808g"),
     (b"0x7fffffffffffffffk", "9223372036854775807k"),
     (b"1k", "1k"),
@@ -210,9 +206,11 @@ static COLORS: [(&[u8], &str); 26] = [
     (b"nobold no-bold", "nobold"),
     (b"reset RESET", "reset"),
     (b"ul  red", "red ul"),
-    (b"no-strike noreverse noblink noul noitalic nobold nodim reset strike reverse blink ul italic dim bold brightmagenta \
+    (
+        b"no-strike noreverse noblink noul noitalic nobold nodim reset strike reverse blink ul italic dim bold brightmagenta \
                   bold dim italic ul blink reverse strike RESET no-dim no-bold no-italic no-ul no-blink no-reverse nostrike BRIGHTmagenta",
-                LONGEST),
+        LONGEST,
+    ),
 ];
 
 static NO_COLORS: [&[u8]; 12] = [
@@ -231,14 +229,14 @@ static NO_COLORS: [&[u8]; 12] = [
 ];
 
 static AMOUNTS: [(&[u8], &str); 8] = [
-    (b"1k","1024"),
-    (b"0x400","1024"),
-    (b"+1024","1024"),
-    (b"-0k","0"),
-    (b"10M","10485760"),
-    (b"-8589934592g","-9223372036854775808"),
-    (b"9007199254740991k","9223372036854774784"),
-    (b"9223372036854775807","9223372036854775807"),
+    (b"1k", "1024"),
+    (b"0x400", "1024"),
+    (b"+1024", "1024"),
+    (b"-0k", "0"),
+    (b"10M", "10485760"),
+    (b"-8589934592g", "-9223372036854775808"),
+    (b"9007199254740991k", "9223372036854774784"),
+    (b"9223372036854775807", "9223372036854775807"),
 ];
 
 static NO_AMOUNTS: [&[u8]; 10] = [
@@ -254,7 +252,11 @@ static NO_AMOUNTS: [&[u8]; 10] = [
     b"9223372036854775808",
 ];
 
-fn is_accepted(rt: &(impl AllocGlobal + Abort), kind: Kind, rows: &[(&[u8], &str)]) -> Result<(), Fail> {
+fn is_accepted(
+    rt: &(impl AllocGlobal + Abort),
+    kind: Kind,
+    rows: &[(&[u8], &str)],
+) -> Result<(), Fail> {
     for (text, wanted) in rows {
         is_read(rt, kind, text, Some(wanted))?;
         is_read(rt, kind, wanted.as_bytes(), Some(wanted))?;

@@ -70,7 +70,14 @@ fn parts_words_at_white_space(rt: HostRuntime) -> Result<(), Fail> {
         text.extend_from_slice(b"blue")?;
         is_read(&rt, Kind::Color, &text, Some("red blue"))?;
         is_read(&rt, Kind::Color, space, Some(""))?;
-        for kind in [Kind::Suffix, Kind::Integer, Kind::Boolean, Kind::Name, Kind::Attribute, Kind::Amount] {
+        for kind in [
+            Kind::Suffix,
+            Kind::Integer,
+            Kind::Boolean,
+            Kind::Name,
+            Kind::Attribute,
+            Kind::Amount,
+        ] {
             is_read(&rt, kind, &text, None)?;
             is_read(&rt, kind, space, None)?;
         }
@@ -83,7 +90,13 @@ fn refuses_near_misses(rt: HostRuntime) -> Result<(), Fail> {
     let alloc = rt.alloc();
     for near in NEAR_MISSES {
         is_read(&rt, Kind::Color, near, None)?;
-        for (front, back) in [(b"red", b"blue"), (b"red ", b"blue"), (b"red", b" blue"), (b"red ", b" blue")] as [(&[u8], &[u8]); 4] {
+        for (front, back) in [
+            (b"red", b"blue"),
+            (b"red ", b"blue"),
+            (b"red", b" blue"),
+            (b"red ", b" blue"),
+        ] as [(&[u8], &[u8]); 4]
+        {
             let mut text = Vec::from_slice(alloc, front)?;
             text.extend_from_slice(near)?;
             text.extend_from_slice(back)?;

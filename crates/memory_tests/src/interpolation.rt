@@ -34,13 +34,23 @@ static ROWS: [Row; 29] = [
     row!(b"~/x", Some("/home/u"), false, Ok("/home/u/x")),
     row!(b"~/", Some("/home/u"), false, Ok("/home/u/")),
     row!(b"~//etc", Some("/home/u"), false, Ok("/etc")),
-    row!(b"~/a/path/longer/than/the/smallest/blocks", Some("/home/u"), false, Ok("/home/u/a/path/longer/than/the/smallest/blocks")),
+    row!(
+        b"~/a/path/longer/than/the/smallest/blocks",
+        Some("/home/u"),
+        false,
+        Ok("/home/u/a/path/longer/than/the/smallest/blocks")
+    ),
     row!(b"~", Some("/home/u"), false, Ok("/home/u")),
     row!(b"~bob/x", Some("/h/bob"), true, Ok("/h/bob/x")),
     row!(b"~bob//x", Some("/h/bob"), true, Ok("/x")),
     row!(b"~bob", Some("/h/bob"), true, Ok("/h/bob")),
     row!(b"%(prefix)", None, false, Ok("%(prefix)")),
-    row!(b"a/value/that/refers/to/nothing", None, false, Ok("a/value/that/refers/to/nothing")),
+    row!(
+        b"a/value/that/refers/to/nothing",
+        None,
+        false,
+        Ok("a/value/that/refers/to/nothing")
+    ),
     row!(b"%(prefix)/", Some(""), false, Ok("")),
     row!(b"~/", Some(""), false, Ok("")),
     row!(b"~", Some(""), false, Ok("")),
@@ -48,15 +58,40 @@ static ROWS: [Row; 29] = [
     row!(b"~bob/", Some(""), true, Ok("")),
     row!(b"", Some("/h"), true, Err(Error::PathMissing)),
     row!(b"%(prefix)/x", None, true, Err(Error::InstallDirMissing)),
-    row!(b"%(prefix)/\xff", Some("/usr"), false, ill_formed!(Place::PastPrefix, b"\xff")),
+    row!(
+        b"%(prefix)/\xff",
+        Some("/usr"),
+        false,
+        ill_formed!(Place::PastPrefix, b"\xff")
+    ),
     row!(b"~", None, true, Err(Error::HomeMissing)),
     row!(b"~/\xff", None, true, Err(Error::HomeMissing)),
-    row!(b"~/\xff", Some("/h"), false, ill_formed!(Place::PastHome, b"\xff")),
+    row!(
+        b"~/\xff",
+        Some("/h"),
+        false,
+        ill_formed!(Place::PastHome, b"\xff")
+    ),
     row!(b"~bob/\xff", Some("/h"), false, Err(Error::LookupMissing)),
-    row!(b"~\xff/x", Some("/h"), true, ill_formed!(Place::Username, b"\xff")),
+    row!(
+        b"~\xff/x",
+        Some("/h"),
+        true,
+        ill_formed!(Place::Username, b"\xff")
+    ),
     row!(b"~eve/\xff", Some("/h"), true, Err(Error::UserNotFound)),
-    row!(b"~bob/\xff", Some("/h"), true, ill_formed!(Place::PastUser, b"\xff")),
-    row!(b"x\xff", Some("/h"), true, ill_formed!(Place::Whole, b"x\xff")),
+    row!(
+        b"~bob/\xff",
+        Some("/h"),
+        true,
+        ill_formed!(Place::PastUser, b"\xff")
+    ),
+    row!(
+        b"x\xff",
+        Some("/h"),
+        true,
+        ill_formed!(Place::Whole, b"x\xff")
+    ),
 ];
 
 /// The path, in a context in which one directory stands for all.
@@ -91,7 +126,11 @@ fn size_of_answer(row: &Row) -> usize {
 }
 
 /// The answer needs one request for memory where its text is not empty, and none elsewhere.
-fn is_answered_by_one_request(rt: &(impl AllocGlobal + Abort), row: &Row, is_optional: bool) -> Result<(), Fail> {
+fn is_answered_by_one_request(
+    rt: &(impl AllocGlobal + Abort),
+    row: &Row,
+    is_optional: bool,
+) -> Result<(), Fail> {
     let alloc = rt.alloc();
     let mut path = Path::from_bstr(alloc, row.value.into())?;
     path.is_optional = is_optional;
@@ -100,7 +139,10 @@ fn is_answered_by_one_request(rt: &(impl AllocGlobal + Abort), row: &Row, is_opt
     let mut spare = spares(alloc, &[size])?;
     let hoard = starved(rt)?;
     if size > 0 {
-        assert_eq!(rt; interpolated(alloc, &path, row), Err(Error::Memory(AllocError)));
+        assert_eq!(rt;
+            interpolated(alloc, &path, row),
+            Err(Error::Memory(AllocError))
+        );
         assert_eq!(rt; path.as_bytes(), row.value);
         spare.clear();
     }

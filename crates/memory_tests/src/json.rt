@@ -35,7 +35,11 @@ fn is_text(rt: &impl Abort, given: &Result<Value, JsonError>, text: &str) {
 }
 
 /// The text needs one request for memory where it is not empty, and else none.
-fn is_shown_by_one_request(rt: &(impl AllocGlobal + Abort), shown: Shown, text: &str) -> Result<(), Fail> {
+fn is_shown_by_one_request(
+    rt: &(impl AllocGlobal + Abort),
+    shown: Shown,
+    text: &str,
+) -> Result<(), Fail> {
     let alloc = rt.alloc();
     is_text(rt, &json_of(alloc, shown), text);
     let mut spare = spares(alloc, &[text.len()])?;
@@ -59,7 +63,10 @@ fn shows_texts_by_one_request(rt: HostRuntime) -> Result<(), Fail> {
         (Shown::Name(Name::Ansi(5)), "5"),
         (Shown::Name(Name::BrightMagenta), "brightmagenta"),
         (Shown::Name(Name::Rgb(255, 17, 187)), "#ff11bb"),
-        (Shown::Attribute(Attribute::BOLD.union(Attribute::UL)), "bold ul"),
+        (
+            Shown::Attribute(Attribute::BOLD.union(Attribute::UL)),
+            "bold ul",
+        ),
         (
             Shown::Attribute(Attribute::all()),
             "bold dim italic ul blink reverse strike reset nodim nobold noitalic noul noblink noreverse nostrike",
@@ -76,8 +83,14 @@ fn shows_texts_by_one_request(rt: HostRuntime) -> Result<(), Fail> {
 #[test]
 fn counts_without_memory(rt: HostRuntime) -> Result<(), Fail> {
     let alloc = rt.alloc();
-    let sixteen = Integer { value: 16, suffix: Some(Suffix::Kibi) };
-    let past = Integer { value: i64::MAX, suffix: Some(Suffix::Kibi) };
+    let sixteen = Integer {
+        value: 16,
+        suffix: Some(Suffix::Kibi),
+    };
+    let past = Integer {
+        value: i64::MAX,
+        suffix: Some(Suffix::Kibi),
+    };
     for starve in [false, true] {
         let hoard = if starve { Some(starved(&rt)?) } else { None };
         let truth = Boolean(true).to_json(alloc);

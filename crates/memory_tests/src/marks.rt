@@ -16,8 +16,16 @@ struct Row {
 }
 
 static ROWS: [Row; 3] = [
-    Row { text: ":(optional)x", is_optional: true, kept: "x" },
-    Row { text: "/etc/gitconfig", is_optional: false, kept: "/etc/gitconfig" },
+    Row {
+        text: ":(optional)x",
+        is_optional: true,
+        kept: "x",
+    },
+    Row {
+        text: "/etc/gitconfig",
+        is_optional: false,
+        kept: "/etc/gitconfig",
+    },
     Row {
         text: ":(optional):(optional)~/a/path/that/is/longer/than/the/smallest/blocks/of/memory/are",
         is_optional: true,
@@ -51,7 +59,11 @@ fn is_path(rt: &impl Abort, path: &Path, row: &Row) {
 }
 
 /// The path is made, by one request for memory, exactly where that is not refused.
-fn is_made_by_one_request(rt: &(impl AllocGlobal + Abort), way: Way, row: &Row) -> Result<(), Fail> {
+fn is_made_by_one_request(
+    rt: &(impl AllocGlobal + Abort),
+    way: Way,
+    row: &Row,
+) -> Result<(), Fail> {
     let alloc = rt.alloc();
     let path = Path::from_text(alloc, row.text)?;
     is_path(rt, &made(alloc, way, row, &path)?, row);
@@ -93,7 +105,11 @@ fn makes_paths_of_owned_bytes_by_none(rt: HostRuntime) -> Result<(), Fail> {
     for row in &ROWS {
         let bytes = row.text.as_bytes();
         is_path(&rt, &Path::from(BString::from_slice(alloc, bytes)?), row);
-        is_path(&rt, &Path::from_cow(alloc, CowSlice::Owned(Vec::from_slice(alloc, bytes)?))?, row);
+        is_path(
+            &rt,
+            &Path::from_cow(alloc, CowSlice::Owned(Vec::from_slice(alloc, bytes)?))?,
+            row,
+        );
         let text = BString::from_slice(alloc, bytes)?;
         let cow = CowSlice::Owned(Vec::from_slice(alloc, bytes)?);
         let hoard = starved(&rt)?;

@@ -80,7 +80,10 @@ fn refuses_six_lines(rt: HostRuntime) -> Result<(), Fail> {
         assert_eq!(rt; refused_after(&rt, SIX, piece, &[24], &ANSWERS)?, None);
     }
     // Only the last line, which has no LF, crosses the end of a read.
-    assert_eq!(rt; refused_after(&rt, SIX, 1000, &[], &ANSWERS)?, Some(SIX.len()));
+    assert_eq!(rt;
+        refused_after(&rt, SIX, 1000, &[], &ANSWERS)?,
+        Some(SIX.len())
+    );
     Ok(())
 }
 

@@ -23,5 +23,8 @@ pub fn starved(rt: &(impl AllocGlobal + Abort)) -> Result<Hoard, AllocError> {
 
 /// The next request for memory is refused, for one byte too.
 pub fn is_starved(rt: &(impl AllocGlobal + Abort)) {
-    assert!(rt; Vec::<u8>::with_capacity(rt.alloc(), 1).is_err(), "memory is left");
+    assert!(rt;
+        Vec::<u8>::with_capacity(rt.alloc(), 1).is_err(),
+        "memory is left"
+    );
 }

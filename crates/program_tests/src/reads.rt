@@ -12,7 +12,11 @@ fn fails_where_a_read_fails(rt: HostRuntime) -> Result<(), Fail> {
     let input = six_lines(alloc)?;
     let answers = six_answers(alloc)?;
     for piece in [1usize, 2, 3, 7, 20, 1000] {
-        for kind in [ErrorKind::BrokenPipe, ErrorKind::Interrupted, ErrorKind::WouldBlock] {
+        for kind in [
+            ErrorKind::BrokenPipe,
+            ErrorKind::Interrupted,
+            ErrorKind::WouldBlock,
+        ] {
             let mut reached = 0u64;
             for call in 1..1000u64 {
                 let mut reader = Reader::failing(&input, piece, call, kind);
@@ -26,7 +30,11 @@ fn fails_where_a_read_fails(rt: HostRuntime) -> Result<(), Fail> {
                 reached = call;
                 is_outcome(&rt, outcome, Err(RunError::Read));
                 let gone = input.len().saturating_sub(reader.rest.len());
-                assert_eq!(rt; output, answers_within(alloc, gone)?, "at call {call} of {piece} bytes");
+                assert_eq!(rt;
+                    output,
+                    answers_within(alloc, gone)?,
+                    "at call {call} of {piece} bytes"
+                );
                 assert_eq!(rt; reader.calls, call);
             }
             // Each piece was read by a call of its own, and one more met the end.

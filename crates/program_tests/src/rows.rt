@@ -32,7 +32,10 @@ const ROWS: [(&[u8], &str); 65] = [
     (b"integer 9223372036854775807k", "ok 9223372036854775807k\n"),
     (b"integer 8589934592g", "ok 8589934592g\n"),
     (b"integer -8589934592G", "ok -8589934592g\n"),
-    (b"integer -9223372036854775808G", "ok -9223372036854775808g\n"),
+    (
+        b"integer -9223372036854775808G",
+        "ok -9223372036854775808g\n",
+    ),
     (b"integer -9223372036854775809", "refused\n"),
     (b"integer 9223372036854775808", "refused\n"),
     (b"integer 0x7fffffffffffffffk", "ok 9223372036854775807k\n"),
@@ -130,20 +133,104 @@ struct Long {
 }
 
 const LONG_ROWS: [Long; 14] = [
-    Long { front: b"boolean 0b", repeated: b'0', times: 100_000, back: b"", answer: "ok false\n" },
-    Long { front: b"name +", repeated: b'0', times: 100_000, back: b"9", answer: "ok 9\n" },
-    Long { front: b"color ul", repeated: b' ', times: 100_000, back: b"red", answer: "ok red ul\n" },
-    Long { front: b"integer 0", repeated: b'7', times: 21, back: b"", answer: "ok 9223372036854775807\n" },
-    Long { front: b"integer 01", repeated: b'0', times: 21, back: b"", answer: "refused\n" },
-    Long { front: b"integer -01", repeated: b'0', times: 21, back: b"", answer: "ok -9223372036854775808\n" },
-    Long { front: b"integer 0x", repeated: b'0', times: 5000, back: b"7", answer: "ok 7\n" },
-    Long { front: b"integer 0x", repeated: b'f', times: 17, back: b"", answer: "refused\n" },
-    Long { front: b"integer 0b1", repeated: b'0', times: 63, back: b"", answer: "refused\n" },
-    Long { front: b"integer -0b1", repeated: b'0', times: 63, back: b"", answer: "ok -9223372036854775808\n" },
-    Long { front: b"integer ", repeated: b'9', times: 100_000, back: b"", answer: "refused\n" },
-    Long { front: b"integer -0", repeated: b'0', times: 100_000, back: b"7", answer: "ok -7\n" },
-    Long { front: b"integer 0b", repeated: b'0', times: 100_000, back: b"", answer: "ok 0\n" },
-    Long { front: b"", repeated: b'i', times: 100_000, back: b"", answer: "unknown kind\n" },
+    Long {
+        front: b"boolean 0b",
+        repeated: b'0',
+        times: 100_000,
+        back: b"",
+        answer: "ok false\n",
+    },
+    Long {
+        front: b"name +",
+        repeated: b'0',
+        times: 100_000,
+        back: b"9",
+        answer: "ok 9\n",
+    },
+    Long {
+        front: b"color ul",
+        repeated: b' ',
+        times: 100_000,
+        back: b"red",
+        answer: "ok red ul\n",
+    },
+    Long {
+        front: b"integer 0",
+        repeated: b'7',
+        times: 21,
+        back: b"",
+        answer: "ok 9223372036854775807\n",
+    },
+    Long {
+        front: b"integer 01",
+        repeated: b'0',
+        times: 21,
+        back: b"",
+        answer: "refused\n",
+    },
+    Long {
+        front: b"integer -01",
+        repeated: b'0',
+        times: 21,
+        back: b"",
+        answer: "ok -9223372036854775808\n",
+    },
+    Long {
+        front: b"integer 0x",
+        repeated: b'0',
+        times: 5000,
+        back: b"7",
+        answer: "ok 7\n",
+    },
+    Long {
+        front: b"integer 0x",
+        repeated: b'f',
+        times: 17,
+        back: b"",
+        answer: "refused\n",
+    },
+    Long {
+        front: b"integer 0b1",
+        repeated: b'0',
+        times: 63,
+        back: b"",
+        answer: "refused\n",
+    },
+    Long {
+        front: b"integer -0b1",
+        repeated: b'0',
+        times: 63,
+        back: b"",
+        answer: "ok -9223372036854775808\n",
+    },
+    Long {
+        front: b"integer ",
+        repeated: b'9',
+        times: 100_000,
+        back: b"",
+        answer: "refused\n",
+    },
+    Long {
+        front: b"integer -0",
+        repeated: b'0',
+        times: 100_000,
+        back: b"7",
+        answer: "ok -7\n",
+    },
+    Long {
+        front: b"integer 0b",
+        repeated: b'0',
+        times: 100_000,
+        back: b"",
+        answer: "ok 0\n",
+    },
+    Long {
+        front: b"",
+        repeated: b'i',
+        times: 100_000,
+        back: b"",
+        answer: "unknown kind\n",
+    },
 ];
 
 /// A line with its LF, and its answer.
@@ -159,12 +246,18 @@ fn all_lines(alloc: Global) -> Result<Vec<Line>, AllocError> {
     for (line, answer) in &ROWS {
         let mut text = Vec::from_slice(alloc, line)?;
         text.push(b'\n')?;
-        lines.push(Line { text, answer: *answer })?;
+        lines.push(Line {
+            text,
+            answer: *answer,
+        })?;
     }
     for (line, answer) in &OTHER_ROWS {
         let mut text = Vec::from_slice(alloc, line)?;
         text.push(b'\n')?;
-        lines.push(Line { text, answer: *answer })?;
+        lines.push(Line {
+            text,
+            answer: *answer,
+        })?;
     }
     for row in &LONG_ROWS {
         let mut text = Vec::from_slice(alloc, row.front)?;
@@ -173,7 +266,10 @@ fn all_lines(alloc: Global) -> Result<Vec<Line>, AllocError> {
         }
         text.extend_from_slice(row.back)?;
         text.push(b'\n')?;
-        lines.push(Line { text, answer: row.answer })?;
+        lines.push(Line {
+            text,
+            answer: row.answer,
+        })?;
     }
     Ok(lines)
 }
@@ -190,13 +286,23 @@ fn answers_each_line_alone(rt: HostRuntime) -> Result<(), Fail> {
         let mut output = Vec::new(alloc);
         let outcome = run(alloc, &mut Cursor::new(line.text.as_slice()), &mut output);
         is_outcome(&rt, outcome, Ok(accepted));
-        assert_eq!(rt; output.as_slice(), line.answer.as_bytes(), "at {:?}", line.text);
+        assert_eq!(rt;
+            output.as_slice(),
+            line.answer.as_bytes(),
+            "at {:?}",
+            line.text
+        );
         // Without its LF the line is answered alike.
         let mut unended = &line.text[..line.text.len().saturating_sub(1)];
         output.clear();
         let outcome = run(alloc, &mut unended, &mut output);
         is_outcome(&rt, outcome, Ok(accepted));
-        assert_eq!(rt; output.as_slice(), line.answer.as_bytes(), "without LF at {:?}", line.text);
+        assert_eq!(rt;
+            output.as_slice(),
+            line.answer.as_bytes(),
+            "without LF at {:?}",
+            line.text
+        );
     }
     Ok(())
 }

@@ -13,12 +13,30 @@ pub struct Line {
 }
 
 pub const SIX: [Line; 6] = [
-    Line { line: "boolean", answer: "ok false\n" },
-    Line { line: "color", answer: "ok \n" },
-    Line { line: "", answer: "unknown kind\n" },
-    Line { line: "Integer 5", answer: "unknown kind\n" },
-    Line { line: "integer  5", answer: "refused\n" },
-    Line { line: "suffix M", answer: "ok m\n" },
+    Line {
+        line: "boolean",
+        answer: "ok false\n",
+    },
+    Line {
+        line: "color",
+        answer: "ok \n",
+    },
+    Line {
+        line: "",
+        answer: "unknown kind\n",
+    },
+    Line {
+        line: "Integer 5",
+        answer: "unknown kind\n",
+    },
+    Line {
+        line: "integer  5",
+        answer: "refused\n",
+    },
+    Line {
+        line: "suffix M",
+        answer: "ok m\n",
+    },
 ];
 
 /// The six lines, with LF between them.
@@ -68,7 +86,11 @@ pub fn are_first_answers(output: &[u8]) -> bool {
 }
 
 /// Says where an outcome with its status is not the expected one.
-pub fn is_outcome(rt: &impl Abort, outcome: Result<bool, RunError>, expected: Result<bool, RunError>) {
+pub fn is_outcome(
+    rt: &impl Abort,
+    outcome: Result<bool, RunError>,
+    expected: Result<bool, RunError>,
+) {
     let exit = match expected {
         Ok(true) => 0,
         Ok(false) => 1,
@@ -104,7 +126,11 @@ fn answers_no_line(rt: HostRuntime) -> Result<(), Fail> {
 fn ends_with_a_status(rt: HostRuntime) {
     is_outcome(&rt, Ok(true), Ok(true));
     is_outcome(&rt, Ok(false), Ok(false));
-    for error in [RunError::Read, RunError::Write, RunError::Memory(AllocError)] {
+    for error in [
+        RunError::Read,
+        RunError::Write,
+        RunError::Memory(AllocError),
+    ] {
         assert_eq!(rt; status(&Err(error)), 2);
     }
 }

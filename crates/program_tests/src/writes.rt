@@ -25,7 +25,10 @@ fn fails_where_a_write_fails(rt: HostRuntime) -> Result<(), Fail> {
                     }
                     reached = call;
                     is_outcome(&rt, outcome, Err(RunError::Write));
-                    assert!(rt; answers.starts_with(&writer.held), "at call {call} of {piece} bytes");
+                    assert!(rt;
+                        answers.starts_with(&writer.held),
+                        "at call {call} of {piece} bytes"
+                    );
                     assert!(rt; writer.held.len() < answers.len());
                     assert_eq!(rt; writer.calls, call);
                     assert_eq!(rt; writer.flushes, 0);
