@@ -1,9 +1,8 @@
 -- Entries whose texts are replaced by others of the same values answer each name as before.
-use Rattle.std.proofs.Common.{◌≡◌, ◌<◌, ◌⊎◌, inl, inr, ◌↔◌, ℕ, zero, suc, List, [], ◌∷◌, Some, refl, sym, subst, ap, ◌∙◌}
-use Rattle.std.specs.List.{slice_get, AllZip}
+use Rattle.std.proofs.Common.{◌≡◌, ◌⊎◌, inl, inr, ℕ, zero, suc, List, [], ◌∷◌, Some, sym, subst, ap, ◌∙◌}
+use Rattle.std.specs.List.{AllZip}
 use Rattle.std.proofs.lemmas.Option.{same_Some, none-some}
-use Rattle.gix_config_value.specs.Settings.{IsNamed, IsAbsent, Decides, Finds, decided, absent, Refuses, IsReplaced, kept, replaced, SameAnswers}
-use Rattle.gix_config_value.specs.Value.{IsRefused}
+use Rattle.gix_config_value.specs.Settings.{IsNamed, Decides, Finds, decided, absent, Refuses, IsReplaced, kept, replaced, SameAnswers}
 
 -- two texts are one, or have the same value
 abbrev SameText : {V : Type 0} → (List ℕ → V → Type 0) → List ℕ → List ℕ → Type 0

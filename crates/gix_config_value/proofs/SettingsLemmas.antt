@@ -1,11 +1,9 @@
 -- The deciding entry, from what holds of the borrowed entries at each index.
-use Rattle.std.proofs.Common.{◌≡◌, ◌≢◌, ◌<◌, ◌≤◌, ◌+◌, ℕ, zero, suc, List, [], ◌∷◌, Option, Some, None, MatchResult, Bor, length, get_or, refl, subst, ◌∙◌, ap, arith}
+use Rattle.std.proofs.Common.{◌≡◌, ◌≢◌, ◌<◌, ◌≤◌, ◌+◌, ℕ, zero, suc, List, [], ◌∷◌, Some, Bor, length, get_or, refl, subst, ◌∙◌, ap, arith}
 use Rattle.std.specs.List.{slice_get, HoldsAt, AllWithin}
 use Rattle.std.proofs.lemmas.Option.{slice_get-map, slice_get-get_or, slice_get_within, get_or_from_slice_get, same_Some, none-some}
-use Rattle.gix_config_value.specs.declared.settings.Refused.{Refused}
 use Rattle.gix_config_value.specs.Settings.{entry_texts, IsNamed, IsAbsent, Decides, Finds, decided, Refuses}
-use Rattle.gix_config_value.specs.Value.{IsRefused, Reads}
-use Rattle.std.specs.Option.{ok_or}
+use Rattle.gix_config_value.specs.Value.{IsRefused}
 
 -- the entry at a place of which the texts are named
 named_entry : (es : List (Bor (List ℕ) × Bor (List ℕ))) (n : List ℕ) (j : ℕ) (t : List ℕ) → IsNamed (entry_texts es) n j t

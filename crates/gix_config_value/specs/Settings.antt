@@ -1,6 +1,6 @@
 -- What a list of entries answers for a name. An entry is a name and a text, and the last entry of a name decides.
 use Rattle.std.specs.Prelude.{◌≡◌, ℕ, ◌<◌, ◌↔◌, List, Some, map}
-use Rattle.std.specs.List.{slice_get, AllZip}
+use Rattle.std.specs.List.{slice_get}
 use Rattle.gix_config_value.specs.Value.{IsRefused}
 use denote.Ref.{Bor}
 
