@@ -1,9 +1,11 @@
 //! The JSON value of each type, and the texts of its errors.
+use crate::size_json;
 use bitflags::Flags;
 use gix_config_value::color::{Attribute, Name};
 use gix_config_value::integer::Suffix;
 use gix_config_value::json::JsonError;
 use gix_config_value::{Boolean, Fault, Integer};
+use serde_json::Value;
 use std::alloc::AllocError;
 use std::test::Fail;
 
@@ -154,4 +156,18 @@ fn texts_of_errors(rt: HostRuntime) -> Result<(), Fail> {
         overflow
     );
     Ok(())
+}
+
+#[test]
+fn sizes(rt: HostRuntime) {
+    for (text, size) in [
+        ("0x10k", Some(16384)),
+        ("-1g", Some(-1073741824)),
+        ("16 k", None),
+        ("9223372036854775807k", None),
+    ] {
+        let json = size_json(rt.alloc(), text);
+        assert_eq!(rt; json.as_ref().and_then(Value::as_i64), size, "{text}");
+        assert_eq!(rt; json.is_some(), size.is_some(), "{text}");
+    }
 }
