@@ -2,7 +2,7 @@
 use Rattle.std.proofs.Common.{◌≡◌, ◌<◌, ◌+◌, ◌⊎◌, inl, inr, ℕ, zero, suc, List, [], ◌∷◌, ◌++◌, length, refl, sym, subst, arith, Result, Ok, Err, IfOk, ap, ◌∙◌, ◌≢◌, Some, Bool, true, false, Bor, MatchBool}
 use Rattle.std.proofs.lemmas.Option.{slice_get_within, none-some, same_Some, slice_get-map, slice_get_cases, get_or_from_slice_get}
 use Rattle.std.specs.List.{slice_get, HoldsAt, AllWithin}
-use Rattle.gix_config_value.specs.Settings.{entry_texts, IsNamed, IsAbsent, Decides, Finds, decided, absent, Refuses}
+use Rattle.gix_config_value.specs.Settings.{entry_texts, IsNamed, IsAbsent, Decides, Finds, decided, absent}
 
 -- an entry of the second list stands behind those of the first
 named_behind : (es fs : List (List ℕ × List ℕ)) (n : List ℕ) (i j : ℕ) (t : List ℕ) → j ≡ length es + i → IsNamed fs n i t → IsNamed (es ++ fs) n j t
@@ -27,16 +27,18 @@ decides_behind : (es fs : List (List ℕ × List ℕ)) (n : List ℕ) (i : ℕ) 
 decides_behind es fs n i t decides = record {
   named = named_behind es fs n i (length es + i) t refl decides.named;
   last = λ j u above named. elim (named_in es fs n j u named) [
-      inl here ↦ let within = slice_get_within es j (n, u) here in absurd (omega (arith, within, above))
-    | inr behind ↦ let later : i < behind.0 = omega (arith, above, behind.1) in decides.last behind.0 u later behind.2 ];
+    | inl here ↦ let within = slice_get_within es j (n, u) here in absurd (omega (arith, within, above))
+    | inr behind ↦ let later : i < behind.0 = omega (arith, above, behind.1) in decides.last behind.0 u later behind.2
+  ];
 }
 
 decides_before : (es fs : List (List ℕ × List ℕ)) (n : List ℕ) (i : ℕ) (t : List ℕ) → IsAbsent fs n → Decides es n i t → Decides (es ++ fs) n i t
 decides_before es fs n i t nowhere decides = record {
   named = named_before es fs n i t decides.named;
   last = λ j u above named. elim (named_in es fs n j u named) [
-      inl here ↦ decides.last j u above here
-    | inr behind ↦ nowhere behind.0 u behind.2 ];
+    | inl here ↦ decides.last j u above here
+    | inr behind ↦ nowhere behind.0 u behind.2
+  ];
 }
 
 -- a list that has the name decides whatever stands before it
@@ -50,8 +52,9 @@ pub finds_before : {V : Type 0} (grammar : List ℕ → V → Type 0) (es fs : L
     → IsAbsent fs n → Finds grammar es n default v → Finds grammar (es ++ fs) n default v
 finds_before grammar es fs n default v nowhere (decided i t decides reads) = decided i t (decides_before es fs n i t nowhere decides) reads
 finds_before grammar es fs n default v nowhere (absent none is) = absent (λ j u named. elim (named_in es fs n j u named) [
-      inl here ↦ none j u here
-    | inr behind ↦ nowhere behind.0 u behind.2 ]) is
+  | inl here ↦ none j u here
+  | inr behind ↦ nowhere behind.0 u behind.2
+]) is
 
 -- an answer where there is one: each source that has the name hides those before it
 pub kept_behind : {V E : Type 0} (grammar : List ℕ → V → Type 0) (es fs : List (List ℕ × List ℕ)) (n : List ℕ) (default : V) (r : Result V E)

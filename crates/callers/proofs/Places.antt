@@ -1,6 +1,6 @@
 -- The place of the first byte of a text, and what stands before and behind it.
-use Rattle.std.proofs.Common.{◌≡◌, ◌≢◌, ◌<◌, ◌≤◌, ◌+◌, ◌-◌, ◌==◌, ℕ, List, [], ◌∷◌, Bool, true, false, Option, Some, None, length, take, drop, get_or, refl, sym, ap, subst, ◌∙◌, arith, eq-eqb, eqb-true, length-drop}
-use Rattle.std.specs.List.{slice_split, position_or_len, before_first, after_first, list_any}
+use Rattle.std.proofs.Common.{◌≡◌, ◌≢◌, ◌<◌, ◌+◌, ◌-◌, ◌==◌, ℕ, List, [], ◌∷◌, Bool, true, false, Some, None, length, take, drop, get_or, refl, sym, ap, ◌∙◌, arith, eq-eqb, eqb-true, length-drop}
+use Rattle.std.specs.List.{position_or_len, before_first, after_first, list_any}
 use Rattle.std.specs.Str.{IsTrimAscii}
 use Rattle.std.proofs.lemmas.List.Elements.{All-from_get_or}
 use Rattle.std.proofs.lemmas.List.Folds.{list_any_at, list_any_none}
@@ -65,5 +65,5 @@ entry_at line at name value first is_name is_value =
 pub entry_nowhere : (line : List ℕ) → ((k : ℕ) → k < length line → get_or line k 0 ≢ 61) → line_entry line ≡ None
 entry_nowhere line none =
     let no : list_any (λ b. b == 61) line ≡ false
-        = list_any_none (λ b. b == 61) line (All-from_get_or (λ b. (b == 61) ≡ false) line 0 (λ k below. differs _ _ (none k below))) in
+    = list_any_none (λ b. b == 61) line (All-from_get_or (λ b. (b == 61) ≡ false) line 0 (λ k below. differs _ _ (none k below))) in
     rw no

@@ -18,10 +18,7 @@ pub fn read_line(line: &[u8]) -> Option<(&[u8], &[u8])>
 }
 
 /// Puts the entry of the line, if it has one, behind the others.
-fn push_line<'f>(
-    entries: &mut Vec<(&'f [u8], &'f [u8])>,
-    line: &'f [u8],
-) -> Result<(), AllocError>
+fn push_line<'f>(entries: &mut Vec<(&'f [u8], &'f [u8])>, line: &'f [u8]) -> Result<(), AllocError>
     ensures { OnOk result
         (entry_texts entries.new.items ≡ entry_texts entries.old.items ++ option_to_list (line_entry line.now)) }
 {

@@ -7,7 +7,11 @@ fn styles(rt: HostRuntime) -> Result<(), Fail> {
     // base, override, and the style, or none
     let rows = [
         ("red", "ul", Some("red ul")),
-        ("bold brightred", "no-dim #F1b", Some("brightred #ff11bb bold nodim")),
+        (
+            "bold brightred",
+            "no-dim #F1b",
+            Some("brightred #ff11bb bold nodim"),
+        ),
         ("", "blue", Some("blue")),
         ("ul  white", "", Some("white ul")),
         ("bold", "bold", Some("bold")),
@@ -29,7 +33,10 @@ fn styles(rt: HostRuntime) -> Result<(), Fail> {
                 assert_eq!(rt; joined.as_str(), wanted);
             }
             None => {
-                assert!(rt; composed.is_none() && joined.is_none(), "at {base} and {over}");
+                assert!(rt;
+                    composed.is_none() && joined.is_none(),
+                    "at {base} and {over}"
+                );
                 assert!(rt; style(base.as_bytes(), over.as_bytes()).is_none());
             }
         }

@@ -25,21 +25,43 @@ use Rattle.gix_config_value.specs.AmountLaws.{amount_decided, amount_shown_is_te
 -- a text is the name of a kind, or of none
 pub kind_told : (head : List ℕ) → ((kind : Kind) × (kind_name kind ≡ head)) ⊎ ((kind : Kind) → kind_name kind ≢ head)
 kind_told head =
-    elim (text_told (codes "suffix") head) [ inl p ↦ inl (kinds.Suffix, p) | inr suffix ↦
-    elim (text_told (codes "integer") head) [ inl p ↦ inl (kinds.Integer, p) | inr integer ↦
-    elim (text_told (codes "boolean") head) [ inl p ↦ inl (kinds.Boolean, p) | inr boolean ↦
-    elim (text_told (codes "name") head) [ inl p ↦ inl (kinds.Name, p) | inr name ↦
-    elim (text_told (codes "attribute") head) [ inl p ↦ inl (kinds.Attribute, p) | inr attribute ↦
-    elim (text_told (codes "color") head) [ inl p ↦ inl (kinds.Color, p) | inr color ↦
-    elim (text_told (codes "amount") head) [ inl p ↦ inl (kinds.Amount, p) | inr amount ↦
-    inr (λ kind. elim kind as (λ k. kind_name k ≢ head) [
-        kinds.Suffix ↦ suffix
-      | kinds.Integer ↦ integer
-      | kinds.Boolean ↦ boolean
-      | kinds.Name ↦ name
-      | kinds.Attribute ↦ attribute
-      | kinds.Color ↦ color
-      | kinds.Amount ↦ amount ]) ] ] ] ] ] ] ]
+    elim (text_told (codes "suffix") head) [
+      | inl p ↦ inl (kinds.Suffix, p)
+      | inr suffix ↦
+          elim (text_told (codes "integer") head) [
+            | inl p ↦ inl (kinds.Integer, p)
+            | inr integer ↦
+                elim (text_told (codes "boolean") head) [
+                  | inl p ↦ inl (kinds.Boolean, p)
+                  | inr boolean ↦
+                      elim (text_told (codes "name") head) [
+                        | inl p ↦ inl (kinds.Name, p)
+                        | inr name ↦
+                            elim (text_told (codes "attribute") head) [
+                              | inl p ↦ inl (kinds.Attribute, p)
+                              | inr attribute ↦
+                                  elim (text_told (codes "color") head) [
+                                    | inl p ↦ inl (kinds.Color, p)
+                                    | inr color ↦
+                                        elim (text_told (codes "amount") head) [
+                                          | inl p ↦ inl (kinds.Amount, p)
+                                          | inr amount ↦
+                                              inr (λ kind. elim kind as (λ k. kind_name k ≢ head) [
+                                                | kinds.Suffix ↦ suffix
+                                                | kinds.Integer ↦ integer
+                                                | kinds.Boolean ↦ boolean
+                                                | kinds.Name ↦ name
+                                                | kinds.Attribute ↦ attribute
+                                                | kinds.Color ↦ color
+                                                | kinds.Amount ↦ amount
+                                              ])
+                                        ]
+                                  ]
+                            ]
+                      ]
+                ]
+          ]
+    ]
 
 abbrev pub HasCanonicalText : {V : Type 0} → (List ℕ → V → Type 0) → (List ℕ → Type 0) → List ℕ → Type 0
 HasCanonicalText {V} grammar canonical t = (s : List ℕ) × ((v : V) × grammar t v × IsTextOf grammar canonical v s)
@@ -49,8 +71,9 @@ decided_with : {V : Type 0} (grammar : List ℕ → V → Type 0) (canonical : L
     → ((t : List ℕ) → IsAccepted grammar t ⊎ IsRefused grammar t) → ((v : V) → HasText grammar v → IsTextOf grammar canonical v (displayed v))
     → (t : List ℕ) → HasCanonicalText grammar canonical t ⊎ IsRefused grammar t
 decided_with grammar canonical displayed decided shown t = elim (decided t) [
-    inl found ↦ inl (displayed found.0, (found.0, found.1, shown found.0 (t, found.1)))
-  | inr refused ↦ inr refused ]
+  | inl found ↦ inl (displayed found.0, (found.0, found.1, shown found.0 (t, found.1)))
+  | inr refused ↦ inr refused
+]
 
 -- a text that is not refused has a canonical text of the same value
 pub kind_decided : (kind : Kind) (t : List ℕ) → HasCanonicalText (KindGrammar kind) (KindCanonical kind) t ⊎ IsRefused (KindGrammar kind) t

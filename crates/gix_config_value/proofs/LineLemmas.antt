@@ -39,13 +39,13 @@ unbroken_nowhere bytes none = AllByRecursion-from_places (λ b. b ≢ 10) bytes 
 pub cuts_first : (bytes : List ℕ) (i : ℕ) → NoneBefore (Passes (is_byte 10) bytes) 0 (length bytes) i → Passes (is_byte 10) bytes i → CutsLine bytes i
 cuts_first bytes i first passes = record {
   parts =
-    let inside : i < length bytes = first.high in
-    let here : get_or bytes i 0 ≡ 10 = eqb-true _ 10 passes in
-    let from_here : drop i bytes ≡ 10 ∷ drop (i + 1) bytes = rw (add-one, drop-cons bytes i 0) (ap (λ b. b ∷ drop (suc i) bytes) here) in
-    rw append_assoc (sym (take-append-drop i bytes) ∙ ap (λ l. take i bytes ++ l) from_here);
+      let inside : i < length bytes = first.high in
+      let here : get_or bytes i 0 ≡ 10 = eqb-true _ 10 passes in
+      let from_here : drop i bytes ≡ 10 ∷ drop (i + 1) bytes = rw (add-one, drop-cons bytes i 0) (ap (λ b. b ∷ drop (suc i) bytes) here) in
+      rw append_assoc (sym (take-append-drop i bytes) ∙ ap (λ l. take i bytes ++ l) from_here);
   unbroken = AllByRecursion-from_places (λ b. b ≢ 10) (take i bytes) (λ k below is.
-    let before : k < i = omega (arith, length-take {A = ℕ}) in
-    first.before k (omega arith) before (eq-eqb _ 10 (sym (get_or-take i bytes k 0 before) ∙ is)));
+      let before : k < i = omega (arith, length-take {A = ℕ}) in
+      first.before k (omega arith) before (eq-eqb _ 10 (sym (get_or-take i bytes k 0 before) ∙ is)));
 }
 
 -- the rest of a slice, as a range to its end

@@ -27,7 +27,12 @@ module _ (line : List ℕ) (ok : Bool) (a b : Option (List ℕ)) (w : List ℕ) 
   -- an error before the last line's answer
   pub EndsEarly-first : (e : RunError) → WritesPart a w b e → e ≡ Write → EndsEarly line ok a b e
   EndsEarly-first e p is_write = let last = last_any line ok in record {
-    last = last.1; ok' = last.0; answered = last.2; written = p.written; missing = last.1; appended = p.appended;
+    last = last.1;
+    ok' = last.0;
+    answered = last.2;
+    written = p.written;
+    missing = last.1;
+    appended = p.appended;
     same = ap (λ x. x ++ last.1) (sym (nothing_before p.written p.missing (sym none ∙ p.same)));
     is_write = is_write;
   }
@@ -45,9 +50,11 @@ module _ (line : List ℕ) (ok : Bool) (a b : Option (List ℕ)) (w : List ℕ) 
 
     pub EndsEarly-line : (c : Option (List ℕ)) (error : RunError) → WritesPart b w' c error → error ≡ Write → EndsEarly line ok a c error
     EndsEarly-line c error p is_write = record {
-      last = outcome_text e.outcome; ok' = ok && accepts;
+      last = outcome_text e.outcome;
+      ok' = ok && accepts;
       answered = AnswersLast-of line ok accepts e.outcome some e.is e.accepts;
-      written = e.emits.written ++ p.written; missing = p.missing;
+      written = e.emits.written ++ p.written;
+      missing = p.missing;
       appended = Appends-trans a b c e.emits.written p.written e.emits.appended p.appended;
       same = answer_is ∙ ap (λ x. e.emits.written ++ x) p.same ∙ sym (append_assoc e.emits.written p.written p.missing);
       is_write = is_write;
@@ -64,7 +71,11 @@ lines_of (Memory e) missing input output may some_lines = some_lines may
 
 pub Goes-start : (unread held : Option (List ℕ)) (line : List ℕ) → line ≡ [] → Goes unread unread held held line true
 Goes-start unread held line none = subst (λ l. Goes unread unread held held l true) (sym none) (record {
-  input = []; output = []; consumed = Consumes-nil unread; appended = Appends-nil held; taken = Takes-nil [] true;
+  input = [];
+  output = [];
+  consumed = Consumes-nil unread;
+  appended = Appends-nil held;
+  taken = Takes-nil [] true;
 })
 
 -- a read that gives nothing is at the end of the input
@@ -83,11 +94,12 @@ module _ (unread left held holds : Option (List ℕ)) (line : List ℕ) (ok : Bo
   pub Goes-on : (left' between holds' : Option (List ℕ)) (bytes line' w w' : List ℕ) (ok' : Bool) → w ≡ [] → Consumes left left' bytes
       → TakesEmitting line ok bytes line' ok' holds w between w' → Appends between holds' w' → Goes unread left' held holds' line' ok'
   Goes-on left' between holds' bytes line' w w' ok' none read t h = record {
-    input = going.input ++ bytes; output = going.output ++ t.output;
+    input = going.input ++ bytes;
+    output = going.output ++ t.output;
     consumed = Consumes-trans unread left left' going.input bytes going.consumed read;
     appended = Appends-trans held holds holds' going.output t.output going.appended
         (subst (Appends holds holds') (sym (ap (λ x. x ++ t.output) (sym none) ∙ t.emits.same))
-          (Appends-trans holds between holds' t.emits.written w' t.emits.appended h));
+        (Appends-trans holds between holds' t.emits.written w' t.emits.appended h));
     taken = Takes-trans [] going.input line bytes line' true ok ok' going.output t.output going.taken t.taken;
   }
 
@@ -95,7 +107,8 @@ module _ (unread left held holds : Option (List ℕ)) (line : List ℕ) (ok : Bo
   pub Completes-end : (left' holds' : Option (List ℕ)) (ok' : Bool) → Consumes left left' [] → IsAtEnd left' → EndsAnswered line ok holds holds' ok'
       → Completes unread left' held holds' ok'
   Completes-end left' holds' ok' read at_end e = record {
-    input = going.input; output = going.output ++ e.last;
+    input = going.input;
+    output = going.output ++ e.last;
     consumed = subst (Consumes unread left') (append-nil going.input) (Consumes-trans unread left left' going.input [] going.consumed read);
     at_end = at_end;
     appended = Appends-trans held holds holds' going.output e.last going.appended e.appended;
@@ -105,12 +118,15 @@ module _ (unread left held holds : Option (List ℕ)) (line : List ℕ) (ok : Bo
   -- a read fails
   pub Fails-read : (left' : Option (List ℕ)) → Keeps left left' → Fails unread left' held holds Read
   Fails-read left' kept = record {
-    input = going.input; output = going.output;
+    input = going.input;
+    output = going.output;
     consumed = Consumes-kept unread left left' going.input going.consumed kept;
     appended = going.appended;
     begins = begins going.input line going.output going.output [] ok going.taken (sym (append-nil going.output));
     lines = record {
-      lines = going.taken.lines; rest = line; ok = ok;
+      lines = going.taken.lines;
+      rest = line;
+      ok = ok;
       cut = subst (λ lines. IsCut going.input lines line) (sym (append-nil going.taken.lines))
           (record { joined = going.taken.joined; unbroken = going.taken.unbroken tt; rest_unbroken = going.taken.rest_unbroken tt });
       answered = record { outcomes = going.taken.outcomes; each = going.taken.each; written = going.taken.written; all_accepted = going.taken.all_accepted };
@@ -120,11 +136,16 @@ module _ (unread left held holds : Option (List ℕ)) (line : List ℕ) (ok : Bo
   -- the end of the input is not answered whole
   pub Fails-end : (left' holds' : Option (List ℕ)) (e : RunError) → Consumes left left' [] → EndsEarly line ok holds holds' e → Fails unread left' held holds' e
   Fails-end left' holds' e read end = subst (Fails unread left' held holds') (sym end.is_write) (record {
-    input = going.input; output = going.output ++ end.written;
+    input = going.input;
+    output = going.output ++ end.written;
     consumed = subst (Consumes unread left') (append-nil going.input) (Consumes-trans unread left left' going.input [] going.consumed read);
     appended = Appends-trans held holds holds' going.output end.written going.appended end.appended;
-    begins = (going.output ++ end.last, end.ok', Answers-last going.input line going.output end.last ok end.ok' going.taken end.answered,
-        (end.missing, ap (λ x. going.output ++ x) end.same ∙ sym (append_assoc going.output end.written end.missing)));
+    begins = (
+      going.output ++ end.last,
+      end.ok',
+      Answers-last going.input line going.output end.last ok end.ok' going.taken end.answered,
+      (end.missing, ap (λ x. going.output ++ x) end.same ∙ sym (append_assoc going.output end.written end.missing)),
+    );
     lines = tt;
   })
 
@@ -143,22 +164,25 @@ module _ (unread left held holds : Option (List ℕ)) (line : List ℕ) (ok : Bo
     beginning = let rest = takes_any s.line' s.ok' s.left in
         subst (λ x. IsBeginningOfAnswers x (going.output ++ s.part.written)) input_is
         (begins ((going.input ++ s.done) ++ s.left) rest.0 ((going.output ++ s.output) ++ rest.2) (going.output ++ s.part.written) (s.part.missing ++ rest.2) rest.1
-          (Takes-trans [] (going.input ++ s.done) s.line' s.left rest.0 true s.ok' rest.1 (going.output ++ s.output) rest.2 at_done rest.3)
-          (ap (λ x. (going.output ++ x) ++ rest.2) output_is ∙ ap (λ x. x ++ rest.2) (sym (append_assoc going.output s.part.written s.part.missing))
-            ∙ append_assoc (going.output ++ s.part.written) s.part.missing rest.2))
+        (Takes-trans [] (going.input ++ s.done) s.line' s.left rest.0 true s.ok' rest.1 (going.output ++ s.output) rest.2 at_done rest.3)
+        (ap (λ x. (going.output ++ x) ++ rest.2) output_is ∙ ap (λ x. x ++ rest.2) (sym (append_assoc going.output s.part.written s.part.missing))
+        ∙ append_assoc (going.output ++ s.part.written) s.part.missing rest.2))
 
     some_lines : s.part.missing ≡ [] → (more : List (List ℕ)) × AnswersAllBut more (going.input ++ bytes) (going.output ++ s.part.written)
     some_lines whole = let rest = takes_any s.line' s.ok' s.left in
-        let found = all_but (going.input ++ s.done) s.left s.line' rest.0 (going.output ++ s.output) rest.2 s.ok' rest.1 at_done rest.3 in
-        (found.0, subst (λ x. AnswersAllBut found.0 x (going.output ++ s.part.written)) input_is
-          (subst (λ x. AnswersAllBut found.0 ((going.input ++ s.done) ++ s.left) (going.output ++ x))
-            (output_is ∙ ap (λ x. s.part.written ++ x) whole ∙ append-nil s.part.written) found.1))
+        let found = all_but (going.input ++ s.done) s.left s.line' rest.0 (going.output ++ s.output) rest.2 s.ok' rest.1 at_done rest.3 in (
+          found.0,
+          subst (λ x. AnswersAllBut found.0 x (going.output ++ s.part.written)) input_is
+              (subst (λ x. AnswersAllBut found.0 ((going.input ++ s.done) ++ s.left) (going.output ++ x))
+              (output_is ∙ ap (λ x. s.part.written ++ x) whole ∙ append-nil s.part.written) found.1),
+        )
 
   -- an error in the middle of the bytes of a read
   pub Fails-amid : (left' holds' : Option (List ℕ)) (bytes w : List ℕ) (e : RunError) → w ≡ [] → Consumes left left' bytes → Stops line ok bytes holds w holds' e
       → Fails unread left' held holds' e
   Fails-amid left' holds' bytes w e none read s = record {
-    input = going.input ++ bytes; output = going.output ++ s.part.written;
+    input = going.input ++ bytes;
+    output = going.output ++ s.part.written;
     consumed = Consumes-trans unread left left' going.input bytes going.consumed read;
     appended = Appends-trans held holds holds' going.output s.part.written going.appended s.part.appended;
     begins = beginning left' holds' bytes w e none read s;

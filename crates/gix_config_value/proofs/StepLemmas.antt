@@ -36,35 +36,48 @@ and_assoc false b c = refl
 
 pub Takes-nil : (line : List ℕ) (ok : Bool) → Takes line ok [] line ok []
 Takes-nil line ok = record {
-  lines = []; outcomes = [];
+  lines = [];
+  outcomes = [];
   joined = append-nil line;
-  unbroken = λ _. tt; rest_unbroken = λ h. h;
-  each = tt; written = refl; all_accepted = sym (and-true ok);
+  unbroken = λ _. tt;
+  rest_unbroken = λ h. h;
+  each = tt;
+  written = refl;
+  all_accepted = sym (and-true ok);
 }
 
 -- bytes without LF go on with the line begun
 pub Takes-begun : (line front : List ℕ) (ok : Bool) → IsUnbroken front → Takes line ok front (line ++ front) ok []
 Takes-begun line front ok unbroken = record {
-  lines = []; outcomes = [];
+  lines = [];
+  outcomes = [];
   joined = refl;
-  unbroken = λ _. tt; rest_unbroken = λ h. AllByRecursion-append _ line front h unbroken;
-  each = tt; written = refl; all_accepted = sym (and-true ok);
+  unbroken = λ _. tt;
+  rest_unbroken = λ h. AllByRecursion-append _ line front h unbroken;
+  each = tt;
+  written = refl;
+  all_accepted = sym (and-true ok);
 }
 
 -- bytes with one LF, at their end, complete the line begun
 pub Takes-line : (line front : List ℕ) (ok : Bool) (outcome : Outcome) → IsUnbroken front → LineOutcome (line ++ front) outcome
     → Takes line ok (ended front) [] (ok && is_accepted outcome) (outcome_text outcome)
 Takes-line line front ok outcome unbroken is = record {
-  lines = (line ++ front) ∷ []; outcomes = outcome ∷ [];
+  lines = (line ++ front) ∷ [];
+  outcomes = outcome ∷ [];
   joined = sym (append_assoc line front _) ∙ sym (append-nil _) ∙ sym (append-nil _);
-  unbroken = λ h. (AllByRecursion-append _ line front h unbroken, tt); rest_unbroken = λ _. tt;
-  each = (is, tt); written = sym (append-nil _); all_accepted = ap (λ b. ok && b) (sym (and-true _));
+  unbroken = λ h. (AllByRecursion-append _ line front h unbroken, tt);
+  rest_unbroken = λ _. tt;
+  each = (is, tt);
+  written = sym (append-nil _);
+  all_accepted = ap (λ b. ok && b) (sym (and-true _));
 }
 
 pub Takes-trans : (line p line' q line'' : List ℕ) (ok ok' ok'' : Bool) (first second : List ℕ)
     → Takes line ok p line' ok' first → Takes line' ok' q line'' ok'' second → Takes line ok (p ++ q) line'' ok'' (first ++ second)
 Takes-trans line p line' q line'' ok ok' ok'' first second t u = record {
-  lines = t.lines ++ u.lines; outcomes = t.outcomes ++ u.outcomes;
+  lines = t.lines ++ u.lines;
+  outcomes = t.outcomes ++ u.outcomes;
   joined = sym (append_assoc line p q) ∙ ap (λ l. l ++ q) t.joined ∙ append_assoc (flat_map ended t.lines) line' q
       ∙ ap (λ l. flat_map ended t.lines ++ l) u.joined ∙ sym (append_assoc (flat_map ended t.lines) (flat_map ended u.lines) line'')
       ∙ ap (λ l. l ++ line'') (sym (flat_map-append ended t.lines u.lines));
@@ -85,10 +98,12 @@ accepts_line line head value s kind at_head at_value named text =
 
 pub line_decided : (line : List ℕ) → (outcome : Outcome) × LineOutcome line outcome
 line_decided line = elim (kind_told (line_head line)) [
-    inr none ↦ (unknown, none)
+  | inr none ↦ (unknown, none)
   | inl found ↦ elim (kind_decided found.0 (line_value line)) [
-        inl text ↦ (accepted text.0, (found.0, found.1, text.1))
-      | inr none ↦ (refused, (found.0, found.1, none)) ] ]
+    | inl text ↦ (accepted text.0, (found.0, found.1, text.1))
+    | inr none ↦ (refused, (found.0, found.1, none))
+  ]
+]
 
 abbrev pub TakesSome : List ℕ → Bool → List ℕ → Type 0
 TakesSome line ok bytes = (line' : List ℕ) × (ok' : Bool) × (output : List ℕ) × Takes line ok bytes line' ok' output
@@ -106,9 +121,10 @@ take_line_feed line ok = let o = line_decided (line ++ []) in
 pub takes_any : (line : List ℕ) (ok : Bool) (bytes : List ℕ) → TakesSome line ok bytes
 takes_any line ok [] = (line, ok, [], Takes-nil line ok)
 takes_any line ok (b ∷ bs) = elim (eqb_tells b 10) [
-    inl at ↦ let t = take_line_feed line ok in
-        take_on line ok b bs t.0 t.1 t.2 (subst (λ x. Takes line ok (x ∷ []) t.0 t.1 t.2) (sym at.1) t.3) (takes_any t.0 t.1 bs)
-  | inr other ↦ take_on line ok b bs (line ++ b ∷ []) ok [] (Takes-begun line (b ∷ []) ok (other.1, tt)) (takes_any (line ++ b ∷ []) ok bs) ]
+  | inl at ↦ let t = take_line_feed line ok in
+      take_on line ok b bs t.0 t.1 t.2 (subst (λ x. Takes line ok (x ∷ []) t.0 t.1 t.2) (sym at.1) t.3) (takes_any t.0 t.1 bs)
+  | inr other ↦ take_on line ok b bs (line ++ b ∷ []) ok [] (Takes-begun line (b ∷ []) ok (other.1, tt)) (takes_any (line ++ b ∷ []) ok bs)
+]
 
 pub last_any : (line : List ℕ) (ok : Bool) → (ok' : Bool) × (output : List ℕ) × AnswersLast line ok ok' output
 last_any [] ok = (ok, [], (refl, refl))
@@ -120,16 +136,19 @@ last_any (b ∷ bs) ok = let o = line_decided (b ∷ bs) in (ok && is_accepted o
 pub Answers-last : (input line output last : List ℕ) (ok ok' : Bool) → Takes [] true input line ok output → AnswersLast line ok ok' last
     → Answers input (output ++ last) ok'
 Answers-last input [] output last ok ok' t l = record {
-  lines = t.lines; rest = [];
+  lines = t.lines;
+  rest = [];
   cut = record { joined = t.joined; unbroken = t.unbroken tt; rest_unbroken = tt };
   answered = record {
-    outcomes = t.outcomes; each = t.each;
+    outcomes = t.outcomes;
+    each = t.each;
     written = ap (λ x. output ++ x) l.0 ∙ append-nil output ∙ t.written;
     all_accepted = l.1 ∙ t.all_accepted;
   };
 }
 Answers-last input (b ∷ bs) output last ok ok' t l = record {
-  lines = t.lines; rest = b ∷ bs;
+  lines = t.lines;
+  rest = b ∷ bs;
   cut = record { joined = t.joined; unbroken = t.unbroken tt; rest_unbroken = t.rest_unbroken tt };
   answered = record {
     outcomes = t.outcomes ++ l.0 ∷ [];
@@ -144,20 +163,27 @@ Answers-last input (b ∷ bs) output last ok ok' t l = record {
 -- what was written of the answers to the completed lines begins the answers to the input, whatever follows
 pub begins : (input line output written missing : List ℕ) (ok : Bool) → Takes [] true input line ok output → output ≡ written ++ missing
     → IsBeginningOfAnswers input written
-begins input line output written missing ok t same = let last = last_any line ok in
-    (output ++ last.1, last.0, Answers-last input line output last.1 ok last.0 t last.2,
-      (missing ++ last.1, ap (λ x. x ++ last.1) same ∙ append_assoc written missing last.1))
+begins input line output written missing ok t same = let last = last_any line ok in (
+  output ++ last.1,
+  last.0,
+  Answers-last input line output last.1 ok last.0 t last.2,
+  (missing ++ last.1, ap (λ x. x ++ last.1) same ∙ append_assoc written missing last.1),
+)
 
 -- the lines that a beginning of the input completes are all but some last ones
 pub all_but : (input left line line' output output' : List ℕ) (ok ok' : Bool) → Takes [] true input line ok output → Takes line ok left line' ok' output'
     → (more : List (List ℕ)) × AnswersAllBut more (input ++ left) output
 unfolding Takes-trans
-all_but input left line line' output output' ok ok' t u = let whole = Takes-trans [] input line left line' true ok ok' output output' t u in
-    (u.lines, record {
-      lines = t.lines; rest = line'; ok = ok;
-      cut = record { joined = whole.joined; unbroken = whole.unbroken tt; rest_unbroken = whole.rest_unbroken tt };
-      answered = record { outcomes = t.outcomes; each = t.each; written = t.written; all_accepted = t.all_accepted };
-    })
+all_but input left line line' output output' ok ok' t u = let whole = Takes-trans [] input line left line' true ok ok' output output' t u in (
+  u.lines,
+  record {
+    lines = t.lines;
+    rest = line';
+    ok = ok;
+    cut = record { joined = whole.joined; unbroken = whole.unbroken tt; rest_unbroken = whole.rest_unbroken tt };
+    answered = record { outcomes = t.outcomes; each = t.each; written = t.written; all_accepted = t.all_accepted };
+  },
+)
 
 -- ---- what waits and what is written
 
@@ -180,7 +206,9 @@ Emits-all held holds waiting h = record { written = waiting; appended = h; same 
 pub Emits-answer : (line : List ℕ) (a b : Option (List ℕ)) (w w' w'' : List ℕ) (ok : Bool) → Emits a w b w' [] → PutsAnswer line w' w'' ok
     → EmitsAnswer line a w b w'' ok
 Emits-answer line a b w w' w'' ok e p = record {
-  outcome = p.outcome; is = p.is; accepts = p.accepts;
+  outcome = p.outcome;
+  is = p.is;
+  accepts = p.accepts;
   emits = Emits-trans a b b w w' w'' [] (outcome_text p.outcome) e
       (record { written = []; appended = Appends-nil b; same = sym p.behind });
 }
@@ -189,7 +217,8 @@ Emits-answer line a b w w' w'' ok e p = record {
 pub WritesPart-after : (a b c : Option (List ℕ)) (w w' o o' : List ℕ) (e : RunError) → Emits a w b w' o → WritesPart b (w' ++ o') c e
     → WritesPart a (w ++ (o ++ o')) c e
 WritesPart-after a b c w w' o o' e m p = record {
-  written = m.written ++ p.written; missing = p.missing;
+  written = m.written ++ p.written;
+  missing = p.missing;
   appended = Appends-trans a b c m.written p.written m.appended p.appended;
   same = sym (append_assoc w o o') ∙ ap (λ x. x ++ o') m.same ∙ append_assoc m.written w' o' ∙ ap (λ x. m.written ++ x) p.same
       ∙ sym (append_assoc m.written p.written p.missing);
@@ -227,7 +256,13 @@ TakesEmitting-begun line front ok held w unbroken = record { output = []; taken 
 pub Stops-first : (line bytes : List ℕ) (ok : Bool) (held holds : Option (List ℕ)) (w : List ℕ) (e : RunError) → WritesPart held w holds e
     → Stops line ok bytes held w holds e
 Stops-first line bytes ok held holds w e p = record {
-  done = []; left = bytes; split = refl; line' = line; ok' = ok; output = []; taken = Takes-nil line ok;
+  done = [];
+  left = bytes;
+  split = refl;
+  line' = line;
+  ok' = ok;
+  output = [];
+  taken = Takes-nil line ok;
   part = subst (λ x. WritesPart held x holds e) (sym (append-nil w)) p;
 }
 
@@ -235,9 +270,12 @@ Stops-first line bytes ok held holds w e p = record {
 pub Stops-after : (line p line' q : List ℕ) (ok ok' : Bool) (a b c : Option (List ℕ)) (w w' : List ℕ) (e : RunError)
     → TakesEmitting line ok p line' ok' a w b w' → Stops line' ok' q b w' c e → Stops line ok (p ++ q) a w c e
 Stops-after line p line' q ok ok' a b c w w' e t s = record {
-  done = p ++ s.done; left = s.left;
+  done = p ++ s.done;
+  left = s.left;
   split = ap (λ x. p ++ x) s.split ∙ sym (append_assoc p s.done s.left);
-  line' = s.line'; ok' = s.ok'; output = t.output ++ s.output;
+  line' = s.line';
+  ok' = s.ok';
+  output = t.output ++ s.output;
   taken = Takes-trans line p line' s.done s.line' ok ok' s.ok' t.output s.output t.taken s.taken;
   part = WritesPart-after a b c w w' t.output s.output e t.emits s.part;
 }
@@ -257,7 +295,8 @@ Emits-whole a b w rest e none = subst (Appends a b) (sym (append-nil e.written) 
 -- a failed write
 pub WritesPart-write : (a b c : Option (List ℕ)) (w rest : List ℕ) → Emits a w b rest [] → Appends b c [] → WritesPart a w c Write
 WritesPart-write a b c w rest e h = record {
-  written = e.written ++ []; missing = rest;
+  written = e.written ++ [];
+  missing = rest;
   appended = Appends-trans a b c e.written [] e.appended h;
   same = sym (append-nil w) ∙ e.same ∙ ap (λ x. x ++ rest) (sym (append-nil e.written));
   allowed = tt;
@@ -304,8 +343,8 @@ pub completed : (line front line' line'' : List ℕ) (ok accepts : Bool) (a a' b
     → TakesEmitting line ok (ended front) line'' (ok && accepts) a w b w''
 completed line front line' line'' ok accepts a a' b w w' w'' unbroken items waits kept e none =
     let answered : EmitsAnswer (line ++ front) a w b w'' accepts =
-        subst (λ x. EmitsAnswer x a w b w'' accepts) items
-        (subst (λ x. EmitsAnswer line' x w b w'' accepts) kept (subst (λ x. EmitsAnswer line' a' x b w'' accepts) waits e)) in
+    subst (λ x. EmitsAnswer x a w b w'' accepts) items
+    (subst (λ x. EmitsAnswer line' x w b w'' accepts) kept (subst (λ x. EmitsAnswer line' a' x b w'' accepts) waits e)) in
     subst (λ x. TakesEmitting line ok (ended front) x (ok && accepts) a w b w'') (sym none) (TakesEmitting-line line front ok accepts a b w w'' unbroken answered)
 
 -- ---- a call that gathers or takes the rest, and may fail

@@ -6,12 +6,11 @@ ghost use Rattle.gix_config_value.specs.Value.{IsRefused, IsAccepted, HasText, R
 mod composition;
 mod kind;
 
+use arrayvec::ArrayString;
+use bstr::BStr;
 pub use composition::compose;
 pub(crate) use kind::kind_by_name;
 pub use kind::{Kind, normalize, same};
-
-use arrayvec::ArrayString;
-use bstr::BStr;
 
 /// A kind of value that has texts: which texts read to which value, and which one of them is canonical.
 pub trait Value: Copy + Eq {

@@ -1,13 +1,10 @@
 //! Values as JSON: a boolean as a truth value, an integer as the number of its product, and a suffix, a name or a
 //! set of attributes as the text that it is shown as.
-ghost use Rattle.std.specs.Prelude.{◌≡◌, Err};
-ghost use Rattle.serde_json.specs.Data.{boolean, number};
-ghost use Rattle.serde_json.specs.Find.{of_integer};
+ghost use Rattle.serde_json.specs.Data.{boolean};
 ghost use Rattle.gix_config_value.specs.Attribute.{attribute_shown};
 ghost use Rattle.gix_config_value.specs.Integer.{product};
-ghost use Rattle.gix_config_value.specs.Json.{IsJson, GivesJsonText};
+ghost use Rattle.gix_config_value.specs.Json.{IsJson, GivesJsonNumber, GivesJsonText};
 ghost use Rattle.gix_config_value.specs.Name.{name_shown};
-ghost use Rattle.gix_config_value.specs.Numerals.{IsInI64};
 ghost use Rattle.gix_config_value.specs.Suffix.{suffix_shown};
 
 use crate::boolean::Boolean;
@@ -54,8 +51,7 @@ impl Integer {
     /// The number times the factor of its suffix, as a JSON number. Takes no memory, and refuses with
     /// `JsonError::Overflow` exactly where that product leaves `i64`.
     pub fn to_json(&self, _alloc: Global) -> Result<Value, JsonError>
-        ensures in_range { IsInI64 (product self.now) → IsJson (number (of_integer (product self.now))) result }
-        ensures out_of_range { ¬ (IsInI64 (product self.now)) → result ≡ Err JsonError.Overflow }
+        ensures { GivesJsonNumber (product self.now) result }
     {
         match self.to_decimal() {
             Some(product) => Ok(Value::from(product)),
@@ -79,7 +75,8 @@ impl Name {
     pub fn to_json(&self, alloc: Global) -> Result<Value, JsonError>
         ensures { GivesJsonText (name_shown self.now) result }
     {
-        string(alloc, self.shown().as_str())
+        let name = self.shown();
+        string(alloc, name.as_str())
     }
 }
 
@@ -90,6 +87,7 @@ impl Attribute {
     pub fn to_json(&self, alloc: Global) -> Result<Value, JsonError>
         ensures { GivesJsonText (attribute_shown self.now.0) result }
     {
-        string(alloc, self.shown().as_str())
+        let words = self.shown();
+        string(alloc, words.as_str())
     }
 }

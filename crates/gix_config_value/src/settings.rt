@@ -30,7 +30,8 @@ pub fn lookup<'a, V: Value>(
         return Ok(default);
     };
     let input = entries[index].1;
-    match V::read(BStr::new(input)) {
+    let text = BStr::new(input);
+    match V::read(text) {
         Some(value) => Ok(value),
         None => Err(Refused { index, input }),
     }

@@ -1,4 +1,5 @@
 //! Boolean texts: their truth value, or that every reader refuses them with the whole input.
+use arrayvec::ArrayString;
 use bstr::{BStr, BString};
 use gix_config_value::canonical::{Value, normalize_as};
 use gix_config_value::{Boolean, Fault};
@@ -7,20 +8,26 @@ use std::borrow::CowSlice;
 use std::process::Abort;
 use std::test::Fail;
 
-/// Each way to read the input answers this truth value, or refuses the whole input.
-fn reads(rt: &impl Abort, alloc: Global, input: &[u8], wanted: Option<bool>) -> Result<(), Fail> {
+/// The text of a truth value.
+fn shown(truth: bool) -> &'static str {
+    if truth { "true" } else { "false" }
+}
+
+/// The input normalises to this truth value's text; none where it is refused.
+fn normalises_to(rt: &impl Abort, input: &[u8], wanted: Option<bool>) {
     let canonical = normalize_as::<Boolean>(BStr::from(input));
-    assert_eq!(rt; canonical.is_some(), wanted.is_some(), "normalised at {}", BStr::from(input));
-    if let (Some(text), Some(wanted)) = (canonical, wanted) {
-        assert_eq!(rt; text.as_str(), if wanted { "true" } else { "false" });
-        assert_eq!(rt; normalize_as::<Boolean>(BStr::from(text.as_str())), canonical);
-    }
+    assert_eq!(rt;
+        canonical.as_ref().map(ArrayString::as_str),
+        wanted.map(shown)
+    );
+}
+
+/// A reader over a borrowed byte string answers this truth value, or refuses the whole input.
+fn borrowed(rt: &impl Abort, input: &[u8], wanted: Option<bool>) {
     match Boolean::try_from(BStr::from(input)) {
         Ok(boolean) => {
-            assert_eq!(rt; Some(boolean.is_true()), wanted, "at {}", BStr::from(input));
-            assert_eq!(rt; bool::from(boolean), boolean.is_true());
-            let shown = if boolean.0 { "true" } else { "false" };
-            assert_eq!(rt; boolean.to_string(alloc)?.as_str(), shown);
+            assert_eq!(rt; Some(boolean.is_true()), wanted);
+            assert_eq!(rt; Some(bool::from(boolean)), wanted);
         }
         Err(error) => {
             assert_eq!(rt; wanted, None);
@@ -28,6 +35,22 @@ fn reads(rt: &impl Abort, alloc: Global, input: &[u8], wanted: Option<bool>) -> 
             assert_eq!(rt; error.input.as_bytes(), input);
         }
     }
+}
+
+/// The same of a borrowed text.
+fn of_text(rt: &impl Abort, input: &str, wanted: Option<bool>) {
+    match Boolean::try_from(input) {
+        Ok(boolean) => assert_eq!(rt; Some(boolean.0), wanted),
+        Err(error) => {
+            assert_eq!(rt; wanted, None);
+            assert_eq!(rt; error.fault, Fault::Boolean);
+            assert_eq!(rt; error.input.as_bytes(), input.as_bytes());
+        }
+    }
+}
+
+/// The same of an owned byte string, which is handed back.
+fn owned(rt: &impl Abort, alloc: Global, input: &[u8], wanted: Option<bool>) -> Result<(), Fail> {
     match Boolean::try_from(BString::from_slice(alloc, input)?) {
         Ok(boolean) => assert_eq!(rt; Some(boolean.0), wanted),
         Err(returned) => {
@@ -36,26 +59,33 @@ fn reads(rt: &impl Abort, alloc: Global, input: &[u8], wanted: Option<bool>) -> 
             assert_eq!(rt; returned.input.as_bytes(), input);
         }
     }
-    for cow in [CowSlice::Borrowed(input), CowSlice::Owned(Vec::from_slice(alloc, input)?)] {
-        match Boolean::try_from(cow) {
-            Ok(boolean) => assert_eq!(rt; Some(boolean.0), wanted),
-            Err(returned) => {
-                assert_eq!(rt; wanted, None);
-                assert_eq!(rt; returned.fault, Fault::Boolean);
-                assert_eq!(rt; returned.input.as_slice(), input);
-            }
+    Ok(())
+}
+
+/// The same of a slice that is borrowed or owned.
+fn cow(rt: &impl Abort, cow: CowSlice<'_, u8>, input: &[u8], wanted: Option<bool>) {
+    match Boolean::try_from(cow) {
+        Ok(boolean) => assert_eq!(rt; Some(boolean.0), wanted),
+        Err(returned) => {
+            assert_eq!(rt; wanted, None);
+            assert_eq!(rt; returned.fault, Fault::Boolean);
+            assert_eq!(rt; returned.input.as_slice(), input);
         }
     }
-    if let Ok(text) = std::str::from_utf8(input) {
-        match Boolean::try_from(text) {
-            Ok(boolean) => assert_eq!(rt; Some(boolean.0), wanted),
-            Err(error) => {
-                assert_eq!(rt; wanted, None);
-                assert_eq!(rt; error.fault, Fault::Boolean);
-                assert_eq!(rt; error.input.as_bytes(), input);
-            }
-        }
-    }
+}
+
+/// Each way to read the input answers this truth value, or refuses the whole input.
+fn reads(rt: &impl Abort, alloc: Global, input: &[u8], wanted: Option<bool>) -> Result<(), Fail> {
+    normalises_to(rt, input, wanted);
+    borrowed(rt, input, wanted);
+    owned(rt, alloc, input, wanted)?;
+    cow(rt, CowSlice::Borrowed(input), input, wanted);
+    cow(
+        rt,
+        CowSlice::Owned(Vec::from_slice(alloc, input)?),
+        input,
+        wanted,
+    );
     Ok(())
 }
 
@@ -110,6 +140,16 @@ fn truth_values(rt: HostRuntime) -> Result<(), Fail> {
         noughts.push('0')?;
     }
     reads(&rt, rt.alloc(), noughts.as_bytes(), Some(false))?;
+    for (input, wanted) in [
+        ("true", Some(true)),
+        ("tru", None),
+        ("", Some(false)),
+        ("-1", Some(true)),
+    ] {
+        of_text(&rt, input, wanted);
+    }
+    assert_eq!(rt; Boolean(true).to_string(rt.alloc())?.as_str(), "true");
+    assert_eq!(rt; Boolean(false).to_string(rt.alloc())?.as_str(), "false");
     Ok(())
 }
 
@@ -119,7 +159,7 @@ fn one_byte_order_and_default(rt: HostRuntime) {
     for byte in 0..=255_u8 {
         let input: &[u8] = &[byte];
         if Boolean::read(BStr::from(input)).is_some() {
-            accepted += 1;
+            accepted = accepted.saturating_add(1);
         }
     }
     assert_eq!(rt; accepted, 10);

@@ -9,55 +9,71 @@ use std::borrow::CowSlice;
 use std::process::Abort;
 use std::test::Fail;
 
-/// Each way to read the input answers the integer with this canonical text, or refuses the whole input.
-fn reads(rt: &impl Abort, alloc: Global, input: &[u8], wanted: Option<&str>) -> Result<(), Fail> {
-    let read = scan(input);
-    let canonical: Option<ArrayString<127>> = normalize_as::<Integer>(BStr::from(input));
-    assert_eq!(rt; canonical.is_some(), wanted.is_some(), "normalised at {}", BStr::from(input));
-    if let (Some(text), Some(wanted)) = (canonical, wanted) {
-        assert_eq!(rt; text.as_str(), wanted);
-        assert_eq!(rt; normalize_as::<Integer>(BStr::from(wanted)), canonical, "again at {wanted}");
+/// The input normalises to this text, and the text to itself; none where it is refused.
+fn normalises_to(rt: &impl Abort, input: &[u8], wanted: Option<&str>) {
+    let canonical = normalize_as::<Integer>(BStr::from(input));
+    assert_eq!(rt; canonical.as_ref().map(ArrayString::as_str), wanted);
+    if let Some(text) = wanted {
+        assert_eq!(rt; normalize_as::<Integer>(BStr::from(text)), canonical);
     }
+}
+
+/// A reader over a borrowed byte string reads what `scan` does, or refuses the whole input.
+fn borrowed(rt: &impl Abort, input: &[u8]) {
     match Integer::try_from(BStr::from(input)) {
-        Ok(integer) => {
-            assert_eq!(rt; Some(integer), read);
-            assert_eq!(rt; Some(integer.to_string(alloc)?.as_str()), wanted);
-        }
+        Ok(integer) => assert_eq!(rt; Some(integer), scan(input)),
         Err(error) => {
-            assert_eq!(rt; read, None);
-            assert_eq!(rt; wanted, None);
+            assert_eq!(rt; scan(input), None);
             assert_eq!(rt; error.fault, Fault::Integer);
             assert_eq!(rt; error.input.as_bytes(), input);
         }
     }
+}
+
+/// The same of a borrowed text.
+fn of_text(rt: &impl Abort, input: &str) {
+    match Integer::try_from(input) {
+        Ok(integer) => assert_eq!(rt; Some(integer), scan(input.as_bytes())),
+        Err(error) => {
+            assert_eq!(rt; scan(input.as_bytes()), None);
+            assert_eq!(rt; error.fault, Fault::Integer);
+            assert_eq!(rt; error.input.as_bytes(), input.as_bytes());
+        }
+    }
+}
+
+/// The same of an owned byte string, which is handed back.
+fn owned(rt: &impl Abort, alloc: Global, input: &[u8]) -> Result<(), Fail> {
     match Integer::try_from(BString::from_slice(alloc, input)?) {
-        Ok(integer) => assert_eq!(rt; Some(integer), read),
+        Ok(integer) => assert_eq!(rt; Some(integer), scan(input)),
         Err(returned) => {
-            assert_eq!(rt; read, None);
+            assert_eq!(rt; scan(input), None);
             assert_eq!(rt; returned.fault, Fault::Integer);
             assert_eq!(rt; returned.input.as_bytes(), input);
         }
     }
-    for cow in [CowSlice::Borrowed(input), CowSlice::Owned(Vec::from_slice(alloc, input)?)] {
-        match Integer::try_from(cow) {
-            Ok(integer) => assert_eq!(rt; Some(integer), read),
-            Err(returned) => {
-                assert_eq!(rt; read, None);
-                assert_eq!(rt; returned.fault, Fault::Integer);
-                assert_eq!(rt; returned.input.as_slice(), input);
-            }
+    Ok(())
+}
+
+/// The same of a slice that is borrowed or owned.
+fn cow(rt: &impl Abort, cow: CowSlice<'_, u8>, input: &[u8]) {
+    match Integer::try_from(cow) {
+        Ok(integer) => assert_eq!(rt; Some(integer), scan(input)),
+        Err(returned) => {
+            assert_eq!(rt; scan(input), None);
+            assert_eq!(rt; returned.fault, Fault::Integer);
+            assert_eq!(rt; returned.input.as_slice(), input);
         }
     }
-    if let Ok(text) = std::str::from_utf8(input) {
-        match Integer::try_from(text) {
-            Ok(integer) => assert_eq!(rt; Some(integer), read),
-            Err(error) => {
-                assert_eq!(rt; read, None);
-                assert_eq!(rt; error.fault, Fault::Integer);
-                assert_eq!(rt; error.input.as_bytes(), input);
-            }
-        }
-    }
+}
+
+/// Each way to read the input answers the integer with this canonical text, or refuses the whole input.
+fn reads(rt: &impl Abort, alloc: Global, input: &[u8], wanted: Option<&str>) -> Result<(), Fail> {
+    normalises_to(rt, input, wanted);
+    borrowed(rt, input);
+    owned(rt, alloc, input)?;
+    cow(rt, CowSlice::Borrowed(input), input);
+    cow(rt, CowSlice::Owned(Vec::from_slice(alloc, input)?), input);
     Ok(())
 }
 
@@ -93,6 +109,7 @@ fn normalises(rt: HostRuntime) -> Result<(), Fail> {
     ];
     for (input, wanted) in rows {
         reads(&rt, rt.alloc(), input.as_bytes(), Some(wanted))?;
+        of_text(&rt, input);
     }
     Ok(())
 }
@@ -146,6 +163,9 @@ fn refuses(rt: HostRuntime) -> Result<(), Fail> {
     for input in rows {
         reads(&rt, rt.alloc(), input, None)?;
     }
+    for input in ["", "08", "9223372036854775808", "5 ", "\u{6b}\u{e9}"] {
+        of_text(&rt, input);
+    }
     Ok(())
 }
 
@@ -172,21 +192,20 @@ fn long_texts(rt: HostRuntime) -> Result<(), Fail> {
 }
 
 #[test]
-fn texts_of_one_byte(rt: HostRuntime) -> Result<(), Fail> {
+fn texts_of_one_byte(rt: HostRuntime) {
     let mut integers = 0_usize;
     let mut suffixes = 0_usize;
     for byte in 0..=255_u8 {
         let input: &[u8] = &[byte];
         if scan(input).is_some() {
-            integers += 1;
+            integers = integers.saturating_add(1);
         }
         if Suffix::read(BStr::from(input)).is_some() {
-            suffixes += 1;
+            suffixes = suffixes.saturating_add(1);
         }
     }
     assert_eq!(rt; integers, 10);
     assert_eq!(rt; suffixes, 6);
-    Ok(())
 }
 
 #[test]
@@ -206,15 +225,34 @@ fn suffixes(rt: HostRuntime) -> Result<(), Fail> {
     ];
     for (input, wanted) in rows {
         let text = normalize_as::<Suffix>(BStr::from(input));
-        assert_eq!(rt; text.is_some(), wanted.is_some(), "at {input}");
-        if let (Some(text), Some(wanted)) = (text, wanted) {
-            assert_eq!(rt; text.as_str(), wanted);
-        }
+        assert_eq!(rt; text.as_ref().map(ArrayString::as_str), wanted);
         let read = Suffix::read(BStr::from(input));
         assert_eq!(rt; input.parse::<Suffix>().ok(), read);
         assert_eq!(rt; Suffix::try_from(BStr::from(input)).ok(), read);
     }
-    for (suffix, offset, shown) in [(Suffix::Kibi, 10, "k"), (Suffix::Mebi, 20, "m"), (Suffix::Gibi, 30, "g")] {
+    Ok(())
+}
+
+#[test]
+fn shown(rt: HostRuntime) -> Result<(), Fail> {
+    let sixteen = Integer {
+        value: 16,
+        suffix: Some(Suffix::Kibi),
+    };
+    assert_eq!(rt; sixteen.to_string(rt.alloc())?.as_str(), "16k");
+    let lowest = Integer {
+        value: i64::MIN,
+        suffix: None,
+    };
+    assert_eq!(rt;
+        lowest.to_string(rt.alloc())?.as_str(),
+        "-9223372036854775808"
+    );
+    for (suffix, offset, shown) in [
+        (Suffix::Kibi, 10, "k"),
+        (Suffix::Mebi, 20, "m"),
+        (Suffix::Gibi, 30, "g"),
+    ] {
         assert_eq!(rt; suffix.bitwise_offset(), offset);
         assert_eq!(rt; suffix.to_string(rt.alloc())?.as_str(), shown);
     }
@@ -222,18 +260,48 @@ fn suffixes(rt: HostRuntime) -> Result<(), Fail> {
 }
 
 #[test]
-fn values(rt: HostRuntime) -> Result<(), Fail> {
-    assert_eq!(rt; scan(b"-0K"), Some(Integer { value: 0, suffix: Some(Suffix::Kibi) }));
+fn values(rt: HostRuntime) {
+    assert_eq!(rt;
+        scan(b"-0K"),
+        Some(Integer {
+            value: 0,
+            suffix: Some(Suffix::Kibi)
+        })
+    );
     assert_eq!(rt; scan(b"0x10"), scan(b"020"));
     assert!(rt; scan(b"1k") != scan(b"1024"));
-    assert_eq!(rt; Integer::default(), Integer { value: 0, suffix: None });
+    assert_eq!(rt;
+        Integer::default(),
+        Integer {
+            value: 0,
+            suffix: None
+        }
+    );
     let rising = [
-        Integer { value: -1, suffix: Some(Suffix::Gibi) },
-        Integer { value: 1, suffix: None },
-        Integer { value: 1, suffix: Some(Suffix::Kibi) },
-        Integer { value: 1, suffix: Some(Suffix::Mebi) },
-        Integer { value: 1, suffix: Some(Suffix::Gibi) },
-        Integer { value: 2, suffix: None },
+        Integer {
+            value: -1,
+            suffix: Some(Suffix::Gibi),
+        },
+        Integer {
+            value: 1,
+            suffix: None,
+        },
+        Integer {
+            value: 1,
+            suffix: Some(Suffix::Kibi),
+        },
+        Integer {
+            value: 1,
+            suffix: Some(Suffix::Mebi),
+        },
+        Integer {
+            value: 1,
+            suffix: Some(Suffix::Gibi),
+        },
+        Integer {
+            value: 2,
+            suffix: None,
+        },
     ];
     for (at, lower) in rising.iter().enumerate() {
         for (other, higher) in rising.iter().enumerate() {
@@ -241,15 +309,28 @@ fn values(rt: HostRuntime) -> Result<(), Fail> {
             assert_eq!(rt; lower == higher, at == other);
         }
     }
+}
+
+#[test]
+fn texts_of_faults(rt: HostRuntime) -> Result<(), Fail> {
     for (fault, text) in [
-        (Fault::Boolean, "Booleans need to be 'no', 'off', 'false', '' or 'yes', 'on', 'true' or any number"),
+        (
+            Fault::Boolean,
+            "Booleans need to be 'no', 'off', 'false', '' or 'yes', 'on', 'true' or any number",
+        ),
         (
             Fault::Integer,
             "Integers needs to be positive or negative numbers which may have a suffix like 1k, 42, or 50G",
         ),
-        (Fault::Overflow, "integer suffix multiplication overflows `i64`"),
+        (
+            Fault::Overflow,
+            "integer suffix multiplication overflows `i64`",
+        ),
         (Fault::OutOfRange, "integer is out of range"),
-        (Fault::Color, "Colors are specific color values and their attributes, like 'brightred', or 'blue'"),
+        (
+            Fault::Color,
+            "Colors are specific color values and their attributes, like 'brightred', or 'blue'",
+        ),
     ] {
         assert_eq!(rt; fault.to_string(rt.alloc())?.as_str(), text);
     }

@@ -6,7 +6,11 @@ use std::process::Abort;
 use std::test::Fail;
 
 /// The number, or the fault; a refusal holds the whole input.
-fn number<T: TryFrom<i64> + Copy + PartialEq + Debug>(rt: &impl Abort, input: &str, wanted: Result<T, Fault>)
+fn number<T: TryFrom<i64> + Copy + PartialEq + Debug>(
+    rt: &impl Abort,
+    input: &str,
+    wanted: Result<T, Fault>,
+)
 where
     T::Error: Drop,
 {

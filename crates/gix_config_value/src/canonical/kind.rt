@@ -5,8 +5,8 @@ ghost use Rattle.gix_config_value.specs.Kinds.{kind_name, KindGrammar, KindCanon
 ghost use Rattle.gix_config_value.specs.Value.{Normalizes, IsOnlyText, Compares};
 ghost use Rattle.gix_config_value.specs.declared.canonical.kind.Kind as kind;
 
-use crate::canonical::{Value, normalize_as};
 use crate::boolean::Boolean;
+use crate::canonical::{Value, normalize_as};
 use crate::color::{Attribute, Color, Name};
 use crate::integer::{Amount, Integer, Suffix};
 use arrayvec::ArrayString;

@@ -14,5 +14,4 @@ pub fn replaced_values<V: Value>()
 /// A name has one answer at most: for each default one value, or one refusal, and never both.
 pub fn one_answer<V: Value>()
     ensures { (es : List (List ℕ × List ℕ)) → OneAnswer V.grammar es }
-{
-}
+{}
