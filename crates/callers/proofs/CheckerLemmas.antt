@@ -1,7 +1,7 @@
 -- Findings, line by line.
 use Rattle.std.proofs.Common.{◌≡◌, ◌+◌, ℕ, List, [], ◌∷◌, ◌++◌, ◌==◌, length, Bool, true, false, cond, inl, inr, refl, sym, subst, ap, ◌∙◌, append_assoc, append-nil, eqb-true, arith}
 use Rattle.std.specs.List.{onto_first}
-use Rattle.gix_config_value.specs.declared.canonical.kind.Kind.{Kind}
+use Rattle.gix_config_value.specs.declared.kind.Kind.{Kind}
 use Rattle.callers.specs.declared.checker.Finding.{Finding}
 use Rattle.callers.specs.Lines.{file_lines, counted_lines, without_empty_last}
 use Rattle.callers.specs.Checker.{FindingsFrom, done, canonical, found, GoesOn}

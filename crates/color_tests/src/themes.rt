@@ -1,7 +1,7 @@
 //! A theme's base style and what stands over it, as one style.
 ghost use Rattle.std.specs.Prelude.{[], ◌∷◌, ◌++◌};
-ghost use Rattle.gix_config_value.specs.Color.{ColorText};
-ghost use Rattle.gix_config_value.specs.Value.{Reads};
+ghost use Rattle.gix_config_value.specs.Color{ColorText};
+ghost use Rattle.gix_config_value.specs.Value{Reads};
 
 use gix_config_value::Color;
 use gix_config_value::canonical::compose;

@@ -1,26 +1,26 @@
 -- What holds of every kind: its name tells it apart, and each text is refused or has a canonical text.
 use Rattle.std.proofs.Common.{◌≡◌, ◌≢◌, ℕ, ◌⊎◌, inl, inr, List, codes}
-use Rattle.gix_config_value.specs.declared.canonical.kind.Kind.{Kind}
-use Rattle.gix_config_value.specs.declared.canonical.kind.Kind.TheVariants as kinds
+use Rattle.gix_config_value.specs.declared.kind.Kind.{Kind}
+use Rattle.gix_config_value.specs.declared.kind.Kind.TheVariants as kinds
 use Rattle.gix_config_value.specs.Kinds.{kind_name, KindGrammar, KindCanonical}
-use Rattle.gix_config_value.specs.Value.{IsAccepted, IsRefused, HasText, IsTextOf}
-use Rattle.gix_config_value.specs.ValueLaws.{text_told}
-use Rattle.gix_config_value.specs.Suffix.{SuffixText, CanonicalSuffix, suffix_shown}
-use Rattle.gix_config_value.specs.SuffixLaws.{suffix_decided, suffix_shown_is_text}
-use Rattle.gix_config_value.specs.Integer.{IntegerText, CanonicalInteger, integer_shown}
-use Rattle.gix_config_value.specs.IntegerLaws.{integer_decided}
-use Rattle.gix_config_value.specs.IntegerShownLaws.{integer_shown_is_text}
-use Rattle.gix_config_value.specs.Boolean.{BooleanText, CanonicalBoolean, boolean_shown}
-use Rattle.gix_config_value.specs.BooleanLaws.{boolean_decided, boolean_shown_is_text}
-use Rattle.gix_config_value.specs.Name.{NameText, CanonicalName, name_shown}
-use Rattle.gix_config_value.specs.NameLaws.{name_decided, name_shown_is_text}
-use Rattle.gix_config_value.specs.Attribute.{AttributeText, CanonicalAttribute, attribute_shown}
-use Rattle.gix_config_value.specs.AttributeLaws.{attribute_decided, attribute_shown_is_text}
-use Rattle.gix_config_value.specs.Color.{ColorText, CanonicalColor, color_shown}
-use Rattle.gix_config_value.specs.ColorLaws.{color_decided}
-use Rattle.gix_config_value.specs.ColorShownLaws.{color_shown_is_text}
-use Rattle.gix_config_value.specs.Amount.{AmountText, CanonicalAmount, amount_shown}
-use Rattle.gix_config_value.specs.AmountLaws.{amount_decided, amount_shown_is_text}
+use Rattle.config_text.specs.Value.{IsAccepted, IsRefused, HasText, IsTextOf}
+use Rattle.config_text.specs.Laws.Value.{text_told}
+use Rattle.config_integer.specs.Suffix.{SuffixText, CanonicalSuffix, suffix_shown}
+use Rattle.config_integer.specs.Laws.Suffix.{suffix_decided, suffix_shown_is_text}
+use Rattle.config_integer.specs.Integer.{IntegerText, CanonicalInteger, integer_shown}
+use Rattle.config_integer.specs.Laws.Integer.{integer_decided}
+use Rattle.config_integer.specs.Laws.IntegerShown.{integer_shown_is_text}
+use Rattle.config_boolean.specs.Boolean.{BooleanText, CanonicalBoolean, boolean_shown}
+use Rattle.config_boolean.specs.Laws.Boolean.{boolean_decided, boolean_shown_is_text}
+use Rattle.config_word.specs.Name.{NameText, CanonicalName, name_shown}
+use Rattle.config_word.specs.Laws.Name.{name_decided, name_shown_is_text}
+use Rattle.config_word.specs.Attribute.{AttributeText, CanonicalAttribute, attribute_shown}
+use Rattle.config_word.specs.Laws.Attribute.{attribute_decided, attribute_shown_is_text}
+use Rattle.config_color.specs.Color.{ColorText, CanonicalColor, color_shown}
+use Rattle.config_color.specs.Laws.Color.{color_decided}
+use Rattle.config_color.specs.Laws.ColorShown.{color_shown_is_text}
+use Rattle.config_integer.specs.Amount.{AmountText, CanonicalAmount, amount_shown}
+use Rattle.config_integer.specs.Laws.Amount.{amount_decided, amount_shown_is_text}
 
 -- a text is the name of a kind, or of none
 pub kind_told : (head : List ℕ) → ((kind : Kind) × (kind_name kind ≡ head)) ⊎ ((kind : Kind) → kind_name kind ≢ head)

@@ -3,9 +3,3 @@ pub mod LineLemmas
 pub mod KindLemmas
 pub mod StepLemmas
 pub mod RunLemmas
-pub mod IntegerCounting
-pub mod SettingsLemmas
-pub mod ReplacedValues
-pub mod OneAnswer
-pub mod SeveralAttributes
-pub mod ColorOrder

@@ -7,7 +7,7 @@ use Rattle.bstr.specs.Find.{Passes, Nowhere, NoneBefore, is_byte}
 use Rattle.std.proofs.Math.Seq.{take-length}
 use Rattle.std.proofs.Math.ListN.{drop_of_length-le}
 use Rattle.gix_config_value.specs.Answers.{IsUnbroken, line_head, line_value}
-use Rattle.gix_config_value.specs.Steps.{CutsLine}
+use Rattle.gix_config_value.specs.Reading.Steps.{CutsLine}
 
 false_from : (b : Bool) → ¬ (b ≡ true) → b ≡ false
 false_from true n = absurd (n refl)

@@ -6,13 +6,13 @@ use Rattle.std.proofs.Math.Bool.{and-true}
 use Rattle.std.proofs.lemmas.List.Folds.{list_all-append}
 use Rattle.std.proofs.lemmas.Grind.{flat_map-append}
 use Rattle.std.proofs.lemmas.Bool.Decides.{eqb_tells}
-use Rattle.gix_config_value.specs.declared.canonical.kind.Kind.{Kind}
+use Rattle.gix_config_value.specs.declared.kind.Kind.{Kind}
 use Rattle.gix_config_value.specs.declared.program.RunError.{RunError}
 use Rattle.gix_config_value.specs.declared.program.RunError.TheVariants.{Write}
 use Rattle.gix_config_value.specs.Kinds.{kind_name, KindValue, KindGrammar, KindCanonical}
-use Rattle.gix_config_value.specs.Value.{IsTextOf}
+use Rattle.config_text.specs.Value.{IsTextOf}
 use Rattle.gix_config_value.specs.Answers.{ended, IsUnbroken, line_head, line_value, Outcome, accepted, refused, unknown, LineOutcome, outcome_text, is_accepted, Answers, IsBeginningOfAnswers, AnswersAllBut}
-use Rattle.gix_config_value.specs.Steps.{PutsAnswer, Takes, AnswersLast, Emits, EmitsAnswer, TakesEmitting, WritesPart, Stops, CutsLine, AnswersUpTo}
+use Rattle.gix_config_value.specs.Reading.Steps.{PutsAnswer, Takes, AnswersLast, Emits, EmitsAnswer, TakesEmitting, WritesPart, Stops, CutsLine, AnswersUpTo}
 use Rattle.gix_config_value.proofs.KindLemmas.{kind_told, kind_decided}
 use Rattle.gix_config_value.proofs.ReaderWriterLemmas.{Appends-nil, Appends-trans}
 

@@ -1,23 +1,23 @@
 -- The kinds of value: for each its name, its values, its grammar and its canonical grammar.
 use Rattle.std.specs.Prelude.{ℕ, List, codes, Bool, Option}
 use Rattle.arrayvec.specs.ArrayString.{ArrayString}
-use Rattle.gix_config_value.specs.declared.canonical.kind.Kind.{Kind}
-use Rattle.gix_config_value.specs.declared.canonical.kind.Kind.TheVariants as kinds
-use Rattle.gix_config_value.specs.declared.integer.suffix.Suffix as suffix
-use Rattle.gix_config_value.specs.declared.integer.Integer as integer
-use Rattle.gix_config_value.specs.declared.boolean.Boolean as boolean
-use Rattle.gix_config_value.specs.declared.color.name.Name as name
-use Rattle.gix_config_value.specs.declared.color.attribute.Attribute as attribute
-use Rattle.gix_config_value.specs.declared.color.Color as color
-use Rattle.gix_config_value.specs.declared.integer.amount.Amount as amount
-use Rattle.gix_config_value.specs.Suffix.{SuffixText, CanonicalSuffix}
-use Rattle.gix_config_value.specs.Integer.{IntegerText, CanonicalInteger}
-use Rattle.gix_config_value.specs.Boolean.{BooleanText, CanonicalBoolean}
-use Rattle.gix_config_value.specs.Name.{NameText, CanonicalName}
-use Rattle.gix_config_value.specs.Attribute.{AttributeText, CanonicalAttribute}
-use Rattle.gix_config_value.specs.Color.{ColorText, CanonicalColor}
-use Rattle.gix_config_value.specs.Composition.{Joins, ComparesWords}
-use Rattle.gix_config_value.specs.Amount.{AmountText, CanonicalAmount}
+use Rattle.gix_config_value.specs.declared.kind.Kind.{Kind}
+use Rattle.gix_config_value.specs.declared.kind.Kind.TheVariants as kinds
+use Rattle.config_integer.specs.declared.suffix.Suffix as suffix
+use Rattle.config_integer.specs.declared.integer.Integer as integer
+use Rattle.config_boolean.specs.declared.boolean.Boolean as boolean
+use Rattle.config_word.specs.declared.name.Name as name
+use Rattle.config_word.specs.declared.attribute.Attribute as attribute
+use Rattle.config_color.specs.declared.color.Color as color
+use Rattle.config_integer.specs.declared.amount.Amount as amount
+use Rattle.config_integer.specs.Suffix.{SuffixText, CanonicalSuffix}
+use Rattle.config_integer.specs.Integer.{IntegerText, CanonicalInteger}
+use Rattle.config_boolean.specs.Boolean.{BooleanText, CanonicalBoolean}
+use Rattle.config_word.specs.Name.{NameText, CanonicalName}
+use Rattle.config_word.specs.Attribute.{AttributeText, CanonicalAttribute}
+use Rattle.config_color.specs.Color.{ColorText, CanonicalColor}
+use Rattle.config_color.specs.Composition.{Joins, ComparesWords}
+use Rattle.config_integer.specs.Amount.{AmountText, CanonicalAmount}
 
 -- the name that a line begins with
 abbrev pub kind_name : Kind → List ℕ

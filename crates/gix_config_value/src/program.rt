@@ -6,9 +6,9 @@ ghost use Rattle.std.specs.Prelude.{◌≡◌, ℕ, List, ◌+◌, ◌≤◌, �
 ghost use Rattle.bstr.specs.BStr.{bstr_bytes};
 ghost use Rattle.std.specs.Io.KnownBytes.{Appends, Keeps};
 ghost use Rattle.gix_config_value.specs.Answers.{ended, line_head, line_value, IsUnbroken, Completes, Fails, status_of};
-ghost use Rattle.gix_config_value.specs.Steps.{CutsLine, PutsAnswer, Takes, Emits, WritesPart, Stops, EmitsAnswer, TakesEmitting, AnswersUpTo, EndsAnswered, EndsEarly};
+ghost use Rattle.gix_config_value.specs.Reading.Steps.{CutsLine, PutsAnswer, Takes, Emits, WritesPart, Stops, EmitsAnswer, TakesEmitting, AnswersUpTo, EndsAnswered, EndsEarly};
 
-use crate::canonical::{kind_by_name, normalize};
+use crate::kind::{kind_by_name, normalize};
 use arrayvec::ArrayString;
 use bstr::{BStr, ByteSlice};
 use std::alloc::{AllocError, Global};

@@ -5,7 +5,7 @@ ghost use Rattle.std.specs.Prelude.{◌≡◌, ℤ, IfSome};
 ghost use Rattle.serde_json.specs.Data.{number};
 ghost use Rattle.serde_json.specs.Find.{of_integer};
 ghost use Rattle.serde_json.specs.View.{view};
-ghost use Rattle.gix_config_value.specs.Integer.{ProductInRange};
+ghost use Rattle.gix_config_value.specs.Integer{ProductInRange};
 
 #[cfg(test)]
 mod documents;

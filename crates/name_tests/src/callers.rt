@@ -1,9 +1,9 @@
 //! Callers of names and attributes, each proved over their contracts alone.
 ghost use Rattle.std.specs.Prelude.{◌≡◌, ◌==◌, ◌↔◌, IfSome, IsTrue, bit_and, bit_or};
-ghost use Rattle.gix_config_value.specs.declared.color.name.Name.TheVariants as names;
-ghost use Rattle.gix_config_value.specs.declared.color.words.Item.TheVariants as items;
-ghost use Rattle.gix_config_value.specs.Name.{NameText};
-ghost use Rattle.gix_config_value.specs.Word.{ItemText};
+ghost use Rattle.config_word.specs.declared.name.Name.TheVariants as names;
+ghost use Rattle.config_word.specs.declared.item.Item.TheVariants as items;
+ghost use Rattle.gix_config_value.specs.Name{NameText};
+ghost use Rattle.gix_config_value.specs.Item{ItemText};
 
 use bitflags::Flags;
 use gix_config_value::color::{Attribute, Item, Name, word};

@@ -2,9 +2,9 @@
 use Rattle.std.proofs.Common.{◌≡◌, ℕ, List, Option, None, Some, Result, Err, IsUtf8, subst}
 use Rattle.std.specs.declared.string.String.{String}
 use Rattle.std.specs.declared.alloc.Global.{Global}
-use Rattle.gix_config_value.specs.Interpolation.{GivesAnswered, GivesText, join}
-use Rattle.gix_config_value.specs.declared.path.interpolate.Error.{Error}
-use Rattle.gix_config_value.specs.declared.path.interpolate.Error.TheVariants.{UserNotFound}
+use Rattle.gix_config_value.specs.Interpolation{GivesAnswered, GivesText, join}
+use Rattle.config_path.specs.declared.interpolate.Error.{Error}
+use Rattle.config_path.specs.declared.interpolate.Error.TheVariants.{UserNotFound}
 
 pub joined_below : (answer : Option (List ℕ)) (dir rest : List ℕ) (r : Result (String Global) Error) → answer ≡ Some dir → IsUtf8 rest
     → GivesAnswered answer (Some rest) r → GivesText (join dir rest) r

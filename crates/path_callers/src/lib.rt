@@ -4,10 +4,10 @@
 ghost use Rattle.std.specs.Prelude.{◌≡◌, ◌++◌, ℕ, List, codes, Option, None, Some, Err, IsUtf8, option_copied, if◌then◌else◌};
 ghost use Rattle.std.specs.Str.{bytes_eq};
 ghost use Rattle.bstr.specs.Owned.{bstring_bytes};
-ghost use Rattle.gix_config_value.specs.Interpolation.{HasForm, GivesText, join};
+ghost use Rattle.gix_config_value.specs.Interpolation{HasForm, GivesText, join};
 ghost use Rattle.gix_config_value.specs.Interpolation.Form.{below_user};
-ghost use Rattle.gix_config_value.specs.Passwd.{home_in};
-ghost use Rattle.gix_config_value.specs.declared.path.interpolate.Error.TheVariants.{LookupMissing, UserNotFound};
+ghost use Rattle.gix_config_value.specs.Passwd{home_in};
+ghost use Rattle.config_path.specs.declared.interpolate.Error.TheVariants.{LookupMissing, UserNotFound};
 
 use gix_config_value::Path;
 use gix_config_value::path::interpolate::{Context, Error, absent, home_for_user};

@@ -1,5 +1,5 @@
 use Rattle.std.proofs.Common.{◌≡◌, Some, List, ◌∷◌, ℕ, arith, codes, rules, option_copied, IsUtf8, sym, ◌∙◌}
-use Rattle.gix_config_value.specs.Interpolation.{HasForm}
+use Rattle.gix_config_value.specs.Interpolation{HasForm}
 use Rattle.gix_config_value.specs.Interpolation.Form.{below_user}
 use Rattle.path_callers.proofs.Answered.{joined_below}
 use Rattle.path_callers.proofs.path_of_service.Goals as goal

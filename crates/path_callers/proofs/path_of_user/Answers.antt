@@ -1,6 +1,6 @@
 use Rattle.std.proofs.Common.{◌≡◌, Some, option_copied, rules, sym, ◌∙◌}
 use Rattle.gix_config_value.specs.Interpolation.Form.{below_user}
-use Rattle.gix_config_value.specs.Passwd.{home_in}
+use Rattle.gix_config_value.specs.Passwd{home_in}
 use Rattle.path_callers.proofs.Answered.{joined_below, not_found}
 use Rattle.path_callers.proofs.path_of_user.Goals as goal
 

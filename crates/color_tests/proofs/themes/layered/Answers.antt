@@ -1,6 +1,6 @@
 use Rattle.std.proofs.Common.{[], ◌∷◌}
-use Rattle.gix_config_value.specs.CompositionLaws.{composed_reads, refused_front, refused_back}
-use Rattle.gix_config_value.specs.WordsLaws.{space_byte}
+use Rattle.config_color.specs.Laws.Composition{composed_reads, refused_front, refused_back}
+use Rattle.config_color.specs.Laws.Split{space_byte}
 use Rattle.color_tests.proofs.themes.layered.Goals as goal
 
 pub returns-in-Ok-Ok : goal.returns-in-Ok-Ok

@@ -1,5 +1,5 @@
 use Rattle.std.proofs.Common.{length}
-use Rattle.gix_config_value.specs.Steps.{AnswersUpTo}
+use Rattle.gix_config_value.specs.Reading.Steps.{AnswersUpTo}
 use Rattle.gix_config_value.proofs.program.answer_lines.Given as goal
 
 abbrev pub invariant-loop-place : goal.invariant-loop-place

@@ -1,5 +1,5 @@
 use Rattle.std.proofs.Common.{◌≡◌, []}
-use Rattle.gix_config_value.specs.Steps.{Goes}
+use Rattle.gix_config_value.specs.Reading.Steps.{Goes}
 use Rattle.gix_config_value.proofs.program.run.Given as goal
 
 abbrev pub invariant-loop : goal.invariant-loop

@@ -1,5 +1,5 @@
 use Rattle.std.proofs.Common.{[], length}
-use Rattle.gix_config_value.specs.Steps.{Emits}
+use Rattle.gix_config_value.specs.Reading.Steps.{Emits}
 use Rattle.gix_config_value.proofs.program.write_out.Given as goal
 
 abbrev pub invariant-loop-rest : goal.invariant-loop-rest

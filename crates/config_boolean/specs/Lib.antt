@@ -1,0 +1,3 @@
+pub mod Boolean
+pub mod Orders
+pub mod Laws

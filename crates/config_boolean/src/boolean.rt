@@ -1,0 +1,198 @@
+//! Booleans: words in any case, and numbers.
+ghost use Rattle.std.specs.Prelude.{◌≡◌, Some, MatchOption, MatchBool};
+ghost use Rattle.bstr.specs.BStr.{bstr_bytes};
+ghost use Rattle.bstr.specs.Owned.{bstring_bytes};
+ghost use Rattle.std.specs.Cow.{cow_slice_items};
+ghost use Rattle.std.proofs.Common.{rules};
+ghost use Rattle.config_text.specs.declared.errors.Fault.TheVariants as faults;
+ghost use Rattle.config_text.specs.Value.{Reads};
+ghost use Rattle.config_text.specs.Refusals.{ReadsBytes, ReadsText, ReadsOwned};
+ghost use Rattle.config_boolean.specs.Laws.Boolean.{boolean_one_value, boolean_one_text, boolean_canonical_reads, boolean_shown_is_text, boolean_decided};
+ghost use Rattle.config_boolean.specs.Boolean.{Affirms, Denies, BooleanText, CanonicalBoolean, boolean_shown};
+ghost use Rattle.serde_json.specs.Data.{boolean};
+ghost use Rattle.config_text.specs.Json.{IsJson};
+
+use arrayvec::ArrayString;
+use bstr::{BStr, BString};
+use config_integer::amount::Amount;
+use config_text::errors::{Error, Fault, Returned};
+use config_text::json::JsonError;
+use config_text::value::Value;
+use serde_json::Value as JsonValue;
+use std::alloc::Global;
+use std::borrow::CowSlice;
+use std::fmt;
+
+/// A truth value.
+#[derive(Clone, Copy, PartialEq, Eq, PartialOrd, Ord, Hash, Debug, Default)]
+pub struct Boolean(pub bool);
+
+/// The truth value that a word names, in any case of its letters; the empty text is false.
+fn word(text: &[u8]) -> Option<bool>
+    ensures { MatchOption result ((¬ Affirms text.now) × (¬ Denies text.now)) (λ b. MatchBool b (Affirms text.now) (Denies text.now)) }
+{
+    let is = |word: &[u8]| text.eq_ignore_ascii_case(word);
+    if is(b"yes") || is(b"on") || is(b"true") {
+        Some(true)
+    } else if text.is_empty() || is(b"no") || is(b"off") || is(b"false") {
+        Some(false)
+    } else {
+        None
+    }
+}
+
+/// The boolean that a text writes: a word's truth value, or whether the number of an amount is not zero.
+fn truth(text: &[u8]) -> Option<Boolean>
+    ensures { Reads BooleanText text.now result }
+{
+    if let Some(value) = word(text) {
+        return Some(Boolean(value));
+    }
+    match Amount::try_from(BStr::from(text)) {
+        Ok(Amount(number)) => Some(Boolean(number != 0)),
+        Err(_) => None,
+    }
+}
+
+impl Boolean {
+    /// The truth value.
+    pub fn is_true(self) -> bool
+        ensures { result ≡ self.0 }
+    {
+        self.0
+    }
+
+    /// `true` or `false`.
+    fn shown(self) -> &'static str
+        ensures { result.now ≡ boolean_shown self }
+    {
+        if self.0 { "true" } else { "false" }
+    }
+}
+
+impl From<Boolean> for bool {
+    ghost from_gives = { λ v b. b ≡ v.0 };
+
+    fn from(value: Boolean) -> bool {
+        value.0
+    }
+}
+
+impl<'a> TryFrom<BStr<'a>> for Boolean {
+    type Error = Error<'a>;
+
+    ghost try_from_gives = { ReadsBytes BooleanText faults.Boolean };
+
+    /// Refuses with `Fault::Boolean` and the whole input where it writes no boolean.
+    fn try_from(input: BStr<'a>) -> Result<Boolean, Error<'a>> {
+        match Boolean::read(input) {
+            Some(boolean) => Ok(boolean),
+            None => Err(Error {
+                fault: Fault::Boolean,
+                input,
+            }),
+        }
+    }
+}
+
+impl<'a> TryFrom<&'a str> for Boolean {
+    type Error = Error<'a>;
+
+    ghost try_from_gives = { λ s r. ReadsText BooleanText faults.Boolean s.now r };
+
+    /// Refuses with `Fault::Boolean` and the whole input where it writes no boolean.
+    fn try_from(input: &'a str) -> Result<Boolean, Error<'a>> {
+        match truth(input.as_bytes()) {
+            Some(boolean) => Ok(boolean),
+            None => Err(Error {
+                fault: Fault::Boolean,
+                input: BStr::from(input),
+            }),
+        }
+    }
+}
+
+impl TryFrom<BString> for Boolean {
+    type Error = Returned<BString>;
+
+    ghost try_from_gives = { λ s r. ReadsOwned BooleanText faults.Boolean (bstring_bytes s) s r };
+
+    /// Refuses with `Fault::Boolean` where the input writes no boolean, and hands it back.
+    fn try_from(input: BString) -> Result<Boolean, Returned<BString>> {
+        match truth(input.as_bytes()) {
+            Some(boolean) => Ok(boolean),
+            None => Err(Returned {
+                fault: Fault::Boolean,
+                input,
+            }),
+        }
+    }
+}
+
+impl<'a> TryFrom<CowSlice<'a, u8>> for Boolean {
+    type Error = Returned<CowSlice<'a, u8>>;
+
+    ghost try_from_gives = { λ s r. ReadsOwned BooleanText faults.Boolean (cow_slice_items s) s r };
+
+    /// Refuses with `Fault::Boolean` where the input writes no boolean, and hands it back.
+    fn try_from(input: CowSlice<'a, u8>) -> Result<Boolean, Returned<CowSlice<'a, u8>>> {
+        match truth(input.as_slice()) {
+            Some(boolean) => Ok(boolean),
+            None => Err(Returned {
+                fault: Fault::Boolean,
+                input,
+            }),
+        }
+    }
+}
+
+impl Boolean {
+    /// The JSON value `true` or `false`. Takes no memory and always succeeds.
+    pub fn to_json(&self, _alloc: Global) -> Result<JsonValue, JsonError>
+        ensures { IsJson (boolean self.now.0) result }
+    {
+        Ok(JsonValue::from(self.0))
+    }
+}
+
+impl fmt::Display for Boolean {
+    ghost output = { λ v. Some (boolean_shown v) };
+
+    fn fmt<W: fmt::Write>(&self, f: &mut fmt::Formatter<W>) -> fmt::Result {
+        f.write_str(self.shown())
+    }
+}
+
+impl Value for Boolean {
+    ghost grammar = { BooleanText };
+
+    ghost canonical = { CanonicalBoolean };
+
+    ghost displayed = { boolean_shown };
+
+    fn read(input: BStr<'_>) -> Option<Boolean> {
+        truth(input.as_bytes())
+    }
+
+    fn has_text(&self) -> bool {
+        true
+    }
+
+    fn text(&self) -> ArrayString<127> {
+        let mut text = ArrayString::new();
+        text.push_str(self.shown());
+        text
+    }
+
+    ghost one_value = { boolean_one_value };
+
+    ghost one_text = { boolean_one_text };
+
+    ghost canonical_reads = { boolean_canonical_reads };
+
+    ghost shown_is_text = { boolean_shown_is_text };
+
+    ghost decided = { boolean_decided };
+
+    ghost equal_is_same = { Prim.search rules };
+}

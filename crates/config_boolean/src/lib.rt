@@ -1,0 +1,5 @@
+//! Booleans.
+#![tactic(auto)]
+
+pub mod boolean;
+pub mod laws;

@@ -1,0 +1,5 @@
+use Rattle.config_color.specs.Laws.Split.{IsWithoutSpace}
+use Rattle.config_color.proofs.color.first_word.Given as goal
+
+abbrev pub invariant-loop-at : goal.invariant-loop-at
+invariant-loop-at l = IsWithoutSpace l.text l.at

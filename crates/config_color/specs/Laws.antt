@@ -1,0 +1,6 @@
+pub mod Space
+pub mod Split
+pub mod Color
+pub mod Composition
+pub mod PlainWords
+pub mod ColorShown

@@ -1,0 +1,267 @@
+-- The laws of color text: reading words joined and parted, names placed, and that a text has at most one color.
+use Rattle.std.proofs.Common.{◌≡◌, ◌≢◌, take, drop, slice_range, ℕ, ◌+◌, ◌<◌, ◌≤◌, ◌⊎◌, inl, inr, List, [], ◌∷◌, ◌++◌, length, Option, Some, None, refl, sym, ap, subst, ◌∙◌, append_assoc, arith}
+use Rattle.std.specs.Int.RustNames.{bit_or}
+use Rattle.std.specs.Int.Bits.{or_zero_l, or_zero_r}
+use Rattle.std.proofs.lemmas.Bool.Decides.{nat_tests}
+use Rattle.std.proofs.lemmas.List.{append-nil, take_all}
+use Rattle.std.proofs.lemmas.Nat.Bits.{bit_at_or, same_from_bits}
+use Rattle.config_color.specs.declared.color.Color.{Color}
+use Rattle.config_word.specs.declared.attribute.Attribute.{Attribute}
+use Rattle.config_word.specs.declared.name.Name.{Name}
+use Rattle.config_word.specs.declared.item.Item.{Item}
+use Rattle.config_word.specs.declared.item.Item.TheVariants as items
+use Rattle.config_word.specs.Attribute.{AttributeText}
+use Rattle.config_color.specs.Color.{WordsRead, Placed, ColorText}
+use Rattle.config_color.specs.Reading.Color.{word_item, no_color, next_name, with_found, go_on, read_from, color_of}
+use Rattle.config_color.specs.Composition.{named}
+use Rattle.config_word.specs.Name.{NameText}
+use Rattle.config_text.specs.Value.{IsAccepted, IsRefused, Reads, IsValueOf}
+use Rattle.config_text.specs.Laws.Value.{decided_by, one_value_by}
+use Rattle.config_word.specs.Item.{ItemText}
+use Rattle.config_word.specs.Laws.Item.{item-law, item_one_value, not_both}
+use Rattle.config_color.specs.Split.{piece, words}
+use Rattle.config_color.specs.Laws.Split.{IsWithoutSpace, words_step, words_last, eqb_told}
+use Rattle.config_color.specs.Space.{Space}
+
+word_item-value : IsValueOf ItemText word_item
+unfolding word_item
+word_item-value = item-law
+
+pub or_assoc : (a b c : ℕ) → bit_or (bit_or a b) c ≡ bit_or a (bit_or b c)
+or_assoc a b c = same_from_bits _ _ (λ i. simp bit_at_or (omega arith))
+
+pub WordsRead-join : (xs ys : List (List ℕ)) (ns ms : List Name) (i j : ℕ) → WordsRead xs ns i → WordsRead ys ms j
+    → WordsRead (xs ++ ys) (ns ++ ms) (bit_or i j)
+WordsRead-join [] ys ns ms i j r s = rw (r.0, r.1, or_zero_l j) s
+WordsRead-join (w ∷ xs) ys ns ms i j (inl (n, more, t, e, r)) s =
+    inl (n, more ++ ms, t, ap (λ ns. ns ++ ms) e, WordsRead-join xs ys more ms i j r s)
+WordsRead-join (w ∷ xs) ys ns ms i j (inr (a, more, t, e, r)) s =
+    inr (a, bit_or more j, t, ap (λ i. bit_or i j) e ∙ or_assoc a.0 more j, WordsRead-join xs ys ns ms more j r s)
+
+-- what the words of both parts read to
+pub record PartsRead (xs ys : List (List ℕ)) (names : List Name) (bits : ℕ) : Type 0 where
+  pub front_names : List Name
+  pub back_names : List Name
+  pub front_bits : ℕ
+  pub back_bits : ℕ
+  pub front : WordsRead xs front_names front_bits
+  pub back : WordsRead ys back_names back_bits
+  pub all_names : names ≡ front_names ++ back_names
+  pub all_bits : bits ≡ bit_or front_bits back_bits
+
+pub WordsRead-split : (xs ys : List (List ℕ)) (names : List Name) (bits : ℕ) → WordsRead (xs ++ ys) names bits → PartsRead xs ys names bits
+WordsRead-split [] ys names bits r =
+    record { front_names = []; back_names = names; front_bits = 0; back_bits = bits; front = (refl, refl); back = r; all_names = refl; all_bits = sym (or_zero_l bits) }
+WordsRead-split (w ∷ xs) ys names bits (inl (n, more, t, e, r)) =
+    let p = WordsRead-split xs ys more bits r in
+    record { front_names = n ∷ p.front_names; back_names = p.back_names; front_bits = p.front_bits; back_bits = p.back_bits; front = inl (n, p.front_names, t, refl, p.front); back = p.back; all_names = e ∙ ap (λ ns. n ∷ ns) p.all_names; all_bits = p.all_bits }
+WordsRead-split (w ∷ xs) ys names bits (inr (a, more, t, e, r)) =
+    let p = WordsRead-split xs ys names more r in
+    record { front_names = p.front_names; back_names = p.back_names; front_bits = bit_or a.0 p.front_bits; back_bits = p.back_bits; front = inr (a, p.front_bits, t, refl, p.front); back = p.back; all_names = p.all_names; all_bits = e ∙ (ap (λ i. bit_or a.0 i) p.all_bits ∙ sym (or_assoc a.0 p.front_bits p.back_bits)) }
+
+one_name : (w : List ℕ) (n m : Name) → NameText w n → NameText w m → n ≡ m
+one_name w n m p q = let e = item_one_value w (items.Name n) (items.Name m) p q in cc
+
+one_attribute : (w : List ℕ) (a b : Attribute) → AttributeText w a → AttributeText w b → a ≡ b
+one_attribute w a b p q = let e = item_one_value w (items.Attribute a) (items.Attribute b) p q in cc
+
+-- words have one reading
+pub WordsRead-one : (ws : List (List ℕ)) (ns ms : List Name) (i j : ℕ) → WordsRead ws ns i → WordsRead ws ms j → (ns ≡ ms) × (i ≡ j)
+WordsRead-one [] ns ms i j r s = (cc, cc)
+WordsRead-one (w ∷ ws) ns ms i j (inl (n, more, t, e, r)) (inl (m, rest, u, f, s)) =
+    let o = WordsRead-one ws more rest i j r s in let k = one_name w n m t u in (cc (o.0), o.1)
+WordsRead-one (w ∷ ws) ns ms i j (inl (n, more, t, e, r)) (inr (b, rest, u, f, s)) = absurd (not_both w n b t u)
+WordsRead-one (w ∷ ws) ns ms i j (inr (a, more, t, e, r)) (inl (m, rest, u, f, s)) = absurd (not_both w m a u t)
+WordsRead-one (w ∷ ws) ns ms i j (inr (a, more, t, e, r)) (inr (b, rest, u, f, s)) =
+    let o = WordsRead-one ws ns ms more rest r s in let k = one_attribute w a b t u in (o.0, e ∙ (ap (λ a. bit_or a.0 more) k ∙ (ap (λ m. bit_or b.0 m) o.1 ∙ sym f)))
+
+pub Placed-words : (ns : List Name) (f b : Option Name) → Placed ns f b → named f ++ named b ≡ ns
+Placed-words [] f b p = rw (p.0, p.1) refl
+Placed-words (n ∷ []) f b p = rw (p.0, p.1) refl
+Placed-words (n ∷ m ∷ []) f b p = rw (p.0, p.1) refl
+Placed-words (n ∷ m ∷ o ∷ ns) f b p = absurd p
+
+pub Placed-short : (ns : List Name) (f b : Option Name) → Placed ns f b → length ns ≤ 2
+Placed-short [] f b p = omega arith
+Placed-short (n ∷ []) f b p = omega arith
+Placed-short (n ∷ m ∷ []) f b p = omega arith
+Placed-short (n ∷ m ∷ o ∷ ns) f b p = absurd p
+
+pub Placed-one : (ns : List Name) (f b g d : Option Name) → Placed ns f b → Placed ns g d → (f ≡ g) × (b ≡ d)
+Placed-one [] f b g d p q = (cc, cc)
+Placed-one (n ∷ []) f b g d p q = (cc, cc)
+Placed-one (n ∷ m ∷ []) f b g d p q = (cc, cc)
+Placed-one (n ∷ m ∷ o ∷ ns) f b g d p q = absurd p
+
+-- where at most two names can be placed
+pub placing : (ns : List Name) → length ns ≤ 2 → (f : Option Name) × (b : Option Name) × Placed ns f b
+placing [] l = (None, None, (refl, refl))
+placing (n ∷ []) l = (Some n, None, (refl, refl))
+placing (n ∷ m ∷ []) l = (Some n, Some m, (refl, refl))
+placing (n ∷ m ∷ o ∷ ns) l = absurd (omega arith)
+
+-- colors with the same parts
+pub same_color : (c d : Color) → c.foreground ≡ d.foreground → c.background ≡ d.background → c.attributes.0 ≡ d.attributes.0 → c ≡ d
+same_color c d e f g = λ i. record { foreground = e i; background = f i; attributes = record { 0 = g i } }
+
+-- one more name is placed behind those that are placed already
+next_placed : (ns : List Name) (f b : Option Name) (bits : ℕ) (n : Name) (more : List Name) (g d : Option Name) → Placed ns f b
+    → Placed (ns ++ n ∷ more) g d
+    → (c : Color) × (next_name f b bits n ≡ Some c) × Placed (ns ++ n ∷ []) c.foreground c.background × (c.attributes.0 ≡ bits)
+next_placed [] f b bits n more g d p q =
+    (record { foreground = Some n; background = b; attributes = record { 0 = bits } }, rw p.0 refl, (refl, p.1), refl)
+next_placed (m ∷ []) f b bits n more g d p q =
+    (record { foreground = Some m; background = Some n; attributes = record { 0 = bits } }, rw (p.0, p.1) refl, (refl, refl), refl)
+next_placed (m ∷ o ∷ []) f b bits n more g d p q = absurd q
+next_placed (m ∷ o ∷ k ∷ ns) f b bits n more g d p q = absurd p
+
+some_parts : (f b : Option Name) (bits : ℕ) (c : Color) → Some (record { foreground = f; background = b; attributes = record { 0 = bits } }) ≡ Some c
+    → (c.foreground ≡ f) × (c.background ≡ b) × (c.attributes.0 ≡ bits)
+some_parts f b bits c e =
+    let k : record { foreground = f; background = b; attributes = record { 0 = bits } } ≡ c = cc in
+    (ap (λ (c : Color). c.foreground) (sym k), ap (λ (c : Color). c.background) (sym k), ap (λ (c : Color). c.attributes.0) (sym k))
+
+next_from : (ns : List Name) (f b : Option Name) (bits : ℕ) (n : Name) (c : Color) → Placed ns f b → next_name f b bits n ≡ Some c
+    → Placed (ns ++ n ∷ []) c.foreground c.background × (c.attributes.0 ≡ bits)
+next_from [] f b bits n c p e = let h = rw p.0 at e in let k = some_parts (Some n) b bits c h in ((k.0, k.1 ∙ p.1), k.2)
+next_from (m ∷ []) f b bits n c p e = let h = rw (p.0, p.1) at e in let k = some_parts (Some m) (Some n) bits c h in ((k.0, k.1), k.2)
+next_from (m ∷ o ∷ []) f b bits n c p e = let h = rw (p.0, p.1) at e in absurd (cc)
+next_from (m ∷ o ∷ k ∷ ns) f b bits n c p e = absurd p
+
+-- what the words read to, read from the front
+reading_found : (ws : List (List ℕ)) (p c : Color) (ns names : List Name) (bits : ℕ) → WordsRead ws names bits
+    → Placed ns p.foreground p.background → Placed (ns ++ names) c.foreground c.background
+    → c.attributes.0 ≡ bit_or p.attributes.0 bits → read_from p ws ≡ Some c
+reading_found [] p c ns names bits r before after united =
+    let k = rw (r.0, append-nil) at after in
+    let o = Placed-one ns p.foreground p.background c.foreground c.background before k in
+    ap Some (same_color p c o.0 o.1 (sym (united ∙ (ap (λ b. bit_or p.attributes.0 b) r.1 ∙ or_zero_r p.attributes.0))))
+reading_found (w ∷ ws) p c ns names bits (inl (n, more, t, e, r)) before after united =
+    let k = rw e at after in
+    let d = next_placed ns p.foreground p.background p.attributes.0 n more c.foreground c.background before k in
+    rw (word_item-value.found w (items.Name n) t, d.1)
+    (reading_found ws d.0 c (ns ++ n ∷ []) more bits r d.2 (rw append_assoc k) (united ∙ ap (λ a. bit_or a bits) (sym d.3)))
+reading_found (w ∷ ws) p c ns names bits (inr (a, more, t, e, r)) before after united =
+    rw (word_item-value.found w (items.Attribute a) t)
+    (reading_found ws (record { foreground = p.foreground; background = p.background; attributes = record { 0 = bit_or p.attributes.0 a.0 } }) c ns names more r before after
+    (united ∙ (ap (λ b. bit_or p.attributes.0 b) e ∙ sym (or_assoc p.attributes.0 a.0 more))))
+
+-- what words read from the front read to
+pub record ReadOn (ws : List (List ℕ)) (p c : Color) (ns : List Name) : Type 0 where
+  pub names : List Name
+  pub bits : ℕ
+  pub read : WordsRead ws names bits
+  pub placed : Placed (ns ++ names) c.foreground c.background
+  pub united : c.attributes.0 ≡ bit_or p.attributes.0 bits
+
+reading_derived : (ws : List (List ℕ)) (p c : Color) (ns : List Name) → Placed ns p.foreground p.background → read_from p ws ≡ Some c → ReadOn ws p c ns
+reading_derived [] p c ns before h =
+    let e : p ≡ c = cc in
+    record { names = []; bits = 0; read = (refl, refl); placed = rw append-nil (rw e at before); united = ap (λ (c : Color). c.attributes.0) (sym e) ∙ sym (or_zero_r p.attributes.0) }
+reading_derived (w ∷ ws) p c ns before h = at_item w ws p c ns before (word_item w) refl h (λ d ms q e. reading_derived ws d c ms q e) where
+  at_name : (w : List ℕ) (ws : List (List ℕ)) (p c : Color) (ns : List Name) → Placed ns p.foreground p.background → (n : Name) → NameText w n
+      → (o : Option Color) → next_name p.foreground p.background p.attributes.0 n ≡ o → go_on o (λ d. read_from d ws) ≡ Some c
+      → ((d : Color) (ms : List Name) → Placed ms d.foreground d.background → read_from d ws ≡ Some c → ReadOn ws d c ms) → ReadOn (w ∷ ws) p c ns
+  at_name w ws p c ns before n t None e h more = absurd (cc)
+  at_name w ws p c ns before n t (Some d) e h more =
+      let k = next_from ns p.foreground p.background p.attributes.0 n d before e in
+      let r = more d (ns ++ n ∷ []) k.0 h in
+      record { names = n ∷ r.names; bits = r.bits; read = inl (n, r.names, t, refl, r.read); placed = rw append_assoc at r.placed; united = r.united ∙ ap (λ a. bit_or a r.bits) k.1 }
+
+  at_item : (w : List ℕ) (ws : List (List ℕ)) (p c : Color) (ns : List Name) → Placed ns p.foreground p.background
+      → (o : Option Item) → word_item w ≡ o → go_on (with_found p o) (λ d. read_from d ws) ≡ Some c
+      → ((d : Color) (ms : List Name) → Placed ms d.foreground d.background → read_from d ws ≡ Some c → ReadOn ws d c ms) → ReadOn (w ∷ ws) p c ns
+  at_item w ws p c ns before None e h more = absurd (cc)
+  at_item w ws p c ns before (Some (items.Name n)) e h more =
+      at_name w ws p c ns before n (word_item-value.derived w (items.Name n) e) (next_name p.foreground p.background p.attributes.0 n) refl h more
+  at_item w ws p c ns before (Some (items.Attribute a)) e h more =
+      let r = more (record { foreground = p.foreground; background = p.background; attributes = record { 0 = bit_or p.attributes.0 a.0 } }) ns before h in
+      record { names = r.names; bits = bit_or a.0 r.bits; read = inr (a, r.bits, word_item-value.derived w (items.Attribute a) e, refl, r.read); placed = r.placed; united = r.united ∙ or_assoc p.attributes.0 a.0 r.bits }
+
+-- color text as a function
+pub color_of-value : IsValueOf ColorText color_of
+color_of-value = record {
+  found = λ t c h. reading_found (words t) no_color c [] h.names c.attributes.0 h.read (refl, refl) h.placed (sym (or_zero_l c.attributes.0));
+  derived = λ t c e. whole t c (reading_derived (words t) no_color c [] (refl, refl) e);
+} where
+  whole : (t : List ℕ) (c : Color) → ReadOn (words t) no_color c [] → ColorText t c
+  whole t c r = record {
+    names = r.names;
+    read = subst (λ (b : ℕ). WordsRead (words t) r.names b) (sym (r.united ∙ or_zero_l r.bits)) r.read;
+    placed = r.placed;
+  }
+
+pub color_one_value : (t : List ℕ) (v w : Color) → ColorText t v → ColorText t w → v ≡ w
+color_one_value t v w p q = one_value_by color_of-value t v w p q
+
+pub color_decided : (t : List ℕ) → IsAccepted ColorText t ⊎ IsRefused ColorText t
+color_decided t = decided_by color_of-value t
+
+-- what an exact reader answers is what the grammar gives as a function
+pub reads_by : {V : Type 0} {grammar : List ℕ → V → Type 0} {value_of : List ℕ → Option V} → IsValueOf grammar value_of
+    → (t : List ℕ) (r : Option V) → value_of t ≡ r → Reads grammar t r
+reads_by law t None e = λ v h. cc (e, law.found t v h)
+reads_by law t (Some v) e = law.derived t v e
+
+pub read_is : {V : Type 0} {grammar : List ℕ → V → Type 0} {value_of : List ℕ → Option V} → IsValueOf grammar value_of
+    → (t : List ℕ) (r : Option V) → Reads grammar t r → value_of t ≡ r
+read_is {V} {grammar} {value_of} law t None h = told (value_of t) refl where
+  told : (o : Option V) → value_of t ≡ o → value_of t ≡ None
+  told None e = e
+  told (Some v) e = absurd (h v (law.derived t v e))
+read_is law t (Some v) h = law.found t v h
+
+go_on_only : (o : Option Color) → go_on o (λ d. Some d) ≡ o
+go_on_only None = refl
+go_on_only (Some c) = refl
+
+go_on_both : (o : Option Color) (more : Color → Option Color) → go_on o more ≡ go_on (go_on o (λ d. Some d)) more
+go_on_both None more = refl
+go_on_both (Some c) more = refl
+
+-- one more word, by the item that it was found to be
+pub read_word : (c : Color) (t : List ℕ) (r : Option Item) → t ≢ [] → Reads ItemText t r → read_from c (piece t) ≡ with_found c r
+read_word c [] r n h = absurd (n refl)
+read_word c (x ∷ t) r n h = rw (read_is word_item-value (x ∷ t) r h) (go_on_only (with_found c r))
+
+-- a piece, and the words behind it
+read_piece : (c : Color) (t : List ℕ) (ws : List (List ℕ)) → read_from c (piece t ++ ws) ≡ go_on (read_from c (piece t)) (λ d. read_from d ws)
+read_piece c [] ws = refl
+read_piece c (x ∷ t) ws = go_on_both (with_found c (word_item (x ∷ t))) (λ d. read_from d ws)
+
+-- a text whose first word is n bytes long, and s bytes of white space behind it
+pub read_step : (c : Color) (text : List ℕ) (n s : ℕ) → IsWithoutSpace text n → n + s ≤ length text → Space (slice_range text n (n + s))
+    → read_from c (words text) ≡ go_on (read_from c (piece (take n text))) (λ d. read_from d (words (drop (n + s) text)))
+read_step c text n s h l k = ap (λ ws. read_from c ws) (words_step text n s h l k) ∙ read_piece c (take n text) (words (drop (n + s) text))
+
+pub read_last : (c : Color) (text : List ℕ) → IsWithoutSpace text (length text) → read_from c (words text) ≡ read_from c (piece text)
+read_last c text h = ap (λ ws. read_from c ws) (words_last text h)
+
+-- the walk: what the words of the input read to is what the color so far and the words of the rest read to
+pub walk_refused : (input rest : List ℕ) (c : Color) (n s : ℕ) → read_from no_color (words input) ≡ read_from c (words rest)
+    → IsWithoutSpace rest n → n + s ≤ length rest → (0 < s → Space (slice_range rest n (n + s))) → (s ≡ 0 → n ≡ length rest)
+    → read_from c (piece (take n rest)) ≡ None → Reads ColorText input None
+walk_refused input rest c n s same clear within parted last e =
+    elim (eqb_told s 0) [
+      | inl z ↦
+          let all : n ≡ length rest = last z.1 in
+          let clear_all : IsWithoutSpace rest (length rest) = subst (λ (n : ℕ). IsWithoutSpace rest n) all clear in
+          reads_by color_of-value input None (same ∙ (read_last c rest clear_all ∙ (ap (λ t. read_from c (piece t)) (sym (take_all n rest (omega arith))) ∙ e)))
+      | inr z ↦
+          let some : 0 < s = grind (arith, nat_tests) in
+          reads_by color_of-value input None (same ∙ (read_step c rest n s clear within (parted some) ∙ ap (λ o. go_on o (λ d. read_from d (words (drop (n + s) rest)))) e))
+    ]
+
+pub walk_done : (input rest : List ℕ) (c d : Color) (n s : ℕ) → read_from no_color (words input) ≡ read_from c (words rest)
+    → IsWithoutSpace rest n → (s ≡ 0 → n ≡ length rest) → s ≡ 0
+    → read_from c (piece (take n rest)) ≡ Some d → ColorText input d
+walk_done input rest c d n s same clear last z e =
+    let all : n ≡ length rest = last z in
+    let clear_all : IsWithoutSpace rest (length rest) = subst (λ (n : ℕ). IsWithoutSpace rest n) all clear in
+    color_of-value.derived input d (same ∙ (read_last c rest clear_all ∙ (ap (λ t. read_from c (piece t)) (sym (take_all n rest (omega arith))) ∙ e)))
+
+pub walk_goes_on : (input rest : List ℕ) (c d : Color) (n s : ℕ) → read_from no_color (words input) ≡ read_from c (words rest)
+    → IsWithoutSpace rest n → n + s ≤ length rest → (0 < s → Space (slice_range rest n (n + s))) → ¬ (s ≡ 0)
+    → read_from c (piece (take n rest)) ≡ Some d → read_from no_color (words input) ≡ read_from d (words (drop (n + s) rest))
+walk_goes_on input rest c d n s same clear within parted z e =
+    same ∙ (read_step c rest n s clear within (parted (omega arith)) ∙ ap (λ o. go_on o (λ d. read_from d (words (drop (n + s) rest)))) e)

@@ -1,0 +1,428 @@
+-- The laws of `Value` for colors: canonical texts read, one for each color, and it is the displayed text.
+use Rattle.std.proofs.Common.{◌≡◌, ◌≢◌, ℕ, zero, suc, ◌+◌, ◌*◌, ◌^◌, ◌<◌, ◌≤◌, ◌↔◌, ◌⊎◌, inl, inr, ◌&&◌, nat_le, Bool, true, false, ◌==◌, List, [], ◌∷◌, ◌++◌, length, map, filter, Option, Some, None, bit_and, refl, sym, ap, subst, ◌∙◌, length-append, arith}
+use Rattle.std.specs.Bool.{⊤, IsTrue}
+use Rattle.std.specs.Option.{option_eq, is_some}
+use Rattle.std.specs.Prelude.{not}
+use Rattle.bitflags.specs.Sets.{known_bits as known_bits_of, known_from}
+use Rattle.std.specs.Int.{bit_at}
+use Rattle.std.specs.Int.RustNames.{bit_or}
+use Rattle.std.specs.Int.Bits.{or_zero_l}
+use Rattle.std.specs.List.{AllByRecursion, join_with_byte}
+use Rattle.std.proofs.lemmas.List.{append-nil, map-append, length-map}
+use Rattle.std.proofs.lemmas.Bool.{leb-true}
+use Rattle.std.proofs.lemmas.Nat.{and_comm}
+use Rattle.std.proofs.lemmas.Bool.Decides.{Decides-eqb}
+use Rattle.std.proofs.lemmas.Nat.Bits.{and_pow, bit_at_or, bit_at_and, bit_at-lt, bit_at-zero, bit_at-pow_same, bit_at-pow_other, same_from_bits}
+use Rattle.config_color.specs.declared.color.Color.{Color}
+use Rattle.config_word.specs.declared.attribute.Attribute.{Attribute}
+use Rattle.config_word.specs.declared.name.Name.{Name}
+use Rattle.config_word.specs.Attribute.{AttributeRow, attributes, attribute_flags, AttributeText, attribute_words, rising_words}
+use Rattle.config_color.specs.Color.{WordsRead, Placed, ColorText, part_shown, set_shown, color_shown, Chosen, spaced_out, CanonicalColor, PartFits, AreKnown}
+use Rattle.config_color.specs.Laws.Color.{WordsRead-join, Placed-words, placing, same_color, color_one_value}
+use Rattle.config_color.specs.Composition.{named}
+use Rattle.config_color.specs.Laws.Composition.{background_beside, some_none}
+use Rattle.config_word.specs.Name.{NameText, CanonicalName, name_shown}
+use Rattle.config_word.specs.Laws.Name.{name_canonical_reads, name_one_text, name_short, name_fits, name_shown_is_text, name_has_text}
+use Rattle.config_text.specs.OneOf.{OneOf}
+use Rattle.config_text.specs.Laws.OneOf.{both, all-one}
+use Rattle.config_color.specs.Laws.PlainWords.{words_spaced, all_plain_append, chosen_plain, names_plain}
+use Rattle.config_text.specs.Value.{IsAccepted, HasText, IsTextOf}
+use Rattle.config_color.specs.Split.{words}
+
+-- the words of the rows whose bits are set
+abbrev pub set_words : ℕ → List AttributeRow → List (List ℕ)
+set_words bits rows = map (λ row. row.2) (filter (λ row. bit_at bits row.1 == 1) rows)
+
+-- the bits of the rows
+abbrev pub bits_of : List AttributeRow → ℕ
+bits_of [] = 0
+bits_of (row ∷ rows) = bit_or (2 ^ row.1) (bits_of rows)
+
+-- each row's word is a text of its bit
+abbrev pub AreRead : List AttributeRow → Type 0
+AreRead [] = ⊤
+AreRead (row ∷ rows) = AttributeText row.2 (record { 0 = 2 ^ row.1 }) × AreRead rows
+
+-- the rows' bits rise from low on
+abbrev pub Rise : ℕ → List AttributeRow → Type 0
+Rise low [] = ⊤
+Rise low (row ∷ rows) = (low ≤ row.1) × Rise (row.1 + 1) rows
+
+and_or : (a b m : ℕ) → bit_and (bit_or a b) m ≡ bit_or (bit_and a m) (bit_and b m)
+and_or a b m = same_from_bits _ _ (λ i. simp (bit_at_or, bit_at_and) (omega arith))
+
+or_and : (m a b : ℕ) → bit_and m (bit_or a b) ≡ bit_or (bit_and m a) (bit_and m b)
+or_and m a b = same_from_bits _ _ (λ i. simp (bit_at_or, bit_at_and) (omega arith))
+
+-- a bit is set, or it is not
+bit_told : (n i : ℕ) → (bit_at n i ≡ 1) ⊎ (bit_at n i ≡ 0)
+bit_told n i = let l = bit_at-lt n i in grind arith
+
+and_pow_set : (n k : ℕ) → bit_at n k ≡ 1 → bit_and n (2 ^ k) ≡ 2 ^ k
+and_pow_set n k e = and_pow n k ∙ rw e (omega arith)
+
+and_pow_clear : (n k : ℕ) → bit_at n k ≡ 0 → bit_and n (2 ^ k) ≡ 0
+and_pow_clear n k e = and_pow n k ∙ rw e (omega arith)
+
+and_zero : (n : ℕ) → bit_and n 0 ≡ 0
+and_zero n = same_from_bits _ _ (λ i. simp (bit_at_and, bit_at-zero) (omega arith))
+
+-- the words of the set bits read to those bits
+set_words_read : (rows : List AttributeRow) (bits : ℕ) → AreRead rows → WordsRead (set_words bits rows) [] (bit_and bits (bits_of rows))
+set_words_read [] bits h = (refl, and_zero bits)
+set_words_read (row ∷ rows) bits h =
+    elim (bit_told bits row.1) [
+      | inl e ↦ rw e (inr (record { 0 = 2 ^ row.1 }, bit_and bits (bits_of rows), h.0, or_and bits (2 ^ row.1) (bits_of rows) ∙ ap (λ n. bit_or n (bit_and bits (bits_of rows))) (and_pow_set bits row.1 e), set_words_read rows bits h.1))
+      | inr e ↦ rw e (subst (λ (n : ℕ). WordsRead (set_words bits rows) [] n) (sym (or_and bits (2 ^ row.1) (bits_of rows) ∙ (ap (λ n. bit_or n (bit_and bits (bits_of rows))) (and_pow_clear bits row.1 e) ∙ or_zero_l (bit_and bits (bits_of rows))))) (set_words_read rows bits h.1))
+    ]
+
+chosen_more : (row : List ℕ) (rows ws : List (List ℕ)) → Chosen rows ws → Chosen (row ∷ rows) ws
+chosen_more row rows [] h = tt
+chosen_more row rows (w ∷ ws) h = inr h
+
+-- the words of the set bits are some of the rows' words
+set_words_chosen : (rows : List AttributeRow) (bits : ℕ) → Chosen (map (λ row. row.2) rows) (set_words bits rows)
+set_words_chosen [] bits = tt
+set_words_chosen (row ∷ rows) bits =
+    elim (bit_told bits row.1) [
+      | inl e ↦ rw e (inl (refl, set_words_chosen rows bits))
+      | inr e ↦ rw e (chosen_more row.2 (map (λ row. row.2) rows) (set_words bits rows) (set_words_chosen rows bits))
+    ]
+
+set_words_zero : (rows : List AttributeRow) → set_words 0 rows ≡ []
+set_words_zero [] = refl
+set_words_zero (row ∷ rows) = rw (bit_at-zero row.1) (set_words_zero rows)
+
+-- bits that agree from the rows' on have the same words
+set_words_same : (low : ℕ) (rows : List AttributeRow) (a b : ℕ) → Rise low rows → ((i : ℕ) → low ≤ i → bit_at a i ≡ bit_at b i)
+    → set_words a rows ≡ set_words b rows
+set_words_same low [] a b r h = refl
+set_words_same low (row ∷ rows) a b r h =
+    let more = set_words_same (row.1 + 1) rows a b r.1 (λ i l. h i (omega arith)) in
+    elim (bit_told b row.1) [
+      | inl e ↦ rw (h row.1 r.0 ∙ e, e) (ap (λ ws. row.2 ∷ ws) more)
+      | inr e ↦ rw (h row.1 r.0 ∙ e, e) more
+    ]
+
+-- chosen words read to bits of which they are the words
+pub record ChosenRead (low : ℕ) (rows : List AttributeRow) (ws : List (List ℕ)) : Type 0 where
+  pub bits : ℕ
+  pub read : WordsRead ws [] bits
+  pub shown : ws ≡ set_words bits rows
+  pub above : (i : ℕ) → i < low → bit_at bits i ≡ 0
+
+chosen_read : (rows : List AttributeRow) (low : ℕ) (ws : List (List ℕ)) → Rise low rows → AreRead rows → Chosen (map (λ row. row.2) rows) ws
+    → ChosenRead low rows ws
+chosen_read [] low [] r h c = record { bits = 0; read = (refl, refl); shown = refl; above = λ i l. bit_at-zero i }
+chosen_read [] low (w ∷ ws) r h c = absurd c
+chosen_read (row ∷ rows) low [] r h c = record { bits = 0; read = (refl, refl); shown = sym (set_words_zero (row ∷ rows)); above = λ i l. bit_at-zero i }
+chosen_read (row ∷ rows) low (w ∷ ws) r h (inl c) = with_row (chosen_read rows (row.1 + 1) ws r.1 h.1 c.1) where
+  with_row : ChosenRead (row.1 + 1) rows ws → ChosenRead low (row ∷ rows) (w ∷ ws)
+  with_row more =
+      let set : bit_at (bit_or (2 ^ row.1) more.bits) row.1 ≡ 1 =
+      bit_at_or (2 ^ row.1) more.bits row.1 ∙ rw (bit_at-pow_same row.1) (omega (arith, bit_at-lt more.bits row.1)) in
+      let rest = set_words_same (row.1 + 1) rows (bit_or (2 ^ row.1) more.bits) more.bits r.1
+      (λ i l. let ne : i ≢ row.1 = omega arith in bit_at_or (2 ^ row.1) more.bits i ∙ rw bit_at-pow_other (omega arith)) in
+      record {
+        bits = bit_or (2 ^ row.1) more.bits;
+        read = inr (record { 0 = 2 ^ row.1 }, more.bits, subst (λ (w : List ℕ). AttributeText w (record { 0 = 2 ^ row.1 })) (sym c.0) h.0, refl, more.read);
+        shown = rw set (ap (λ w. w ∷ ws) c.0 ∙ ap (λ ws. row.2 ∷ ws) (more.shown ∙ sym rest));
+        above = λ i l. let ne : i ≢ row.1 = omega arith in bit_at_or (2 ^ row.1) more.bits i ∙ rw bit_at-pow_other (rw (more.above i (omega arith)) refl);
+      }
+chosen_read (row ∷ rows) low (w ∷ ws) r h (inr c) = without_row (chosen_read rows (row.1 + 1) (w ∷ ws) r.1 h.1 c) where
+  without_row : ChosenRead (row.1 + 1) rows (w ∷ ws) → ChosenRead low (row ∷ rows) (w ∷ ws)
+  without_row more = record {
+    bits = more.bits;
+    read = more.read;
+    shown = rw (more.above row.1 (omega arith)) more.shown;
+    above = λ i l. more.above i (omega arith);
+  }
+
+are_read : (rows : List AttributeRow) → ((row : AttributeRow) → OneOf rows row → OneOf attributes row) → AreRead rows
+are_read [] f = tt
+are_read (row ∷ rows) f = (AttributeText.word row (f row (inl refl)) (inl refl) refl, are_read rows (λ r o. f r (inr o)))
+
+attributes_read : AreRead attributes
+attributes_read = are_read attributes (λ row o. o)
+
+rises : ℕ → List AttributeRow → Bool
+rises low [] = true
+rises low (row ∷ rows) = nat_le low row.1 && rises (row.1 + 1) rows
+
+rise : (low : ℕ) (rows : List AttributeRow) → rises low rows ≡ true → Rise low rows
+unfolding rises
+rise low [] h = tt
+rise low (row ∷ rows) h = let k = both (nat_le low row.1) (rises (row.1 + 1) rows) h in (leb-true low row.1 k.0, rise (row.1 + 1) rows k.1)
+
+attributes_rise : Rise 0 attributes
+unfolding attributes rises
+attributes_rise = rise 0 attributes refl
+
+rising_is : rising_words ≡ map (λ row. row.2) attributes
+unfolding rising_words attributes
+rising_is = refl
+
+known_bits : bits_of attributes ≡ 266338814
+unfolding attributes
+known_bits = refl
+
+-- chosen words of the canonical ones
+pub rising_read : (ws : List (List ℕ)) → Chosen rising_words ws → ChosenRead 0 attributes ws
+rising_read ws c = chosen_read attributes 0 ws attributes_rise attributes_read (subst (λ (rows : List (List ℕ)). Chosen rows ws) rising_is c)
+
+pub attribute_words_chosen : (bits : ℕ) → Chosen rising_words (attribute_words bits)
+attribute_words_chosen bits = subst (λ (rows : List (List ℕ)). Chosen rows (attribute_words bits)) (sym rising_is) (set_words_chosen attributes bits)
+
+pub attribute_words_read : (bits : ℕ) → bit_and bits 266338814 ≡ bits → WordsRead (attribute_words bits) [] bits
+attribute_words_read bits e = subst (λ (n : ℕ). WordsRead (attribute_words bits) [] n) (ap (λ m. bit_and bits m) known_bits ∙ e) (set_words_read attributes bits attributes_read)
+
+attribute_known : (w : List ℕ) (a : Attribute) → AttributeText w a → bit_and a.0 266338814 ≡ a.0
+unfolding attributes
+attribute_known w a (AttributeText.word row o p e) =
+    rw e ((Decides-eqb (bit_and (2 ^ row.1) 266338814) (2 ^ row.1)).0 (all-one (λ (row : AttributeRow). bit_and (2 ^ row.1) 266338814 == 2 ^ row.1) attributes row refl o))
+attribute_known w a (AttributeText.reset p e) = rw e refl
+
+-- the bits that words read to are known
+pub WordsRead-known : (ws : List (List ℕ)) (ns : List Name) (bits : ℕ) → WordsRead ws ns bits → bit_and bits 266338814 ≡ bits
+WordsRead-known [] ns bits r = rw r.1 refl
+WordsRead-known (w ∷ ws) ns bits (inl (n, more, t, e, r)) = WordsRead-known ws more bits r
+WordsRead-known (w ∷ ws) ns bits (inr (a, more, t, e, r)) =
+    rw e (and_or a.0 more 266338814 ∙ (ap (λ n. bit_or n (bit_and more 266338814)) (attribute_known w a t) ∙ ap (λ n. bit_or a.0 n) (WordsRead-known ws ns more r)))
+
+-- the names that words read to have texts
+names_have_text : (ws : List (List ℕ)) (ns : List Name) (bits : ℕ) → WordsRead ws ns bits → AllByRecursion (HasText NameText) ns
+names_have_text [] ns bits r = subst (λ (ns : List Name). AllByRecursion (HasText NameText) ns) (sym r.0) tt
+names_have_text (w ∷ ws) ns bits (inl (n, more, t, e, r)) =
+    subst (λ (ns : List Name). AllByRecursion (HasText NameText) ns) (sym e) ((w, t), names_have_text ws more bits r)
+names_have_text (w ∷ ws) ns bits (inr (a, more, t, e, r)) = names_have_text ws ns more r
+
+-- the displayed names read to them
+names_read : (ns : List Name) → AllByRecursion (HasText NameText) ns → WordsRead (map name_shown ns) ns 0
+names_read [] h = (refl, refl)
+names_read (n ∷ ns) h = inl (n, ns, (name_shown_is_text n h.0).reads_to, refl, names_read ns h.1)
+
+names_canonical : (ns : List Name) → AllByRecursion (HasText NameText) ns → AllByRecursion CanonicalName (map name_shown ns)
+names_canonical [] h = tt
+names_canonical (n ∷ ns) h = ((name_shown_is_text n h.0).canonical_text, names_canonical ns h.1)
+
+-- canonical names are displayed names
+pub record NamesRead (ts : List (List ℕ)) : Type 0 where
+  pub names : List Name
+  pub read : WordsRead ts names 0
+  pub shown : ts ≡ map name_shown names
+  pub as_many : length names ≡ length ts
+
+canonical_names_read : (ts : List (List ℕ)) → AllByRecursion CanonicalName ts → NamesRead ts
+canonical_names_read [] h = record { names = []; read = (refl, refl); shown = refl; as_many = refl }
+canonical_names_read (t ∷ ts) h = with_name (name_canonical_reads t h.0) (canonical_names_read ts h.1) where
+  with_name : IsAccepted NameText t → NamesRead ts → NamesRead (t ∷ ts)
+  with_name (n, p) more =
+      let text = name_shown_is_text n (t, p) in
+      let same : t ≡ name_shown n = name_one_text t (name_shown n) n h.0 text.canonical_text p text.reads_to in
+      record {
+        names = n ∷ more.names;
+        read = inl (n, more.names, p, refl, more.read);
+        shown = ap (λ w. w ∷ ts) same ∙ ap (λ ts. name_shown n ∷ ts) more.shown;
+        as_many = ap suc more.as_many;
+      }
+
+join_spaced : (ws : List (List ℕ)) → join_with_byte 32 ws ≡ spaced_out ws
+join_spaced [] = refl
+join_spaced (w ∷ []) = refl
+join_spaced (w ∷ v ∷ ws) = ap (λ t. w ++ 32 ∷ t) (join_spaced (v ∷ ws))
+
+-- words that are joined behind others are joined with them
+join_last : (xs : List (List ℕ)) (y : List ℕ) (ys : List (List ℕ))
+    → join_with_byte 32 (xs ++ join_with_byte 32 (y ∷ ys) ∷ []) ≡ join_with_byte 32 (xs ++ y ∷ ys)
+join_last [] y ys = refl
+join_last (x ∷ []) y ys = refl
+join_last (x ∷ z ∷ xs) y ys = ap (λ t. x ++ 32 ∷ t) (join_last (z ∷ xs) y ys)
+
+part_named : (o : Option Name) → part_shown o ≡ map name_shown (named o)
+part_named None = refl
+part_named (Some n) = refl
+
+join_set : (xs : List (List ℕ)) (bits : ℕ) → bit_and bits 266338814 ≡ bits
+    → join_with_byte 32 (xs ++ set_shown bits) ≡ join_with_byte 32 (xs ++ attribute_words bits)
+join_set xs zero e = ap (λ ws. join_with_byte 32 (xs ++ ws)) (sym (set_words_zero attributes))
+join_set xs (suc n) e = some (attribute_words (suc n)) refl where
+  some : (ws : List (List ℕ)) → attribute_words (suc n) ≡ ws
+      → join_with_byte 32 (xs ++ join_with_byte 32 (attribute_words (suc n)) ∷ []) ≡ join_with_byte 32 (xs ++ attribute_words (suc n))
+  some [] k = let r = subst (λ (ws : List (List ℕ)). WordsRead ws [] (suc n)) k (attribute_words_read (suc n) e) in absurd (omega (arith, r.1))
+  some (y ∷ ys) k = rw k (join_last xs y ys)
+
+-- a color's displayed text, as its words
+pub shown_spaced : (c : Color) → bit_and c.attributes.0 266338814 ≡ c.attributes.0
+    → color_shown c ≡ spaced_out (map name_shown (named c.foreground ++ named c.background) ++ attribute_words c.attributes.0)
+shown_spaced c e =
+    join_set (part_shown c.foreground ++ part_shown c.background) c.attributes.0 e
+    ∙ (ap (λ xs. join_with_byte 32 (xs ++ attribute_words c.attributes.0)) parts
+    ∙ join_spaced (map name_shown (named c.foreground ++ named c.background) ++ attribute_words c.attributes.0)) where
+      parts : part_shown c.foreground ++ part_shown c.background ≡ map name_shown (named c.foreground ++ named c.background)
+      parts = rw (part_named c.foreground, part_named c.background) (sym (map-append name_shown (named c.foreground) (named c.background)))
+
+-- a canonical text reads to a color, and is its displayed text
+pub canonical_shown : (t : List ℕ) → CanonicalColor t → (c : Color) × ColorText t c × (t ≡ color_shown c)
+canonical_shown t h = whole (canonical_names_read h.names h.named) (rising_read h.words h.chosen) where
+  spelled_words : words t ≡ h.names ++ h.words
+  spelled_words = ap words h.spelled ∙ words_spaced (h.names ++ h.words) (all_plain_append h.names h.words (names_plain h.names h.named) (chosen_plain h.words h.chosen))
+
+  whole : NamesRead h.names → ChosenRead 0 attributes h.words → (c : Color) × ColorText t c × (t ≡ color_shown c)
+  whole n w = placed (placing n.names (omega (arith, n.as_many, h.at_most_two))) where
+    joined : WordsRead (h.names ++ h.words) n.names w.bits
+    joined =
+        subst (λ (ns : List Name). WordsRead (h.names ++ h.words) ns w.bits) (append-nil n.names)
+        (subst (λ (b : ℕ). WordsRead (h.names ++ h.words) (n.names ++ []) b) (or_zero_l w.bits) (WordsRead-join h.names h.words n.names [] 0 w.bits n.read w.read))
+
+    placed : (f : Option Name) × (b : Option Name) × Placed n.names f b → (c : Color) × ColorText t c × (t ≡ color_shown c)
+    placed (f, b, p) =
+        let c : Color = record { foreground = f; background = b; attributes = record { 0 = w.bits } } in
+        let read : ColorText t c = record { names = n.names; read = subst (λ (ws : List (List ℕ)). WordsRead ws n.names w.bits) (sym spelled_words) joined; placed = p } in
+        let ts : h.names ≡ map name_shown (named f ++ named b) = n.shown ∙ ap (λ ns. map name_shown ns) (sym (Placed-words n.names f b p)) in
+        let whole : h.names ++ h.words ≡ map name_shown (named f ++ named b) ++ attribute_words w.bits = ap (λ ts. ts ++ h.words) ts ∙ ap (λ ws. map name_shown (named f ++ named b) ++ ws) w.shown in
+        (c, read, h.spelled ∙ (ap (λ ws. spaced_out ws) whole ∙ sym (shown_spaced c (WordsRead-known (h.names ++ h.words) n.names w.bits joined))))
+
+pub color_canonical_reads : (t : List ℕ) → CanonicalColor t → IsAccepted ColorText t
+color_canonical_reads t h = let k = canonical_shown t h in (k.0, k.1)
+
+pub color_one_text : (s t : List ℕ) (v : Color) → CanonicalColor s → CanonicalColor t → ColorText s v → ColorText t v → s ≡ t
+color_one_text s t v p q r u =
+    let k = canonical_shown s p in
+    let l = canonical_shown t q in
+    k.2 ∙ (ap (λ (c : Color). color_shown c) (color_one_value s k.0 v k.1 r ∙ sym (color_one_value t l.0 v l.1 u)) ∙ sym l.2)
+
+-- the letters of words, and one byte behind each
+abbrev pub weight : List (List ℕ) → ℕ
+weight [] = 0
+weight (w ∷ ws) = length w + 1 + weight ws
+
+spaced_weight : (w : List ℕ) (ws : List (List ℕ)) → length (spaced_out (w ∷ ws)) + 1 ≡ weight (w ∷ ws)
+spaced_weight w [] = omega arith
+spaced_weight w (v ∷ ws) = omega (arith, length-append w (32 ∷ spaced_out (v ∷ ws)), spaced_weight v ws)
+
+spaced_short : (ws : List (List ℕ)) (n : ℕ) → weight ws ≤ n + 1 → length (spaced_out ws) ≤ n
+spaced_short [] n l = omega arith
+spaced_short (w ∷ ws) n l = omega (arith, spaced_weight w ws)
+
+weight-append : (xs ys : List (List ℕ)) → weight (xs ++ ys) ≡ weight xs + weight ys
+weight-append [] ys = omega arith
+weight-append (x ∷ xs) ys = omega (arith, weight-append xs ys)
+
+names_weight : (ns : List Name) → AllByRecursion (HasText NameText) ns → weight (map name_shown ns) ≤ 14 * length ns
+names_weight [] h = omega arith
+names_weight (n ∷ ns) h = omega (arith, name_short n (name_fits h.0.0 n h.0.1), names_weight ns h.1)
+
+set_words_weight : (rows : List AttributeRow) (bits : ℕ) → weight (set_words bits rows) ≤ weight (map (λ row. row.2) rows)
+set_words_weight [] bits = omega arith
+set_words_weight (row ∷ rows) bits =
+    elim (bit_told bits row.1) [
+      | inl e ↦ rw e (omega (arith, set_words_weight rows bits))
+      | inr e ↦ rw e (omega (arith, set_words_weight rows bits))
+    ]
+
+rows_weight : weight (map (λ row. row.2) attributes) ≡ 100
+unfolding attributes
+rows_weight = refl
+
+-- the displayed text of a color whose names have texts, whose bits are known, and whose background stands beside
+-- a foreground
+pub shown_is_text : (c : Color) → AllByRecursion (HasText NameText) (named c.foreground ++ named c.background)
+    → bit_and c.attributes.0 266338814 ≡ c.attributes.0 → (c.foreground ≡ None → c.background ≡ None)
+    → IsTextOf ColorText CanonicalColor c (color_shown c)
+shown_is_text c h e beside = record {
+  canonical_text = record {
+    names = map name_shown (named c.foreground ++ named c.background);
+    words = attribute_words c.attributes.0;
+    at_most_two = omega (arith, length-map (named c.foreground ++ named c.background) name_shown, two c.foreground c.background);
+    named = names_canonical (named c.foreground ++ named c.background) h;
+    chosen = attribute_words_chosen c.attributes.0;
+    spelled = shown_spaced c e;
+  };
+  reads_to = record {
+    names = named c.foreground ++ named c.background;
+    read = subst (λ (ws : List (List ℕ)). WordsRead ws (named c.foreground ++ named c.background) c.attributes.0) (sym shown_words)
+        (subst (λ (ns : List Name). WordsRead (map name_shown (named c.foreground ++ named c.background) ++ attribute_words c.attributes.0) ns c.attributes.0) (append-nil (named c.foreground ++ named c.background))
+        (subst (λ (b : ℕ). WordsRead (map name_shown (named c.foreground ++ named c.background) ++ attribute_words c.attributes.0) ((named c.foreground ++ named c.background) ++ []) b) (or_zero_l c.attributes.0)
+        (WordsRead-join (map name_shown (named c.foreground ++ named c.background)) (attribute_words c.attributes.0) (named c.foreground ++ named c.background) [] 0 c.attributes.0
+        (names_read (named c.foreground ++ named c.background) h) (attribute_words_read c.attributes.0 e))));
+    placed = place c.foreground c.background beside;
+  };
+  short = rw (shown_spaced c e) (spaced_short (map name_shown (named c.foreground ++ named c.background) ++ attribute_words c.attributes.0) 127
+      (omega (arith, weight-append (map name_shown (named c.foreground ++ named c.background)) (attribute_words c.attributes.0), names_weight (named c.foreground ++ named c.background) h, two c.foreground c.background, set_words_weight attributes c.attributes.0, rows_weight)));
+} where
+  two : (f b : Option Name) → length (named f ++ named b) ≤ 2
+  two None None = omega arith
+  two None (Some m) = omega arith
+  two (Some n) None = omega arith
+  two (Some n) (Some m) = omega arith
+
+  place : (f b : Option Name) → (f ≡ None → b ≡ None) → Placed (named f ++ named b) f b
+  place None None k = (refl, refl)
+  place None (Some m) k = absurd (some_none m (k refl))
+  place (Some n) None k = (refl, refl)
+  place (Some n) (Some m) k = (refl, refl)
+
+  shown_words : words (color_shown c) ≡ map name_shown (named c.foreground ++ named c.background) ++ attribute_words c.attributes.0
+  shown_words = ap words (shown_spaced c e) ∙ words_spaced (map name_shown (named c.foreground ++ named c.background) ++ attribute_words c.attributes.0)
+      (all_plain_append (map name_shown (named c.foreground ++ named c.background)) (attribute_words c.attributes.0) (names_plain (map name_shown (named c.foreground ++ named c.background)) (names_canonical (named c.foreground ++ named c.background) h)) (chosen_plain (attribute_words c.attributes.0) (attribute_words_chosen c.attributes.0)))
+
+pub color_shown_is_text : (c : Color) → HasText ColorText c → IsTextOf ColorText CanonicalColor c (color_shown c)
+color_shown_is_text c (t, h) =
+    shown_is_text c
+    (subst (λ (ns : List Name). AllByRecursion (HasText NameText) ns) (sym (Placed-words h.names c.foreground c.background h.placed)) (names_have_text (words t) h.names c.attributes.0 h.read))
+    (WordsRead-known (words t) h.names c.attributes.0 h.read)
+    (background_beside t c h)
+
+-- which colors have a text: those whose set bits are known, with a background only beside a foreground
+pub color_has_text : (c : Color) → PartFits c.foreground → PartFits c.background
+    → (HasText ColorText c) ↔ (AreKnown c.attributes.0 × (c.foreground ≡ None → c.background ≡ None))
+color_has_text c f b = (
+  λ h. (WordsRead-known (words h.0) h.1.names c.attributes.0 h.1.read, background_beside h.0 c h.1),
+  λ k. (color_shown c, (shown_is_text c (parts c.foreground c.background f b) k.0 k.1).reads_to),
+) where
+  parts : (f b : Option Name) → PartFits f → PartFits b → AllByRecursion (HasText NameText) (named f ++ named b)
+  parts None None p q = tt
+  parts None (Some m) p q = (name_has_text m q, tt)
+  parts (Some n) None p q = (name_has_text n p, tt)
+  parts (Some n) (Some m) p q = (name_has_text n p, (name_has_text m q, tt))
+
+-- colors are equal where their parts are
+pub color_equal : (E : Name → Name → Bool) → ((n m : Name) → (IsTrue (E n m)) ↔ (n ≡ m)) → (v w : Color)
+    → (IsTrue (option_eq E v.foreground w.foreground && (option_eq E v.background w.background && (v.attributes.0 == w.attributes.0)))) ↔ (v ≡ w)
+color_equal E law v w = (to, from) where
+  part_same : (f g : Option Name) → option_eq E f g ≡ true → f ≡ g
+  part_same None None h = refl
+  part_same None (Some m) h = absurd (cc)
+  part_same (Some n) None h = absurd (cc)
+  part_same (Some n) (Some m) h = ap Some ((law n m).0 h)
+
+  part_equal : (f : Option Name) → option_eq E f f ≡ true
+  part_equal None = refl
+  part_equal (Some n) = (law n n).1 refl
+
+  to : IsTrue (option_eq E v.foreground w.foreground && (option_eq E v.background w.background && (v.attributes.0 == w.attributes.0))) → v ≡ w
+  to h =
+      let k = both (option_eq E v.foreground w.foreground) (option_eq E v.background w.background && (v.attributes.0 == w.attributes.0)) h in
+      let l = both (option_eq E v.background w.background) (v.attributes.0 == w.attributes.0) k.1 in
+      same_color v w (part_same v.foreground w.foreground k.0) (part_same v.background w.background l.0) ((Decides-eqb v.attributes.0 w.attributes.0).0 l.1)
+
+  from : v ≡ w → IsTrue (option_eq E v.foreground w.foreground && (option_eq E v.background w.background && (v.attributes.0 == w.attributes.0)))
+  from e = rw (← e) (rw (part_equal v.foreground, part_equal v.background, (Decides-eqb v.attributes.0 v.attributes.0).1 refl) refl)
+
+-- the test whether all set bits are known
+pub known_told : (all bits : ℕ) (r : Bool) → all ≡ known_bits_of attribute_flags → r ≡ (bit_and all bits == bits) → (IsTrue r) ↔ (AreKnown bits)
+unfolding attributes known_from
+known_told all bits r e f = (
+  λ h. and_comm bits 266338814 ∙ (ap (λ m. bit_and m bits) (sym e) ∙ (Decides-eqb (bit_and all bits) bits).0 (sym f ∙ h)),
+  λ h. f ∙ (Decides-eqb (bit_and all bits) bits).1 (ap (λ m. bit_and m bits) e ∙ (and_comm 266338814 bits ∙ h)),
+)
+
+-- the test whether a background stands beside a foreground, where there is one
+pub none_told : (o : Option Name) (n : Bool) → is_some o ≡ not n → n ≡ true → o ≡ None
+none_told None n e h = refl
+none_told (Some x) n e h = let k = rw h at e in absurd (cc)
+
+pub beside_told : (f b : Option Name) (n s : Bool) → is_some b ≡ not n → n ≡ false → s ≡ is_some f → (IsTrue s) ↔ (f ≡ None → b ≡ None)
+beside_told None None n s e h k = let l = rw h at e in absurd (cc)
+beside_told None (Some x) n s e h k = (λ t. absurd (cc), λ t. absurd (some_none x (t refl)))
+beside_told (Some y) b n s e h k = (λ t z. absurd (some_none y z), λ t. k)

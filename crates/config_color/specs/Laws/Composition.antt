@@ -1,0 +1,142 @@
+-- The laws of composition: the color of a joined text is the composition of its parts' colors, and what follows
+-- from that for the answers of `normalize` and `same`.
+use Rattle.std.proofs.Common.{◌≡◌, ℕ, ◌+◌, ◌<◌, ◌≤◌, List, [], ◌∷◌, ◌++◌, length, Option, Some, None, Bool, refl, sym, ap, subst, ◌∙◌, append_assoc, length-append, arith}
+use Rattle.arrayvec.specs.ArrayString.{ArrayString}
+use Rattle.std.proofs.lemmas.Option.{some_pair_parts}
+use Rattle.config_color.specs.declared.color.Color.{Color}
+use Rattle.config_word.specs.declared.name.Name.{Name}
+use Rattle.config_color.specs.Color.{WordsRead, Placed, ColorText, CanonicalColor}
+use Rattle.config_color.specs.Laws.Color.{WordsRead-join, PartsRead, WordsRead-split, WordsRead-one, Placed-words, Placed-short, Placed-one, placing, same_color, color_one_value}
+use Rattle.config_color.specs.Reading.Color.{places_of}
+use Rattle.config_color.specs.Composition.{named, color_words, Composition, Composes, Joined, Joins, SameWords, ComparesWords}
+use Rattle.config_color.specs.Space.{Space}
+use Rattle.config_text.specs.Value.{HasText, IsRefused, Reads, Normalizes, Compares}
+use Rattle.config_color.specs.Split.{words}
+use Rattle.config_color.specs.Laws.Split.{words_joined, space_byte}
+
+-- a color that has a text has a background only beside a foreground
+pub background_beside : (t : List ℕ) (c : Color) → ColorText t c → c.foreground ≡ None → c.background ≡ None
+background_beside t c h e = beside h.names c.foreground c.background h.placed e where
+  beside : (ns : List Name) (f b : Option Name) → Placed ns f b → f ≡ None → b ≡ None
+  beside [] f b p e = p.1
+  beside (n ∷ []) f b p e = p.1
+  beside (n ∷ m ∷ []) f b p e = absurd (cc)
+  beside (n ∷ m ∷ o ∷ ns) f b p e = absurd p
+
+-- the composition of the parts' colors is the color of the text that is joined of them by white space
+pub joined_reads : (front space back : List ℕ) (c : Color) → Space space → Joined front back c → ColorText (front ++ space ++ back) c
+joined_reads front space back c s (a, b, p, q, k) =
+    let w = sym (words_joined front space back s) ∙ ap words (sym (append_assoc front space back)) in
+    let r = WordsRead-join (words front) (words back) p.names q.names a.attributes.0 b.attributes.0 p.read q.read in
+    record {
+      names = p.names ++ q.names;
+      read = subst (λ (ws : List (List ℕ)). WordsRead ws (p.names ++ q.names) c.attributes.0) w (subst (λ (i : ℕ). WordsRead (words front ++ words back) (p.names ++ q.names) i) (sym k.united) r);
+      placed = subst (λ (ns : List Name). Placed ns c.foreground c.background)
+          (ap (λ ns. ns ++ color_words b) (Placed-words p.names a.foreground a.background p.placed) ∙ ap (λ ms. p.names ++ ms) (Placed-words q.names b.foreground b.background q.placed)) k.placed;
+    }
+
+-- the color of a joined text is the composition of the colors of its parts
+pub reads_joined : (front space back : List ℕ) (c : Color) → Space space → ColorText (front ++ space ++ back) c → Joined front back c
+reads_joined front space back c s h = parted (WordsRead-split (words front) (words back) h.names c.attributes.0 read) where
+  read : WordsRead (words front ++ words back) h.names c.attributes.0
+  read = subst (λ (ws : List (List ℕ)). WordsRead ws h.names c.attributes.0) (ap words (append_assoc front space back) ∙ words_joined front space back s) h.read
+
+  parted : PartsRead (words front) (words back) h.names c.attributes.0 → Joined front back c
+  parted r =
+      let short : length r.front_names + length r.back_names ≤ 2 = omega (arith, Placed-short h.names c.foreground c.background h.placed, ap length r.all_names, length-append r.front_names r.back_names) in
+      let a = placing r.front_names (omega arith) in
+      let b = placing r.back_names (omega arith) in
+      let front_color : Color = record { foreground = a.0; background = a.1; attributes = record { 0 = r.front_bits } } in
+      let back_color : Color = record { foreground = b.0; background = b.1; attributes = record { 0 = r.back_bits } } in
+      let names : h.names ≡ color_words front_color ++ color_words back_color =
+      r.all_names ∙ (ap (λ ns. ns ++ r.back_names) (sym (Placed-words r.front_names a.0 a.1 a.2)) ∙ ap (λ ms. color_words front_color ++ ms) (sym (Placed-words r.back_names b.0 b.1 b.2))) in (
+        front_color,
+        back_color,
+        record { names = r.front_names; read = r.front; placed = a.2 },
+        record { names = r.back_names; read = r.back; placed = b.2 },
+        record { placed = subst (λ (ns : List Name). Placed ns c.foreground c.background) names h.placed; united = r.all_bits },
+      )
+
+-- what `normalize` answers for a color text is said for every place at which white space stands in it
+pub normalizes_joins : (t : List ℕ) (result : Option ArrayString) → Normalizes ColorText CanonicalColor t result → Joins t result
+normalizes_joins t None refused = λ front space back s e c j. refused c (subst (λ (t : List ℕ). ColorText t c) (sym e) (joined_reads front space back c s j))
+normalizes_joins t (Some r) (c, h, k) = λ front space back s e. (c, reads_joined front space back c s (subst (λ (t : List ℕ). ColorText t c) e h), k)
+
+-- what `same` answers for color texts is said by their words
+pub compares_words : (a b : List ℕ) (result : Option Bool) → Compares ColorText CanonicalColor a b result → ComparesWords a b result
+compares_words a b None refused = tt
+compares_words a b (Some same) (v, w, p, q, k, texts) = (λ e. agree (k.0 e), λ s. k.1 (meet s)) where
+  agree : v ≡ w → SameWords a b
+  agree e =
+      let names : q.names ≡ p.names = sym (Placed-words q.names w.foreground w.background q.placed) ∙ (ap (λ (c : Color). color_words c) (sym e) ∙ Placed-words p.names v.foreground v.background p.placed) in
+      let bits : w.attributes.0 ≡ v.attributes.0 = ap (λ (c : Color). c.attributes.0) (sym e) in
+      (p.names, v.attributes.0, p.read, subst (λ (ns : List Name). WordsRead (words b) ns v.attributes.0) names (subst (λ (i : ℕ). WordsRead (words b) q.names i) bits q.read))
+
+  meet : SameWords a b → v ≡ w
+  meet (names, bits, r, s) =
+      let m = WordsRead-one (words a) p.names names v.attributes.0 bits p.read r in
+      let o = WordsRead-one (words b) q.names names w.attributes.0 bits q.read s in
+      let placed = Placed-one p.names v.foreground v.background w.foreground w.background p.placed
+      (subst (λ (ns : List Name). Placed ns w.foreground w.background) (o.0 ∙ sym m.0) q.placed) in
+      same_color v w placed.0 placed.1 (m.1 ∙ sym o.1)
+
+-- a composition of colors that have texts has one
+pub composition_has_text : (a b c : Color) → HasText ColorText a → HasText ColorText b → Composition a b c → HasText ColorText c
+composition_has_text a b c (s, p) (t, q) k = (s ++ (32 ∷ []) ++ t, joined_reads s (32 ∷ []) t c space_byte (a, b, p, q, k))
+
+pub some_none : (n : Name) → Some n ≡ None → ⊥
+some_none n e = cc
+
+-- the places that the names of two colors have
+places_some : (f b g d : Option Name) (h i : Option Name) → (f ≡ None → b ≡ None) → (g ≡ None → d ≡ None) → places_of f b g d ≡ Some (h, i)
+    → Placed ((named f ++ named b) ++ (named g ++ named d)) h i
+places_some None (Some o) g d h i p q e = absurd (some_none o (p refl))
+places_some None None None None h i p q e = let k = some_pair_parts None h None i e in (sym k.0, sym k.1)
+places_some None None None (Some m) h i p q e = absurd (some_none m (q refl))
+places_some None None (Some n) None h i p q e = let k = some_pair_parts (Some n) h None i e in (sym k.0, sym k.1)
+places_some None None (Some n) (Some m) h i p q e = let k = some_pair_parts (Some n) h (Some m) i e in (sym k.0, sym k.1)
+places_some (Some n) None None None h i p q e = let k = some_pair_parts (Some n) h None i e in (sym k.0, sym k.1)
+places_some (Some n) None (Some o) None h i p q e = let k = some_pair_parts (Some n) h (Some o) i e in (sym k.0, sym k.1)
+places_some (Some n) None g (Some m) h i p q e = absurd (cc)
+places_some (Some n) (Some o) None None h i p q e = let k = some_pair_parts (Some n) h (Some o) i e in (sym k.0, sym k.1)
+places_some (Some n) (Some o) None (Some m) h i p q e = absurd (some_none m (q refl))
+places_some (Some n) (Some o) (Some m) d h i p q e = absurd (cc)
+
+-- there is no place for more than two
+places_none : (f b g d : Option Name) → (f ≡ None → b ≡ None) → (g ≡ None → d ≡ None) → places_of f b g d ≡ None
+    → 2 < length ((named f ++ named b) ++ (named g ++ named d))
+places_none None b g d p q e = absurd (cc)
+places_none (Some n) None g None p q e = absurd (cc)
+places_none (Some n) None None (Some m) p q e = absurd (some_none m (q refl))
+places_none (Some n) None (Some o) (Some m) p q e = omega arith
+places_none (Some n) (Some o) None d p q e = absurd (cc)
+places_none (Some n) (Some o) (Some m) None p q e = omega arith
+places_none (Some n) (Some o) (Some m) (Some k) p q e = omega arith
+
+pub places_compose : (a b : Color) (f g : Option Name) → HasText ColorText a → HasText ColorText b
+    → places_of a.foreground a.background b.foreground b.background ≡ Some (f, g)
+    → Placed (color_words a ++ color_words b) f g
+places_compose a b f g (s, p) (t, q) e = places_some a.foreground a.background b.foreground b.background f g (background_beside s a p) (background_beside t b q) e
+
+pub places_refuse : (a b : Color) → HasText ColorText a → HasText ColorText b
+    → places_of a.foreground a.background b.foreground b.background ≡ None → Composes a b None
+places_refuse a b (s, p) (t, q) e =
+    let l = places_none a.foreground a.background b.foreground b.background (background_beside s a p) (background_beside t b q) e in
+    (l, λ c k. absurd (omega (arith, Placed-short (color_words a ++ color_words b) c.foreground c.background k.placed)))
+
+-- a text joined of one that is refused is refused
+pub refused_front : (front space back : List ℕ) → Space space → IsRefused ColorText front → IsRefused ColorText (front ++ space ++ back)
+refused_front front space back s h v k = let j = reads_joined front space back v s k in h j.0 j.2
+
+pub refused_back : (front space back : List ℕ) → Space space → IsRefused ColorText back → IsRefused ColorText (front ++ space ++ back)
+refused_back front space back s h v k = let j = reads_joined front space back v s k in h j.1 j.3
+
+-- what `compose` answers for the colors of two texts is the reading of the text that is joined of them
+pub composed_reads : (front space back : List ℕ) (a b : Color) (r : Option Color) → Space space → ColorText front a → ColorText back b
+    → Composes a b r → Reads ColorText (front ++ space ++ back) r
+composed_reads front space back a b None s p q k = λ v h.
+    let j = reads_joined front space back v s h in
+    let e = color_one_value front j.0 a j.2 p in
+    let f = color_one_value back j.1 b j.3 q in
+    k.1 v (subst (λ (a : Color). Composition a b v) e (subst (λ (b : Color). Composition j.0 b v) f j.4))
+composed_reads front space back a b (Some c) s p q k = joined_reads front space back c s (a, b, p, q, k.0)

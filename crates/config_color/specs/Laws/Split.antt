@@ -1,0 +1,226 @@
+-- The laws of words: the two sentences of their definition, the words of a text that is joined of two by white
+-- space, and the first word of a text that is walked from its front.
+use Rattle.std.proofs.Common.{◌≡◌, ℕ, zero, suc, ◌+◌, ◌-◌, ◌<◌, ◌≤◌, ◌==◌, ◌⊎◌, inl, inr, Bool, true, false, List, [], ◌∷◌, ◌++◌, length, take, drop, slice_range, Option, Some, None, refl, sym, ap, ◌∙◌, append_assoc, length-append, arith}
+use Rattle.std.specs.Bool.{Decides}
+use Rattle.std.specs.List.{AllByRecursion}
+use Rattle.std.proofs.lemmas.Bool.Decides.{Decides-eqb}
+use Rattle.std.proofs.lemmas.List.{append-nil, take-append-drop, drop-drop, take_all}
+use Rattle.config_text.specs.OneOf.{OneOf}
+use Rattle.config_color.specs.Space.{spellings, Space}
+use Rattle.config_color.specs.Laws.Space.{no_empty}
+use Rattle.config_color.specs.Split.{after, or_else, after_one, after_space, Cut, cut_at, last_cut, piece, words_within, words}
+
+pub space_byte : Space (32 ∷ [])
+unfolding spellings
+space_byte = inr (inr (inr (inr (inr (inl refl)))))
+
+-- what holds of each row holds of one of them
+pub each_row : (P : List ℕ → Type 0) (rows : List (List ℕ)) → AllByRecursion P rows → (text : List ℕ) → OneOf rows text → P text
+each_row P [] all text h = absurd h
+each_row P (row ∷ rows) all text (inl e) = rw e all.0
+each_row P (row ∷ rows) all text (inr h) = each_row P rows all.1 text h
+
+-- a test of equal numbers, told
+pub eqb_told : (x y : ℕ) → ((x == y ≡ true) × (x ≡ y)) ⊎ (x == y ≡ false)
+eqb_told x y = told (x == y) refl (Decides-eqb x y) where
+  told : (b : Bool) → x == y ≡ b → Decides (x == y) (x ≡ y) → ((x == y ≡ true) × (x ≡ y)) ⊎ (x == y ≡ false)
+  told true e d = inl (e, d.0 e)
+  told false e d = inr e
+
+eqb_same : (x : ℕ) → x == x ≡ true
+eqb_same x = (Decides-eqb x x).1 refl
+
+after_append : (front text : List ℕ) → after front (front ++ text) ≡ Some text
+after_append [] text = refl
+after_append (x ∷ front) text = rw eqb_same (after_append front text)
+
+after_is : (front text rest : List ℕ) → after front text ≡ Some rest → text ≡ front ++ rest
+after_is [] text rest h = cc
+after_is (x ∷ front) [] rest h = absurd (cc)
+after_is (x ∷ front) (y ∷ text) rest h =
+    elim (eqb_told x y) [
+      | inl p ↦ let k = rw p.0 at h in cc (after_is front text rest k)
+      | inr p ↦ let k = rw p at h in absurd (cc)
+    ]
+
+after_one_is : (rows : List (List ℕ)) (text rest : List ℕ) → after_one rows text ≡ Some rest
+    → (space : List ℕ) × OneOf rows space × (text ≡ space ++ rest)
+after_one_is [] text rest h = absurd (cc)
+after_one_is (row ∷ rows) text rest h = told (after row text) refl h (after_one_is rows text rest) where
+  told : (o : Option (List ℕ)) → after row text ≡ o → or_else o (after_one rows text) ≡ Some rest
+      → (after_one rows text ≡ Some rest → (space : List ℕ) × OneOf rows space × (text ≡ space ++ rest))
+      → (space : List ℕ) × OneOf (row ∷ rows) space × (text ≡ space ++ rest)
+  told (Some r) e k more = (row, inl refl, after_is row text rest (e ∙ k))
+  told None e k more = let found = more k in (found.0, inr found.1, found.2)
+
+-- what follows a spelling at the head of a text
+pub after_space_is : (text rest : List ℕ) → after_space text ≡ Some rest → (space : List ℕ) × Space space × (text ≡ space ++ rest)
+unfolding after_space spellings
+after_space_is text rest h = after_one_is spellings text rest h
+
+-- a cut of the end of a text is a cut of the text
+cut_append : (before text b r : List ℕ) → last_cut text ≡ Some (b, r) → last_cut (before ++ text) ≡ Some (before ++ b, r)
+cut_append [] text b r h = h
+cut_append (x ∷ before) text b r h = rw (cut_append before text b r h) refl
+
+-- behind a spelling that no other follows, the cut stands at that spelling
+last_space : (space rest : List ℕ) → Space space → last_cut rest ≡ None → last_cut (space ++ rest) ≡ Some ([], rest)
+unfolding after_space spellings
+last_space space rest s h = each_row (λ space. (rest : List ℕ) → last_cut rest ≡ None → last_cut (space ++ rest) ≡ Some ([], rest)) spellings
+    (λ rest h. rw h refl, (λ rest h. rw h refl, (λ rest h. rw h refl, (λ rest h. rw h refl, (λ rest h. rw h refl, (λ rest h. rw h refl, (λ rest h. rw h refl, (λ rest h. rw h refl, (λ rest h. rw h refl, (λ rest h. rw h refl, (λ rest h. rw h refl, (λ rest h. rw h refl, (λ rest h. rw h refl, (λ rest h. rw h refl, (λ rest h. rw h refl, (λ rest h. rw h refl, (λ rest h. rw h refl, (λ rest h. rw h refl, (λ rest h. rw h refl, (λ rest h. rw h refl, (λ rest h. rw h refl, (λ rest h. rw h refl, (λ rest h. rw h refl, (λ rest h. rw h refl, (λ rest h. rw h refl, tt)))))))))))))))))))))))))
+    space s rest h
+
+-- the cut of a text is told
+pub cut_told : (text : List ℕ) → (last_cut text ≡ None) ⊎ ((cut : Cut) × (last_cut text ≡ Some cut))
+cut_told text = told (last_cut text) refl where
+  told : (o : Option Cut) → last_cut text ≡ o → (last_cut text ≡ None) ⊎ ((cut : Cut) × (last_cut text ≡ Some cut))
+  told None e = inl e
+  told (Some cut) e = inr (cut, e)
+
+abbrev front_of : Option Cut → List ℕ
+front_of None = []
+front_of (Some c) = c.0
+
+abbrev back_of : Option Cut → List ℕ
+back_of None = []
+back_of (Some c) = c.1
+
+-- what stands before the cut is shorter
+cut_shorter : (text : List ℕ) (cut : Cut) → last_cut text ≡ Some cut → length cut.0 < length text
+cut_shorter [] cut h = absurd (cc)
+cut_shorter (x ∷ text) cut h =
+    elim (cut_told text) [
+      | inr c ↦ let k = rw c.1 at h in let e : x ∷ c.0.0 ≡ cut.0 = ap (λ o. front_of o) k in omega (arith, cut_shorter text c.0 c.1, ap length e)
+      | inl n ↦ let k = rw n at h in at_head (after_space (x ∷ text)) k
+    ] where
+      at_head : (here : Option (List ℕ)) → cut_at x here None ≡ Some cut → length cut.0 < length (x ∷ text)
+      at_head None k = absurd (cc)
+      at_head (Some r) k = let e : [] ≡ cut.0 = ap (λ o. front_of o) k in omega (arith, ap length e)
+
+within_enough : (n m : ℕ) (text : List ℕ) → length text ≤ n → length text ≤ m → words_within n text ≡ words_within m text
+within_enough zero zero text p q = refl
+within_enough zero (suc m) [] p q = refl
+within_enough zero (suc m) (x ∷ text) p q = absurd (omega arith)
+within_enough (suc n) zero [] p q = refl
+within_enough (suc n) zero (x ∷ text) p q = absurd (omega arith)
+within_enough (suc n) (suc m) text p q =
+    elim (cut_told text) [
+      | inl e ↦ rw e refl
+      | inr c ↦ rw c.1 (ap (λ ws. ws ++ piece c.0.1) (within_enough n m c.0.0 (omega (arith, cut_shorter text c.0 c.1)) (omega (arith, cut_shorter text c.0 c.1))))
+    ]
+
+-- where no spelling stands in the text: itself, or no word where it is empty
+pub words_none : (text : List ℕ) → last_cut text ≡ None → words text ≡ piece text
+unfolding words
+words_none [] h = refl
+words_none (x ∷ text) h = rw h refl
+
+-- otherwise: the words of what stands before the last spelling, then what follows it
+pub words_some : (text : List ℕ) (cut : Cut) → last_cut text ≡ Some cut → words text ≡ words cut.0 ++ piece cut.1
+unfolding words
+words_some [] cut h = absurd (cc)
+words_some (x ∷ text) cut h =
+    rw h (ap (λ ws. ws ++ piece cut.1) (within_enough (length text) (length cut.0) cut.0 (omega (arith, cut_shorter (x ∷ text) cut h)) (omega arith)))
+
+joined_none : (before space rest : List ℕ) → Space space → last_cut rest ≡ None
+    → words (before ++ (space ++ rest)) ≡ words before ++ words rest
+joined_none before space rest s e =
+    words_some (before ++ (space ++ rest)) (before ++ [], rest) (cut_append before (space ++ rest) [] rest (last_space space rest s e))
+    ∙ rw (append-nil, words_none rest e) refl
+
+joined_some : (before space rest : List ℕ) (cut : Cut) → last_cut rest ≡ Some cut
+    → words (before ++ (space ++ cut.0)) ≡ words before ++ words cut.0
+    → words (before ++ (space ++ rest)) ≡ words before ++ words rest
+joined_some before space rest cut e h =
+    words_some (before ++ (space ++ rest)) (before ++ (space ++ cut.0), cut.1)
+    (cut_append before (space ++ rest) (space ++ cut.0) cut.1 (cut_append space rest cut.0 cut.1 e))
+    ∙ (ap (λ ws. ws ++ piece cut.1) h
+    ∙ (append_assoc (words before) (words cut.0) (piece cut.1) ∙ ap (λ ws. words before ++ ws) (sym (words_some rest cut e))))
+
+words_joined_within : (n : ℕ) (before space rest : List ℕ) → length rest ≤ n → Space space
+    → words (before ++ (space ++ rest)) ≡ words before ++ words rest
+words_joined_within zero before space [] l s = joined_none before space [] s refl
+words_joined_within zero before space (x ∷ rest) l s = absurd (omega arith)
+words_joined_within (suc n) before space rest l s =
+    elim (cut_told rest) [
+      | inl e ↦ joined_none before space rest s e
+      | inr c ↦ joined_some before space rest c.0 c.1 (words_joined_within n before space c.0.0 (omega (arith, cut_shorter rest c.0 c.1)) s)
+    ]
+
+-- the words of two texts joined by a spelling are those of the one, then those of the other
+pub words_joined : (before space rest : List ℕ) → Space space → words (before ++ (space ++ rest)) ≡ words before ++ words rest
+words_joined before space rest s = words_joined_within (length rest) before space rest (omega arith) s
+
+-- no spelling stands at the first n places of the text
+abbrev pub IsWithoutSpace : List ℕ → ℕ → Type 0
+IsWithoutSpace text n = (k : ℕ) → k < n → (space rest : List ℕ) → Space space → ¬ (drop k text ≡ space ++ rest)
+
+-- then nothing is cut in front of them
+uncut : (n : ℕ) (text : List ℕ) → IsWithoutSpace text n → last_cut (take n text) ≡ None
+uncut zero text h = refl
+uncut (suc n) [] h = refl
+uncut (suc n) (x ∷ text) h = rw (uncut n text (λ k l. h (suc k) (omega arith))) (at_head (after_space (x ∷ take n text)) refl) where
+  at_head : (here : Option (List ℕ)) → after_space (x ∷ take n text) ≡ here → cut_at x here None ≡ None
+  at_head None e = refl
+  at_head (Some r) e =
+      let found = after_space_is (x ∷ take n text) r e in
+      absurd (h 0 (omega arith) found.0 (r ++ drop n text) found.1
+      (ap (λ t. x ∷ t) (sym (take-append-drop n text)) ∙ (ap (λ t. t ++ drop n text) found.2 ∙ append_assoc found.0 r (drop n text))))
+
+-- the words of a text at whose place n the first spelling stands, s bytes long
+pub words_step : (text : List ℕ) (n s : ℕ) → IsWithoutSpace text n → n + s ≤ length text → Space (slice_range text n (n + s))
+    → words text ≡ piece (take n text) ++ words (drop (n + s) text)
+words_step text n s h l k =
+    ap words (parts text n s l) ∙ (words_joined (take n text) (slice_range text n (n + s)) (drop (n + s) text) k
+    ∙ ap (λ ws. ws ++ words (drop (n + s) text)) (words_none (take n text) (uncut n text h))) where
+      parts : (text : List ℕ) (n s : ℕ) → n + s ≤ length text → text ≡ take n text ++ (slice_range text n (n + s) ++ drop (n + s) text)
+      parts text n s l = let e : n + s - n ≡ s = omega arith in
+          rw e (sym (take-append-drop n text) ∙ ap (λ t. take n text ++ t) (sym (take-append-drop s (drop n text)) ∙ ap (λ t. take s (drop n text) ++ t) (drop-drop s n text)))
+
+-- the words of a text in which no spelling stands
+pub words_last : (text : List ℕ) → IsWithoutSpace text (length text) → words text ≡ piece text
+words_last text h = words_none text (let k = uncut (length text) text h in ap last_cut (sym (take_all (length text) text (omega arith))) ∙ k)
+
+-- the parts of a cut
+cut_parts : (text : List ℕ) (cut : Cut) → last_cut text ≡ Some cut → (space : List ℕ) × Space space × (text ≡ cut.0 ++ (space ++ cut.1))
+cut_parts [] cut h = absurd (cc)
+cut_parts (x ∷ text) cut h = at_place x text cut (after_space (x ∷ text)) refl (last_cut text) h (cut_parts text) where
+  at_place : (x : ℕ) (text : List ℕ) (cut : Cut) (here : Option (List ℕ)) → after_space (x ∷ text) ≡ here
+      → (further : Option Cut) → cut_at x here further ≡ Some cut
+      → ((cut : Cut) → further ≡ Some cut → (space : List ℕ) × Space space × (text ≡ cut.0 ++ (space ++ cut.1)))
+      → (space : List ℕ) × Space space × (x ∷ text ≡ cut.0 ++ (space ++ cut.1))
+  at_place x text cut here e (Some c) h more =
+      let k = more c refl in
+      let f : x ∷ c.0 ≡ cut.0 = ap (λ o. front_of o) h in
+      let g : c.1 ≡ cut.1 = ap (λ o. back_of o) h in
+      (k.0, k.1, ap (λ t. x ∷ t) k.2 ∙ (ap (λ t. t ++ (k.0 ++ c.1)) f ∙ ap (λ t. cut.0 ++ (k.0 ++ t)) g))
+  at_place x text cut (Some r) e None h more =
+      let k = after_space_is (x ∷ text) r e in
+      let f : [] ≡ cut.0 = ap (λ o. front_of o) h in
+      let g : r ≡ cut.1 = ap (λ o. back_of o) h in
+      (k.0, k.1, k.2 ∙ (ap (λ t. t ++ (k.0 ++ r)) f ∙ ap (λ t. cut.0 ++ (k.0 ++ t)) g))
+  at_place x text cut None e None h more = absurd (cc)
+
+-- a text in which no spelling stands has no cut
+no_cut : (text : List ℕ) → ((before space rest : List ℕ) → Space space → ¬ (text ≡ before ++ (space ++ rest))) → last_cut text ≡ None
+no_cut text h =
+    elim (cut_told text) [
+      | inl e ↦ e
+      | inr c ↦ let k = cut_parts text c.0 c.1 in absurd (h c.0.0 k.0 c.0.1 k.1 k.2)
+    ]
+
+pub words_whole : (text : List ℕ) → ((before space rest : List ℕ) → Space space → ¬ (text ≡ before ++ space ++ rest)) → words text ≡ piece text
+words_whole text h = words_none text (no_cut text (λ before space rest s e. h before space rest s (e ∙ sym (append_assoc before space rest))))
+
+pub words_cut_last : (before space rest : List ℕ) → Space space
+    → ((front other back : List ℕ) → Space other → before ++ space ++ rest ≡ front ++ other ++ back → length front ≤ length before)
+    → words (before ++ space ++ rest) ≡ words before ++ piece rest
+words_cut_last before space rest s h =
+    ap words (append_assoc before space rest) ∙ (words_joined before space rest s ∙ ap (λ ws. words before ++ ws) (words_none rest (no_cut rest behind))) where
+      behind : (b o r : List ℕ) → Space o → ¬ (rest ≡ b ++ (o ++ r))
+      behind b o r t e =
+          let l = h ((before ++ space) ++ b) o r t (ap (λ t. before ++ space ++ t) e ∙ (sym (append_assoc (before ++ space) b (o ++ r)) ∙ sym (append_assoc ((before ++ space) ++ b) o r))) in
+          long space s l where
+            long : (space : List ℕ) → Space space → length ((before ++ space) ++ b) ≤ length before → ⊥
+            long [] s l = no_empty s
+            long (x ∷ more) s l = omega (arith, length-append (before ++ x ∷ more) b, length-append before (x ∷ more))

@@ -1,0 +1,307 @@
+//! Color names, attributes and colors.
+ghost use Rattle.std.specs.Prelude.{◌↔◌, IsTrue, ◌≡◌, ◌+◌, ◌<◌, ◌≤◌, Option, Some, None, length, slice_range};
+ghost use Rattle.std.specs.Cow.{cow_slice_items};
+ghost use Rattle.bstr.specs.BStr.{bstr_bytes};
+ghost use Rattle.bstr.specs.Owned.{bstring_bytes};
+ghost use Rattle.config_text.specs.declared.errors.Fault.TheVariants as faults;
+ghost use Rattle.config_color.specs.Color.{ColorText, CanonicalColor, PartFits, color_shown};
+ghost use Rattle.config_color.specs.Laws.Color.{color_one_value, color_decided};
+ghost use Rattle.config_color.specs.Reading.Color.{no_color, next_name, with_item, read_from, names_shown};
+ghost use Rattle.config_color.specs.Laws.ColorShown.{color_equal, color_canonical_reads, color_one_text, color_shown_is_text};
+ghost use Rattle.std.proofs.Common.{rules};
+ghost use Rattle.config_text.specs.Refusals.{ReadsBytes, ReadsText, ReadsOwned};
+ghost use Rattle.config_color.specs.Space.{Space};
+ghost use Rattle.config_text.specs.Value.{HasText, Reads};
+ghost use Rattle.config_color.specs.Split.{piece};
+ghost use Rattle.config_color.specs.Laws.Split.{IsWithoutSpace};
+
+use crate::space::space_at;
+use arrayvec::ArrayString;
+use bitflags::Flags;
+use bstr::{BStr, BString};
+use config_text::errors::{Error, Fault, Returned};
+use config_text::value::Value;
+use config_word::attribute::Attribute;
+use config_word::item::{Item, word};
+use config_word::name::{Name, numbers_fit};
+use std::borrow::CowSlice;
+use std::fmt;
+
+/// A color: the two that text is drawn in, and its attributes.
+#[derive(Clone, Copy, PartialEq, Eq, PartialOrd, Ord, Hash, Debug)]
+pub struct Color {
+    /// The color of the text, where one is named.
+    pub foreground: Option<Name>,
+    /// The color behind the text, where one is named.
+    pub background: Option<Name>,
+    /// The attributes.
+    pub attributes: Attribute,
+}
+
+impl Default for Color {
+    ghost is_default = { λ c. c ≡ no_color };
+
+    /// The color of the empty text: no names and no attributes.
+    fn default() -> Color {
+        Color {
+            foreground: None,
+            background: None,
+            attributes: Attribute::empty(),
+        }
+    }
+}
+
+impl Color {
+    /// This color with one more name: the foreground, else the background. `None` where both are there.
+    fn with_name(self, name: Name) -> Option<Color>
+        ensures { result ≡ next_name self.foreground self.background self.attributes.0 name }
+    {
+        match (self.foreground, self.background) {
+            (None, _) => Some(Color {
+                foreground: Some(name),
+                ..self
+            }),
+            (Some(_), None) => Some(Color {
+                background: Some(name),
+                ..self
+            }),
+            (Some(_), Some(_)) => None,
+        }
+    }
+
+    /// This color with one more item.
+    fn with_item(self, item: Item) -> Option<Color>
+        ensures { result ≡ with_item self item }
+    {
+        match item {
+            Item::Name(name) => self.with_name(name),
+            Item::Attribute(attribute) => {
+                let attributes = self.attributes.union(attribute);
+                Some(Color { attributes, ..self })
+            }
+        }
+    }
+
+    /// This color with the item of one more word, where the word is not empty. `None` where it is no word.
+    fn with_word(self, text: &[u8]) -> Option<Color>
+        ensures { result ≡ read_from self (piece text.now) }
+    {
+        if text.is_empty() {
+            return Some(self);
+        }
+        self.with_item(word(text)?)
+    }
+}
+
+/// The numbers of a name that is there are bytes.
+fn part_fits(part: Option<Name>)
+    ensures { PartFits part }
+{
+    if let Some(name) = part {
+        numbers_fit(name);
+    }
+}
+
+impl Color {
+    /// The names as they are shown, with one space between.
+    #[tactic(auto, using(config_word::specs::Laws::Name::name_short))]
+    fn names_shown(&self) -> ArrayString<127>
+        ensures text { result.bytes ≡ names_shown self.now.foreground self.now.background }
+        ensures room { length result.bytes ≤ 27 }
+    {
+        match (self.foreground, self.background) {
+            (None, None) => ArrayString::new(),
+            (Some(name), None) | (None, Some(name)) => {
+                numbers_fit(name);
+                name.shown()
+            }
+            (Some(first), Some(second)) => {
+                numbers_fit(first);
+                numbers_fit(second);
+                let mut text = first.shown();
+                text.push_str(" ");
+                second.push_to(&mut text);
+                text
+            }
+        }
+    }
+
+    /// Whether some text reads to this color: all set bits have a constant, and a background stands only beside a
+    /// foreground.
+    fn is_readable(&self) -> bool
+        ensures { IsTrue result ↔ (HasText ColorText self.now) }
+    {
+        part_fits(self.foreground);
+        part_fits(self.background);
+        Attribute::all().contains(self.attributes)
+            && (self.background.is_none() || self.foreground.is_some())
+    }
+
+    /// The color as it is shown.
+    pub(crate) fn shown(&self) -> ArrayString<127>
+        ensures { result.bytes ≡ color_shown self.now }
+    {
+        let mut text = self.names_shown();
+        if self.attributes.is_empty() {
+            return text;
+        }
+        if self.foreground.is_some() || self.background.is_some() {
+            text.push_str(" ");
+        }
+        self.attributes.push_to(&mut text);
+        text
+    }
+}
+
+/// Where the first word of a text ends.
+#[derive(Clone, Copy)]
+struct FirstWord {
+    /// The bytes before the first white space, of which there may be none.
+    length: usize,
+    /// The bytes of that white space, or 0 where the text has none.
+    space: usize,
+}
+
+/// The first word of a text.
+fn first_word(text: &[u8]) -> FirstWord
+    ensures clear { IsWithoutSpace text.now result.length }
+    ensures within { result.length + result.space ≤ length text.now }
+    ensures parted { 0 < result.space → Space (slice_range text.now result.length (result.length + result.space)) }
+    ensures last { result.space ≡ 0 → result.length ≡ length text.now }
+{
+    for at in 0..text.len() {
+        let space = space_at(text, at);
+        if space > 0 {
+            return FirstWord { length: at, space };
+        }
+    }
+    FirstWord {
+        length: text.len(),
+        space: 0,
+    }
+}
+
+/// The color of a text, or `None` where it has none. The text is walked once, from its front.
+fn color_of(input: &[u8]) -> Option<Color>
+    ensures { Reads ColorText input.now result }
+{
+    let mut color = Color::default();
+    let mut rest = input;
+    loop {
+        let first = first_word(rest);
+        let (text, behind) = rest.split_at(first.length);
+        color = color.with_word(text)?;
+        if first.space == 0 {
+            return Some(color);
+        }
+        rest = &behind[first.space..];
+    }
+}
+
+impl<'a> TryFrom<BStr<'a>> for Color {
+    type Error = Error<'a>;
+
+    ghost try_from_gives = { ReadsBytes ColorText faults.Color };
+
+    /// Refuses with `Fault::Color` and the whole input where it is no color text.
+    fn try_from(input: BStr<'a>) -> Result<Color, Error<'a>> {
+        match color_of(input.as_bytes()) {
+            Some(color) => Ok(color),
+            None => Err(Error {
+                fault: Fault::Color,
+                input,
+            }),
+        }
+    }
+}
+
+impl<'a> TryFrom<&'a str> for Color {
+    type Error = Error<'a>;
+
+    ghost try_from_gives = { λ s r. ReadsText ColorText faults.Color s.now r };
+
+    /// Refuses with `Fault::Color` and the whole input where it is no color text.
+    fn try_from(input: &'a str) -> Result<Color, Error<'a>> {
+        match color_of(input.as_bytes()) {
+            Some(color) => Ok(color),
+            None => Err(Error {
+                fault: Fault::Color,
+                input: BStr::from(input),
+            }),
+        }
+    }
+}
+
+impl TryFrom<BString> for Color {
+    type Error = Returned<BString>;
+
+    ghost try_from_gives = { λ s r. ReadsOwned ColorText faults.Color (bstring_bytes s) s r };
+
+    /// Refuses with `Fault::Color` where the input is no color text, and hands it back.
+    fn try_from(input: BString) -> Result<Color, Returned<BString>> {
+        match color_of(input.as_bytes()) {
+            Some(color) => Ok(color),
+            None => Err(Returned {
+                fault: Fault::Color,
+                input,
+            }),
+        }
+    }
+}
+
+impl<'a> TryFrom<CowSlice<'a, u8>> for Color {
+    type Error = Returned<CowSlice<'a, u8>>;
+
+    ghost try_from_gives = { λ s r. ReadsOwned ColorText faults.Color (cow_slice_items s) s r };
+
+    /// Refuses with `Fault::Color` where the input is no color text, and hands it back.
+    fn try_from(input: CowSlice<'a, u8>) -> Result<Color, Returned<CowSlice<'a, u8>>> {
+        match color_of(&input) {
+            Some(color) => Ok(color),
+            None => Err(Returned {
+                fault: Fault::Color,
+                input,
+            }),
+        }
+    }
+}
+
+impl fmt::Display for Color {
+    ghost output = { λ c. Some (color_shown c) };
+
+    fn fmt<W: fmt::Write>(&self, f: &mut fmt::Formatter<W>) -> fmt::Result {
+        f.write_str(self.shown().as_str())
+    }
+}
+
+impl Value for Color {
+    ghost grammar = { ColorText };
+
+    ghost canonical = { CanonicalColor };
+
+    ghost displayed = { color_shown };
+
+    fn read(input: BStr<'_>) -> Option<Color> {
+        color_of(input.as_bytes())
+    }
+
+    fn has_text(&self) -> bool {
+        self.is_readable()
+    }
+
+    fn text(&self) -> ArrayString<127> {
+        self.shown()
+    }
+
+    ghost one_value = { color_one_value };
+
+    ghost one_text = { color_one_text };
+
+    ghost canonical_reads = { color_canonical_reads };
+
+    ghost shown_is_text = { color_shown_is_text };
+
+    ghost decided = { color_decided };
+
+    ghost equal_is_same = { color_equal ⟦<Name as PartialEq>⟧.eq (Prim.search rules) };
+}

@@ -1,0 +1,45 @@
+//! Two colors as one.
+ghost use Rattle.std.specs.Prelude.{◌≡◌};
+ghost use Rattle.config_color.specs.Color.{ColorText};
+ghost use Rattle.config_color.specs.Reading.Color.{places_of};
+ghost use Rattle.config_color.specs.Composition.{Composes};
+ghost use Rattle.config_text.specs.Value.{HasText};
+
+use crate::color::Color;
+use bitflags::Flags;
+use config_word::name::Name;
+
+/// The foreground and the background of the names of `a` and then those of `b`, or `None` where they are more
+/// than two.
+fn places(a: Color, b: Color) -> Option<(Option<Name>, Option<Name>)>
+    ensures { result ≡ places_of a.foreground a.background b.foreground b.background }
+{
+    match (a.foreground, a.background) {
+        (None, _) => Some((b.foreground, b.background)),
+        (Some(first), None) => match b.background {
+            None => Some((Some(first), b.foreground)),
+            Some(_) => None,
+        },
+        (Some(first), Some(second)) => match b.foreground {
+            None => Some((Some(first), Some(second))),
+            Some(_) => None,
+        },
+    }
+}
+
+/// The color that a text of `a`, white space and a text of `b` reads to: the names of `a` and then those of `b`
+/// as foreground and background, and the attributes of both. `None` where the names are more than two. Both
+/// colors have a text, as [`Value::has_text`](config_text::value::Value::has_text) tells, and so has the answer.
+pub fn compose(a: Color, b: Color) -> Option<Color>
+    requires first { HasText ColorText a }
+    requires second { HasText ColorText b }
+    ensures { Composes a b result }
+{
+    let (foreground, background) = places(a, b)?;
+    let attributes = a.attributes.union(b.attributes);
+    Some(Color {
+        foreground,
+        background,
+        attributes,
+    })
+}

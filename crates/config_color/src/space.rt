@@ -1,0 +1,63 @@
+//! White space in a text, told by its bytes.
+ghost use Rattle.std.specs.Prelude.{◌≡◌, ℕ, ◌+◌, ◌<◌, ◌≤◌, ◌↔◌, ◌++◌, IsTrue, List, [], ◌∷◌, length, drop, slice_range};
+ghost use Rattle.config_color.specs.Space.{Space};
+
+/// Whether this byte is a spelling of white space.
+fn is_narrow(first: u8) -> bool
+    ensures { IsTrue result ↔ (Space (first ∷ [])) }
+{
+    matches!(first, 9..=13 | 32)
+}
+
+/// Whether these two bytes are a spelling of white space.
+fn is_double(first: u8, second: u8) -> bool
+    ensures { IsTrue result ↔ (Space (first ∷ second ∷ [])) }
+{
+    first == 0xc2 && matches!(second, 0x85 | 0xa0)
+}
+
+/// Whether this byte ends one of the spellings that begin with `e280`.
+fn ends_general(third: u8) -> bool
+    ensures { IsTrue result ↔ (Space (226 ∷ 128 ∷ third ∷ [])) }
+{
+    matches!(third, 0x80..=0x8a | 0xa8 | 0xa9 | 0xaf)
+}
+
+/// Whether these three bytes are a spelling of white space.
+fn is_triple(first: u8, second: u8, third: u8) -> bool
+    ensures { IsTrue result ↔ (Space (first ∷ second ∷ third ∷ [])) }
+{
+    match (first, second) {
+        (0xe1, 0x9a) => third == 0x80,
+        (0xe2, 0x80) => ends_general(third),
+        (0xe2, 0x81) => third == 0x9f,
+        (0xe3, 0x80) => third == 0x80,
+        _ => false,
+    }
+}
+
+/// The length of the spelling of white space at the head of these bytes, or 0 where none stands there.
+fn space_length(bytes: &[u8]) -> usize
+    ensures none { result ≡ 0 → (space rest : List ℕ) → Space space → ¬ (bytes.now ≡ space ++ rest) }
+    ensures within { result ≤ length bytes.now }
+    ensures some { 0 < result → Space (slice_range bytes.now 0 result) }
+{
+    match bytes {
+        [first, ..] if is_narrow(*first) => 1,
+        [first, second, ..] if is_double(*first, *second) => 2,
+        [first, second, third, ..] if is_triple(*first, *second, *third) => 3,
+        _ => 0,
+    }
+}
+
+/// The length in bytes of the spelling of white space that stands in the input at this place, counted from 0,
+/// or 0 where none stands there: 1 to 3 for the 25 code points that are white space. The place is within the
+/// input or its end.
+pub fn space_at(input: &[u8], at: usize) -> usize
+    requires { at ≤ length input.now }
+    ensures none { result ≡ 0 → (space rest : List ℕ) → Space space → ¬ (drop at input.now ≡ space ++ rest) }
+    ensures within { at + result ≤ length input.now }
+    ensures some { 0 < result → Space (slice_range input.now at (at + result)) }
+{
+    space_length(&input[at..])
+}

@@ -1,0 +1,42 @@
+-- One turn of the count of digits, and its end at a byte that is none.
+use Rattle.std.proofs.Common.{◌≡◌, ℕ, zero, suc, ◌+◌, ◌-◌, ◌*◌, ◌<◌, ◌≤◌, List, [], ◌∷◌, length, get_or, take, drop, length-drop, Option, Some, add-one, drop-cons, arith, ◌∙◌, ap, sym, subst}
+use Rattle.std.proofs.lemmas.Bool.Decides.{nat_tests}
+use Rattle.std.proofs.lemmas.List.{take_all}
+use Rattle.std.specs.Option.{option_map}
+use Rattle.std.specs.Char.{digit_value}
+use Rattle.config_integer.specs.declared.suffix.Suffix.{Suffix}
+use Rattle.config_integer.specs.Reading.Integer.{counted, counted_from, suffix_of, suffix_of_is}
+use Rattle.config_integer.specs.Suffix.{SuffixText}
+use Rattle.config_text.specs.Value.{Reads}
+use Rattle.config_text.specs.Laws.Value.{read_by}
+
+-- a digit moves the count on by one byte
+pub counted_digit : (base limit n m at b : ℕ) (t : List ℕ) → at < length t → b ≡ get_or t at 0 → digit_value b < base
+    → m ≡ n * base + digit_value b → m ≤ limit → counted_from base limit n (drop at t) ≡ counted_from base limit m (drop (at + 1) t)
+counted_digit base limit n m at b t within byte digit sum small =
+    rw (drop-cons t at 0) (rw (add-one) (grind (arith, nat_tests)))
+
+-- the first byte is a digit once one byte is counted
+pub first_counted : (base at b : ℕ) (t : List ℕ) → (0 < at → digit_value (get_or t 0 0) < base) → b ≡ get_or t at 0
+    → digit_value b < base → digit_value (get_or t 0 0) < base
+first_counted base zero b t before byte digit = subst (λ x. digit_value x < base) byte digit
+first_counted base (suc at) b t before byte digit = before (omega arith)
+
+counted_end : (base limit n at b : ℕ) (t : List ℕ) → at < length t → b ≡ get_or t at 0 → ¬ (digit_value b < base)
+    → counted_from base limit n (drop at t) ≡ option_map (λ s. (n, Some s)) (suffix_of (drop at t))
+counted_end base limit n at b t within byte other = rw (drop-cons t at 0) (grind (arith, nat_tests))
+
+counted_start : (base limit : ℕ) (t : List ℕ) → base ≤ 36 → digit_value (get_or t 0 0) < base → counted base limit t ≡ counted_from base limit 0 t
+counted_start base limit [] h d = absurd (omega arith)
+counted_start base limit (c ∷ cs) h d = grind (arith, nat_tests)
+
+-- behind a digit, a byte that is none ends the count: the rest is a suffix, or the text is refused
+pub counted_unit : (base limit n at b : ℕ) (t : List ℕ) (r o : Option Suffix) → r ≡ o → at < length t → base ≤ 36
+    → digit_value (get_or t 0 0) < base → b ≡ get_or t at 0 → ¬ (digit_value b < base)
+    → counted_from base limit 0 t ≡ counted_from base limit n (drop at t)
+    → Reads SuffixText (take (length t - at) (drop at t)) r → option_map (λ s. (n, Some s)) o ≡ counted base limit t
+counted_unit base limit n at b t r o same within low first byte other invariant reads =
+    ap (option_map (λ s. (n, Some s))) (sym same ∙ read_by suffix_of_is _ r reads ∙ ap suffix_of (whole at t within))
+    ∙ sym (counted_start base limit t low first ∙ invariant ∙ counted_end base limit n at b t within byte other) where
+      whole : (at : ℕ) (t : List ℕ) → at < length t → take (length t - at) (drop at t) ≡ drop at t
+      whole at t h = take_all _ _ (omega (arith, length-drop at t))

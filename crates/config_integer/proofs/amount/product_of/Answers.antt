@@ -1,0 +1,15 @@
+use Rattle.std.proofs.Common.{refl}
+use Rattle.config_text.specs.declared.errors.Fault.TheVariants as faults
+use Rattle.config_integer.specs.Integer.{product}
+use Rattle.config_integer.specs.Amount.{AmountRefusal}
+use Rattle.config_integer.specs.Laws.Amount.{amount_refused}
+use Rattle.config_integer.proofs.amount.product_of.Goals as goal
+
+pub returns-in_default : goal.returns-in_default
+returns-in_default c = (c.in_default.ensures, amount_refused c.args.text.now faults.Integer c.in_default.ensures)
+
+pub returns-in-None : goal.returns-in-None
+returns-in-None c =
+    let r : AmountRefusal c.args.text.now faults.Overflow =
+    (product c.in-Some.integer, record { integer = c.in-Some.integer; text = c.in-Some.ensures; number = refl }, c.in-None.ensures) in
+    (r, amount_refused c.args.text.now faults.Overflow r)

@@ -1,0 +1,22 @@
+-- Amounts: integer texts read as the number that is their product.
+use Rattle.std.specs.Prelude.{ℕ, List}
+use Rattle.std.specs.Fmt.{signed_decimal}
+use Rattle.config_text.specs.declared.errors.Fault.{Fault}
+use Rattle.config_integer.specs.declared.amount.Amount.{Amount}
+use Rattle.config_integer.specs.Integer.{ProductInRange, Refusal, CanonicalNumber}
+
+-- amount text: an integer text whose product is this number, in range
+abbrev pub AmountText : List ℕ → Amount → Type 0
+AmountText t v = ProductInRange t v.0
+
+-- why a text is no amount text: it is no integer text, or its product is out of range
+abbrev pub AmountRefusal : List ℕ → Fault → Type 0
+AmountRefusal t fault = Refusal (λ _. ⊥) t fault
+
+-- how an amount is shown: in decimal
+abbrev pub amount_shown : Amount → List ℕ
+amount_shown v = signed_decimal v.0
+
+-- the canonical texts of an amount: canonical numbers, with no suffix
+abbrev pub CanonicalAmount : List ℕ → Type 0
+CanonicalAmount t = CanonicalNumber t

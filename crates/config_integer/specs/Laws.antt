@@ -1,0 +1,4 @@
+pub mod Suffix
+pub mod Integer
+pub mod IntegerShown
+pub mod Amount

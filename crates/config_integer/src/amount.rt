@@ -1,0 +1,153 @@
+//! Integer texts read as the number that is their product.
+ghost use Rattle.std.specs.Prelude.{◌≡◌, Some};
+ghost use Rattle.bstr.specs.BStr.{bstr_bytes};
+ghost use Rattle.bstr.specs.Owned.{bstring_bytes};
+ghost use Rattle.std.specs.Cow.{cow_slice_items};
+ghost use Rattle.std.proofs.Common.{rules};
+ghost use Rattle.config_text.specs.Value.{Reads};
+ghost use Rattle.config_text.specs.Refusals.{ReadsOr};
+ghost use Rattle.config_integer.specs.Amount.{AmountText, AmountRefusal, CanonicalAmount, amount_shown};
+ghost use Rattle.config_integer.specs.Laws.Amount.{amount_one_value, amount_one_text, amount_canonical_reads, amount_shown_is_text, amount_decided};
+
+use crate::integer::scan;
+use arrayvec::ArrayString;
+use bstr::{BStr, BString};
+use config_text::errors::{Error, Fault, Returned};
+use config_text::value::Value;
+use itoa::Buffer;
+use std::borrow::CowSlice;
+use std::fmt;
+
+/// The number that an integer text has as its product: `1k` and `1024` are one amount.
+#[derive(Clone, Copy, PartialEq, Eq, PartialOrd, Ord, Hash, Debug, Default)]
+pub struct Amount(pub i64);
+
+/// The amount that a text writes, or why it writes none: first that it is no integer, then that its product
+/// leaves `i64`.
+fn product_of(text: &[u8]) -> Result<Amount, Fault>
+    ensures { ReadsOr AmountText (AmountRefusal text.now) text.now result }
+{
+    let Some(integer) = scan(text) else {
+        return Err(Fault::Integer);
+    };
+    match integer.to_decimal() {
+        Some(product) => Ok(Amount(product)),
+        None => Err(Fault::Overflow),
+    }
+}
+
+impl<'a> TryFrom<BStr<'a>> for Amount {
+    type Error = Error<'a>;
+
+    ghost try_from_gives = { λ s r. ReadsOr AmountText (λ e. AmountRefusal (bstr_bytes s) e.fault × (e.input ≡ s)) (bstr_bytes s) r };
+
+    /// Refuses, with the whole input, with `Fault::Integer` where it writes no integer, and else with
+    /// `Fault::Overflow` where the product leaves `i64`.
+    fn try_from(input: BStr<'a>) -> Result<Amount, Error<'a>> {
+        match product_of(input.as_bytes()) {
+            Ok(amount) => Ok(amount),
+            Err(fault) => Err(Error { fault, input }),
+        }
+    }
+}
+
+impl<'a> TryFrom<&'a str> for Amount {
+    type Error = Error<'a>;
+
+    ghost try_from_gives = { λ s r. ReadsOr AmountText (λ e. AmountRefusal s.now e.fault × (bstr_bytes e.input ≡ s.now)) s.now r };
+
+    /// Refuses, with the whole input, with `Fault::Integer` where it writes no integer, and else with
+    /// `Fault::Overflow` where the product leaves `i64`.
+    fn try_from(input: &'a str) -> Result<Amount, Error<'a>> {
+        match product_of(input.as_bytes()) {
+            Ok(amount) => Ok(amount),
+            Err(fault) => Err(Error {
+                fault,
+                input: BStr::from(input),
+            }),
+        }
+    }
+}
+
+impl TryFrom<BString> for Amount {
+    type Error = Returned<BString>;
+
+    ghost try_from_gives = { λ s r. ReadsOr AmountText (λ e. AmountRefusal (bstring_bytes s) e.fault × (e.input ≡ s)) (bstring_bytes s) r };
+
+    /// Refuses with `Fault::Integer` where the input writes no integer, and else with `Fault::Overflow` where
+    /// the product leaves `i64`, and hands the input back.
+    fn try_from(input: BString) -> Result<Amount, Returned<BString>> {
+        match product_of(input.as_bytes()) {
+            Ok(amount) => Ok(amount),
+            Err(fault) => Err(Returned { fault, input }),
+        }
+    }
+}
+
+impl<'a> TryFrom<CowSlice<'a, u8>> for Amount {
+    type Error = Returned<CowSlice<'a, u8>>;
+
+    ghost try_from_gives = { λ s r. ReadsOr AmountText (λ e. AmountRefusal (cow_slice_items s) e.fault × (e.input ≡ s)) (cow_slice_items s) r };
+
+    /// Refuses with `Fault::Integer` where the input writes no integer, and else with `Fault::Overflow` where
+    /// the product leaves `i64`, and hands the input back.
+    fn try_from(input: CowSlice<'a, u8>) -> Result<Amount, Returned<CowSlice<'a, u8>>> {
+        match product_of(input.as_slice()) {
+            Ok(amount) => Ok(amount),
+            Err(fault) => Err(Returned { fault, input }),
+        }
+    }
+}
+
+impl Amount {
+    /// The number in decimal.
+    fn shown(&self) -> ArrayString<127>
+        ensures { result.bytes ≡ amount_shown self.now }
+    {
+        let mut text = ArrayString::new();
+        text.push_str(Buffer::new().format(self.0));
+        text
+    }
+}
+
+impl fmt::Display for Amount {
+    ghost output = { λ v. Some (amount_shown v) };
+
+    fn fmt<W: fmt::Write>(&self, f: &mut fmt::Formatter<W>) -> fmt::Result {
+        f.write_str(self.shown().as_str())
+    }
+}
+
+impl Value for Amount {
+    ghost grammar = { AmountText };
+
+    ghost canonical = { CanonicalAmount };
+
+    ghost displayed = { amount_shown };
+
+    fn read(input: BStr<'_>) -> Option<Amount> {
+        product_of(input.as_bytes()).ok()
+    }
+
+    fn has_text(&self) -> bool {
+        // The prover knows the range of a field that is read.
+        let _number = self.0;
+        true
+    }
+
+    fn text(&self) -> ArrayString<127> {
+        self.shown()
+    }
+
+    ghost one_value = { amount_one_value };
+
+    ghost one_text = { amount_one_text };
+
+    ghost canonical_reads = { amount_canonical_reads };
+
+    ghost shown_is_text = { amount_shown_is_text };
+
+    ghost decided = { amount_decided };
+
+    ghost equal_is_same = { Prim.search rules };
+}

@@ -1,0 +1,253 @@
+//! Integers and their suffixes.
+ghost use Rattle.std.specs.Prelude.{◌≡◌, ℤ, Option, Some, None, SomeIff, IfOk, IfErr, Ok, Err};
+ghost use Rattle.bstr.specs.BStr.{bstr_bytes};
+ghost use Rattle.bstr.specs.Owned.{bstring_bytes};
+ghost use Rattle.std.specs.Cow.{cow_slice_items};
+ghost use Rattle.std.proofs.Common.{rules};
+ghost use Rattle.config_text.specs.declared.errors.Fault.TheVariants as faults;
+ghost use Rattle.config_text.specs.Value.{Reads};
+ghost use Rattle.config_text.specs.Refusals.{ReadsBytes, ReadsText, ReadsOwned};
+ghost use Rattle.config_integer.specs.Integer.{IntegerText, CanonicalInteger, integer_shown, product, ProductInRange, Refusal};
+ghost use Rattle.config_text.specs.Numerals.{IsInI64};
+ghost use Rattle.std.specs.Option.{option_map};
+ghost use Rattle.config_integer.specs.Reading.Integer.{plain_integer, negative_integer, unsigned_of, integer_of};
+ghost use Rattle.config_integer.specs.Laws.Integer.{integer_one_value, integer_decided};
+ghost use Rattle.config_integer.specs.Laws.IntegerShown.{integer_one_text, integer_canonical_reads, integer_shown_is_text};
+ghost use Rattle.config_text.specs.Json.{GivesJsonNumber};
+
+use crate::magnitude;
+use crate::suffix::Suffix;
+use arrayvec::ArrayString;
+use bstr::{BStr, BString};
+use config_text::errors::{Error, Fault, Returned};
+use config_text::json::JsonError;
+use config_text::value::Value;
+use itoa::Buffer;
+use serde_json::Value as JsonValue;
+use std::alloc::Global;
+use std::borrow::CowSlice;
+use std::fmt;
+
+/// A number and the suffix that it was written with, kept apart: `1k` and `1024` are two integers.
+#[derive(Clone, Copy, PartialEq, Eq, PartialOrd, Ord, Hash, Debug, Default)]
+pub struct Integer {
+    /// The number before the suffix.
+    pub value: i64,
+    /// The unit that multiplies the number, if it was written with one.
+    pub suffix: Option<Suffix>,
+}
+
+/// The integer that the input writes, or `None` where it writes none. The input is read once, from its
+/// first byte on, and no further than to the byte that refuses it.
+pub fn scan(input: &[u8]) -> Option<Integer>
+    ensures { Reads IntegerText input.now result }
+{
+    signed(input)
+}
+
+/// The integer that a text writes, with a sign or without one.
+fn signed(input: &[u8]) -> Option<Integer>
+    ensures { result ≡ integer_of input.now }
+{
+    match input {
+        [b'-', text @ ..] => negative(text),
+        [b'+', text @ ..] => positive(text),
+        _ => positive(input),
+    }
+}
+
+/// The integer that a text without its `-` writes.
+fn negative(text: &[u8]) -> Option<Integer>
+    ensures { result ≡ option_map negative_integer (unsigned_of 9223372036854775808 text.now) }
+{
+    let (number, suffix) = magnitude::unsigned(text, i64::MIN.unsigned_abs())?;
+    let value = 0_i64.checked_sub_unsigned(number)?;
+    Some(Integer { value, suffix })
+}
+
+/// The integer that a text without a sign writes.
+fn positive(text: &[u8]) -> Option<Integer>
+    ensures { result ≡ option_map plain_integer (unsigned_of 9223372036854775807 text.now) }
+{
+    let (number, suffix) = magnitude::unsigned(text, i64::MAX.unsigned_abs())?;
+    let value = 0_i64.checked_add_unsigned(number)?;
+    Some(Integer { value, suffix })
+}
+
+impl<'a> TryFrom<BStr<'a>> for Integer {
+    type Error = Error<'a>;
+
+    ghost try_from_gives = { ReadsBytes IntegerText faults.Integer };
+
+    /// Refuses with `Fault::Integer` and the whole input where it writes no integer.
+    fn try_from(input: BStr<'a>) -> Result<Integer, Error<'a>> {
+        match Integer::read(input) {
+            Some(integer) => Ok(integer),
+            None => Err(Error {
+                fault: Fault::Integer,
+                input,
+            }),
+        }
+    }
+}
+
+impl TryFrom<BString> for Integer {
+    type Error = Returned<BString>;
+
+    ghost try_from_gives = { λ s r. ReadsOwned IntegerText faults.Integer (bstring_bytes s) s r };
+
+    /// Refuses with `Fault::Integer` where the input writes no integer, and hands it back.
+    fn try_from(input: BString) -> Result<Integer, Returned<BString>> {
+        match scan(input.as_bytes()) {
+            Some(integer) => Ok(integer),
+            None => Err(Returned {
+                fault: Fault::Integer,
+                input,
+            }),
+        }
+    }
+}
+
+impl<'a> TryFrom<CowSlice<'a, u8>> for Integer {
+    type Error = Returned<CowSlice<'a, u8>>;
+
+    ghost try_from_gives = { λ s r. ReadsOwned IntegerText faults.Integer (cow_slice_items s) s r };
+
+    /// Refuses with `Fault::Integer` where the input writes no integer, and hands it back.
+    fn try_from(input: CowSlice<'a, u8>) -> Result<Integer, Returned<CowSlice<'a, u8>>> {
+        match scan(input.as_slice()) {
+            Some(integer) => Ok(integer),
+            None => Err(Returned {
+                fault: Fault::Integer,
+                input,
+            }),
+        }
+    }
+}
+
+impl<'a> TryFrom<&'a str> for Integer {
+    type Error = Error<'a>;
+
+    ghost try_from_gives = { λ s r. ReadsText IntegerText faults.Integer s.now r };
+
+    /// Refuses with `Fault::Integer` and the whole input where it writes no integer.
+    fn try_from(input: &'a str) -> Result<Integer, Error<'a>> {
+        match scan(input.as_bytes()) {
+            Some(integer) => Ok(integer),
+            None => Err(Error {
+                fault: Fault::Integer,
+                input: BStr::from(input),
+            }),
+        }
+    }
+}
+
+impl Integer {
+    /// The number times the factor of its suffix, as a JSON number. Takes no memory, and refuses with
+    /// `JsonError::Overflow` exactly where that product leaves `i64`.
+    pub fn to_json(&self, _alloc: Global) -> Result<JsonValue, JsonError>
+        ensures { GivesJsonNumber (product self.now) result }
+    {
+        match self.to_decimal() {
+            Some(product) => Ok(JsonValue::from(product)),
+            None => Err(JsonError::Overflow),
+        }
+    }
+}
+
+impl fmt::Display for Integer {
+    ghost output = { λ v. Some (integer_shown v) };
+
+    fn fmt<W: fmt::Write>(&self, f: &mut fmt::Formatter<W>) -> fmt::Result {
+        f.write_str(self.shown().as_str())
+    }
+}
+
+impl Integer {
+    /// The number times the factor of its suffix, or `None` where that leaves `i64`.
+    pub fn to_decimal(&self) -> Option<i64>
+        ensures { SomeIff result (IsInI64 (product self.now)) (product self.now) }
+    {
+        match self.suffix {
+            Some(suffix) => self.value.checked_mul(suffix.factor()),
+            None => Some(self.value),
+        }
+    }
+
+    /// The product of the integer that the input writes, as a `T`. Refuses, with the whole input, first with
+    /// `Fault::Integer` where the input writes no integer, then with `Fault::Overflow` where its product leaves
+    /// `i64`, then with `Fault::OutOfRange` where the conversion of the product to `T` fails.
+    pub fn from_bytes<T: TryFrom<i64>>(input: &[u8]) -> Result<T, Error<'_>>
+    where
+        T::Error: Drop,
+        ensures accepted { IfOk result (λ x. (z : ℤ) × ProductInRange input.now z × T.try_from_gives z (Ok x)) }
+        ensures whole { IfErr result (λ e. bstr_bytes e.input ≡ input.now) }
+        ensures refused { IfErr result (λ e. Refusal (λ z. (x : T.Error) × T.try_from_gives z (Err x)) input.now e.fault) }
+    {
+        let Some(integer) = scan(input) else {
+            return Err(Error {
+                fault: Fault::Integer,
+                input: BStr::from(input),
+            });
+        };
+        let Some(product) = integer.to_decimal() else {
+            return Err(Error {
+                fault: Fault::Overflow,
+                input: BStr::from(input),
+            });
+        };
+        match T::try_from(product) {
+            Ok(converted) => Ok(converted),
+            Err(_) => Err(Error {
+                fault: Fault::OutOfRange,
+                input: BStr::from(input),
+            }),
+        }
+    }
+
+    /// The number in decimal, and the letter of its suffix.
+    fn shown(&self) -> ArrayString<127>
+        ensures { result.bytes ≡ integer_shown self.now }
+    {
+        let mut text = ArrayString::new();
+        text.push_str(Buffer::new().format(self.value));
+        if let Some(suffix) = self.suffix {
+            text.push_str(suffix.letter());
+        }
+        text
+    }
+}
+
+impl Value for Integer {
+    ghost grammar = { IntegerText };
+
+    ghost canonical = { CanonicalInteger };
+
+    ghost displayed = { integer_shown };
+
+    fn read(input: BStr<'_>) -> Option<Integer> {
+        scan(input.as_bytes())
+    }
+
+    fn has_text(&self) -> bool {
+        // The prover knows the range of a field that is read.
+        let _value = self.value;
+        true
+    }
+
+    fn text(&self) -> ArrayString<127> {
+        self.shown()
+    }
+
+    ghost one_value = { integer_one_value };
+
+    ghost one_text = { integer_one_text };
+
+    ghost canonical_reads = { integer_canonical_reads };
+
+    ghost shown_is_text = { integer_shown_is_text };
+
+    ghost decided = { integer_decided };
+
+    ghost equal_is_same = { Prim.search rules };
+}

@@ -1,0 +1,155 @@
+//! The unit that multiplies an integer.
+ghost use Rattle.std.specs.Prelude.{◌≡◌, ◌^◌, Some, pos};
+ghost use Rattle.std.specs.Prelude.{MatchOption, length, ◌≤◌};
+ghost use Rattle.bstr.specs.BStr.{bstr_bytes};
+ghost use Rattle.config_text.specs.Value.{Reads, IsRefused, HasText, IsTextOf};
+ghost use Rattle.config_text.specs.Refusals.{ReadsOr};
+ghost use Rattle.config_integer.specs.Suffix.{SuffixText, CanonicalSuffix, suffix_shown, factor, offset};
+ghost use Rattle.config_integer.specs.Laws.Suffix.{suffix_one_value, suffix_one_text, suffix_canonical_reads, suffix_shown_is_text, suffix_decided};
+ghost use Rattle.std.proofs.Common.{rules};
+ghost use Rattle.config_text.specs.Json.{GivesJsonText};
+
+use arrayvec::ArrayString;
+use bstr::BStr;
+use config_text::json::{JsonError, string};
+use config_text::value::Value;
+use serde_json::Value as JsonValue;
+use std::alloc::Global;
+use std::fmt;
+use std::str::FromStr;
+
+/// A unit: 1024, 1024 * 1024 or 1024 * 1024 * 1024.
+#[derive(Clone, Copy, PartialEq, Eq, PartialOrd, Ord, Hash, Debug)]
+pub enum Suffix {
+    /// `k`, the factor 1024.
+    Kibi,
+    /// `m`, the factor 1048576.
+    Mebi,
+    /// `g`, the factor 1073741824.
+    Gibi,
+}
+
+/// The suffix that one of the six suffix texts names, and `None` for any other text.
+pub(crate) fn suffix_of(text: &[u8]) -> Option<Suffix>
+    ensures { Reads SuffixText text.now result }
+{
+    match text {
+        [b'k' | b'K'] => Some(Suffix::Kibi),
+        [b'm' | b'M'] => Some(Suffix::Mebi),
+        [b'g' | b'G'] => Some(Suffix::Gibi),
+        _ => None,
+    }
+}
+
+impl Suffix {
+    /// The power of 2 that the suffix multiplies by: 10, 20 or 30.
+    pub fn bitwise_offset(self) -> usize
+        ensures offset { result ≡ offset self }
+        ensures power { 2 ^ result ≡ factor self }
+    {
+        match self {
+            Suffix::Kibi => 10,
+            Suffix::Mebi => 20,
+            Suffix::Gibi => 30,
+        }
+    }
+
+    /// What the suffix multiplies by.
+    pub(crate) fn factor(self) -> i64
+        ensures { result ≡ pos (factor self) }
+    {
+        match self {
+            Suffix::Kibi => 1024,
+            Suffix::Mebi => 1_048_576,
+            Suffix::Gibi => 1_073_741_824,
+        }
+    }
+
+    /// The suffix as it is shown.
+    pub(crate) fn letter(self) -> &'static str
+        ensures { result.now ≡ suffix_shown self }
+    {
+        match self {
+            Suffix::Kibi => "k",
+            Suffix::Mebi => "m",
+            Suffix::Gibi => "g",
+        }
+    }
+}
+
+impl FromStr for Suffix {
+    type Err = ();
+
+    ghost from_str_gives = { λ s r. ReadsOr SuffixText (λ _. Unit {0}) s r };
+
+    fn from_str(text: &str) -> Result<Suffix, ()> {
+        match suffix_of(text.as_bytes()) {
+            Some(suffix) => Ok(suffix),
+            None => Err(()),
+        }
+    }
+}
+
+impl<'a> TryFrom<BStr<'a>> for Suffix {
+    type Error = ();
+
+    ghost try_from_gives = { λ s r. ReadsOr SuffixText (λ _. Unit {0}) (bstr_bytes s) r };
+
+    fn try_from(input: BStr<'a>) -> Result<Suffix, ()> {
+        match suffix_of(input.as_bytes()) {
+            Some(suffix) => Ok(suffix),
+            None => Err(()),
+        }
+    }
+}
+
+impl Suffix {
+    /// The letter `k`, `m` or `g` as a JSON string, or `JsonError::Memory` where there is no memory for it.
+    pub fn to_json(&self, alloc: Global) -> Result<JsonValue, JsonError>
+        ensures { GivesJsonText (suffix_shown self.now) result }
+    {
+        string(alloc, self.letter())
+    }
+}
+
+impl fmt::Display for Suffix {
+    ghost output = { λ s. Some (suffix_shown s) };
+
+    fn fmt<W: fmt::Write>(&self, f: &mut fmt::Formatter<W>) -> fmt::Result {
+        f.write_str(self.letter())
+    }
+}
+
+impl Value for Suffix {
+    ghost grammar = { SuffixText };
+
+    ghost canonical = { CanonicalSuffix };
+
+    ghost displayed = { suffix_shown };
+
+    fn read(input: BStr<'_>) -> Option<Suffix> {
+        suffix_of(input.as_bytes())
+    }
+
+    fn has_text(&self) -> bool {
+        true
+    }
+
+    fn text(&self) -> ArrayString<127> {
+        let mut text = ArrayString::new();
+        text.push_str(self.letter());
+        text
+    }
+
+    ghost one_value = { suffix_one_value };
+
+    ghost one_text = { suffix_one_text };
+
+    ghost canonical_reads = { suffix_canonical_reads };
+
+    ghost shown_is_text = { suffix_shown_is_text };
+
+    ghost decided = { suffix_decided };
+
+    ghost equal_is_same = { Prim.search rules };
+}

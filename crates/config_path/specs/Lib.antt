@@ -1,0 +1,4 @@
+pub mod Path
+pub mod Passwd
+pub mod Interpolation
+pub mod Laws

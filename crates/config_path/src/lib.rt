@@ -1,0 +1,6 @@
+//! Paths.
+#![tactic(auto)]
+
+pub mod interpolate;
+pub mod laws;
+pub mod path;

@@ -1,0 +1,120 @@
+//! Paths that may be marked as optional.
+ghost use Rattle.std.specs.Prelude.{◌≡◌, ◌≢◌, ◌++◌, ℕ, List, IsUtf8, MatchOption, IsOk, IfOk};
+ghost use Rattle.std.specs.Option.{ForSome};
+ghost use Rattle.std.specs.Cow.{cow_slice_items, IsOwnedSlice};
+ghost use Rattle.bstr.specs.BStr.{bstr_bytes};
+ghost use Rattle.bstr.specs.Owned.{bstring_bytes};
+ghost use Rattle.config_path.specs.Path.{IsPathOf, IsEqualPath};
+ghost use Rattle.config_path.specs.Interpolation.{Form, HasForm, Gives, Interpolated, LooksUp};
+
+use crate::interpolate::{self, Context, Error};
+use bstr::{BStr, BString};
+use std::alloc::{AllocError, Global};
+use std::borrow::CowSlice;
+
+/// A path, and whether it may be missing.
+#[derive(PartialEq, Eq, PartialOrd, Ord, Hash, Debug, Drop)]
+pub struct Path {
+    /// The bytes of the path, without the mark.
+    pub value: BString,
+    /// Whether the path was marked as optional.
+    pub is_optional: bool,
+}
+
+/// What follows the front, where the bytes begin with it.
+pub(crate) fn past<'a>(bytes: &'a [u8], front: &[u8]) -> Option<&'a [u8]>
+    ensures { MatchOption result ((rest : List ℕ) → bytes.now ≢ front.now ++ rest) (λ rest. bytes.now ≡ front.now ++ rest.now) }
+{
+    bytes.strip_prefix(front)
+}
+
+impl From<BString> for Path {
+    ghost from_gives = { λ value path. IsPathOf (bstring_bytes value) path };
+
+    fn from(value: BString) -> Path {
+        let mut bytes = value.into_vec();
+        let is_optional = past(&bytes, b":(optional)").is_some();
+        if is_optional {
+            bytes.drain(..11);
+        }
+        Path {
+            value: BString::new(bytes),
+            is_optional,
+        }
+    }
+}
+
+impl Path {
+    /// The path of a text, copied. The error is want of memory.
+    pub fn from_text(alloc: Global, value: &str) -> Result<Path, AllocError>
+        ensures { IfOk result (IsPathOf value.now) }
+    {
+        Path::from_bstr(alloc, BStr::from(value))
+    }
+
+    /// The path of a byte string, copied. The error is want of memory.
+    pub fn from_bstr(alloc: Global, value: BStr<'_>) -> Result<Path, AllocError>
+        ensures { IfOk result (IsPathOf (bstr_bytes value.entry)) }
+    {
+        Ok(Path::from(BString::from_slice(alloc, value)?))
+    }
+
+    /// The path of bytes that are borrowed or owned. Owned bytes are used as they are, and take no
+    /// memory; for borrowed ones the error is want of memory.
+    pub fn from_cow(alloc: Global, value: CowSlice<'_, u8>) -> Result<Path, AllocError>
+        ensures path { IfOk result (IsPathOf (cow_slice_items value.entry)) }
+        ensures owned { IsOwnedSlice value.entry → IsOk result }
+    {
+        Ok(Path::from(BString::new(value.into_owned(alloc)?)))
+    }
+
+    /// An equal path. The error is want of memory.
+    pub fn clone(&self, alloc: Global) -> Result<Path, AllocError>
+        ensures { IfOk result (IsEqualPath self.now) }
+    {
+        Ok(Path {
+            value: BString::from_slice(alloc, self.as_bytes())?,
+            is_optional: self.is_optional,
+        })
+    }
+
+    /// The bytes of the path, without the mark.
+    pub fn as_bytes(&self) -> &[u8]
+        ensures { result.now ≡ bstring_bytes self.now.value }
+    {
+        self.value.as_bytes()
+    }
+
+    /// The bytes of the path, without the mark, as a byte string.
+    pub fn as_bstr(&self) -> BStr<'_>
+        ensures { bstr_bytes result ≡ bstring_bytes self.now.value }
+    {
+        self.value.as_bstr()
+    }
+
+    /// The path with what it refers to: `%(prefix)/` stands for the install directory, `~` for the
+    /// home directory, and `~user` for what the lookup answers for that name. A rest that begins with
+    /// `/` is the whole result. Any other value is answered unchanged.
+    ///
+    /// The mark is not looked at. The lookup is called at most once, with the user's name, and has to
+    /// take every text. Memory is asked for once, for the whole result, and not for an empty one.
+    ///
+    /// Errors: `PathMissing` for the empty value; `InstallDirMissing`, `HomeMissing` and
+    /// `LookupMissing` where the value needs what the context lacks; `UserNotFound` where the lookup
+    /// answers `None`; `IllFormed` where the rest, the name or, in any other value, the whole is no
+    /// UTF-8, with those bytes; and `Memory`.
+    #[tactic(auto, using(crate::specs::Laws::Interpolation::at_form))]
+    pub fn interpolate<'p, 'a, F>(
+        &'p self,
+        alloc: Global,
+        context: Context<'a, F>,
+    ) -> Result<String, Error<'p>>
+    where
+        F: FnOnce(&str) -> Option<&'a str> + Drop,
+        requires { ForSome context.home_for_user (λ f. (name : _) → IsUtf8 name.now → F.pre f name) }
+        ensures answer { Interpolated (LooksUp F.FnOnce) context.entry (bstring_bytes self.now.value) result }
+        ensures at_form { (form : Form) → HasForm (bstring_bytes self.now.value) form → Gives (LooksUp F.FnOnce) context.entry (bstring_bytes self.now.value) form result }
+    {
+        interpolate::interpolated(alloc, self.as_bytes(), context)
+    }
+}

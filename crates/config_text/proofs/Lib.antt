@@ -1,0 +1,3 @@
+pub mod SettingsLemmas
+pub mod ReplacedValues
+pub mod OneAnswer

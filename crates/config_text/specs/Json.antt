@@ -1,0 +1,25 @@
+-- JSON values: a truth value, a number, or a displayed text.
+use Rattle.std.specs.Prelude.{◌≡◌, ◌≢◌, ℕ, ℤ, List, [], Result, Ok, Err}
+use Rattle.serde_json.specs.Data.{Data, number, string}
+use Rattle.serde_json.specs.Find.{of_integer}
+use Rattle.serde_json.specs.View.{view}
+use Rattle.serde_json.specs.declared.value.Value.{Value}
+use Rattle.config_text.specs.declared.json.JsonError.{JsonError}
+use Rattle.config_text.specs.declared.json.JsonError.TheVariants.{Overflow, Memory}
+use Rattle.config_text.specs.Numerals.{IsInI64}
+
+-- a JSON value of this content, and no error
+abbrev pub IsJson : Data → Result Value JsonError → Type 0
+IsJson json (Ok v) = view v ≡ json
+IsJson json (Err e) = ⊥
+
+-- the number, or, where it is out of range, the error that says so
+abbrev pub GivesJsonNumber : ℤ → Result Value JsonError → Type 0
+GivesJsonNumber z (Ok v) = IsInI64 z × (view v ≡ number (of_integer z))
+GivesJsonNumber z (Err e) = (¬ (IsInI64 z)) × (e ≡ Overflow)
+
+-- the text as a string; want of memory is an answer too where the text is not empty
+abbrev pub GivesJsonText : List ℕ → Result Value JsonError → Type 0
+GivesJsonText text (Ok v) = view v ≡ string text
+GivesJsonText text (Err Overflow) = ⊥
+GivesJsonText text (Err (Memory e)) = text ≢ []

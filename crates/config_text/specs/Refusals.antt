@@ -1,0 +1,26 @@
+-- What the readers of a kind promise, whatever the input is borrowed from or owned by: the value that the
+-- grammar gives the input's bytes, or, where it gives none, a refusal that holds the fault and the whole input.
+use Rattle.std.specs.Prelude.{◌≡◌, ℕ, List, Result, Ok, Err}
+use Rattle.bstr.specs.declared.bstr.BStr.{BStr}
+use Rattle.bstr.specs.BStr.{bstr_bytes}
+use Rattle.config_text.specs.declared.errors.Error.{Error}
+use Rattle.config_text.specs.declared.errors.Fault.{Fault}
+use Rattle.config_text.specs.declared.errors.Returned.{Returned}
+use Rattle.config_text.specs.Value.{IsRefused}
+
+-- the value of the text, or a refusal of which this holds, and then the text has no value
+abbrev pub ReadsOr : {V E : Type 0} → (List ℕ → V → Type 0) → (E → Type 0) → List ℕ → Result V E → Type 0
+ReadsOr grammar refusal t (Ok v) = grammar t v
+ReadsOr grammar refusal t (Err e) = refusal e × IsRefused grammar t
+
+-- over a borrowed byte string
+abbrev pub ReadsBytes : {V : Type 0} → (List ℕ → V → Type 0) → Fault → BStr → Result V Error → Type 0
+ReadsBytes grammar fault s r = ReadsOr grammar (λ e. (e.fault ≡ fault) × (e.input ≡ s)) (bstr_bytes s) r
+
+-- over a borrowed text
+abbrev pub ReadsText : {V : Type 0} → (List ℕ → V → Type 0) → Fault → List ℕ → Result V Error → Type 0
+ReadsText grammar fault t r = ReadsOr grammar (λ e. (e.fault ≡ fault) × (bstr_bytes e.input ≡ t)) t r
+
+-- over an owned input with these bytes: a refusal hands it back
+abbrev pub ReadsOwned : {V I : Type 0} → (List ℕ → V → Type 0) → Fault → List ℕ → I → Result V (Returned I) → Type 0
+ReadsOwned grammar fault t s r = ReadsOr grammar (λ e. (e.fault ≡ fault) × (e.input ≡ s)) t r

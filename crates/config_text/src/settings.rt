@@ -1,0 +1,38 @@
+//! Settings by name: of the entries of a name the last one decides.
+ghost use Rattle.std.specs.Prelude.{MatchResult};
+ghost use Rattle.config_text.specs.Settings.{entry_texts, Finds, Refuses};
+
+use crate::value::Value;
+use bstr::BStr;
+
+/// A setting whose deciding entry has a text without a value.
+#[derive(Clone, Copy, PartialEq, Eq, Debug)]
+pub struct Refused<'a> {
+    /// The index of the deciding entry, from 0.
+    pub index: usize,
+    /// The text of the deciding entry.
+    pub input: &'a [u8],
+}
+
+/// The value of a setting. The last entry with exactly this name decides, and the entries before it are not read;
+/// without one the default is the answer. An entry is a name and a text. The deciding entry's text is refused where
+/// the type gives it no value.
+pub fn lookup<'a, V: Value>(
+    entries: &[(&[u8], &'a [u8])],
+    name: &[u8],
+    default: V,
+) -> Result<V, Refused<'a>>
+    ensures { MatchResult result
+        (Finds V.grammar (entry_texts entries.now) name.now default)
+        (λ r. Refuses V.grammar (entry_texts entries.now) name.now r.index r.input.now) }
+{
+    let Some(index) = entries.iter().rposition(|entry| entry.0 == name) else {
+        return Ok(default);
+    };
+    let input = entries[index].1;
+    let text = BStr::new(input);
+    match V::read(text) {
+        Some(value) => Ok(value),
+        None => Err(Refused { index, input }),
+    }
+}

@@ -1,0 +1,58 @@
+//! One canonical text for each value, and the normaliser that answers it.
+ghost use Rattle.std.specs.Prelude.{◌≡◌, ℕ, ◌≤◌, ◌↔◌, ◌⊎◌, List, length, IfSome, IsSomeAnd, IsTrue};
+ghost use Rattle.bstr.specs.BStr.{bstr_bytes};
+ghost use Rattle.config_text.specs.Value.{IsRefused, IsAccepted, HasText, Reads, IsTextOf, Normalizes, IsOnlyText};
+
+use arrayvec::ArrayString;
+use bstr::BStr;
+
+/// A kind of value that has texts: which texts read to which value, and which one of them is canonical.
+pub trait Value: Copy + Eq {
+    /// Which texts read to which values.
+    ghost grammar: { List ℕ → Self → Type 0 };
+
+    /// The canonical texts, written apart from how values are shown.
+    ghost canonical: { List ℕ → Type 0 };
+
+    /// How a value is shown.
+    ghost displayed: { Self → List ℕ };
+
+    /// The value of the input, or `None` where the grammar gives it none.
+    fn read(input: BStr<'_>) -> Option<Self>
+        ensures { Reads grammar (bstr_bytes input.entry) result };
+
+    /// Whether some text of the kind reads to this value.
+    fn has_text(&self) -> bool
+        ensures { IsTrue result ↔ (HasText grammar self.now) };
+
+    /// The one canonical text that reads to this value: its displayed text, of at most 127 bytes.
+    fn text(&self) -> ArrayString<127>
+        requires { HasText grammar self.now }
+        ensures text { IsTextOf grammar canonical self.now result.bytes }
+        ensures shown { result.bytes ≡ displayed self.now };
+
+    ghost one_value: { (t : List ℕ) (v w : Self) → grammar t v → grammar t w → v ≡ w };
+
+    ghost one_text: { (s t : List ℕ) (v : Self) → canonical s → canonical t → grammar s v → grammar t v → s ≡ t };
+
+    ghost canonical_reads: { (t : List ℕ) → canonical t → IsAccepted grammar t };
+
+    ghost shown_is_text: { (v : Self) → HasText grammar v → IsTextOf grammar canonical v (displayed v) };
+
+    ghost decided: { (t : List ℕ) → IsAccepted grammar t ⊎ IsRefused grammar t };
+
+    ghost equal_is_same: { (v w : Self) → (IsTrue (Self.eq v w)) ↔ (v ≡ w) };
+}
+
+/// The canonical text that reads to the value of the input, or `None` where the input has no value.
+/// A canonical input is answered byte for byte.
+pub fn normalize_as<V: Value>(input: BStr<'_>) -> Option<ArrayString<127>>
+    ensures answer { Normalizes V.grammar V.canonical (bstr_bytes input.entry) result }
+    ensures only { IsOnlyText V.grammar V.canonical (bstr_bytes input.entry) result }
+    ensures unchanged { V.canonical (bstr_bytes input.entry) → IsSomeAnd result (λ s. s.bytes ≡ bstr_bytes input.entry) }
+{
+    match V::read(input) {
+        Some(value) => Some(value.text()),
+        None => None,
+    }
+}

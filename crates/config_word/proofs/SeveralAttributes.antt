@@ -1,0 +1,91 @@
+-- What several attributes are shown as has a space, and no attribute text has one.
+use Rattle.std.proofs.Common.{◌≡◌, ◌≢◌, ℕ, inl, inr, Bool, true, false, cond, not, ◌&&◌, List, [], ◌∷◌, ◌++◌, map, filter, refl, sym, ap, ◌∙◌, arith, ◌==◌}
+use Rattle.std.proofs.lemmas.Bool.Decides.{Decides-eqb, nat_tests}
+use Rattle.std.specs.Char.{to_ascii_lowercase}
+use Rattle.std.specs.Int.{bit_at}
+use Rattle.std.specs.List.{join_with_byte, list_all}
+use Rattle.config_word.specs.declared.attribute.Attribute.{Attribute}
+use Rattle.config_word.specs.Attribute.{AttributeRow, AttributeText, IsKnownBit, attribute_shown, attributes}
+use Rattle.config_text.specs.OneOf.{OneOf}
+use Rattle.config_text.specs.Laws.OneOf.{all-one, both, OneOf-from_map}
+use Rattle.config_text.specs.Value.{IsRefused}
+
+abbrev no_space : List ℕ → Bool
+no_space text = list_all (λ c. not (c == 32)) text
+
+-- ---- no attribute text has a space
+
+spellings-no_space : list_all (λ row. list_all no_space (row.2 ∷ row.3)) attributes ≡ true
+unfolding attributes
+spellings-no_space = refl
+
+lowered_byte : (c : ℕ) → not (to_ascii_lowercase c == 32) ≡ true → not (c == 32) ≡ true
+lowered_byte c h = grind (arith, nat_tests)
+
+lowered : (t : List ℕ) → no_space (map to_ascii_lowercase t) ≡ true → no_space t ≡ true
+lowered [] h = refl
+lowered (c ∷ cs) h =
+    let b = both (not (to_ascii_lowercase c == 32)) (no_space (map to_ascii_lowercase cs)) h in
+    rw (lowered_byte c b.0) (lowered cs b.1)
+
+text-no_space : (t : List ℕ) (a : Attribute) → AttributeText t a → no_space t ≡ true
+text-no_space t a (AttributeText.word row o h e) =
+    all-one no_space (row.2 ∷ row.3) t
+    (all-one (λ (r : AttributeRow). list_all no_space (r.2 ∷ r.3)) attributes row spellings-no_space o) h
+text-no_space t a (AttributeText.reset s e) = let small : no_space (map to_ascii_lowercase t) ≡ true = rw s refl in lowered t small
+
+-- ---- two words have a space between them
+
+spaced : (x rest : List ℕ) → no_space (x ++ 32 ∷ rest) ≡ false
+spaced [] rest = refl
+spaced (c ∷ cs) rest = rw (spaced cs rest) (none (not (c == 32))) where
+  none : (b : Bool) → (b && false) ≡ false
+  none true = refl
+  none false = refl
+
+abbrev HasOne : List AttributeRow → Type 0
+HasOne rows = (x : AttributeRow) × (rest : List AttributeRow) × (rows ≡ x ∷ rest)
+
+abbrev HasTwo : List AttributeRow → Type 0
+HasTwo rows = (x y : AttributeRow) × (rest : List AttributeRow) × (rows ≡ x ∷ y ∷ rest)
+
+one-told : (b : Bool) (first : AttributeRow) (rows : List AttributeRow) → HasOne rows → HasOne (cond b (first ∷ rows) rows)
+one-told true first rows h = (first, rows, refl)
+one-told false first rows h = h
+
+one-kept : (p : AttributeRow → Bool) (rows : List AttributeRow) (r : AttributeRow) → OneOf rows r → p r ≡ true → HasOne (filter p rows)
+one-kept p [] r o h = absurd o
+one-kept p (first ∷ rows) r (inl e) h =
+    let kept : p first ≡ true = rw (← e) h in rw kept (first, filter p rows, refl)
+one-kept p (first ∷ rows) r (inr o) h = one-told (p first) first (filter p rows) (one-kept p rows r o h)
+
+front : (first : AttributeRow) (rows : List AttributeRow) → HasOne rows → HasTwo (first ∷ rows)
+front first rows h = (first, h.0, h.1, ap (λ rest. first ∷ rest) h.2)
+
+two-told : (b : Bool) (first : AttributeRow) (rows : List AttributeRow) → HasTwo rows → HasTwo (cond b (first ∷ rows) rows)
+two-told true first rows h = (first, h.0, h.1 ∷ h.2, ap (λ rest. first ∷ rest) h.3)
+two-told false first rows h = h
+
+two-kept : (p : AttributeRow → Bool) (rows : List AttributeRow) (r s : AttributeRow) → OneOf rows r → OneOf rows s → r.1 ≢ s.1
+    → p r ≡ true → p s ≡ true → HasTwo (filter p rows)
+two-kept p [] r s o q apart h k = absurd o
+two-kept p (first ∷ rows) r s (inl e) (inl f) apart h k = absurd (apart (ap (λ (x : AttributeRow). x.1) (e ∙ sym f)))
+two-kept p (first ∷ rows) r s (inl e) (inr q) apart h k =
+    let kept : p first ≡ true = rw (← e) h in rw kept (front first (filter p rows) (one-kept p rows s q k))
+two-kept p (first ∷ rows) r s (inr o) (inl f) apart h k =
+    let kept : p first ≡ true = rw (← f) k in rw kept (front first (filter p rows) (one-kept p rows r o h))
+two-kept p (first ∷ rows) r s (inr o) (inr q) apart h k = two-told (p first) first (filter p rows) (two-kept p rows r s o q apart h k)
+
+two-spaced : (rows : List AttributeRow) → HasTwo rows → no_space (join_with_byte 32 (map (λ row. row.2) rows)) ≡ false
+two-spaced rows h = rw h.3 (spaced h.0.2 (join_with_byte 32 (map (λ (row : AttributeRow). row.2) (h.1 ∷ h.2))))
+
+pub several_refused : (a : Attribute) (i j : ℕ) → i ≢ j → IsKnownBit i → IsKnownBit j → bit_at a.0 i ≡ 1 → bit_at a.0 j ≡ 1
+    → IsRefused AttributeText (attribute_shown a.0)
+several_refused a i j apart known_i known_j at_i at_j v h =
+    let r = OneOf-from_map (λ (x : AttributeRow). x.1) attributes i known_i in
+    let s = OneOf-from_map (λ (x : AttributeRow). x.1) attributes j known_j in
+    let p : AttributeRow → Bool = λ row. bit_at a.0 row.1 == 1 in
+    let set_r : p r.0 ≡ true = (Decides-eqb (bit_at a.0 r.0.1) 1).1 (ap (bit_at a.0) (sym r.2) ∙ at_i) in
+    let set_s : p s.0 ≡ true = (Decides-eqb (bit_at a.0 s.0.1) 1).1 (ap (bit_at a.0) (sym s.2) ∙ at_j) in
+    let two = two-kept p attributes r.0 s.0 r.1 s.1 (λ e. apart (r.2 ∙ e ∙ sym s.2)) set_r set_s in
+    cc (two-spaced (filter p attributes) two, text-no_space (attribute_shown a.0) v h)

@@ -1,0 +1,3 @@
+pub mod Item
+pub mod Name
+pub mod Attribute

@@ -1,0 +1,198 @@
+-- The laws of `Value` for attributes, and what is said of several.
+use Rattle.std.proofs.Common.{◌≡◌, ℕ, zero, suc, ◌+◌, ◌*◌, ◌^◌, ◌<◌, ◌≤◌, ◌⊎◌, ◌↔◌, inl, inr, Bool, true, false, cond, ◌||◌, List, [], ◌∷◌, ◌++◌, map, filter, flat_map, length, codes, refl, sym, ap, ◌∙◌, arith, lit≤, ◌==◌, nat_le, bit_and, bytes_eq, IsTrue}
+use Rattle.std.proofs.Math.Bool.{or-true}
+use Rattle.std.proofs.lemmas.Bool.{leb-true}
+use Rattle.std.proofs.lemmas.Bool.Decides.{Decides-eqb, nat_tests}
+use Rattle.std.proofs.lemmas.List.{append-nil, length-append}
+use Rattle.std.proofs.lemmas.Nat.{pow_pos}
+use Rattle.std.proofs.lemmas.Nat.Bits.{and_pow, bit_at-lt}
+use Rattle.std.proofs.lemmas.Slice.Eq.{bytes_eq-Decides}
+use Rattle.std.specs.Int.{bit_at}
+use Rattle.std.specs.List.{join_with_byte, list_all, list_any}
+use Rattle.config_word.specs.declared.attribute.Attribute.{Attribute}
+use Rattle.config_word.specs.Attribute.{AttributeRow, AttributeText, CanonicalAttribute, IsKnownBit, attribute_shown, attribute_words, attributes, rising_words}
+use Rattle.config_word.specs.Reading.Attribute.{remaining, shown_rows, words_in}
+use Rattle.config_text.specs.OneOf.{OneOf}
+use Rattle.config_text.specs.Laws.OneOf.{all-one, OneOf-from_map, OneOf-map}
+use Rattle.config_text.specs.Value.{IsAccepted, IsRefused, IsTextOf, HasText}
+use Rattle.config_text.specs.Laws.Value.{decided_by, one_value_by}
+use Rattle.config_word.specs.Laws.Item.{attribute-law, reset-known}
+
+pub attribute_one_value : (t : List ℕ) (v w : Attribute) → AttributeText t v → AttributeText t w → v ≡ w
+attribute_one_value = one_value_by attribute-law
+
+pub attribute_decided : (t : List ℕ) → IsAccepted AttributeText t ⊎ IsRefused AttributeText t
+attribute_decided = decided_by attribute-law
+
+-- ---- one attribute
+
+-- what a text reads to is one constant
+abbrev IsConstant : Attribute → Type 0
+IsConstant a = (row : AttributeRow) × OneOf attributes row × (a.0 ≡ 2 ^ row.1)
+
+text-constant : (t : List ℕ) (a : Attribute) → AttributeText t a → IsConstant a
+text-constant t a (AttributeText.word row o h e) = (row, o, e)
+text-constant t a (AttributeText.reset s e) = ((codes "RESET", 8, codes "reset", []), reset-known, e)
+
+singles-shown : list_all (λ row. bytes_eq (attribute_shown (2 ^ row.1)) row.2) attributes ≡ true
+unfolding attributes
+singles-shown = refl
+
+single-shown : (row : AttributeRow) → OneOf attributes row → attribute_shown (2 ^ row.1) ≡ row.2
+single-shown row o =
+    (bytes_eq-Decides (attribute_shown (2 ^ row.1)) row.2).0
+    (all-one (λ (r : AttributeRow). bytes_eq (attribute_shown (2 ^ r.1)) r.2) attributes row singles-shown o)
+
+constant-shown : (a : Attribute) (k : IsConstant a) → attribute_shown a.0 ≡ k.0.2
+constant-shown a (row, o, e) = ap attribute_shown e ∙ single-shown row o
+
+rising : map (λ row. row.2) attributes ≡ rising_words
+unfolding attributes rising_words
+rising = refl
+
+words-short : list_all (λ row. nat_le (length row.2) 9) attributes ≡ true
+unfolding attributes
+words-short = refl
+
+spelled-as : (row : AttributeRow) (s : List ℕ) → OneOf attributes row → s ≡ row.2 → AttributeText s (record { 0 = 2 ^ row.1 })
+spelled-as row s o e = AttributeText.word row o (inl e) refl
+
+abbrev IsShown : List ℕ → Type 0
+IsShown s = (row : AttributeRow) × OneOf attributes row × (s ≡ row.2)
+
+canonical-shown : (s : List ℕ) → CanonicalAttribute s → IsShown s
+canonical-shown s c = OneOf-from_map (λ (r : AttributeRow). r.2) attributes s (rw rising c)
+
+pub attribute_canonical_reads : (t : List ℕ) → CanonicalAttribute t → IsAccepted AttributeText t
+attribute_canonical_reads t c =
+    let r = canonical-shown t c in (record { 0 = 2 ^ r.0.1 }, spelled-as r.0 t r.1 r.2)
+
+canonical-is : (s : List ℕ) (v : Attribute) → CanonicalAttribute s → AttributeText s v → s ≡ attribute_shown v.0
+canonical-is s v c h =
+    let r = canonical-shown s c in
+    let reads = spelled-as r.0 s r.1 r.2 in
+    r.2 ∙ sym (single-shown r.0 r.1) ∙ ap (λ (a : Attribute). attribute_shown a.0) (attribute_one_value s (record { 0 = 2 ^ r.0.1 }) v reads h)
+
+pub attribute_one_text : (s t : List ℕ) (v : Attribute) → CanonicalAttribute s → CanonicalAttribute t
+    → AttributeText s v → AttributeText t v → s ≡ t
+attribute_one_text s t v c d p q = canonical-is s v c p ∙ sym (canonical-is t v d q)
+
+pub attribute_shown_is_text : (v : Attribute) → HasText AttributeText v → IsTextOf AttributeText CanonicalAttribute v (attribute_shown v.0)
+attribute_shown_is_text v h = told (text-constant h.0 v h.1) where
+  told : IsConstant v → IsTextOf AttributeText CanonicalAttribute v (attribute_shown v.0)
+  told (row, o, e) =
+      let small = leb-true (length row.2) 9 (all-one (λ (r : AttributeRow). nat_le (length r.2) 9) attributes row words-short o) in
+      rw (constant-shown v (row, o, e)) (record {
+        canonical_text = rw (← rising) (OneOf-map (λ (r : AttributeRow). r.2) attributes row o);
+        reads_to = AttributeText.word row o (inl refl) e;
+        short = omega arith;
+      })
+
+-- an attribute has a text exactly where one bit is set and known
+pub attribute_has_text : (a : Attribute) → (HasText AttributeText a) ↔ ((bit : ℕ) × IsKnownBit bit × (a.0 ≡ 2 ^ bit))
+attribute_has_text a = (to, from) where
+  to : HasText AttributeText a → (bit : ℕ) × IsKnownBit bit × (a.0 ≡ 2 ^ bit)
+  to h = let k = text-constant h.0 a h.1 in (k.0.1, OneOf-map (λ (r : AttributeRow). r.1) attributes k.0 k.1, k.2)
+
+  from : (bit : ℕ) × IsKnownBit bit × (a.0 ≡ 2 ^ bit) → HasText AttributeText a
+  from (bit, known, e) =
+      let r = OneOf-from_map (λ (x : AttributeRow). x.1) attributes bit known in
+      (r.0.2, AttributeText.word r.0 r.1 (inl refl) (e ∙ ap (λ n. 2 ^ n) r.2))
+
+-- ---- how several are shown
+
+abbrev pub spaced : List (List ℕ) → List ℕ
+spaced words = flat_map (λ w. 32 ∷ w) words
+
+pub join-remaining : (words : List (List ℕ)) → join_with_byte 32 words ≡ remaining true words
+join-remaining [] = refl
+join-remaining (w ∷ []) = sym (append-nil w)
+join-remaining (w ∷ x ∷ xs) = ap (λ rest. w ++ 32 ∷ rest) (join-remaining (x ∷ xs))
+
+bit_test-of : (k b : ℕ) → b < 2 → (b * 2 ^ k == 2 ^ k) ≡ (b == 1)
+bit_test-of k zero h = let p = pow_pos k in grind (arith, nat_tests)
+bit_test-of k (suc zero) h = let e : 1 * 2 ^ k ≡ 2 ^ k = omega arith in grind (arith, nat_tests)
+bit_test-of k (suc (suc b)) h = absurd (omega arith)
+
+-- the test that the code makes
+bit_test : (bits k : ℕ) → (bit_and bits (2 ^ k) == 2 ^ k) ≡ (bit_at bits k == 1)
+bit_test bits k = ap (λ n. n == 2 ^ k) (and_pow bits k) ∙ bit_test-of k (bit_at bits k) (bit_at-lt bits k)
+
+words_in-step : (x y : Bool) (p : ℕ × List ℕ) (row : AttributeRow) (ps : List (ℕ × List ℕ)) (rows : List AttributeRow) → x ≡ y → p.1 ≡ row.2
+    → map (λ (q : ℕ × List ℕ). q.1) ps ≡ map (λ (r : AttributeRow). r.2) rows
+    → map (λ (q : ℕ × List ℕ). q.1) (cond x (p ∷ ps) ps) ≡ map (λ (r : AttributeRow). r.2) (cond y (row ∷ rows) rows)
+words_in-step true true p row ps rows e f rest = λ i. f i ∷ rest i
+words_in-step false false p row ps rows e f rest = rest
+words_in-step true false p row ps rows e f rest = cc
+words_in-step false true p row ps rows e f rest = cc
+
+words_in-rows : (bits : ℕ) (rows : List AttributeRow)
+    → words_in bits (map (λ row. (2 ^ row.1, row.2)) rows) ≡ map (λ row. row.2) (filter (λ row. bit_at bits row.1 == 1) rows)
+words_in-rows bits [] = refl
+words_in-rows bits (row ∷ rows) =
+    words_in-step (bit_and bits (2 ^ row.1) == 2 ^ row.1) (bit_at bits row.1 == 1) (2 ^ row.1, row.2) row _ _ (bit_test bits row.1) refl (words_in-rows bits rows)
+
+-- the words that the code writes are those that are shown
+pub words_in-shown : (bits : ℕ) → words_in bits shown_rows ≡ attribute_words bits
+words_in-shown bits = words_in-rows bits attributes
+
+pub shown-remaining : (bits : ℕ) → attribute_shown bits ≡ remaining true (words_in bits shown_rows)
+shown-remaining bits = join-remaining (attribute_words bits) ∙ ap (remaining true) (sym (words_in-shown bits))
+
+spaced-step : (x : Bool) (w : List ℕ) (row : AttributeRow) (rows all : List AttributeRow)
+    → length (spaced (map (λ (r : AttributeRow). r.2) rows)) ≤ length (spaced (map (λ (r : AttributeRow). r.2) all))
+    → length (spaced (map (λ (r : AttributeRow). r.2) (cond x (row ∷ rows) rows))) ≤ length (spaced (map (λ (r : AttributeRow). r.2) (row ∷ all)))
+spaced-step true w row rows all h = simp length-append (omega arith)
+spaced-step false w row rows all h = simp length-append (omega arith)
+
+spaced-filter : (p : AttributeRow → Bool) (rows : List AttributeRow)
+    → length (spaced (map (λ (r : AttributeRow). r.2) (filter p rows))) ≤ length (spaced (map (λ (r : AttributeRow). r.2) rows))
+spaced-filter p [] = lit≤ tt
+spaced-filter p (row ∷ rows) = spaced-step (p row) [] row (filter p rows) rows (spaced-filter p rows)
+
+spaced-all : length (spaced (map (λ row. row.2) attributes)) ≡ 100
+unfolding attributes
+spaced-all = refl
+
+remaining-short : (words : List (List ℕ)) (n : ℕ) → length (spaced words) ≤ n + 1 → length (remaining true words) ≤ n
+remaining-short [] n h = omega arith
+remaining-short (w ∷ ws) n h =
+    let p = length-append (32 ∷ w) (spaced ws) in
+    simp length-append (omega arith)
+
+-- attributes are shown in at most 99 bytes
+pub attribute_short : (bits : ℕ) → length (attribute_shown bits) ≤ 99
+attribute_short bits =
+    let all = spaced-all in
+    let few = spaced-filter (λ row. bit_at bits row.1 == 1) attributes in
+    let r = remaining-short (attribute_words bits) 99 (omega arith) in
+    rw (join-remaining (attribute_words bits)) r
+
+-- ---- the test that the code makes
+
+any-one : (bits : ℕ) (rows : List AttributeRow) → list_any (λ (row : ℕ × List ℕ). row.0 == bits) (map (λ (row : AttributeRow). (2 ^ row.1, row.2)) rows) ≡ true
+    → (row : AttributeRow) × OneOf rows row × (bits ≡ 2 ^ row.1)
+any-one bits [] h = cc
+any-one bits (row ∷ rows) h = told (2 ^ row.1 == bits) refl h (any-one bits rows) where
+  told : (x : Bool) → (2 ^ row.1 == bits) ≡ x → (x || list_any (λ (row : ℕ × List ℕ). row.0 == bits) (map (λ (row : AttributeRow). (2 ^ row.1, row.2)) rows)) ≡ true
+      → (list_any (λ (row : ℕ × List ℕ). row.0 == bits) (map (λ (row : AttributeRow). (2 ^ row.1, row.2)) rows) ≡ true → (row : AttributeRow) × OneOf rows row × (bits ≡ 2 ^ row.1))
+      → (r : AttributeRow) × OneOf (row ∷ rows) r × (bits ≡ 2 ^ r.1)
+  told true e f rest = (row, inl refl, sym ((Decides-eqb (2 ^ row.1) bits).0 e))
+  told false e f rest = let r = rest f in (r.0, inr r.1, r.2)
+
+one-any : (bits : ℕ) (rows : List AttributeRow) (row : AttributeRow) → OneOf rows row → bits ≡ 2 ^ row.1
+    → list_any (λ (row : ℕ × List ℕ). row.0 == bits) (map (λ (row : AttributeRow). (2 ^ row.1, row.2)) rows) ≡ true
+one-any bits [] row o e = absurd o
+one-any bits (first ∷ rows) row (inl f) e =
+    let same : 2 ^ first.1 ≡ bits = ap (λ (r : AttributeRow). 2 ^ r.1) (sym f) ∙ sym e in
+    rw ((Decides-eqb (2 ^ first.1) bits).1 same) refl
+one-any bits (first ∷ rows) row (inr o) e = rw (one-any bits rows row o e) (or-true (2 ^ first.1 == bits))
+
+-- a set is one of the constants exactly where it has a text
+pub constant_told : (a : Attribute) → IsTrue (list_any (λ (row : ℕ × List ℕ). row.0 == a.0) shown_rows) ↔ (HasText AttributeText a)
+constant_told a = (to, from) where
+  to : IsTrue (list_any (λ (row : ℕ × List ℕ). row.0 == a.0) shown_rows) → HasText AttributeText a
+  to h = let r = any-one a.0 attributes h in (r.0.2, AttributeText.word r.0 r.1 (inl refl) r.2)
+
+  from : HasText AttributeText a → IsTrue (list_any (λ (row : ℕ × List ℕ). row.0 == a.0) shown_rows)
+  from h = let k = text-constant h.0 a h.1 in one-any a.0 attributes k.0 k.1 k.2

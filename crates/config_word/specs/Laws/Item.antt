@@ -1,0 +1,432 @@
+-- `item_of` is `ItemText`: a text has at most one item, and each text is told.
+use Rattle.std.proofs.Common.{◌≡◌, ℕ, ◌+◌, ◌-◌, ◌*◌, ◌^◌, ◌<◌, ◌≤◌, ◌⊎◌, inl, inr, Bool, true, false, cond, not, ◌&&◌, ◌||◌, List, [], ◌∷◌, map, flat_map, length, codes, Option, Some, None, nat_le, nat_lt, ◌==◌, option_map, refl, sym, ap, ◌∙◌, arith, suc, bytes_eq, lit<, lit≤}
+use Rattle.std.proofs.lemmas.Bool.Decides.{Decides-eqb, nat_tests}
+use Rattle.std.proofs.lemmas.Slice.Eq.{bytes_eq-Decides}
+use Rattle.std.proofs.Math.Nat.{le-mul_of_pos_right, one-le-pow, pow-suc}
+use Rattle.std.proofs.lemmas.Bool.{le-leb, leb-true, lt-ltb, ltb-true}
+use Rattle.std.proofs.lemmas.List.{length-map}
+use Rattle.std.proofs.lemmas.Str.Parse.{digit_from_value}
+use Rattle.std.specs.Char.{digit_value, is_ascii_digit, to_ascii_lowercase}
+use Rattle.std.specs.List.{list_all}
+use Rattle.std.specs.Str.Parse.{AllDigits, IsNumeral}
+use Rattle.config_word.specs.declared.attribute.Attribute.{Attribute}
+use Rattle.config_word.specs.declared.name.Name.{Name}
+use Rattle.config_word.specs.declared.name.Name.TheVariants as names
+use Rattle.config_word.specs.declared.item.Item.{Item}
+use Rattle.config_word.specs.declared.item.Item.TheVariants as items
+use Rattle.config_word.specs.Attribute.{AttributeRow, AttributeText, attributes}
+use Rattle.config_word.specs.Name.{HexPair, NameText, name_shown, word_names}
+use Rattle.config_text.specs.Numerals.{place_sum}
+use Rattle.config_text.specs.OneOf.{OneOf}
+use Rattle.config_text.specs.Laws.OneOf.{all-one, both, OneOf-map, OneOf-from_map, OneOf-front, OneOf-back, OneOf-from_append, OneOf-flat_map, OneOf-from_flat_map}
+use Rattle.config_text.specs.Value.{IsValueOf, Reads}
+use Rattle.config_text.specs.Laws.Value.{one_value_by}
+use Rattle.config_word.specs.Item.{ItemText}
+use Rattle.config_word.specs.Reading.Item.{WordRow, name_row, attribute_item, attribute_rows, word_table, fits, found, of_length, decimal_from, palette_of, hex_pair_of, rgb_from, rgb_of, palette_item, rgb_item, item_of}
+
+-- ---- one row fits
+
+abbrev lowered : List ℕ → List ℕ
+lowered t = map to_ascii_lowercase t
+
+-- no row of the list has the word
+abbrev is_new : WordRow → List WordRow → Bool
+is_new row [] = true
+is_new row (other ∷ rows) = not (bytes_eq (lowered other.0) (lowered row.0)) && is_new row rows
+
+abbrev are_apart : List WordRow → Bool
+are_apart [] = true
+are_apart (row ∷ rows) = is_new row rows && are_apart rows
+
+fits_cases : (folds : Bool) (t w : List ℕ) → cond folds (bytes_eq (lowered t) (lowered w)) (bytes_eq t w) ≡ true → lowered t ≡ lowered w
+fits_cases true t w h = (bytes_eq-Decides (lowered t) (lowered w)).0 h
+fits_cases false t w h = ap (map to_ascii_lowercase) ((bytes_eq-Decides t w).0 h)
+
+fits-lowered : (row : WordRow) (t : List ℕ) → fits row t ≡ true → lowered t ≡ lowered row.0
+fits-lowered row t h = fits_cases row.1 t row.0 h
+
+is_new-apart : (row other : WordRow) (rows : List WordRow) → is_new row rows ≡ true → OneOf rows other → ¬ (lowered other.0 ≡ lowered row.0)
+is_new-apart row other [] h o = absurd o
+is_new-apart row other (first ∷ rows) h (inl e) =
+    λ same.
+    let b = both (not (bytes_eq (lowered first.0) (lowered row.0))) (is_new row rows) h in
+    let p : lowered first.0 ≡ lowered row.0 = ap (λ (r : WordRow). lowered r.0) (sym e) ∙ same in
+    let q = (bytes_eq-Decides (lowered first.0) (lowered row.0)).1 p in
+    let r : not true ≡ true = rw q at b.0 in cc
+is_new-apart row other (first ∷ rows) h (inr o) =
+    is_new-apart row other rows (both (not (bytes_eq (lowered first.0) (lowered row.0))) (is_new row rows) h).1 o
+
+found-told : (first row : WordRow) (rows : List WordRow) (t : List ℕ) → ¬ (fits first t ≡ true) → found rows t ≡ Some row.2
+    → (x : Bool) → fits first t ≡ x → cond x (Some first.2) (found rows t) ≡ Some row.2
+found-told first row rows t no_fit rest true h = absurd (no_fit h)
+found-told first row rows t no_fit rest false h = rest
+
+-- the row that fits is the one that is found
+row-found : (rows : List WordRow) (row : WordRow) (t : List ℕ) → are_apart rows ≡ true → OneOf rows row → fits row t ≡ true → found rows t ≡ Some row.2
+row-found [] row t apart o f = absurd o
+row-found (first ∷ rows) row t apart (inl e) f =
+    let g : fits first t ≡ true = rw (← e) f in rw (g, e) refl
+row-found (first ∷ rows) row t apart (inr o) f =
+    let b = both (is_new first rows) (are_apart rows) apart in
+    found-told first row rows t
+    (λ h. is_new-apart first row rows b.0 o (sym (fits-lowered row t f) ∙ fits-lowered first t h))
+    (row-found rows row t b.1 o f)
+    (fits first t) refl
+
+abbrev FoundRow : List WordRow → List ℕ → Item → Type 0
+FoundRow rows t i = (row : WordRow) × OneOf rows row × (fits row t ≡ true) × (row.2 ≡ i)
+
+found-row-told : (first : WordRow) (rows : List WordRow) (t : List ℕ) (i : Item) → (found rows t ≡ Some i → FoundRow rows t i)
+    → (x : Bool) → fits first t ≡ x → cond x (Some first.2) (found rows t) ≡ Some i → FoundRow (first ∷ rows) t i
+found-row-told first rows t i rest true f e = (first, inl refl, f, cc)
+found-row-told first rows t i rest false f e = let r = rest e in (r.0, inr r.1, r.2, r.3)
+
+found-row : (rows : List WordRow) (t : List ℕ) (i : Item) → found rows t ≡ Some i → FoundRow rows t i
+found-row [] t i h = cc
+found-row (first ∷ rows) t i h = found-row-told first rows t i (λ e. found-row rows t i e) (fits first t) refl h
+
+word_table-apart : are_apart word_table ≡ true
+unfolding attributes word_names
+word_table-apart = refl
+
+-- ---- the first byte of a word
+
+abbrev is_word_byte : ℕ → Bool
+is_word_byte c = not (c == 35) && (not (c == 43) && not (is_ascii_digit c))
+
+abbrev starts_word : List ℕ → Bool
+starts_word [] = false
+starts_word (c ∷ cs) = is_word_byte c
+
+word_table-starts : list_all (λ row. starts_word (lowered row.0)) word_table ≡ true
+unfolding attributes word_names
+word_table-starts = refl
+
+byte_marks : (c : ℕ) → is_word_byte c ≡ true → ((c == 35) ≡ false) × ((c == 43) ≡ false) × (is_ascii_digit c ≡ false)
+byte_marks c h = grind (arith, nat_tests)
+
+lowered_byte : (c : ℕ) → is_word_byte (to_ascii_lowercase c) ≡ true → is_word_byte c ≡ true
+lowered_byte c h = grind (arith, nat_tests)
+
+-- what each row's word begins with, each text that fits it begins with
+starts-fits : (row : WordRow) (t : List ℕ) → OneOf word_table row → fits row t ≡ true → starts_word t ≡ true
+starts-fits row t o f =
+    told t (ap starts_word (fits-lowered row t f) ∙ all-one (λ (r : WordRow). starts_word (lowered r.0)) word_table row word_table-starts o) where
+      told : (s : List ℕ) → starts_word (lowered s) ≡ true → starts_word s ≡ true
+      told [] h = h
+      told (c ∷ cs) h = lowered_byte c h
+
+-- a text that begins as a word does stands for what the table says
+item_of-word : (t : List ℕ) → starts_word t ≡ true → item_of t ≡ found word_table t
+item_of-word [] h = refl
+item_of-word (c ∷ cs) h =
+    let m = byte_marks c h in rw (m.0, m.1, m.2) refl
+
+-- a text that fits a row stands for what the row says
+row-item : (row : WordRow) (t : List ℕ) → OneOf word_table row → fits row t ≡ true → item_of t ≡ Some row.2
+row-item row t o f = item_of-word t (starts-fits row t o f) ∙ row-found word_table row t word_table-apart o f
+
+-- only a word of the text's length fits
+length-fits : (row : WordRow) (t : List ℕ) → fits row t ≡ true → (length row.0 == length t) ≡ true
+length-fits row t f =
+    let e : length (lowered t) ≡ length (lowered row.0) = ap length (fits-lowered row t f) in
+    let p = length-map t to_ascii_lowercase in
+    let q = length-map row.0 to_ascii_lowercase in
+    let same : length row.0 ≡ length t = omega arith in
+    grind (arith, nat_tests)
+
+skipped : (row : WordRow) (t : List ℕ) (rest : Option Item) (x : Bool) → fits row t ≡ x → (length row.0 == length t) ≡ false
+    → rest ≡ cond x (Some row.2) rest
+skipped row t rest true f no_fit = cc (length-fits row t f)
+skipped row t rest false f no_fit = refl
+
+found-of_length-told : (first : WordRow) (rows : List WordRow) (t : List ℕ) → found (of_length (length t) rows) t ≡ found rows t
+    → (x : Bool) → (length first.0 == length t) ≡ x
+    → found (cond x (first ∷ of_length (length t) rows) (of_length (length t) rows)) t ≡ found (first ∷ rows) t
+found-of_length-told first rows t rest true e = ap (cond (fits first t) (Some first.2)) rest
+found-of_length-told first rows t rest false e = rest ∙ skipped first t (found rows t) (fits first t) refl e
+
+-- only a word of the text's length fits
+pub found-of_length : (rows : List WordRow) (t : List ℕ) → found (of_length (length t) rows) t ≡ found rows t
+found-of_length [] t = refl
+found-of_length (first ∷ rows) t = found-of_length-told first rows t (found-of_length rows t) (length first.0 == length t) refl
+
+-- ---- numbers
+
+digit-is : (d : ℕ) → digit_value d < 10 → (is_ascii_digit d ≡ true) × (digit_value d ≡ d - 48)
+digit-is d h = let r = digit_from_value d h in grind (arith, nat_tests)
+
+digit-from : (d : ℕ) → is_ascii_digit d ≡ true → (digit_value d < 10) × (digit_value d ≡ d - 48)
+digit-from d h = grind (arith, nat_tests)
+
+shifted : (n v k p : ℕ) → (n * 10 + v) * 10 ^ k + p ≡ n * 10 ^ suc k + (v * 10 ^ k + p)
+shifted n v k p = rw (pow-suc 10 k) (omega arith)
+
+one_more : (n v k p : ℕ) → n * 10 ^ suc k + (v * 10 ^ k + p) ≤ 255 → n * 10 + v ≤ 255
+one_more n v k p h =
+    let e = shifted n v k p in
+    let less : n * 10 + v ≤ (n * 10 + v) * 10 ^ k = le-mul_of_pos_right (n * 10 + v) (one-le-pow k 10 (lit< tt)) in
+    omega arith
+
+-- the sum of one digit more
+place_sum-more : (d : ℕ) (ds : List ℕ) → digit_value d < 10 → place_sum (d ∷ ds) 10 ≡ (d - 48) * 10 ^ length ds + place_sum ds 10
+place_sum-more d ds h = ap (λ x. x * 10 ^ length ds + place_sum ds 10) (digit-is d h).1
+
+decimal-found : (ds : List ℕ) (n : ℕ) → AllDigits 10 ds → n * 10 ^ length ds + place_sum ds 10 ≤ 255
+    → decimal_from ds n ≡ Some (n * 10 ^ length ds + place_sum ds 10)
+decimal-found [] n all h = ap Some (omega arith)
+decimal-found (d ∷ ds) n all h =
+    let sum = place_sum-more d ds all.0 in
+    let e = shifted n (d - 48) (length ds) (place_sum ds 10) in
+    let small : n * 10 + (d - 48) ≤ 255 = one_more n (d - 48) (length ds) (place_sum ds 10) (omega arith) in
+    let rest = decimal-found ds (n * 10 + (d - 48)) all.1 (omega arith) in
+    rw ((digit-is d all.0).0, le-leb (n * 10 + (d - 48)) 255 small) (rest ∙ ap Some (omega arith))
+
+abbrev DecimalRead : List ℕ → ℕ → ℕ → Type 0
+DecimalRead ds n k = AllDigits 10 ds × (k ≡ n * 10 ^ length ds + place_sum ds 10) × (k ≤ 255)
+
+decimal-derived-told : (d : ℕ) (ds : List ℕ) (n k : ℕ)
+    → (n * 10 + (d - 48) ≤ 255 → decimal_from ds (n * 10 + (d - 48)) ≡ Some k → DecimalRead ds (n * 10 + (d - 48)) k)
+    → (x y : Bool) → is_ascii_digit d ≡ x → nat_le (n * 10 + (d - 48)) 255 ≡ y
+    → cond (x && y) (decimal_from ds (n * 10 + (d - 48))) None ≡ Some k → DecimalRead (d ∷ ds) n k
+decimal-derived-told d ds n k rest true true digit fit h =
+    let v = digit-from d digit in
+    let r = rest (leb-true (n * 10 + (d - 48)) 255 fit) h in
+    let sum = place_sum-more d ds v.0 in
+    let e = shifted n (d - 48) (length ds) (place_sum ds 10) in
+    ((v.0, r.0), omega arith, r.2)
+decimal-derived-told d ds n k rest true false digit fit h = cc
+decimal-derived-told d ds n k rest false y digit fit h = cc
+
+decimal-derived : (ds : List ℕ) (n k : ℕ) → n ≤ 255 → decimal_from ds n ≡ Some k → DecimalRead ds n k
+decimal-derived [] n k small h = let e : n ≡ k = cc in (tt, omega arith, omega arith)
+decimal-derived (d ∷ ds) n k small h =
+    decimal-derived-told d ds n k (λ small_more e. decimal-derived ds (n * 10 + (d - 48)) k small_more e)
+    (is_ascii_digit d) (nat_le (n * 10 + (d - 48)) 255) refl refl h
+
+-- a number of the palette
+pub palette-found : (ds : List ℕ) → IsNumeral 10 ds → place_sum ds 10 ≤ 255 → palette_of ds ≡ Some (place_sum ds 10)
+palette-found [] h small = absurd (omega (arith, h.0))
+palette-found (d ∷ ds) h small = decimal-found (d ∷ ds) 0 h.1 (omega arith) ∙ ap Some (omega arith)
+
+pub palette-derived : (ds : List ℕ) (k : ℕ) → palette_of ds ≡ Some k → IsNumeral 10 ds × (k ≡ place_sum ds 10) × (k ≤ 255)
+palette-derived [] k h = cc
+palette-derived (d ∷ ds) k h =
+    let r = decimal-derived (d ∷ ds) 0 k (lit≤ tt) h in
+    ((omega arith, r.0), omega arith, r.2)
+
+-- ---- hexadecimal digits
+
+pair-found : (a b n : ℕ) → HexPair a b n → hex_pair_of a b ≡ Some n
+pair-found a b n h = rw (lt-ltb (digit_value a) 16 h.high_digit, lt-ltb (digit_value b) 16 h.low_digit) (ap Some (sym h.number))
+
+pair-derived : (a b n : ℕ) → hex_pair_of a b ≡ Some n → HexPair a b n
+pair-derived a b n h = told (nat_lt (digit_value a) 16) (nat_lt (digit_value b) 16) refl refl h where
+  told : (x y : Bool) → nat_lt (digit_value a) 16 ≡ x → nat_lt (digit_value b) 16 ≡ y
+      → cond (x && y) (Some (16 * digit_value a + digit_value b)) None ≡ Some n → HexPair a b n
+  told true true p q e = record { high_digit = ltb-true _ _ p; low_digit = ltb-true _ _ q; number = cc }
+  told true false p q e = cc
+  told false y p q e = cc
+
+-- ---- names and attributes are found
+
+minus_one-item : item_of (codes "-1") ≡ Some (items.Name names.Normal)
+unfolding attributes word_names
+minus_one-item = refl
+
+digit_marks : (d : ℕ) → digit_value d < 10 → ((d == 35) ≡ false) × ((d == 43) ≡ false) × (is_ascii_digit d ≡ true)
+digit_marks d h = let r = digit_from_value d h in grind (arith, nat_tests)
+
+palette_item-found : (ds : List ℕ) → IsNumeral 10 ds → place_sum ds 10 ≤ 255 → palette_item ds ≡ Some (items.Name (names.Ansi (place_sum ds 10)))
+palette_item-found ds h small = rw (palette-found ds h small) refl
+
+item_of-digits : (ds : List ℕ) → IsNumeral 10 ds → item_of ds ≡ palette_item ds
+item_of-digits [] h = absurd (omega (arith, h.0))
+item_of-digits (d ∷ ds) h = let m = digit_marks d h.1.0 in rw (m.0, m.1, m.2) refl
+
+name-found : (t : List ℕ) (n : Name) → NameText t n → item_of t ≡ Some (items.Name n)
+name-found t n (NameText.word o s) =
+    row-item (name_row n) t
+    (OneOf-front (map name_row word_names) ((codes "-1", false, items.Name names.Normal) ∷ flat_map attribute_rows attributes)
+    (name_row n) (OneOf-map name_row word_names n o))
+    ((bytes_eq-Decides (lowered t) (lowered (name_shown n))).1 s)
+name-found t n (NameText.minus_one e f) = rw (e, f) minus_one-item
+name-found t n (NameText.palette ds k (inl e) h sum small f) =
+    rw (e, f, sum) (item_of-digits ds h ∙ palette_item-found ds h (omega arith))
+name-found t n (NameText.palette ds k (inr e) h sum small f) =
+    rw (e, f, sum) (palette_item-found ds h (omega arith))
+name-found t n (NameText.pairs a b c d e f r g u is x y z v) =
+    rw (is, v, pair-found a b r x, pair-found c d g y, pair-found e f u z) refl
+name-found t n (NameText.doubled a c e r g u is x y z v) =
+    rw (is, v, pair-found a a r x, pair-found c c g y, pair-found e e u z) refl
+
+fits-self : (t : List ℕ) (folds : Bool) (i : Item) → fits (t, folds, i) t ≡ true
+fits-self t true i = (bytes_eq-Decides (lowered t) (lowered t)).1 refl
+fits-self t false i = (bytes_eq-Decides t t).1 refl
+
+-- a spelling of an attribute is a word
+spelling-row : (row : AttributeRow) (w : List ℕ) → OneOf attributes row → OneOf (row.2 ∷ row.3) w
+    → OneOf word_table (w, row.1 == 8, attribute_item row.1)
+spelling-row row w o h =
+    OneOf-back (map name_row word_names) ((codes "-1", false, items.Name names.Normal) ∷ flat_map attribute_rows attributes)
+    (w, row.1 == 8, attribute_item row.1)
+    (inr (OneOf-flat_map attribute_rows attributes row (w, row.1 == 8, attribute_item row.1) o
+    (OneOf-map (λ (x : List ℕ). (x, row.1 == 8, attribute_item row.1)) (row.2 ∷ row.3) w h)))
+
+pub reset-known : OneOf attributes (codes "RESET", 8, codes "reset", [])
+unfolding attributes
+reset-known = inr (inr (inr (inr (inr (inr (inr (inl refl)))))))
+
+attribute_is : (a : Attribute) (bit : ℕ) → a.0 ≡ 2 ^ bit → attribute_item bit ≡ items.Attribute a
+attribute_is a bit e = ap (λ n. items.Attribute (record { 0 = n })) (sym e)
+
+attribute-found : (t : List ℕ) (a : Attribute) → AttributeText t a → item_of t ≡ Some (items.Attribute a)
+attribute-found t a (AttributeText.word row o h e) =
+    row-item (t, row.1 == 8, attribute_item row.1) t (spelling-row row t o h) (fits-self t (row.1 == 8) (attribute_item row.1))
+    ∙ ap Some (attribute_is a row.1 e)
+attribute-found t a (AttributeText.reset s e) =
+    row-item (codes "reset", true, attribute_item 8) t
+    (spelling-row (codes "RESET", 8, codes "reset", []) (codes "reset") reset-known (inl refl))
+    ((bytes_eq-Decides (lowered t) (lowered (codes "reset"))).1 s)
+    ∙ ap Some (attribute_is a 8 e)
+
+item-found : (t : List ℕ) (v : Item) → ItemText t v → item_of t ≡ Some v
+item-found t (items.Name n) h = name-found t n h
+item-found t (items.Attribute a) h = attribute-found t a h
+
+-- ---- what is found is a name or an attribute
+
+reset-spelled : list_all (λ row. not (row.1 == 8) || list_all (λ w. bytes_eq w (codes "reset")) (row.2 ∷ row.3)) attributes ≡ true
+unfolding attributes
+reset-spelled = refl
+
+reset-only : (row : AttributeRow) (w : List ℕ) → OneOf attributes row → (row.1 == 8) ≡ true → OneOf (row.2 ∷ row.3) w → w ≡ codes "reset"
+reset-only row w o e h =
+    let p = all-one (λ (r : AttributeRow). not (r.1 == 8) || list_all (λ w. bytes_eq w (codes "reset")) (r.2 ∷ r.3)) attributes row reset-spelled o in
+    let q : list_all (λ w. bytes_eq w (codes "reset")) (row.2 ∷ row.3) ≡ true = rw e at p in
+    (bytes_eq-Decides w (codes "reset")).0 (all-one (λ w. bytes_eq w (codes "reset")) (row.2 ∷ row.3) w q h)
+
+spelled : (row : AttributeRow) (w t : List ℕ) → OneOf attributes row → OneOf (row.2 ∷ row.3) w
+    → (x : Bool) → (row.1 == 8) ≡ x → cond x (bytes_eq (lowered t) (lowered w)) (bytes_eq t w) ≡ true
+    → AttributeText t (record { 0 = 2 ^ row.1 })
+spelled row w t o h true e f =
+    let same = (bytes_eq-Decides (lowered t) (lowered w)).0 f in
+    let eight : row.1 ≡ 8 = (Decides-eqb row.1 8).0 e in
+    AttributeText.reset (rw (reset-only row w o e h) at same) (ap (λ n. 2 ^ n) eight)
+spelled row w t o h false e f =
+    AttributeText.word row o (rw ((bytes_eq-Decides t w).0 f) h) refl
+
+row-text : (row : WordRow) (t : List ℕ) → OneOf word_table row → fits row t ≡ true → ItemText t row.2
+row-text row t o f =
+    elim (OneOf-from_append (map name_row word_names) ((codes "-1", false, items.Name names.Normal) ∷ flat_map attribute_rows attributes) row o) [
+      | inl a ↦ (let r = OneOf-from_map name_row word_names row a in
+          rw r.2 (NameText.word r.1 ((bytes_eq-Decides (lowered t) (lowered (name_shown r.0))).0 (rw r.2 at f))))
+      | inr (inl e) ↦ rw e (NameText.minus_one ((bytes_eq-Decides t (codes "-1")).0 (rw e at f)) refl)
+      | inr (inr b) ↦ (let r = OneOf-from_flat_map attribute_rows attributes row b in
+          let q = OneOf-from_map (λ (x : List ℕ). (x, r.0.1 == 8, attribute_item r.0.1)) (r.0.2 ∷ r.0.3) row r.2 in
+          rw q.2 (spelled r.0 q.0 t r.1 q.1 (r.0.1 == 8) refl (rw q.2 at f)))
+    ]
+
+rgb_from-parts : (x y z : Option ℕ) (n : Name) → rgb_from x y z ≡ Some n
+    → (r g b : ℕ) × (x ≡ Some r) × (y ≡ Some g) × (z ≡ Some b) × (n ≡ names.Rgb r g b)
+rgb_from-parts (Some r) (Some g) (Some b) n h = (r, g, b, refl, refl, refl, cc)
+rgb_from-parts (Some r) (Some g) None n h = cc
+rgb_from-parts (Some r) None z n h = cc
+rgb_from-parts None y z n h = cc
+
+rgb-derived : (ds : List ℕ) (n : Name) → rgb_of ds ≡ Some n → NameText (35 ∷ ds) n
+rgb-derived (a ∷ b ∷ c ∷ d ∷ e ∷ f ∷ []) n h =
+    let p = rgb_from-parts (hex_pair_of a b) (hex_pair_of c d) (hex_pair_of e f) n h in
+    NameText.pairs a b c d e f p.0 p.1 p.2 refl (pair-derived a b p.0 p.3) (pair-derived c d p.1 p.4) (pair-derived e f p.2 p.5) p.6
+rgb-derived (a ∷ c ∷ e ∷ []) n h =
+    let p = rgb_from-parts (hex_pair_of a a) (hex_pair_of c c) (hex_pair_of e e) n h in
+    NameText.doubled a c e p.0 p.1 p.2 refl (pair-derived a a p.0 p.3) (pair-derived c c p.1 p.4) (pair-derived e e p.2 p.5) p.6
+rgb-derived _ n h = cc
+
+rgb_item-derived : (ds : List ℕ) (v : Item) → rgb_item ds ≡ Some v → ItemText (35 ∷ ds) v
+rgb_item-derived ds v h = told (rgb_of ds) refl h where
+  told : (x : Option Name) → rgb_of ds ≡ x → option_map items.Name x ≡ Some v → ItemText (35 ∷ ds) v
+  told (Some n) e f = let same : items.Name n ≡ v = cc in rw (← same) (rgb-derived ds n e)
+  told None e f = cc
+
+palette_item-derived : (t ds : List ℕ) (v : Item) → (t ≡ ds) ⊎ (t ≡ 43 ∷ ds) → palette_item ds ≡ Some v → ItemText t v
+palette_item-derived t ds v spelled h = told (palette_of ds) refl h where
+  told : (x : Option ℕ) → palette_of ds ≡ x → option_map (λ n. items.Name (names.Ansi n)) x ≡ Some v → ItemText t v
+  told (Some k) e f =
+      let same : items.Name (names.Ansi k) ≡ v = cc in
+      let r = palette-derived ds k e in
+      rw (← same) (NameText.palette ds k spelled r.0 r.1 r.2 refl)
+  told None e f = cc
+
+found-derived : (t : List ℕ) (v : Item) → found word_table t ≡ Some v → ItemText t v
+found-derived t v h = let r = found-row word_table t v h in rw (← r.3) (row-text r.0 t r.1 r.2)
+
+item-derived : (t : List ℕ) (v : Item) → item_of t ≡ Some v → ItemText t v
+item-derived [] v h = found-derived [] v h
+item-derived (c ∷ cs) v h = told (c == 35) (c == 43) (is_ascii_digit c) refl refl h where
+  told : (x y z : Bool) → (c == 35) ≡ x → (c == 43) ≡ y
+      → cond x (rgb_item cs) (cond y (palette_item cs) (cond z (palette_item (c ∷ cs)) (found word_table (c ∷ cs)))) ≡ Some v
+      → ItemText (c ∷ cs) v
+  told true y z p q e = rw ((Decides-eqb c 35).0 p) (rgb_item-derived cs v e)
+  told false true z p q e = palette_item-derived (c ∷ cs) cs v (inr (ap (λ n. n ∷ cs) ((Decides-eqb c 43).0 q))) e
+  told false false true p q e = palette_item-derived (c ∷ cs) (c ∷ cs) v (inl refl) e
+  told false false false p q e = found-derived (c ∷ cs) v e
+
+-- ---- the laws
+
+pub item-law : IsValueOf ItemText item_of
+item-law = record { found = item-found; derived = item-derived }
+
+-- an answer that is what `item_of` gives reads the text
+pub item_reads : (t : List ℕ) (r : Option Item) → r ≡ item_of t → Reads ItemText t r
+item_reads t None e = λ v h. cc (e, item-found t v h)
+item_reads t (Some v) e = item-derived t v (sym e)
+
+-- no text is that of two items
+pub item_one_value : (t : List ℕ) (v w : Item) → ItemText t v → ItemText t w → v ≡ w
+item_one_value = one_value_by item-law
+
+-- no text is both a name's and an attribute's
+pub not_both : (t : List ℕ) (n : Name) (a : Attribute) → NameText t n → ¬ (AttributeText t a)
+not_both t n a p q = let e : items.Name n ≡ items.Attribute a = item_one_value t (items.Name n) (items.Attribute a) p q in cc
+
+abbrev pub item_name : Option Item → Option Name
+item_name (Some (items.Name n)) = Some n
+item_name (Some (items.Attribute a)) = None
+item_name None = None
+
+abbrev pub item_attribute : Option Item → Option Attribute
+item_attribute (Some (items.Attribute a)) = Some a
+item_attribute (Some (items.Name n)) = None
+item_attribute None = None
+
+pub name-law : IsValueOf NameText (λ t. item_name (item_of t))
+name-law = record {
+  found = λ t n h. rw (name-found t n h) refl;
+  derived = λ t n h. told t n (item_of t) refl h;
+} where
+  told : (t : List ℕ) (n : Name) (x : Option Item) → item_of t ≡ x → item_name x ≡ Some n → NameText t n
+  told t n (Some (items.Name m)) e f = let same : m ≡ n = cc in rw (← same) (item-derived t (items.Name m) e)
+  told t n (Some (items.Attribute a)) e f = cc
+  told t n None e f = cc
+
+pub attribute-law : IsValueOf AttributeText (λ t. item_attribute (item_of t))
+attribute-law = record {
+  found = λ t a h. rw (attribute-found t a h) refl;
+  derived = λ t a h. told t a (item_of t) refl h;
+} where
+  told : (t : List ℕ) (a : Attribute) (x : Option Item) → item_of t ≡ x → item_attribute x ≡ Some a → AttributeText t a
+  told t a (Some (items.Attribute b)) e f = let same : b ≡ a = cc in rw (← same) (item-derived t (items.Attribute b) e)
+  told t a (Some (items.Name n)) e f = cc
+  told t a None e f = cc
+
+-- an answer that reads the text as an item reads it as a name, or as an attribute
+pub reads_name : (t : List ℕ) (r : Option Item) → Reads ItemText t r → Reads NameText t (item_name r)
+reads_name t (Some (items.Name n)) h = h
+reads_name t (Some (items.Attribute a)) h = λ n p. not_both t n a p h
+reads_name t None h = λ n p. h (items.Name n) p
+
+pub reads_attribute : (t : List ℕ) (r : Option Item) → Reads ItemText t r → Reads AttributeText t (item_attribute r)
+reads_attribute t (Some (items.Attribute a)) h = h
+reads_attribute t (Some (items.Name n)) h = λ a p. not_both t n a h p
+reads_attribute t None h = λ a p. h (items.Attribute a) p

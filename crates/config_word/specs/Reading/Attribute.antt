@@ -1,0 +1,23 @@
+-- How the code shows attributes: a table of values and words, and what is left to write. The private functions'
+-- contracts cite it, and no public one does.
+use Rattle.std.specs.Prelude.{ℕ, ◌^◌, Bool, true, false, List, [], ◌∷◌, ◌++◌, map, filter, flat_map, bit_and, ◌==◌}
+use Rattle.config_word.specs.declared.attribute.Shown.{Shown}
+use Rattle.config_word.specs.Attribute.{attributes}
+
+-- a row of the code's table
+abbrev pub shown_row : Shown → ℕ × List ℕ
+shown_row s = (s.attribute.0, s.word.now)
+
+-- the value and the word of each constant
+abbrev pub shown_rows : List (ℕ × List ℕ)
+shown_rows = map (λ row. (2 ^ row.1, row.2)) attributes
+
+-- the words of the rows whose value is in the bits
+abbrev pub words_in : ℕ → List (ℕ × List ℕ) → List (List ℕ)
+words_in bits rows = map (λ row. row.1) (filter (λ row. bit_and bits row.0 == row.0) rows)
+
+-- the words that are left to write, with a space before each but the first of all
+abbrev pub remaining : Bool → List (List ℕ) → List ℕ
+remaining true [] = []
+remaining true (word ∷ words) = word ++ flat_map (λ w. 32 ∷ w) words
+remaining false words = flat_map (λ w. 32 ∷ w) words

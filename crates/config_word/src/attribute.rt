@@ -1,0 +1,268 @@
+//! Sets of text attributes.
+ghost use Rattle.std.specs.Prelude.{⊤, ◌≡◌, ◌+◌, ◌≤◌, ◌++◌, ◌==◌, ◌↔◌, length, map, IsTrue, Some};
+ghost use Rattle.std.specs.List.{list_any};
+ghost use Rattle.bstr.specs.BStr.{bstr_bytes};
+ghost use Rattle.config_text.specs.declared.errors.Fault.TheVariants as faults;
+ghost use Rattle.config_word.specs.Attribute.{AttributeText, CanonicalAttribute, attribute_flags, attribute_shown};
+ghost use Rattle.config_word.specs.Laws.Attribute.{attribute_canonical_reads, attribute_decided, attribute_one_text, attribute_one_value, attribute_shown_is_text};
+ghost use Rattle.config_word.specs.Reading.Attribute.{shown_row, shown_rows};
+ghost use Rattle.config_text.specs.Refusals.{ReadsOr, ReadsBytes};
+ghost use Rattle.config_text.specs.Value.{HasText, IsTextOf, Reads};
+ghost use Rattle.std.proofs.Common.{rules};
+ghost use Rattle.config_text.specs.Json.{GivesJsonText};
+
+use crate::item::{Item, word};
+use arrayvec::ArrayString;
+use bitflags::{Flag, Flags, bitflag_items};
+use bstr::BStr;
+use config_text::errors::{Error, Fault};
+use config_text::json::{JsonError, string};
+use config_text::value::Value;
+use serde_json::Value as JsonValue;
+use std::alloc::Global;
+use std::fmt;
+use std::str::FromStr;
+
+/// A set of attributes, such as bold or not underlined. Each attribute is one bit; bits that have no
+/// constant are kept.
+#[derive(Clone, Copy, PartialEq, Eq, PartialOrd, Ord, Hash, Debug, Default)]
+pub struct Attribute(u32);
+
+bitflag_items! {
+    impl Attribute: u32 {
+        /// Bold.
+        const BOLD = 1 << 1;
+        /// Dimmed.
+        const DIM = 1 << 2;
+        /// Italic.
+        const ITALIC = 1 << 3;
+        /// Underlined.
+        const UL = 1 << 4;
+        /// Blinking.
+        const BLINK = 1 << 5;
+        /// Foreground and background in each other's place.
+        const REVERSE = 1 << 6;
+        /// Struck through.
+        const STRIKE = 1 << 7;
+        /// What was set before is put back first.
+        const RESET = 1 << 8;
+        /// Not dimmed.
+        const NO_DIM = 1 << 21;
+        /// Not bold.
+        const NO_BOLD = 1 << 22;
+        /// Not italic.
+        const NO_ITALIC = 1 << 23;
+        /// Not underlined.
+        const NO_UL = 1 << 24;
+        /// Not blinking.
+        const NO_BLINK = 1 << 25;
+        /// Foreground and background in their own places.
+        const NO_REVERSE = 1 << 26;
+        /// Not struck through.
+        const NO_STRIKE = 1 << 27;
+    }
+}
+
+#[tactic(auto, unfolding(crate::specs::Attribute::attributes))]
+impl Flags for Attribute {
+    type Bits = u32;
+
+    ghost exact = { ⊤ };
+
+    ghost table = { attribute_flags };
+
+    ghost set_of = { λ a. a.0 };
+
+    fn flags<'a>() -> &'a [Flag<Attribute>] {
+        Attribute::FLAGS
+    }
+
+    fn bits(&self) -> u32 {
+        self.0
+    }
+
+    fn from_bits_retain(bits: u32) -> Attribute {
+        Attribute(bits)
+    }
+}
+
+/// A constant and the word that it is shown as.
+#[derive(Clone, Copy)]
+struct Shown {
+    attribute: Attribute,
+    word: &'static str,
+}
+
+macro_rules! shown {
+    ($attribute:ident, $word:expr) => {
+        Shown { attribute: Attribute::$attribute, word: $word }
+    };
+}
+
+/// The words that are shown, by rising bit.
+const SHOWN: [Shown; 15] = [
+    shown!(BOLD, "bold"),
+    shown!(DIM, "dim"),
+    shown!(ITALIC, "italic"),
+    shown!(UL, "ul"),
+    shown!(BLINK, "blink"),
+    shown!(REVERSE, "reverse"),
+    shown!(STRIKE, "strike"),
+    shown!(RESET, "reset"),
+    shown!(NO_DIM, "nodim"),
+    shown!(NO_BOLD, "nobold"),
+    shown!(NO_ITALIC, "noitalic"),
+    shown!(NO_UL, "noul"),
+    shown!(NO_BLINK, "noblink"),
+    shown!(NO_REVERSE, "noreverse"),
+    shown!(NO_STRIKE, "nostrike"),
+];
+
+/// The constants and their words.
+#[tactic(auto, unfolding(crate::specs::Attribute::attributes))]
+fn shown_words() -> &'static [Shown]
+    ensures { map shown_row result.now ≡ shown_rows }
+{
+    &SHOWN
+}
+
+impl Attribute {
+    /// Appends the words of the known bits that are set, by rising bit, with one space between.
+    pub fn push_to(self, text: &mut ArrayString<127>)
+        requires { length text.old.bytes + 99 ≤ 127 }
+        ensures { text.new.bytes ≡ text.old.bytes ++ attribute_shown self.0 }
+    {
+        let mut is_first = true;
+        for shown in shown_words() {
+            if self.contains(shown.attribute) {
+                if !is_first {
+                    text.push_str(" ");
+                }
+                text.push_str(shown.word);
+                is_first = false;
+            }
+        }
+    }
+
+    /// The set as it is shown.
+    pub fn shown(self) -> ArrayString<127>
+        ensures bytes { result.bytes ≡ attribute_shown self.0 }
+        ensures text { HasText AttributeText self → IsTextOf AttributeText CanonicalAttribute self result.bytes }
+    {
+        let mut text = ArrayString::new();
+        self.push_to(&mut text);
+        text
+    }
+
+    /// Whether the set is one of the constants.
+    fn is_constant(self) -> bool
+        ensures { result ≡ list_any (λ row. row.0 == self.0) shown_rows }
+    {
+        for shown in shown_words() {
+            if shown.attribute == self {
+                return true;
+            }
+        }
+        false
+    }
+}
+
+/// Whether some text is read as the set.
+fn has_a_text(set: Attribute) -> bool
+    ensures { IsTrue result ↔ (HasText AttributeText set) }
+{
+    set.is_constant()
+}
+
+/// The attribute that the input is a text of.
+fn attribute_of(input: BStr<'_>) -> Option<Attribute>
+    ensures { Reads AttributeText (bstr_bytes input.entry) result }
+{
+    match word(input.as_bytes())? {
+        Item::Attribute(attribute) => Some(attribute),
+        Item::Name(_) => None,
+    }
+}
+
+impl FromStr for Attribute {
+    type Err = Fault;
+
+    ghost from_str_gives = { λ s r. ReadsOr AttributeText (λ e. e ≡ faults.Color) s r };
+
+    /// The attribute that the text is a text of, or `Fault::Color`.
+    fn from_str(text: &str) -> Result<Attribute, Fault> {
+        match attribute_of(BStr::new(text.as_bytes())) {
+            Some(attribute) => Ok(attribute),
+            None => Err(Fault::Color),
+        }
+    }
+}
+
+impl<'a> TryFrom<BStr<'a>> for Attribute {
+    type Error = Error<'a>;
+
+    ghost try_from_gives = { λ s r. ReadsBytes AttributeText faults.Color s r };
+
+    /// The attribute that the input is a text of, or `Fault::Color` with the whole input.
+    fn try_from(input: BStr<'a>) -> Result<Attribute, Error<'a>> {
+        match attribute_of(input) {
+            Some(attribute) => Ok(attribute),
+            None => Err(Error {
+                fault: Fault::Color,
+                input,
+            }),
+        }
+    }
+}
+
+impl Attribute {
+    /// The text that the set is shown as, as a JSON string: the words of the known bits that are set, by rising
+    /// bit, with one space between. Answers `JsonError::Memory` where there is no memory for the text; an empty
+    /// text takes none.
+    pub fn to_json(&self, alloc: Global) -> Result<JsonValue, JsonError>
+        ensures { GivesJsonText (attribute_shown self.now.0) result }
+    {
+        let words = self.shown();
+        string(alloc, words.as_str())
+    }
+}
+
+impl fmt::Display for Attribute {
+    ghost output = { λ a. Some (attribute_shown a.0) };
+
+    fn fmt<W: fmt::Write>(&self, f: &mut fmt::Formatter<W>) -> fmt::Result {
+        f.write_str(self.shown().as_str())
+    }
+}
+
+impl Value for Attribute {
+    ghost grammar = { AttributeText };
+
+    ghost canonical = { CanonicalAttribute };
+
+    ghost displayed = { λ a. attribute_shown a.0 };
+
+    fn read(input: BStr<'_>) -> Option<Attribute> {
+        attribute_of(input)
+    }
+
+    fn has_text(&self) -> bool {
+        has_a_text(*self)
+    }
+
+    fn text(&self) -> ArrayString<127> {
+        self.shown()
+    }
+
+    ghost one_value = { attribute_one_value };
+
+    ghost one_text = { attribute_one_text };
+
+    ghost canonical_reads = { attribute_canonical_reads };
+
+    ghost shown_is_text = { attribute_shown_is_text };
+
+    ghost decided = { attribute_decided };
+
+    ghost equal_is_same = { Prim.search rules };
+}

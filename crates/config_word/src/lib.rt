@@ -1,0 +1,7 @@
+//! Color names and attributes.
+#![tactic(auto)]
+
+pub mod attribute;
+pub mod item;
+pub mod laws;
+pub mod name;

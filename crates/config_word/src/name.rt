@@ -1,0 +1,246 @@
+//! The names of colors.
+ghost use Rattle.std.specs.Prelude.{◌≡◌, ◌+◌, ◌<◌, ◌≤◌, ◌++◌, length, Some};
+ghost use Rattle.std.specs.Char.{digit_char};
+ghost use Rattle.bstr.specs.BStr.{bstr_bytes};
+ghost use Rattle.config_text.specs.declared.errors.Fault.TheVariants as faults;
+ghost use Rattle.config_word.specs.Name.{NameText, CanonicalName, NameFits, hex_pair, name_shown};
+ghost use Rattle.config_word.specs.Laws.Name.{name_canonical_reads, name_decided, name_one_text, name_one_value, name_shown_is_text};
+ghost use Rattle.config_text.specs.Refusals.{ReadsOr, ReadsBytes};
+ghost use Rattle.config_text.specs.Value.{HasText, IsTextOf, Reads};
+ghost use Rattle.std.proofs.Common.{rules};
+ghost use Rattle.config_text.specs.Json.{GivesJsonText};
+
+use crate::item::{Item, word};
+use arrayvec::ArrayString;
+use bstr::BStr;
+use config_text::errors::{Error, Fault};
+use config_text::json::{JsonError, string};
+use config_text::value::Value;
+use itoa::Buffer;
+use serde_json::Value as JsonValue;
+use std::alloc::Global;
+use std::fmt;
+use std::str::FromStr;
+
+/// A color: a word, a palette number, or red, green and blue.
+#[derive(Clone, Copy, PartialEq, Eq, PartialOrd, Ord, Hash, Debug)]
+pub enum Name {
+    /// `normal` or `-1`: the color is left as it is.
+    Normal,
+    /// `default`: the color that the terminal has by default.
+    Default,
+    /// `black`.
+    Black,
+    /// `brightblack`.
+    BrightBlack,
+    /// `red`.
+    Red,
+    /// `brightred`.
+    BrightRed,
+    /// `green`.
+    Green,
+    /// `brightgreen`.
+    BrightGreen,
+    /// `yellow`.
+    Yellow,
+    /// `brightyellow`.
+    BrightYellow,
+    /// `blue`.
+    Blue,
+    /// `brightblue`.
+    BrightBlue,
+    /// `magenta`.
+    Magenta,
+    /// `brightmagenta`.
+    BrightMagenta,
+    /// `cyan`.
+    Cyan,
+    /// `brightcyan`.
+    BrightCyan,
+    /// `white`.
+    White,
+    /// `brightwhite`.
+    BrightWhite,
+    /// The color of this number in the terminal's palette, 0 to 255.
+    Ansi(u8),
+    /// Red, green and blue, each 0 to 255.
+    Rgb(u8, u8, u8),
+}
+
+/// Appends the two lower-case hexadecimal digits of a byte.
+fn push_hex(text: &mut ArrayString<127>, byte: u8)
+    requires { length text.old.bytes + 2 ≤ 127 }
+    ensures { text.new.bytes ≡ text.old.bytes ++ hex_pair byte }
+{
+    text.push(hex_char(byte / 16));
+    text.push(hex_char(byte % 16));
+}
+
+/// The lower-case hexadecimal digit of a number below 16.
+fn hex_char(number: u8) -> char
+    requires { number < 16 }
+    ensures { result ≡ digit_char number }
+{
+    if number < 10 {
+        (b'0' + number) as char
+    } else {
+        (b'a' + (number - 10)) as char
+    }
+}
+
+impl Name {
+    /// Appends the name as it is shown.
+    pub fn push_to(self, text: &mut ArrayString<127>)
+        requires { length text.old.bytes + 13 ≤ 127 }
+        ensures { text.new.bytes ≡ text.old.bytes ++ name_shown self }
+    {
+        let word = match self {
+            Name::Normal => "normal",
+            Name::Default => "default",
+            Name::Black => "black",
+            Name::BrightBlack => "brightblack",
+            Name::Red => "red",
+            Name::BrightRed => "brightred",
+            Name::Green => "green",
+            Name::BrightGreen => "brightgreen",
+            Name::Yellow => "yellow",
+            Name::BrightYellow => "brightyellow",
+            Name::Blue => "blue",
+            Name::BrightBlue => "brightblue",
+            Name::Magenta => "magenta",
+            Name::BrightMagenta => "brightmagenta",
+            Name::Cyan => "cyan",
+            Name::BrightCyan => "brightcyan",
+            Name::White => "white",
+            Name::BrightWhite => "brightwhite",
+            Name::Ansi(number) => {
+                text.push_str(Buffer::new().format(number));
+                return;
+            }
+            Name::Rgb(red, green, blue) => {
+                text.push('#');
+                push_hex(text, red);
+                push_hex(text, green);
+                push_hex(text, blue);
+                return;
+            }
+        };
+        text.push_str(word);
+    }
+
+    /// The name as it is shown.
+    pub fn shown(self) -> ArrayString<127>
+        ensures bytes { result.bytes ≡ name_shown self }
+        ensures text { IsTextOf NameText CanonicalName self result.bytes }
+    {
+        numbers_fit(self);
+        let mut text = ArrayString::new();
+        self.push_to(&mut text);
+        text
+    }
+}
+
+/// Each number of a name is a byte.
+pub fn numbers_fit(name: Name)
+    ensures { NameFits name }
+{}
+
+/// Some text is read as the name.
+fn has_a_text(name: Name)
+    ensures { HasText NameText name }
+{
+    numbers_fit(name);
+}
+
+/// The name that the input is a text of.
+fn name_of(input: BStr<'_>) -> Option<Name>
+    ensures { Reads NameText (bstr_bytes input.entry) result }
+{
+    match word(input.as_bytes())? {
+        Item::Name(name) => Some(name),
+        Item::Attribute(_) => None,
+    }
+}
+
+impl FromStr for Name {
+    type Err = Fault;
+
+    ghost from_str_gives = { λ s r. ReadsOr NameText (λ e. e ≡ faults.Color) s r };
+
+    /// The name that the text is a text of, or `Fault::Color`.
+    fn from_str(text: &str) -> Result<Name, Fault> {
+        match name_of(BStr::new(text.as_bytes())) {
+            Some(name) => Ok(name),
+            None => Err(Fault::Color),
+        }
+    }
+}
+
+impl<'a> TryFrom<BStr<'a>> for Name {
+    type Error = Error<'a>;
+
+    ghost try_from_gives = { λ s r. ReadsBytes NameText faults.Color s r };
+
+    /// The name that the input is a text of, or `Fault::Color` with the whole input.
+    fn try_from(input: BStr<'a>) -> Result<Name, Error<'a>> {
+        match name_of(input) {
+            Some(name) => Ok(name),
+            None => Err(Error {
+                fault: Fault::Color,
+                input,
+            }),
+        }
+    }
+}
+
+impl Name {
+    /// The text that the name is shown as, as a JSON string, or `JsonError::Memory` where there is no memory for
+    /// it.
+    pub fn to_json(&self, alloc: Global) -> Result<JsonValue, JsonError>
+        ensures { GivesJsonText (name_shown self.now) result }
+    {
+        let name = self.shown();
+        string(alloc, name.as_str())
+    }
+}
+
+impl fmt::Display for Name {
+    ghost output = { λ n. Some (name_shown n) };
+
+    fn fmt<W: fmt::Write>(&self, f: &mut fmt::Formatter<W>) -> fmt::Result {
+        f.write_str(self.shown().as_str())
+    }
+}
+
+impl Value for Name {
+    ghost grammar = { NameText };
+
+    ghost canonical = { CanonicalName };
+
+    ghost displayed = { name_shown };
+
+    fn read(input: BStr<'_>) -> Option<Name> {
+        name_of(input)
+    }
+
+    fn has_text(&self) -> bool {
+        has_a_text(*self);
+        true
+    }
+
+    fn text(&self) -> ArrayString<127> {
+        self.shown()
+    }
+
+    ghost one_value = { name_one_value };
+
+    ghost one_text = { name_one_text };
+
+    ghost canonical_reads = { name_canonical_reads };
+
+    ghost shown_is_text = { name_shown_is_text };
+
+    ghost decided = { name_decided };
+
+    ghost equal_is_same = { Prim.search rules };
+}

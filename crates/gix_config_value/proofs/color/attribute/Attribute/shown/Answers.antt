@@ -1,5 +1,0 @@
-use Rattle.gix_config_value.specs.AttributeLaws.{attribute_shown_is_text}
-use Rattle.gix_config_value.proofs.color.attribute.Attribute.shown.Goals as goal
-
-pub returns-clause-text : goal.returns-clause-text
-returns-clause-text c = rw c.push_to.ensures (rw c.new-text.ensures (attribute_shown_is_text c.args.self))

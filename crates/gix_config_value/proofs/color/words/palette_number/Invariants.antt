@@ -1,7 +1,0 @@
-use Rattle.std.proofs.Common.{◌≡◌, drop}
-use Rattle.gix_config_value.specs.WordReading.{decimal_from, palette_of}
-use Rattle.gix_config_value.proofs.color.words.palette_number.Given as goal
-
--- the digits that are left decide
-abbrev pub invariant-loop-digit : goal.invariant-loop-digit
-invariant-loop-digit l = palette_of l.digits ≡ decimal_from (drop l.digit-index l.digits) l.number

@@ -1,9 +1,0 @@
-use Rattle.gix_config_value.specs.contracts.color.name.NameHash.TheImpl.Laws.{respects_eq-law}
-use Rattle.gix_config_value.specs.contracts.color.name.NameOrd.TheImpl.Laws.{total-law}
-use Rattle.gix_config_value.proofs.laws.orders.name_order.Goals as goal
-
-pub returns-clause-total : goal.returns-clause-total
-returns-clause-total c = total-law
-
-pub returns-clause-hashes : goal.returns-clause-hashes
-returns-clause-hashes c = respects_eq-law

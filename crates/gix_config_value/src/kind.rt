@@ -1,0 +1,99 @@
+//! The kinds of value, as a choice made at run time.
+ghost use Rattle.std.specs.Prelude.{◌≡◌, ◌≢◌, MatchOption, IsSomeAnd};
+ghost use Rattle.bstr.specs.BStr.{bstr_bytes};
+ghost use Rattle.gix_config_value.specs.Kinds.{kind_name, KindGrammar, KindCanonical, KindJoins, KindComparesWords};
+ghost use Rattle.config_text.specs.Value.{Normalizes, IsOnlyText, Compares};
+ghost use Rattle.gix_config_value.specs.declared.kind.Kind as kind;
+
+use arrayvec::ArrayString;
+use bstr::BStr;
+use config_boolean::boolean::Boolean;
+use config_color::color::Color;
+use config_integer::amount::Amount;
+use config_integer::integer::Integer;
+use config_integer::suffix::Suffix;
+use config_text::value::{Value, normalize_as};
+use config_word::attribute::Attribute;
+use config_word::name::Name;
+
+/// A kind of value.
+#[derive(Clone, Copy, PartialEq, Eq, Debug)]
+pub enum Kind {
+    /// The units `k`, `m` and `g`.
+    Suffix,
+    /// Numbers with at most one suffix.
+    Integer,
+    /// Truth values, as words or as numbers.
+    Boolean,
+    /// The names of colors.
+    Name,
+    /// The words of attributes, one at a time.
+    Attribute,
+    /// Colors: names of a foreground and a background, and attributes.
+    Color,
+    /// Numbers whose product with their suffix fits `i64`.
+    Amount,
+}
+
+/// The kind of exactly this name.
+pub(crate) fn kind_by_name(name: &[u8]) -> Option<Kind>
+    ensures { MatchOption result ((k : kind.Kind) → kind_name k ≢ name.now) (λ k. kind_name k ≡ name.now) }
+{
+    match name {
+        b"suffix" => Some(Kind::Suffix),
+        b"integer" => Some(Kind::Integer),
+        b"boolean" => Some(Kind::Boolean),
+        b"name" => Some(Kind::Name),
+        b"attribute" => Some(Kind::Attribute),
+        b"color" => Some(Kind::Color),
+        b"amount" => Some(Kind::Amount),
+        _ => None,
+    }
+}
+
+/// The canonical text of this kind that reads to the value of the input, or `None` where the kind's grammar
+/// gives the input no value. A canonical input is answered byte for byte. A color text in which white space stands
+/// is answered by what stands before it and what follows it: with the canonical text of their composition.
+pub fn normalize(kind: Kind, input: BStr<'_>) -> Option<ArrayString<127>>
+    ensures answer { Normalizes (KindGrammar kind) (KindCanonical kind) (bstr_bytes input.entry) result }
+    ensures only { IsOnlyText (KindGrammar kind) (KindCanonical kind) (bstr_bytes input.entry) result }
+    ensures unchanged { KindCanonical kind (bstr_bytes input.entry)
+        → IsSomeAnd result (λ s. s.bytes ≡ bstr_bytes input.entry) }
+    ensures joined { KindJoins kind (bstr_bytes input.entry) result }
+{
+    match kind {
+        Kind::Suffix => normalize_as::<Suffix>(input),
+        Kind::Integer => normalize_as::<Integer>(input),
+        Kind::Boolean => normalize_as::<Boolean>(input),
+        Kind::Name => normalize_as::<Name>(input),
+        Kind::Attribute => normalize_as::<Attribute>(input),
+        Kind::Color => normalize_as::<Color>(input),
+        Kind::Amount => normalize_as::<Amount>(input),
+    }
+}
+
+/// Whether two texts of this kind mean the same, or `None` where the kind's grammar gives one of them no value. For
+/// colors that is whether their words have the same names in the same order, and attributes of the same bits.
+pub fn same(kind: Kind, a: BStr<'_>, b: BStr<'_>) -> Option<bool>
+    ensures answer { Compares (KindGrammar kind) (KindCanonical kind) (bstr_bytes a.entry) (bstr_bytes b.entry) result }
+    ensures words { KindComparesWords kind (bstr_bytes a.entry) (bstr_bytes b.entry) result }
+{
+    match kind {
+        Kind::Suffix => same_as::<Suffix>(a, b),
+        Kind::Integer => same_as::<Integer>(a, b),
+        Kind::Boolean => same_as::<Boolean>(a, b),
+        Kind::Name => same_as::<Name>(a, b),
+        Kind::Attribute => same_as::<Attribute>(a, b),
+        Kind::Color => same_as::<Color>(a, b),
+        Kind::Amount => same_as::<Amount>(a, b),
+    }
+}
+
+/// Whether two texts of a type mean the same, or `None` where the type's grammar gives one of them no value.
+fn same_as<V: Value>(a: BStr<'_>, b: BStr<'_>) -> Option<bool>
+    ensures { Compares V.grammar V.canonical (bstr_bytes a.entry) (bstr_bytes b.entry) result }
+{
+    let left = V::read(a)?;
+    let right = V::read(b)?;
+    Some(left == right)
+}

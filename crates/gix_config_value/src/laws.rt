@@ -1,7 +1,0 @@
-//! Laws over the definitions, each the contract of a function that does nothing.
-
-pub mod attributes;
-pub mod colors;
-pub mod orders;
-pub mod paths;
-pub mod settings;
