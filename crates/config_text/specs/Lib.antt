@@ -1,7 +1,9 @@
+pub mod Bytes
 pub mod Numerals
 pub mod SameWord
 pub mod Value
 pub mod Refusals
+pub mod Orders
 pub mod OneOf
 pub mod Settings
 pub mod Json

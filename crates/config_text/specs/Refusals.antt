@@ -1,5 +1,7 @@
 -- What the readers of a kind promise, whatever the input is borrowed from or owned by: the value that the
--- grammar gives the input's bytes, or, where it gives none, a refusal that holds the fault and the whole input.
+-- grammar gives the input's bytes, or, where it gives none, a refusal that holds a fault and the whole input.
+--
+-- A refusal of a kind says which texts are refused with which faults.
 use Rattle.std.specs.Prelude.{◌≡◌, ℕ, List, Result, Ok, Err}
 use Rattle.bstr.specs.declared.bstr.BStr.{BStr}
 use Rattle.bstr.specs.BStr.{bstr_bytes}
@@ -13,14 +15,22 @@ abbrev pub ReadsOr : {V E : Type 0} → (List ℕ → V → Type 0) → (E → T
 ReadsOr grammar refusal t (Ok v) = grammar t v
 ReadsOr grammar refusal t (Err e) = refusal e × IsRefused grammar t
 
+-- every text is refused with this fault
+abbrev pub Always : Fault → List ℕ → Fault → Type 0
+Always fault t f = f ≡ fault
+
+-- over a text: a refusal is the fault
+abbrev pub ReadsFault : {V : Type 0} → (List ℕ → V → Type 0) → (List ℕ → Fault → Type 0) → List ℕ → Result V Fault → Type 0
+ReadsFault grammar refusal t r = ReadsOr grammar (refusal t) t r
+
 -- over a borrowed byte string
-abbrev pub ReadsBytes : {V : Type 0} → (List ℕ → V → Type 0) → Fault → BStr → Result V Error → Type 0
-ReadsBytes grammar fault s r = ReadsOr grammar (λ e. (e.fault ≡ fault) × (e.input ≡ s)) (bstr_bytes s) r
+abbrev pub ReadsBytes : {V : Type 0} → (List ℕ → V → Type 0) → (List ℕ → Fault → Type 0) → BStr → Result V Error → Type 0
+ReadsBytes grammar refusal s r = ReadsOr grammar (λ e. refusal (bstr_bytes s) e.fault × (e.input ≡ s)) (bstr_bytes s) r
 
 -- over a borrowed text
-abbrev pub ReadsText : {V : Type 0} → (List ℕ → V → Type 0) → Fault → List ℕ → Result V Error → Type 0
-ReadsText grammar fault t r = ReadsOr grammar (λ e. (e.fault ≡ fault) × (bstr_bytes e.input ≡ t)) t r
+abbrev pub ReadsText : {V : Type 0} → (List ℕ → V → Type 0) → (List ℕ → Fault → Type 0) → List ℕ → Result V Error → Type 0
+ReadsText grammar refusal t r = ReadsOr grammar (λ e. refusal t e.fault × (bstr_bytes e.input ≡ t)) t r
 
 -- over an owned input with these bytes: a refusal hands it back
-abbrev pub ReadsOwned : {V I : Type 0} → (List ℕ → V → Type 0) → Fault → List ℕ → I → Result V (Returned I) → Type 0
-ReadsOwned grammar fault t s r = ReadsOr grammar (λ e. (e.fault ≡ fault) × (e.input ≡ s)) t r
+abbrev pub ReadsOwned : {V I : Type 0} → (List ℕ → V → Type 0) → (List ℕ → Fault → Type 0) → List ℕ → I → Result V (Returned I) → Type 0
+ReadsOwned grammar refusal t s r = ReadsOr grammar (λ e. refusal t e.fault × (e.input ≡ s)) t r

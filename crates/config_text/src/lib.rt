@@ -4,5 +4,6 @@
 pub mod errors;
 pub mod json;
 pub mod laws;
+pub mod readers;
 pub mod settings;
 pub mod value;

@@ -1,7 +1,7 @@
-//! One canonical text for each value, and the normaliser that answers it.
+//! What it means for a text to be read as a value, and for a value to have one canonical text.
 ghost use Rattle.std.specs.Prelude.{◌≡◌, ℕ, ◌≤◌, ◌↔◌, ◌⊎◌, List, length, IfSome, IsSomeAnd, IsTrue};
 ghost use Rattle.bstr.specs.BStr.{bstr_bytes};
-ghost use Rattle.config_text.specs.Value.{IsRefused, IsAccepted, HasText, Reads, IsTextOf, Normalizes, IsOnlyText};
+ghost use Rattle.config_text.specs.Value.{IsRefused, IsAccepted, HasText, Reads, IsTextOf, Normalizes, IsOnlyText, Compares};
 
 use arrayvec::ArrayString;
 use bstr::BStr;
@@ -31,16 +31,24 @@ pub trait Value: Copy + Eq {
         ensures text { IsTextOf grammar canonical self.now result.bytes }
         ensures shown { result.bytes ≡ displayed self.now };
 
+    // What a kind owes, beside its three calls.
+
+    /// A text has at most one value.
     ghost one_value: { (t : List ℕ) (v w : Self) → grammar t v → grammar t w → v ≡ w };
 
+    /// A value has at most one canonical text.
     ghost one_text: { (s t : List ℕ) (v : Self) → canonical s → canonical t → grammar s v → grammar t v → s ≡ t };
 
+    /// A canonical text is read: it has a value.
     ghost canonical_reads: { (t : List ℕ) → canonical t → IsAccepted grammar t };
 
+    /// What a value that has a text is shown as is its canonical text, and so reads back.
     ghost shown_is_text: { (v : Self) → HasText grammar v → IsTextOf grammar canonical v (displayed v) };
 
+    /// Each text is accepted or refused, so a caller may distinguish the two cases.
     ghost decided: { (t : List ℕ) → IsAccepted grammar t ⊎ IsRefused grammar t };
 
+    /// `==` answers whether two values are the same one.
     ghost equal_is_same: { (v w : Self) → (IsTrue (Self.eq v w)) ↔ (v ≡ w) };
 }
 
@@ -55,4 +63,13 @@ pub fn normalize_as<V: Value>(input: BStr<'_>) -> Option<ArrayString<127>>
         Some(value) => Some(value.text()),
         None => None,
     }
+}
+
+/// Whether two texts of a type mean the same, or `None` where the type's grammar gives one of them no value.
+pub fn same_as<V: Value>(a: BStr<'_>, b: BStr<'_>) -> Option<bool>
+    ensures { Compares V.grammar V.canonical (bstr_bytes a.entry) (bstr_bytes b.entry) result }
+{
+    let left = V::read(a)?;
+    let right = V::read(b)?;
+    Some(left == right)
 }

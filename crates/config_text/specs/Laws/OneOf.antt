@@ -1,7 +1,9 @@
 -- What stands in a mapped, a joined and a flattened list, and what holds of it.
-use Rattle.std.proofs.Common.{◌≡◌, ◌⊎◌, Bool, true, false, ◌&&◌, inl, inr, List, [], ◌∷◌, ◌++◌, map, flat_map, refl, ap, ◌∙◌}
+use Rattle.std.proofs.Common.{◌≡◌, ◌⊎◌, Bool, true, inl, inr, List, [], ◌∷◌, ◌++◌, map, flat_map, refl, ap, ◌∙◌}
 use Rattle.std.specs.List.{list_all}
+use Rattle.std.proofs.lemmas.Bool.{and_parts}
 use Rattle.config_text.specs.OneOf.{OneOf}
+use Rattle.config_text.specs.Laws.Value.{Told, either_told}
 
 pub OneOf-map : {X Y : Type 0} (f : X → Y) (xs : List X) (x : X) → OneOf xs x → OneOf (map f xs) (f x)
 OneOf-map f [] x h = absurd h
@@ -41,12 +43,13 @@ OneOf-from_flat_map f (x ∷ xs) y h =
       | inr b ↦ (let r = OneOf-from_flat_map f xs y b in (r.0, inr r.1, r.2))
     ]
 
-pub both : (a b : Bool) → (a && b) ≡ true → (a ≡ true) × (b ≡ true)
-both true b h = (refl, h)
-both false b h = cc
+-- where two values are told apart, it is told whether one is in a list
+pub OneOf-told : {X : Type 0} → ((x y : X) → Told (x ≡ y)) → (xs : List X) (x : X) → Told (OneOf xs x)
+OneOf-told told [] x = inr (λ h. h)
+OneOf-told told (y ∷ ys) x = either_told (told x y) (OneOf-told told ys x)
 
 -- what passes for each of a list passes for one of them
 pub all-one : {X : Type 0} (p : X → Bool) (xs : List X) (x : X) → list_all p xs ≡ true → OneOf xs x → p x ≡ true
 all-one p [] x h o = absurd o
-all-one p (y ∷ ys) x h (inl e) = ap p e ∙ (both (p y) (list_all p ys) h).0
-all-one p (y ∷ ys) x h (inr o) = all-one p ys x (both (p y) (list_all p ys) h).1 o
+all-one p (y ∷ ys) x h (inl e) = ap p e ∙ (and_parts (p y) (list_all p ys) h).0
+all-one p (y ∷ ys) x h (inr o) = all-one p ys x (and_parts (p y) (list_all p ys) h).1 o

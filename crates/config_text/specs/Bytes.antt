@@ -1,0 +1,19 @@
+-- The bytes that definitions name.
+use Rattle.std.specs.Prelude.{ℕ, ◌⊎◌}
+use Rattle.std.specs.Int.{IsInRange}
+
+-- the space, U+0020
+abbrev pub space : ℕ
+space = 32
+
+-- LF, U+000A
+abbrev pub line_feed : ℕ
+line_feed = 10
+
+-- `1` to `9`
+abbrev pub IsLeadingDigit : ℕ → Type 0
+IsLeadingDigit c = IsInRange 49 57 c
+
+-- `0` to `9` or `a` to `f`
+abbrev pub IsLowerHex : ℕ → Type 0
+IsLowerHex c = IsInRange 48 57 c ⊎ IsInRange 97 102 c

@@ -1,0 +1,59 @@
+//! The readers of a type, over borrowed and over owned inputs: each is the type's [`TryRead`] with the input beside
+//! the fault.
+ghost use Rattle.std.specs.Prelude.{ℕ, List};
+ghost use Rattle.std.specs.Cow.{cow_slice_items};
+ghost use Rattle.bstr.specs.Owned.{bstring_bytes};
+ghost use Rattle.config_text.specs.declared.errors.Fault.{Fault};
+ghost use Rattle.config_text.specs.Refusals.{ReadsFault, ReadsBytes, ReadsText, ReadsOwned};
+
+use crate::errors::{Error, Fault, Returned};
+use crate::value::Value;
+use bstr::{BStr, BString};
+use std::borrow::CowSlice;
+
+/// A value whose reader says why it refuses a text.
+pub trait TryRead: Value {
+    /// Which texts are refused with which faults.
+    ghost refusal: { List ℕ → Fault → Type 0 };
+
+    /// The value of the text, or why the grammar gives it none.
+    fn try_read(text: &[u8]) -> Result<Self, Fault>
+        ensures { ReadsFault Self.grammar refusal text.now result };
+}
+
+/// The value of a byte string, or a refusal that lends it.
+pub fn read_bytes<V: TryRead>(input: BStr<'_>) -> Result<V, Error<'_>>
+    ensures { ReadsBytes V.grammar V.refusal input.entry result }
+{
+    match V::try_read(input.as_bytes()) {
+        Ok(value) => Ok(value),
+        Err(fault) => Err(Error { fault, input }),
+    }
+}
+
+/// The value of a text, or a refusal that lends it.
+pub fn read_text<V: TryRead>(input: &str) -> Result<V, Error<'_>>
+    ensures { ReadsText V.grammar V.refusal input.now result }
+{
+    read_bytes(BStr::from(input))
+}
+
+/// The value of an owned byte string, or a refusal that hands it back.
+pub fn read_owned<V: TryRead>(input: BString) -> Result<V, Returned<BString>>
+    ensures { ReadsOwned V.grammar V.refusal (bstring_bytes input) input result }
+{
+    match V::try_read(input.as_bytes()) {
+        Ok(value) => Ok(value),
+        Err(fault) => Err(Returned { fault, input }),
+    }
+}
+
+/// The value of a byte slice that is borrowed or owned, or a refusal that hands it back.
+pub fn read_cow<V: TryRead>(input: CowSlice<'_, u8>) -> Result<V, Returned<CowSlice<'_, u8>>>
+    ensures { ReadsOwned V.grammar V.refusal (cow_slice_items input.entry) input.entry result }
+{
+    match V::try_read(input.as_slice()) {
+        Ok(value) => Ok(value),
+        Err(fault) => Err(Returned { fault, input }),
+    }
+}
