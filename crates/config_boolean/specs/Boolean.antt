@@ -1,5 +1,5 @@
 -- Booleans: words in any case, and numbers.
-use Rattle.std.specs.Prelude.{◌≡◌, ◌≢◌, ◌↔◌, ◌⊎◌, ℕ, pos, List, [], codes, true, false, cond, IsTrue}
+use Rattle.std.specs.Prelude.{◌≡◌, ◌≢◌, ◌↔◌, ◌⊎◌, ℕ, pos, List, [], codes, true, false, if◌then◌else◌, IsTrue}
 use Rattle.config_boolean.specs.declared.boolean.Boolean.{Boolean}
 use Rattle.config_text.specs.SameWord.{SameWord}
 use Rattle.config_integer.specs.declared.amount.Amount.{Amount}
@@ -21,7 +21,7 @@ pub data BooleanText (t : List ℕ) (v : Boolean) : Type 0 where
 
 -- how a boolean is shown
 abbrev pub boolean_shown : Boolean → List ℕ
-boolean_shown v = cond v.0 (codes "true") (codes "false")
+boolean_shown v = if v.0 then codes "true" else codes "false"
 
 -- the canonical texts
 abbrev pub CanonicalBoolean : List ℕ → Type 0

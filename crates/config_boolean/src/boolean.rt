@@ -6,7 +6,7 @@ ghost use Rattle.std.specs.Cow.{cow_slice_items};
 ghost use Rattle.std.proofs.Common.{rules};
 ghost use Rattle.config_text.specs.declared.errors.Fault.TheVariants as faults;
 ghost use Rattle.config_text.specs.Value.{Reads};
-ghost use Rattle.config_text.specs.Refusals.{ReadsBytes, ReadsText, ReadsOwned};
+ghost use Rattle.config_text.specs.Refusals.{Always, ReadsBytes, ReadsText, ReadsOwned};
 ghost use Rattle.config_boolean.specs.Laws.Boolean.{boolean_one_value, boolean_one_text, boolean_canonical_reads, boolean_shown_is_text, boolean_decided};
 ghost use Rattle.config_boolean.specs.Boolean.{Affirms, Denies, BooleanText, CanonicalBoolean, boolean_shown};
 ghost use Rattle.serde_json.specs.Data.{boolean};
@@ -17,6 +17,7 @@ use bstr::{BStr, BString};
 use config_integer::amount::Amount;
 use config_text::errors::{Error, Fault, Returned};
 use config_text::json::JsonError;
+use config_text::readers::{TryRead, read_bytes, read_cow, read_owned, read_text};
 use config_text::value::Value;
 use serde_json::Value as JsonValue;
 use std::alloc::Global;
@@ -24,12 +25,17 @@ use std::borrow::CowSlice;
 use std::fmt;
 
 /// A truth value.
+///
+/// The words are `yes`, `on`, `true` and `no`, `off`, `false`, in any case of their letters; the empty text is false,
+/// and an amount is true where its number is not zero. In Git a key without `=` is true: that is told from the line,
+/// before its value is read.
 #[derive(Clone, Copy, PartialEq, Eq, PartialOrd, Ord, Hash, Debug, Default)]
 pub struct Boolean(pub bool);
 
 /// The truth value that a word names, in any case of its letters; the empty text is false.
 fn word(text: &[u8]) -> Option<bool>
-    ensures { MatchOption result ((¬ Affirms text.now) × (¬ Denies text.now)) (λ b. MatchBool b (Affirms text.now) (Denies text.now)) }
+    ensures { MatchOption result ((¬ Affirms text.now) × (¬ Denies text.now))
+        (λ b. MatchBool b (Affirms text.now) (Denies text.now)) }
 {
     let is = |word: &[u8]| text.eq_ignore_ascii_case(word);
     if is(b"yes") || is(b"on") || is(b"true") {
@@ -48,7 +54,7 @@ fn truth(text: &[u8]) -> Option<Boolean>
     if let Some(value) = word(text) {
         return Some(Boolean(value));
     }
-    match Amount::try_from(BStr::from(text)) {
+    match Amount::try_read(text) {
         Ok(Amount(number)) => Some(Boolean(number != 0)),
         Err(_) => None,
     }
@@ -73,76 +79,62 @@ impl Boolean {
 impl From<Boolean> for bool {
     ghost from_gives = { λ v b. b ≡ v.0 };
 
+    /// The truth value.
     fn from(value: Boolean) -> bool {
         value.0
+    }
+}
+
+impl TryRead for Boolean {
+    ghost refusal = { Always faults.Boolean };
+
+    /// The boolean that the text writes, or `Fault::Boolean` where it writes none.
+    fn try_read(text: &[u8]) -> Result<Boolean, Fault> {
+        truth(text).ok_or(Fault::Boolean)
     }
 }
 
 impl<'a> TryFrom<BStr<'a>> for Boolean {
     type Error = Error<'a>;
 
-    ghost try_from_gives = { ReadsBytes BooleanText faults.Boolean };
+    ghost try_from_gives = { ReadsBytes BooleanText (Always faults.Boolean) };
 
     /// Refuses with `Fault::Boolean` and the whole input where it writes no boolean.
     fn try_from(input: BStr<'a>) -> Result<Boolean, Error<'a>> {
-        match Boolean::read(input) {
-            Some(boolean) => Ok(boolean),
-            None => Err(Error {
-                fault: Fault::Boolean,
-                input,
-            }),
-        }
+        read_bytes(input)
     }
 }
 
 impl<'a> TryFrom<&'a str> for Boolean {
     type Error = Error<'a>;
 
-    ghost try_from_gives = { λ s r. ReadsText BooleanText faults.Boolean s.now r };
+    ghost try_from_gives = { λ s r. ReadsText BooleanText (Always faults.Boolean) s.now r };
 
     /// Refuses with `Fault::Boolean` and the whole input where it writes no boolean.
     fn try_from(input: &'a str) -> Result<Boolean, Error<'a>> {
-        match truth(input.as_bytes()) {
-            Some(boolean) => Ok(boolean),
-            None => Err(Error {
-                fault: Fault::Boolean,
-                input: BStr::from(input),
-            }),
-        }
+        read_text(input)
     }
 }
 
 impl TryFrom<BString> for Boolean {
     type Error = Returned<BString>;
 
-    ghost try_from_gives = { λ s r. ReadsOwned BooleanText faults.Boolean (bstring_bytes s) s r };
+    ghost try_from_gives = { λ s r. ReadsOwned BooleanText (Always faults.Boolean) (bstring_bytes s) s r };
 
     /// Refuses with `Fault::Boolean` where the input writes no boolean, and hands it back.
     fn try_from(input: BString) -> Result<Boolean, Returned<BString>> {
-        match truth(input.as_bytes()) {
-            Some(boolean) => Ok(boolean),
-            None => Err(Returned {
-                fault: Fault::Boolean,
-                input,
-            }),
-        }
+        read_owned(input)
     }
 }
 
 impl<'a> TryFrom<CowSlice<'a, u8>> for Boolean {
     type Error = Returned<CowSlice<'a, u8>>;
 
-    ghost try_from_gives = { λ s r. ReadsOwned BooleanText faults.Boolean (cow_slice_items s) s r };
+    ghost try_from_gives = { λ s r. ReadsOwned BooleanText (Always faults.Boolean) (cow_slice_items s) s r };
 
     /// Refuses with `Fault::Boolean` where the input writes no boolean, and hands it back.
     fn try_from(input: CowSlice<'a, u8>) -> Result<Boolean, Returned<CowSlice<'a, u8>>> {
-        match truth(input.as_slice()) {
-            Some(boolean) => Ok(boolean),
-            None => Err(Returned {
-                fault: Fault::Boolean,
-                input,
-            }),
-        }
+        read_cow(input)
     }
 }
 

@@ -1,12 +1,13 @@
 -- Integers: an optional sign, a magnitude in one of five forms, and at most one suffix.
 use Rattle.std.specs.Prelude.{◌≡◌, ℕ, ℤ, pos, neg_ℤ, ◌*ℤ◌, ◌≤◌, ◌⊎◌, List, [], ◌∷◌, ◌++◌, codes, Option, Some, None}
-use Rattle.std.specs.Int.{IsInRange}
 use Rattle.std.specs.Fmt.{signed_decimal}
+use Rattle.std.specs.Option.{option_map_or}
 use Rattle.std.specs.Str.Parse.{AllDigits, IsNumeral}
 use Rattle.config_integer.specs.declared.integer.Integer.{Integer}
 use Rattle.config_integer.specs.declared.suffix.Suffix.{Suffix}
 use Rattle.config_text.specs.declared.errors.Fault.{Fault}
 use Rattle.config_text.specs.declared.errors.Fault.TheVariants as faults
+use Rattle.config_text.specs.Bytes.{IsLeadingDigit}
 use Rattle.config_text.specs.Value.{IsRefused}
 use Rattle.config_text.specs.Numerals.{place_sum, IsInI64}
 use Rattle.config_integer.specs.Suffix.{SuffixText, CanonicalSuffix, factor, suffix_shown}
@@ -14,16 +15,18 @@ use Rattle.config_integer.specs.Suffix.{SuffixText, CanonicalSuffix, factor, suf
 -- magnitude: a number without a sign, in one of five forms
 pub data Magnitude (t : List ℕ) (n : ℕ) : Type 0 where
   nought : t ≡ codes "0" → n ≡ 0 → Magnitude t n
-  decimal : (d : ℕ) (ds : List ℕ) → t ≡ d ∷ ds → IsInRange 49 57 d → AllDigits 10 ds → n ≡ place_sum t 10 → Magnitude t n
-  octal : (ds : List ℕ) → t ≡ 48 ∷ ds → IsNumeral 8 ds → n ≡ place_sum ds 8 → Magnitude t n
-  hexadecimal : (x : ℕ) (ds : List ℕ) → t ≡ 48 ∷ x ∷ ds → (x ≡ 120) ⊎ (x ≡ 88) → IsNumeral 16 ds → n ≡ place_sum ds 16 → Magnitude t n
-  binary : (b : ℕ) (ds : List ℕ) → t ≡ 48 ∷ b ∷ ds → (b ≡ 98) ⊎ (b ≡ 66) → IsNumeral 2 ds → n ≡ place_sum ds 2 → Magnitude t n
+  decimal : (d : ℕ) (ds : List ℕ) → t ≡ d ∷ ds → IsLeadingDigit d → AllDigits 10 ds → n ≡ place_sum t 10 → Magnitude t n
+  octal : (ds : List ℕ) → t ≡ codes "0" ++ ds → IsNumeral 8 ds → n ≡ place_sum ds 8 → Magnitude t n
+  hexadecimal : (ds : List ℕ) → (t ≡ codes "0x" ++ ds) ⊎ (t ≡ codes "0X" ++ ds) → IsNumeral 16 ds → n ≡ place_sum ds 16
+      → Magnitude t n
+  binary : (ds : List ℕ) → (t ≡ codes "0b" ++ ds) ⊎ (t ≡ codes "0B" ++ ds) → IsNumeral 2 ds → n ≡ place_sum ds 2
+      → Magnitude t n
 
 -- a magnitude, or a sign and a magnitude
 pub data SignedText (t : List ℕ) (z : ℤ) : Type 0 where
   plain : (n : ℕ) → Magnitude t n → z ≡ pos n → SignedText t z
-  plus : (m : List ℕ) (n : ℕ) → t ≡ 43 ∷ m → Magnitude m n → z ≡ pos n → SignedText t z
-  minus : (m : List ℕ) (n : ℕ) → t ≡ 45 ∷ m → Magnitude m n → z ≡ neg_ℤ (pos n) → SignedText t z
+  plus : (m : List ℕ) (n : ℕ) → t ≡ codes "+" ++ m → Magnitude m n → z ≡ pos n → SignedText t z
+  minus : (m : List ℕ) (n : ℕ) → t ≡ codes "-" ++ m → Magnitude m n → z ≡ neg_ℤ (pos n) → SignedText t z
 
 -- number text: a signed text whose number is in range
 pub record NumberText (t : List ℕ) (z : ℤ) : Type 0 where
@@ -43,13 +46,9 @@ pub record IntegerText (t : List ℕ) (v : Integer) : Type 0 where
   pub number : NumberText front v.value
   pub unit : SuffixIfAny back v.suffix
 
-abbrev pub factor_if_any : Option Suffix → ℕ
-factor_if_any None = 1
-factor_if_any (Some s) = factor s
-
--- product: the number times the factor of its suffix, without a bound
+-- product: the number times the factor of its suffix, or times 1 without one; it has no bound
 abbrev pub product : Integer → ℤ
-product v = v.value *ℤ pos (factor_if_any v.suffix)
+product v = v.value *ℤ pos (option_map_or factor v.suffix 1)
 
 -- the text is an integer text with this product
 pub record ProductText (t : List ℕ) (z : ℤ) : Type 0 where
@@ -65,26 +64,21 @@ pub record ProductInRange (t : List ℕ) (z : ℤ) : Type 0 where
 -- why no number is read from a text: it is no integer text, or its product is out of range, or the product
 -- is one that the caller's type refuses
 abbrev pub Refusal : (ℤ → Type 0) → List ℕ → Fault → Type 0
-Refusal refuses t faults.Boolean = ⊥
 Refusal refuses t faults.Integer = IsRefused IntegerText t
 Refusal refuses t faults.Overflow = (z : ℤ) × ProductText t z × ¬ (IsInI64 z)
 Refusal refuses t faults.OutOfRange = (z : ℤ) × ProductInRange t z × refuses z
-Refusal refuses t faults.Color = ⊥
+Refusal refuses t _ = ⊥
 
-abbrev pub suffix_shown_if_any : Option Suffix → List ℕ
-suffix_shown_if_any None = []
-suffix_shown_if_any (Some s) = suffix_shown s
-
--- how an integer is shown: its number in decimal, and its suffix
+-- how an integer is shown: its number in decimal, and its suffix, if it has one
 abbrev pub integer_shown : Integer → List ℕ
-integer_shown v = signed_decimal v.value ++ suffix_shown_if_any v.suffix
+integer_shown v = signed_decimal v.value ++ option_map_or suffix_shown v.suffix []
 
 -- digits that begin with 1 to 9, of a number of at most `most`
 pub record PlainDigits (most : ℕ) (t : List ℕ) : Type 0 where
   pub first : ℕ
   pub others : List ℕ
   pub spelled : t ≡ first ∷ others
-  pub from_one : IsInRange 49 57 first
+  pub from_one : IsLeadingDigit first
   pub digits : AllDigits 10 others
   pub small : place_sum t 10 ≤ most
 
@@ -92,7 +86,7 @@ pub record PlainDigits (most : ℕ) (t : List ℕ) : Type 0 where
 pub data CanonicalNumber (t : List ℕ) : Type 0 where
   nought : t ≡ codes "0" → CanonicalNumber t
   positive : PlainDigits 9223372036854775807 t → CanonicalNumber t
-  negative : (m : List ℕ) → t ≡ 45 ∷ m → PlainDigits 9223372036854775808 m → CanonicalNumber t
+  negative : (m : List ℕ) → t ≡ codes "-" ++ m → PlainDigits 9223372036854775808 m → CanonicalNumber t
 
 -- the canonical texts of an integer: a canonical number, and behind it nothing or a canonical suffix
 pub record CanonicalInteger (t : List ℕ) : Type 0 where

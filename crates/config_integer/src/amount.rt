@@ -5,7 +5,7 @@ ghost use Rattle.bstr.specs.Owned.{bstring_bytes};
 ghost use Rattle.std.specs.Cow.{cow_slice_items};
 ghost use Rattle.std.proofs.Common.{rules};
 ghost use Rattle.config_text.specs.Value.{Reads};
-ghost use Rattle.config_text.specs.Refusals.{ReadsOr};
+ghost use Rattle.config_text.specs.Refusals.{ReadsBytes, ReadsText, ReadsOwned};
 ghost use Rattle.config_integer.specs.Amount.{AmountText, AmountRefusal, CanonicalAmount, amount_shown};
 ghost use Rattle.config_integer.specs.Laws.Amount.{amount_one_value, amount_one_text, amount_canonical_reads, amount_shown_is_text, amount_decided};
 
@@ -13,6 +13,7 @@ use crate::integer::scan;
 use arrayvec::ArrayString;
 use bstr::{BStr, BString};
 use config_text::errors::{Error, Fault, Returned};
+use config_text::readers::{TryRead, read_bytes, read_cow, read_owned, read_text};
 use config_text::value::Value;
 use itoa::Buffer;
 use std::borrow::CowSlice;
@@ -22,80 +23,67 @@ use std::fmt;
 #[derive(Clone, Copy, PartialEq, Eq, PartialOrd, Ord, Hash, Debug, Default)]
 pub struct Amount(pub i64);
 
-/// The amount that a text writes, or why it writes none: first that it is no integer, then that its product
-/// leaves `i64`.
-fn product_of(text: &[u8]) -> Result<Amount, Fault>
-    ensures { ReadsOr AmountText (AmountRefusal text.now) text.now result }
-{
-    let Some(integer) = scan(text) else {
-        return Err(Fault::Integer);
-    };
-    match integer.to_decimal() {
-        Some(product) => Ok(Amount(product)),
-        None => Err(Fault::Overflow),
+impl TryRead for Amount {
+    ghost refusal = { AmountRefusal };
+
+    /// The amount that the text writes, or `Fault::Integer` where it is no integer, and else `Fault::Overflow` where
+    /// the product leaves `i64`.
+    fn try_read(text: &[u8]) -> Result<Amount, Fault> {
+        let Some(integer) = scan(text) else {
+            return Err(Fault::Integer);
+        };
+        match integer.to_decimal() {
+            Some(product) => Ok(Amount(product)),
+            None => Err(Fault::Overflow),
+        }
     }
 }
 
 impl<'a> TryFrom<BStr<'a>> for Amount {
     type Error = Error<'a>;
 
-    ghost try_from_gives = { λ s r. ReadsOr AmountText (λ e. AmountRefusal (bstr_bytes s) e.fault × (e.input ≡ s)) (bstr_bytes s) r };
+    ghost try_from_gives = { ReadsBytes AmountText AmountRefusal };
 
     /// Refuses, with the whole input, with `Fault::Integer` where it writes no integer, and else with
     /// `Fault::Overflow` where the product leaves `i64`.
     fn try_from(input: BStr<'a>) -> Result<Amount, Error<'a>> {
-        match product_of(input.as_bytes()) {
-            Ok(amount) => Ok(amount),
-            Err(fault) => Err(Error { fault, input }),
-        }
+        read_bytes(input)
     }
 }
 
 impl<'a> TryFrom<&'a str> for Amount {
     type Error = Error<'a>;
 
-    ghost try_from_gives = { λ s r. ReadsOr AmountText (λ e. AmountRefusal s.now e.fault × (bstr_bytes e.input ≡ s.now)) s.now r };
+    ghost try_from_gives = { λ s r. ReadsText AmountText AmountRefusal s.now r };
 
     /// Refuses, with the whole input, with `Fault::Integer` where it writes no integer, and else with
     /// `Fault::Overflow` where the product leaves `i64`.
     fn try_from(input: &'a str) -> Result<Amount, Error<'a>> {
-        match product_of(input.as_bytes()) {
-            Ok(amount) => Ok(amount),
-            Err(fault) => Err(Error {
-                fault,
-                input: BStr::from(input),
-            }),
-        }
+        read_text(input)
     }
 }
 
 impl TryFrom<BString> for Amount {
     type Error = Returned<BString>;
 
-    ghost try_from_gives = { λ s r. ReadsOr AmountText (λ e. AmountRefusal (bstring_bytes s) e.fault × (e.input ≡ s)) (bstring_bytes s) r };
+    ghost try_from_gives = { λ s r. ReadsOwned AmountText AmountRefusal (bstring_bytes s) s r };
 
     /// Refuses with `Fault::Integer` where the input writes no integer, and else with `Fault::Overflow` where
     /// the product leaves `i64`, and hands the input back.
     fn try_from(input: BString) -> Result<Amount, Returned<BString>> {
-        match product_of(input.as_bytes()) {
-            Ok(amount) => Ok(amount),
-            Err(fault) => Err(Returned { fault, input }),
-        }
+        read_owned(input)
     }
 }
 
 impl<'a> TryFrom<CowSlice<'a, u8>> for Amount {
     type Error = Returned<CowSlice<'a, u8>>;
 
-    ghost try_from_gives = { λ s r. ReadsOr AmountText (λ e. AmountRefusal (cow_slice_items s) e.fault × (e.input ≡ s)) (cow_slice_items s) r };
+    ghost try_from_gives = { λ s r. ReadsOwned AmountText AmountRefusal (cow_slice_items s) s r };
 
     /// Refuses with `Fault::Integer` where the input writes no integer, and else with `Fault::Overflow` where
     /// the product leaves `i64`, and hands the input back.
     fn try_from(input: CowSlice<'a, u8>) -> Result<Amount, Returned<CowSlice<'a, u8>>> {
-        match product_of(input.as_slice()) {
-            Ok(amount) => Ok(amount),
-            Err(fault) => Err(Returned { fault, input }),
-        }
+        read_cow(input)
     }
 }
 
@@ -126,7 +114,7 @@ impl Value for Amount {
     ghost displayed = { amount_shown };
 
     fn read(input: BStr<'_>) -> Option<Amount> {
-        product_of(input.as_bytes()).ok()
+        Amount::try_read(input.as_bytes()).ok()
     }
 
     fn has_text(&self) -> bool {

@@ -6,7 +6,7 @@ ghost use Rattle.std.specs.Cow.{cow_slice_items};
 ghost use Rattle.std.proofs.Common.{rules};
 ghost use Rattle.config_text.specs.declared.errors.Fault.TheVariants as faults;
 ghost use Rattle.config_text.specs.Value.{Reads};
-ghost use Rattle.config_text.specs.Refusals.{ReadsBytes, ReadsText, ReadsOwned};
+ghost use Rattle.config_text.specs.Refusals.{Always, ReadsBytes, ReadsText, ReadsOwned};
 ghost use Rattle.config_integer.specs.Integer.{IntegerText, CanonicalInteger, integer_shown, product, ProductInRange, Refusal};
 ghost use Rattle.config_text.specs.Numerals.{IsInI64};
 ghost use Rattle.std.specs.Option.{option_map};
@@ -21,6 +21,7 @@ use arrayvec::ArrayString;
 use bstr::{BStr, BString};
 use config_text::errors::{Error, Fault, Returned};
 use config_text::json::JsonError;
+use config_text::readers::{TryRead, read_bytes, read_cow, read_owned, read_text};
 use config_text::value::Value;
 use itoa::Buffer;
 use serde_json::Value as JsonValue;
@@ -74,71 +75,77 @@ fn positive(text: &[u8]) -> Option<Integer>
     Some(Integer { value, suffix })
 }
 
+/// The product of the integer that a text writes, as a `T`, or why there is none.
+fn converted<T: TryFrom<i64>>(text: &[u8]) -> Result<T, Fault>
+where
+    T::Error: Drop,
+    ensures accepted { IfOk result
+        (λ x. (z : ℤ) × ProductInRange text.now z × T.try_from_gives z (Ok x)) }
+    ensures refused { IfErr result
+        (Refusal (λ z. (x : T.Error) × T.try_from_gives z (Err x)) text.now) }
+{
+    let Some(integer) = scan(text) else {
+        return Err(Fault::Integer);
+    };
+    let Some(product) = integer.to_decimal() else {
+        return Err(Fault::Overflow);
+    };
+    match T::try_from(product) {
+        Ok(value) => Ok(value),
+        Err(_) => Err(Fault::OutOfRange),
+    }
+}
+
+impl TryRead for Integer {
+    ghost refusal = { Always faults.Integer };
+
+    /// The integer that the text writes, or `Fault::Integer` where it writes none.
+    fn try_read(text: &[u8]) -> Result<Integer, Fault> {
+        scan(text).ok_or(Fault::Integer)
+    }
+}
+
 impl<'a> TryFrom<BStr<'a>> for Integer {
     type Error = Error<'a>;
 
-    ghost try_from_gives = { ReadsBytes IntegerText faults.Integer };
+    ghost try_from_gives = { ReadsBytes IntegerText (Always faults.Integer) };
 
     /// Refuses with `Fault::Integer` and the whole input where it writes no integer.
     fn try_from(input: BStr<'a>) -> Result<Integer, Error<'a>> {
-        match Integer::read(input) {
-            Some(integer) => Ok(integer),
-            None => Err(Error {
-                fault: Fault::Integer,
-                input,
-            }),
-        }
-    }
-}
-
-impl TryFrom<BString> for Integer {
-    type Error = Returned<BString>;
-
-    ghost try_from_gives = { λ s r. ReadsOwned IntegerText faults.Integer (bstring_bytes s) s r };
-
-    /// Refuses with `Fault::Integer` where the input writes no integer, and hands it back.
-    fn try_from(input: BString) -> Result<Integer, Returned<BString>> {
-        match scan(input.as_bytes()) {
-            Some(integer) => Ok(integer),
-            None => Err(Returned {
-                fault: Fault::Integer,
-                input,
-            }),
-        }
-    }
-}
-
-impl<'a> TryFrom<CowSlice<'a, u8>> for Integer {
-    type Error = Returned<CowSlice<'a, u8>>;
-
-    ghost try_from_gives = { λ s r. ReadsOwned IntegerText faults.Integer (cow_slice_items s) s r };
-
-    /// Refuses with `Fault::Integer` where the input writes no integer, and hands it back.
-    fn try_from(input: CowSlice<'a, u8>) -> Result<Integer, Returned<CowSlice<'a, u8>>> {
-        match scan(input.as_slice()) {
-            Some(integer) => Ok(integer),
-            None => Err(Returned {
-                fault: Fault::Integer,
-                input,
-            }),
-        }
+        read_bytes(input)
     }
 }
 
 impl<'a> TryFrom<&'a str> for Integer {
     type Error = Error<'a>;
 
-    ghost try_from_gives = { λ s r. ReadsText IntegerText faults.Integer s.now r };
+    ghost try_from_gives = { λ s r. ReadsText IntegerText (Always faults.Integer) s.now r };
 
     /// Refuses with `Fault::Integer` and the whole input where it writes no integer.
     fn try_from(input: &'a str) -> Result<Integer, Error<'a>> {
-        match scan(input.as_bytes()) {
-            Some(integer) => Ok(integer),
-            None => Err(Error {
-                fault: Fault::Integer,
-                input: BStr::from(input),
-            }),
-        }
+        read_text(input)
+    }
+}
+
+impl TryFrom<BString> for Integer {
+    type Error = Returned<BString>;
+
+    ghost try_from_gives = { λ s r. ReadsOwned IntegerText (Always faults.Integer) (bstring_bytes s) s r };
+
+    /// Refuses with `Fault::Integer` where the input writes no integer, and hands it back.
+    fn try_from(input: BString) -> Result<Integer, Returned<BString>> {
+        read_owned(input)
+    }
+}
+
+impl<'a> TryFrom<CowSlice<'a, u8>> for Integer {
+    type Error = Returned<CowSlice<'a, u8>>;
+
+    ghost try_from_gives = { λ s r. ReadsOwned IntegerText (Always faults.Integer) (cow_slice_items s) s r };
+
+    /// Refuses with `Fault::Integer` where the input writes no integer, and hands it back.
+    fn try_from(input: CowSlice<'a, u8>) -> Result<Integer, Returned<CowSlice<'a, u8>>> {
+        read_cow(input)
     }
 }
 
@@ -180,26 +187,16 @@ impl Integer {
     pub fn from_bytes<T: TryFrom<i64>>(input: &[u8]) -> Result<T, Error<'_>>
     where
         T::Error: Drop,
-        ensures accepted { IfOk result (λ x. (z : ℤ) × ProductInRange input.now z × T.try_from_gives z (Ok x)) }
+        ensures accepted { IfOk result
+            (λ x. (z : ℤ) × ProductInRange input.now z × T.try_from_gives z (Ok x)) }
         ensures whole { IfErr result (λ e. bstr_bytes e.input ≡ input.now) }
-        ensures refused { IfErr result (λ e. Refusal (λ z. (x : T.Error) × T.try_from_gives z (Err x)) input.now e.fault) }
+        ensures refused { IfErr result
+            (λ e. Refusal (λ z. (x : T.Error) × T.try_from_gives z (Err x)) input.now e.fault) }
     {
-        let Some(integer) = scan(input) else {
-            return Err(Error {
-                fault: Fault::Integer,
-                input: BStr::from(input),
-            });
-        };
-        let Some(product) = integer.to_decimal() else {
-            return Err(Error {
-                fault: Fault::Overflow,
-                input: BStr::from(input),
-            });
-        };
-        match T::try_from(product) {
-            Ok(converted) => Ok(converted),
-            Err(_) => Err(Error {
-                fault: Fault::OutOfRange,
+        match converted(input) {
+            Ok(value) => Ok(value),
+            Err(fault) => Err(Error {
+                fault,
                 input: BStr::from(input),
             }),
         }

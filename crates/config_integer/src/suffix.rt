@@ -82,11 +82,9 @@ impl FromStr for Suffix {
 
     ghost from_str_gives = { λ s r. ReadsOr SuffixText (λ _. Unit {0}) s r };
 
+    /// The suffix that one of the six suffix texts names; any other text is refused with `()`.
     fn from_str(text: &str) -> Result<Suffix, ()> {
-        match suffix_of(text.as_bytes()) {
-            Some(suffix) => Ok(suffix),
-            None => Err(()),
-        }
+        suffix_of(text.as_bytes()).ok_or(())
     }
 }
 
@@ -95,11 +93,9 @@ impl<'a> TryFrom<BStr<'a>> for Suffix {
 
     ghost try_from_gives = { λ s r. ReadsOr SuffixText (λ _. Unit {0}) (bstr_bytes s) r };
 
+    /// The suffix that one of the six suffix texts names; any other input is refused with `()`.
     fn try_from(input: BStr<'a>) -> Result<Suffix, ()> {
-        match suffix_of(input.as_bytes()) {
-            Some(suffix) => Ok(suffix),
-            None => Err(()),
-        }
+        suffix_of(input.as_bytes()).ok_or(())
     }
 }
 

@@ -169,6 +169,15 @@ SuffixIfAny_second c back (Some s) u = marked (suffix_letter back s u) where
     low_of : (c d : ℕ) → c ≡ d → 16 ≤ digit_value c → 16 ≤ digit_value d
     low_of c d e h = subst (λ x. 16 ≤ digit_value x) e h
 
+-- a text that begins with `0` and one of two marks
+marked : (t ds : List ℕ) (x y : ℕ) → (t ≡ 48 ∷ x ∷ ds) ⊎ (t ≡ 48 ∷ y ∷ ds) → (z : ℕ) × (t ≡ 48 ∷ z ∷ ds) × ((z ≡ x) ⊎ (z ≡ y))
+marked t ds x y (inl e) = (x, e, inl refl)
+marked t ds x y (inr e) = (y, e, inr refl)
+
+unmarked : (ds : List ℕ) (z x y : ℕ) → (z ≡ x) ⊎ (z ≡ y) → (48 ∷ z ∷ ds ≡ 48 ∷ x ∷ ds) ⊎ (48 ∷ z ∷ ds ≡ 48 ∷ y ∷ ds)
+unmarked ds z x y (inl e) = inl (ap (λ c. 48 ∷ c ∷ ds) e)
+unmarked ds z x y (inr e) = inr (ap (λ c. 48 ∷ c ∷ ds) e)
+
 based : (limit : ℕ) (t digits : List ℕ) (base n : ℕ) (o : Option Suffix) → with_base_of t base digits
     → counted base limit digits ≡ Some (n, o) → unsigned_of limit t ≡ Some (n, o)
 based limit t digits base n o b e = rw (b.0, b.1) e
@@ -195,11 +204,13 @@ magnitude_found limit front back n o (decimal d ds e r a s) small unit =
 magnitude_found limit front back n o (octal ds e a s) small unit =
     rw e (based limit (48 ∷ (ds ++ back)) (48 ∷ (ds ++ back)) 8 n o (octal_base (48 ∷ (ds ++ back)) refl (octal_second ds back a))
     (counted_found 8 limit (omega arith) (omega arith) (48 ∷ ds) back o (omega arith, (omega arith, a.1)) (omega (arith, s)) unit ∙ ap (λ x. Some (x, o)) (omega (arith, s))))
-magnitude_found limit front back n o (hexadecimal x ds e m a s) small unit =
-    rw e (based limit (48 ∷ x ∷ (ds ++ back)) (ds ++ back) 16 n o (hexadecimal_base (48 ∷ x ∷ (ds ++ back)) refl m)
+magnitude_found limit front back n o (hexadecimal ds m a s) small unit =
+    let k = marked front ds 120 88 m in
+    rw k.1 (based limit (48 ∷ k.0 ∷ (ds ++ back)) (ds ++ back) 16 n o (hexadecimal_base (48 ∷ k.0 ∷ (ds ++ back)) refl k.2)
     (counted_found 16 limit (omega arith) (omega arith) ds back o a (omega (arith, s)) unit ∙ ap (λ x. Some (x, o)) (sym s)))
-magnitude_found limit front back n o (binary b ds e m a s) small unit =
-    rw e (based limit (48 ∷ b ∷ (ds ++ back)) (ds ++ back) 2 n o (binary_base (48 ∷ b ∷ (ds ++ back)) refl m)
+magnitude_found limit front back n o (binary ds m a s) small unit =
+    let k = marked front ds 98 66 m in
+    rw k.1 (based limit (48 ∷ k.0 ∷ (ds ++ back)) (ds ++ back) 2 n o (binary_base (48 ∷ k.0 ∷ (ds ++ back)) refl k.2)
     (counted_found 2 limit (omega arith) (omega arith) ds back o a (omega (arith, s)) unit ∙ ap (λ x. Some (x, o)) (sym s)))
 
 -- what is read as a magnitude and a suffix is one
@@ -217,7 +228,7 @@ hexadecimal_read limit x ds n o m k = record {
   front = 48 ∷ x ∷ k.front;
   back = k.back;
   parts = ap (λ l. 48 ∷ x ∷ l) k.parts;
-  magnitude = hexadecimal x k.front refl m k.digits k.number;
+  magnitude = hexadecimal k.front (unmarked k.front x 120 88 m) k.digits k.number;
   small = k.small;
   unit = k.unit;
 }
@@ -228,7 +239,7 @@ binary_read limit b ds n o m k = record {
   front = 48 ∷ b ∷ k.front;
   back = k.back;
   parts = ap (λ l. 48 ∷ b ∷ l) k.parts;
-  magnitude = binary b k.front refl m k.digits k.number;
+  magnitude = binary k.front (unmarked k.front b 98 66 m) k.digits k.number;
   small = k.small;
   unit = k.unit;
 }
@@ -283,8 +294,8 @@ magnitude_first : (t : List ℕ) (n : ℕ) (back : List ℕ) → Magnitude t n �
 magnitude_first t n back (nought e z) = rw e (omega arith, omega arith)
 magnitude_first t n back (decimal d ds e r a s) = rw e (omega (arith, r.0), omega (arith, r.1))
 magnitude_first t n back (octal ds e a s) = rw e (omega arith, omega arith)
-magnitude_first t n back (hexadecimal x ds e m a s) = rw e (omega arith, omega arith)
-magnitude_first t n back (binary b ds e m a s) = rw e (omega arith, omega arith)
+magnitude_first t n back (hexadecimal ds m a s) = rw (marked t ds 120 88 m).1 (omega arith, omega arith)
+magnitude_first t n back (binary ds m a s) = rw (marked t ds 98 66 m).1 (omega arith, omega arith)
 
 plain_read : (t : List ℕ) → IsInRange 48 57 (get_or t 0 0) → integer_of t ≡ option_map plain_integer (unsigned_of 9223372036854775807 t)
 plain_read t r = tested (get_or t 0 0 == 45) (get_or t 0 0 == 43) (grind (arith, nat_tests, r.0)) (grind (arith, nat_tests, r.0)) where
@@ -408,8 +419,8 @@ product_first t z p = subst (λ l. IsInRange 43 57 (get_or l 0 0)) (sym p.text.p
 -- a conversion that refuses no product in range refuses a text only where it has none
 pub refusal_tells : (refuses : ℤ → Type 0) → ((z : ℤ) → IsInI64 z → ¬ (refuses z)) → (t : List ℕ) (f : Fault) → Refusal refuses t f
     → (z : ℤ) → ¬ (ProductInRange t z)
-refusal_tells refuses never t faults.Boolean r z p = r
 refusal_tells refuses never t faults.Integer r z p = r p.product_text.integer p.product_text.text
 refusal_tells refuses never t faults.Overflow r z p = r.2 (subst IsInI64 (product_one_value t z r.0 p.product_text r.1) p.in_range)
 refusal_tells refuses never t faults.OutOfRange r z p = never r.0 r.1.in_range r.2
+refusal_tells refuses never t faults.Boolean r z p = r
 refusal_tells refuses never t faults.Color r z p = r

@@ -15,8 +15,9 @@ use Rattle.config_text.specs.Value.{IsAccepted, HasText, IsTextOf}
 use Rattle.config_text.specs.Laws.Value.{IsShown, one_text_by, canonical_reads_by}
 use Rattle.config_text.specs.Numerals.{place_sum, IsInI64}
 use Rattle.config_text.specs.Laws.Numerals.{place_sum_is}
-use Rattle.config_integer.specs.Suffix.{CanonicalSuffix}
-use Rattle.config_integer.specs.Integer.{Magnitude, NumberText, IntegerText, SuffixIfAny, PlainDigits, CanonicalNumber, CanonicalInteger, integer_shown, suffix_shown_if_any}
+use Rattle.config_integer.specs.Suffix.{CanonicalSuffix, suffix_shown}
+use Rattle.std.specs.Option.{option_map_or}
+use Rattle.config_integer.specs.Integer.{Magnitude, NumberText, IntegerText, SuffixIfAny, PlainDigits, CanonicalNumber, CanonicalInteger, integer_shown}
 use Rattle.config_integer.specs.Integer.Magnitude.{nought, decimal as plain_digits}
 use Rattle.config_integer.specs.Integer.SignedText.{plain, minus}
 use Rattle.config_integer.specs.Integer.CanonicalNumber.{nought as zero_alone, positive, negative}
@@ -67,7 +68,7 @@ number_shown t (negative m e p) = record {
   shown = e ∙ ap (λ l. 45 ∷ l) (sym (digits_shown _ m (omega arith) p)) ∙ sym (signed_negative (place_sum m 10) (subst (λ l. 0 < place_sum l 10) (sym p.spelled) (one_or_more p.first p.others p.from_one)));
 }
 
-unit_shown : (t : List ℕ) → (t ≡ []) ⊎ CanonicalSuffix t → (o : Option Suffix) × SuffixIfAny t o × (t ≡ suffix_shown_if_any o)
+unit_shown : (t : List ℕ) → (t ≡ []) ⊎ CanonicalSuffix t → (o : Option Suffix) × SuffixIfAny t o × (t ≡ option_map_or suffix_shown o [])
 unit_shown t (inl e) = (None, e, e)
 unit_shown t (inr (inl e)) = (Some Kibi, inl e, e)
 unit_shown t (inr (inr (inl e))) = (Some Mebi, inl e, e)
@@ -126,7 +127,7 @@ shown_number (negsuc n) r =
       short = omega (arith, length-decimal-le 19 (suc n) (omega arith) (omega arith) (omega arith));
     }
 
-shown_unit : (o : Option Suffix) → ((suffix_shown_if_any o ≡ []) ⊎ CanonicalSuffix (suffix_shown_if_any o)) × SuffixIfAny (suffix_shown_if_any o) o × (length (suffix_shown_if_any o) ≤ 1)
+shown_unit : (o : Option Suffix) → ((option_map_or suffix_shown o [] ≡ []) ⊎ CanonicalSuffix (option_map_or suffix_shown o [])) × SuffixIfAny (option_map_or suffix_shown o []) o × (length (option_map_or suffix_shown o []) ≤ 1)
 shown_unit None = (inl refl, refl, omega arith)
 shown_unit (Some Kibi) = (inr (inl refl), inl refl, omega arith)
 shown_unit (Some Mebi) = (inr (inr (inl refl)), inl refl, omega arith)
@@ -137,9 +138,9 @@ integer_shown_in_range v r =
     let n = shown_number v.value r in
     let u = shown_unit v.suffix in
     record {
-      canonical_text = record { front = signed_decimal v.value; back = suffix_shown_if_any v.suffix; parts = refl; number = n.canonical_number; unit = u.0 };
-      reads_to = record { front = signed_decimal v.value; back = suffix_shown_if_any v.suffix; parts = refl; number = n.text; unit = u.1 };
-      short = omega (arith, length-append (signed_decimal v.value) (suffix_shown_if_any v.suffix), n.short, u.2);
+      canonical_text = record { front = signed_decimal v.value; back = option_map_or suffix_shown v.suffix []; parts = refl; number = n.canonical_number; unit = u.0 };
+      reads_to = record { front = signed_decimal v.value; back = option_map_or suffix_shown v.suffix []; parts = refl; number = n.text; unit = u.1 };
+      short = omega (arith, length-append (signed_decimal v.value) (option_map_or suffix_shown v.suffix []), n.short, u.2);
     }
 
 pub integer_shown_is_text : (v : Integer) → HasText IntegerText v → IsTextOf IntegerText CanonicalInteger v (integer_shown v)

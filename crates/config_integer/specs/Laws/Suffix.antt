@@ -1,9 +1,11 @@
 -- The laws of `Value` for suffixes.
-use Rattle.std.proofs.Common.{◌≡◌, ℕ, ◌⊎◌, inl, inr, List, refl, codes, arith, lit≤}
+use Rattle.std.proofs.Common.{◌≡◌, ℕ, ◌⊎◌, inl, inr, List, [], ◌∷◌, refl, codes, arith, lit≤}
 use Rattle.config_integer.specs.declared.suffix.Suffix.{Suffix}
 use Rattle.config_integer.specs.declared.suffix.Suffix.TheVariants.{Kibi, Mebi, Gibi}
 use Rattle.config_text.specs.Value.{IsAccepted, IsRefused, HasText, IsTextOf}
-use Rattle.config_text.specs.Laws.Value.{text_told}
+use Rattle.config_text.specs.OneOf.{OneOf}
+use Rattle.config_text.specs.Laws.Value.{text_told, Told, either_told}
+use Rattle.config_text.specs.Laws.OneOf.{decided_among}
 use Rattle.config_integer.specs.Suffix.{SuffixText, CanonicalSuffix, suffix_shown}
 
 pub suffix_one_value : (t : List ℕ) (v w : Suffix) → SuffixText t v → SuffixText t w → v ≡ w
@@ -32,41 +34,22 @@ suffix_shown_is_text Kibi h = record { canonical_text = inl refl; reads_to = inl
 suffix_shown_is_text Mebi h = record { canonical_text = inr (inl refl); reads_to = inl refl; short = lit≤ tt }
 suffix_shown_is_text Gibi h = record { canonical_text = inr (inr refl); reads_to = inl refl; short = lit≤ tt }
 
+suffixes : List Suffix
+suffixes = Kibi ∷ Mebi ∷ Gibi ∷ []
+
+each_suffix : (v : Suffix) → OneOf suffixes v
+unfolding suffixes
+each_suffix Kibi = inl refl
+each_suffix Mebi = inr (inl refl)
+each_suffix Gibi = inr (inr (inl refl))
+
+suffix_told : (t : List ℕ) (v : Suffix) → Told (SuffixText t v)
+suffix_told t Kibi = either_told (text_told t (codes "k")) (text_told t (codes "K"))
+suffix_told t Mebi = either_told (text_told t (codes "m")) (text_told t (codes "M"))
+suffix_told t Gibi = either_told (text_told t (codes "g")) (text_told t (codes "G"))
+
 pub suffix_decided : (t : List ℕ) → IsAccepted SuffixText t ⊎ IsRefused SuffixText t
-suffix_decided t =
-    elim (text_told t (codes "k")) [
-      | inl p ↦ inl (Kibi, inl p)
-      | inr k ↦
-          elim (text_told t (codes "K")) [
-            | inl p ↦ inl (Kibi, inr p)
-            | inr K ↦
-                elim (text_told t (codes "m")) [
-                  | inl p ↦ inl (Mebi, inl p)
-                  | inr m ↦
-                      elim (text_told t (codes "M")) [
-                        | inl p ↦ inl (Mebi, inr p)
-                        | inr M ↦
-                            elim (text_told t (codes "g")) [
-                              | inl p ↦ inl (Gibi, inl p)
-                              | inr g ↦
-                                  elim (text_told t (codes "G")) [
-                                    | inl p ↦ inl (Gibi, inr p)
-                                    | inr G ↦
-                                        inr (λ v h. none v h k K m M g G)
-                                  ]
-                            ]
-                      ]
-                ]
-          ]
-    ] where
-      none : (v : Suffix) → SuffixText t v → ¬ (t ≡ codes "k") → ¬ (t ≡ codes "K") → ¬ (t ≡ codes "m") → ¬ (t ≡ codes "M")
-          → ¬ (t ≡ codes "g") → ¬ (t ≡ codes "G") → ⊥
-      none Kibi (inl p) k K m M g G = k p
-      none Kibi (inr p) k K m M g G = K p
-      none Mebi (inl p) k K m M g G = m p
-      none Mebi (inr p) k K m M g G = M p
-      none Gibi (inl p) k K m M g G = g p
-      none Gibi (inr p) k K m M g G = G p
+suffix_decided t = decided_among SuffixText suffixes each_suffix t (suffix_told t)
 
 -- each suffix has a text
 pub suffix_has_text : (v : Suffix) → HasText SuffixText v

@@ -1,8 +1,9 @@
 -- What stands in a mapped, a joined and a flattened list, and what holds of it.
-use Rattle.std.proofs.Common.{◌≡◌, ◌⊎◌, Bool, true, inl, inr, List, [], ◌∷◌, ◌++◌, map, flat_map, refl, ap, ◌∙◌}
+use Rattle.std.proofs.Common.{ℕ, subst, ◌≡◌, ◌⊎◌, Bool, true, inl, inr, List, [], ◌∷◌, ◌++◌, map, flat_map, refl, ap, ◌∙◌}
 use Rattle.std.specs.List.{list_all}
 use Rattle.std.proofs.lemmas.Bool.{and_parts}
 use Rattle.config_text.specs.OneOf.{OneOf}
+use Rattle.config_text.specs.Value.{IsAccepted, IsRefused}
 use Rattle.config_text.specs.Laws.Value.{Told, either_told}
 
 pub OneOf-map : {X Y : Type 0} (f : X → Y) (xs : List X) (x : X) → OneOf xs x → OneOf (map f xs) (f x)
@@ -47,6 +48,18 @@ OneOf-from_flat_map f (x ∷ xs) y h =
 pub OneOf-told : {X : Type 0} → ((x y : X) → Told (x ≡ y)) → (xs : List X) (x : X) → Told (OneOf xs x)
 OneOf-told told [] x = inr (λ h. h)
 OneOf-told told (y ∷ ys) x = either_told (told x y) (OneOf-told told ys x)
+
+-- where it is told of each of finitely many values whether a text has it, each text is accepted or refused
+pub decided_among : {V : Type 0} (grammar : List ℕ → V → Type 0) (vs : List V) → ((v : V) → OneOf vs v)
+    → (t : List ℕ) → ((v : V) → Told (grammar t v)) → IsAccepted grammar t ⊎ IsRefused grammar t
+decided_among {V} grammar vs all t told = elim (among vs) [ inl a ↦ inl a | inr r ↦ inr (λ v. r v (all v)) ] where
+  among : (ws : List V) → IsAccepted grammar t ⊎ ((v : V) → OneOf ws v → ¬ (grammar t v))
+  among [] = inr (λ v o h. o)
+  among (w ∷ ws) =
+      elim (told w) [
+        | inl h ↦ inl (w, h)
+        | inr n ↦ elim (among ws) [ inl a ↦ inl a | inr r ↦ inr (λ v o h. elim o [ inl e ↦ n (subst (grammar t) e h) | inr k ↦ r v k h ]) ]
+      ]
 
 -- what passes for each of a list passes for one of them
 pub all-one : {X : Type 0} (p : X → Bool) (xs : List X) (x : X) → list_all p xs ≡ true → OneOf xs x → p x ≡ true

@@ -13,8 +13,8 @@ truth_of (pos (suc n)) r = (λ h e. cc (e), λ h. grind (arith, nat_tests))
 truth_of (negsuc n) r = (λ h e. cc (e), λ h. grind (arith, nat_tests, ints, r.low))
 
 pub returns-in-Ok : goal.returns-in-Ok
-returns-in-Ok c = let a = rw c.from.ensures at c.in-Ok.ensures in counted c.in-Ok.field-0 a (truth_of c.in-Ok.field-0.0 a.in_range)
+returns-in-Ok c = counted c.in-Ok.field-0 c.in-Ok.ensures (truth_of c.in-Ok.field-0.0 c.in-Ok.ensures.in_range)
 
 pub returns-in-Err : goal.returns-in-Err
 returns-in-Err c =
-    boolean_refused c.args.text.now c.in_default.ensures.0 c.in_default.ensures.1 (rw c.from.ensures at c.in-Err.ensures.1)
+    boolean_refused c.args.text.now c.in_default.ensures.0 c.in_default.ensures.1 c.in-Err.ensures.1

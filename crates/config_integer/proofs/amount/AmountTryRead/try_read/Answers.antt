@@ -3,7 +3,7 @@ use Rattle.config_text.specs.declared.errors.Fault.TheVariants as faults
 use Rattle.config_integer.specs.Integer.{product}
 use Rattle.config_integer.specs.Amount.{AmountRefusal}
 use Rattle.config_integer.specs.Laws.Amount.{amount_refused}
-use Rattle.config_integer.proofs.amount.product_of.Goals as goal
+use Rattle.config_integer.proofs.amount.AmountTryRead.try_read.Goals as goal
 
 pub returns-in_default : goal.returns-in_default
 returns-in_default c = (c.in_default.ensures, amount_refused c.args.text.now faults.Integer c.in_default.ensures)

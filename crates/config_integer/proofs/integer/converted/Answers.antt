@@ -1,6 +1,6 @@
 use Rattle.std.proofs.Common.{refl}
 use Rattle.config_integer.specs.Integer.{product}
-use Rattle.config_integer.proofs.integer.Integer.from_bytes.Goals as goal
+use Rattle.config_integer.proofs.integer.converted.Goals as goal
 
 pub returns-in_default-to_decimal-clause-refused : goal.returns-in_default-to_decimal-clause-refused
 returns-in_default-to_decimal-clause-refused g c =
