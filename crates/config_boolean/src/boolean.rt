@@ -26,9 +26,9 @@ use std::fmt;
 
 /// A truth value.
 ///
-/// The words are `yes`, `on`, `true` and `no`, `off`, `false`, in any case of their letters; the empty text is false,
-/// and an amount is true where its number is not zero. In Git a key without `=` is true: that is told from the line,
-/// before its value is read.
+/// The words are `yes`, `on`, `true` and `no`, `off`, `false`, in any case of their letters. The
+/// empty text is false, and an amount is true where its number is not zero. In Git a key without
+/// `=` is true: that is decided from the line, before a value is read.
 #[derive(Clone, Copy, PartialEq, Eq, PartialOrd, Ord, Hash, Debug, Default)]
 pub struct Boolean(pub bool);
 

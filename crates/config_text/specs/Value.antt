@@ -28,7 +28,7 @@ pub record IsTextOf {V : Type 0} (grammar : List ℕ → V → Type 0) (canonica
   pub reads_to : grammar s v
   pub short : length s ≤ 127
 
--- the answer of a normaliser: a canonical text that reads to the value of the input, and none only where
+-- the answer of a normalizer: a canonical text that reads to the value of the input, and none only where
 -- the input has no value
 abbrev pub Normalizes : {V : Type 0} → (List ℕ → V → Type 0) → (List ℕ → Type 0) → List ℕ → Option ArrayString → Type 0
 Normalizes grammar canonical t None = IsRefused grammar t

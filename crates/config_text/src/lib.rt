@@ -1,4 +1,13 @@
-//! What it means for a text to be read, and why it is refused.
+//! What it means for a text to be read as a value, whatever the kind of value.
+//!
+//! - [`value`]: the trait `Value`, with what a kind owes: exact reading, one canonical text for each
+//!   value, and the laws that make the two fit; the normalizer and the comparison, written once over it.
+//! - [`errors`]: why a text is refused, and the input that is given back with it.
+//! - [`readers`]: the readers of a type over borrowed and owned inputs, written once.
+//! - [`json`]: why a value has no JSON value, and texts as JSON.
+//! - [`settings`]: a setting by name, of a list of entries.
+//!
+//! This crate knows no kind of value. Its definitions are on top of `specs/`; `specs/Laws/` holds lemmas.
 #![tactic(auto)]
 
 pub mod errors;

@@ -1,5 +1,4 @@
-//! The readers of a type, over borrowed and over owned inputs: each is the type's [`TryRead`] with the input beside
-//! the fault.
+//! The readers of a type, written once: each is the type's [`TryRead`], with the input beside the fault.
 ghost use Rattle.std.specs.Prelude.{ℕ, List};
 ghost use Rattle.std.specs.Cow.{cow_slice_items};
 ghost use Rattle.bstr.specs.Owned.{bstring_bytes};

@@ -14,9 +14,9 @@ pub struct Refused<'a> {
     pub input: &'a [u8],
 }
 
-/// The value of a setting. The last entry with exactly this name decides, and the entries before it are not read;
-/// without one the default is the answer. An entry is a name and a text. The deciding entry's text is refused where
-/// the type gives it no value.
+/// The value of a setting. An entry is a name and a text. The last entry with exactly this name
+/// decides, and the entries before it are not read; without one the default is the answer. The text of
+/// the deciding entry is refused where the type gives it no value.
 pub fn lookup<'a, V: Value>(
     entries: &[(&[u8], &'a [u8])],
     name: &[u8],

@@ -6,7 +6,8 @@ ghost use Rattle.config_text.specs.Value.{IsRefused, IsAccepted, HasText, Reads,
 use arrayvec::ArrayString;
 use bstr::BStr;
 
-/// A kind of value that has texts: which texts read to which value, and which one of them is canonical.
+/// A kind of value that has texts: which texts read to which value, and which one of them is
+/// canonical. A type of the caller's own may be one too.
 pub trait Value: Copy + Eq {
     /// Which texts read to which values.
     ghost grammar: { List ℕ → Self → Type 0 };
@@ -37,7 +38,8 @@ pub trait Value: Copy + Eq {
     ghost one_value: { (t : List ℕ) (v w : Self) → grammar t v → grammar t w → v ≡ w };
 
     /// A value has at most one canonical text.
-    ghost one_text: { (s t : List ℕ) (v : Self) → canonical s → canonical t → grammar s v → grammar t v → s ≡ t };
+    ghost one_text: { (s t : List ℕ) (v : Self)
+        → canonical s → canonical t → grammar s v → grammar t v → s ≡ t };
 
     /// A canonical text is read: it has a value.
     ghost canonical_reads: { (t : List ℕ) → canonical t → IsAccepted grammar t };
@@ -57,7 +59,8 @@ pub trait Value: Copy + Eq {
 pub fn normalize_as<V: Value>(input: BStr<'_>) -> Option<ArrayString<127>>
     ensures answer { Normalizes V.grammar V.canonical (bstr_bytes input.entry) result }
     ensures only { IsOnlyText V.grammar V.canonical (bstr_bytes input.entry) result }
-    ensures unchanged { V.canonical (bstr_bytes input.entry) → IsSomeAnd result (λ s. s.bytes ≡ bstr_bytes input.entry) }
+    ensures unchanged { V.canonical (bstr_bytes input.entry)
+        → IsSomeAnd result (λ s. s.bytes ≡ bstr_bytes input.entry) }
 {
     match V::read(input) {
         Some(value) => Some(value.text()),
