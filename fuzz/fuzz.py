@@ -24,7 +24,7 @@ import sys
 import threading
 import time
 
-KINDS = [b"suffix", b"integer", b"boolean", b"name", b"attribute", b"color", b"amount"]
+KINDS = [b"suffix", b"integer", b"amount", b"boolean", b"name", b"attribute", b"color"]
 RISING = [b"bold", b"dim", b"italic", b"ul", b"blink", b"reverse", b"strike", b"reset",
           b"nodim", b"nobold", b"noitalic", b"noul", b"noblink", b"noreverse", b"nostrike"]
 COLORS = [b"black", b"red", b"green", b"yellow", b"blue", b"magenta", b"cyan", b"white"]
@@ -166,7 +166,6 @@ class Fuzzer:
         self.colors = {b"": b""}
         self.tried = collections.Counter()
         self.faults = []
-        self.known = {kind for kind, answer in zip(KINDS, program.answers(KINDS)) if answer != b"unknown kind"}
 
     def fault(self, what, line, answer):
         self.faults.append(f"{what}: {line!r} is answered {answer!r}")
@@ -176,7 +175,7 @@ class Fuzzer:
         answers = self.program.answers(lines)
         self.tried[what] += len(lines)
         for line, answer in zip(lines, answers):
-            if (answer == b"unknown kind") != (head_of(line) not in self.known):
+            if (answer == b"unknown kind") != (head_of(line) not in KINDS):
                 self.fault("kind", line, answer)
             elif answer.startswith(b"ok "):
                 text = answer[3:]
@@ -203,13 +202,13 @@ class Fuzzer:
             if not holds:
                 self.faults.append(f"{what}: {text!r} is answered {by_kind}")
         for part in (b"name", b"attribute"):
-            if part in by_kind and by_kind[part] != b"refused":
-                agree(by_kind[part] == by_kind.get(b"color", by_kind[part]), "a word is a color")
-        amount, integer, boolean = (by_kind.get(kind) for kind in (b"amount", b"integer", b"boolean"))
-        if amount and amount != b"refused":
+            if by_kind[part] != b"refused":
+                agree(by_kind[part] == by_kind[b"color"], "a word is a color")
+        amount, integer, boolean = (by_kind[kind] for kind in (b"amount", b"integer", b"boolean"))
+        if amount != b"refused":
             agree(integer != b"refused", "an amount is an integer")
             agree(boolean == (b"ok false" if amount == b"ok 0" else b"ok true"), "an amount decides a boolean")
-        if by_kind.get(b"suffix", b"refused") != b"refused":
+        if by_kind[b"suffix"] != b"refused":
             agree(integer == b"refused", "a suffix is no integer")
 
     def batch(self, count):
@@ -221,7 +220,7 @@ class Fuzzer:
         again = []
         for at, text in enumerate(texts):
             given = answers[at * len(KINDS):(at + 1) * len(KINDS)]
-            by_kind = {kind: answer for kind, answer in zip(KINDS, given) if kind in self.known}
+            by_kind = {kind: answer for kind, answer in zip(KINDS, given)}
             self.compare(text, by_kind)
             accepted = {kind: answer[3:] for kind, answer in by_kind.items() if answer.startswith(b"ok ")}
             again += [kind + b" " + answer for kind, answer in accepted.items()]
@@ -234,8 +233,7 @@ class Fuzzer:
         self.expect("canonical texts again", again, [b"ok " + line.split(b" ", 1)[1] for line in again])
         heads = [mutated_head(draw) + draw.choice((b"", b" ")) + draw.choice(texts) for _ in range(count // 4)]
         self.ask("spoilt names of kinds", heads)
-        if b"color" in self.known:
-            self.join(count)
+        self.join(count)
 
     def join(self, count):
         draw = self.draw
