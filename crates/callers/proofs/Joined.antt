@@ -2,7 +2,7 @@
 use Rattle.std.proofs.Common.{◌≡◌, ◌<◌, ◌+◌, ◌⊎◌, inl, inr, ℕ, zero, suc, List, [], ◌∷◌, ◌++◌, length, refl, sym, subst, arith, Result, Ok, Err, IfOk, ap, ◌∙◌, ◌≢◌, Some, Bool, true, false, Bor, MatchBool}
 use Rattle.std.proofs.lemmas.Option.{slice_get_within, none-some, same_Some, slice_get-map, slice_get_cases, get_or_from_slice_get}
 use Rattle.std.specs.List.{slice_get, HoldsAt, AllWithin}
-use Rattle.gix_config_value.specs.Settings{entry_texts, IsNamed, IsAbsent, Decides, Finds, decided, absent}
+use Rattle.gix_config_value.specs.Settings.{entry_texts, IsNamed, IsAbsent, Decides, Finds, decided, absent}
 
 -- an entry of the second list stands behind those of the first
 named_behind : (es fs : List (List ℕ × List ℕ)) (n : List ℕ) (i j : ℕ) (t : List ℕ) → j ≡ length es + i → IsNamed fs n i t → IsNamed (es ++ fs) n j t

@@ -2,11 +2,11 @@
 use Rattle.std.proofs.Common.{◌≡◌, ℕ, List, [], ◌∷◌, ◌++◌, ◌↔◌, Option, None, Some, option_map, inl, inr, refl, sym, ap, subst, ◌∙◌}
 use Rattle.arrayvec.specs.ArrayString.{ArrayString}
 use Rattle.config_color.specs.declared.color.Color.{Color}
-use Rattle.gix_config_value.specs.Color{ColorText, CanonicalColor}
-use Rattle.config_color.specs.Laws.Color{color_one_value}
-use Rattle.gix_config_value.specs.Composition{Joined, Composition}
-use Rattle.gix_config_value.specs.Space{Space, spellings}
-use Rattle.gix_config_value.specs.Value{IsRefused, Normalizes, IsOnlyText}
+use Rattle.gix_config_value.specs.Color.{ColorText, CanonicalColor}
+use Rattle.config_color.specs.Laws.Color.{color_one_value}
+use Rattle.gix_config_value.specs.Composition.{Joined, Composition}
+use Rattle.gix_config_value.specs.Space.{Space, spellings}
+use Rattle.gix_config_value.specs.Value.{IsRefused, Normalizes, IsOnlyText}
 use Rattle.callers.specs.Theme.{IsStyleOf}
 
 one_space : Space (32 ∷ [])

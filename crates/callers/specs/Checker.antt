@@ -4,8 +4,8 @@ use Rattle.std.specs.String.{string_bytes}
 use Rattle.std.specs.Fmt.{decimal}
 use Rattle.std.specs.declared.alloc.Global.{Global}
 use Rattle.gix_config_value.specs.declared.kind.Kind.{Kind}
-use Rattle.gix_config_value.specs.Kinds{KindValue, KindGrammar, KindCanonical}
-use Rattle.gix_config_value.specs.Value{IsRefused, IsTextOf}
+use Rattle.gix_config_value.specs.Kinds.{KindValue, KindGrammar, KindCanonical}
+use Rattle.gix_config_value.specs.Value.{IsRefused, IsTextOf}
 use Rattle.callers.specs.declared.checker.Finding.{Finding}
 
 -- what a line should be: the canonical text of its value, and nothing where it has no value

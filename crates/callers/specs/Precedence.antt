@@ -1,6 +1,6 @@
 -- One setting over three sources: the last source that has the name decides.
 use Rattle.std.specs.Prelude.{ℕ, List}
-use Rattle.gix_config_value.specs.Settings{IsAbsent, Refuses}
+use Rattle.gix_config_value.specs.Settings.{IsAbsent, Refuses}
 use Rattle.callers.specs.declared.precedence.Source.{Source}
 use Rattle.callers.specs.declared.precedence.Source.TheVariants.{System, User, Repository}
 

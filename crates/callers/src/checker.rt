@@ -1,6 +1,6 @@
 //! Which lines of a file are not in canonical form, and what they should be.
 ghost use Rattle.std.specs.Prelude.{◌≡◌, Some, IfOk, OnOk, MatchOption};
-ghost use Rattle.gix_config_value.specs.Kinds{KindCanonical};
+ghost use Rattle.gix_config_value.specs.Kinds.{KindCanonical};
 ghost use Rattle.callers.specs.Lines.{counted_lines};
 ghost use Rattle.callers.specs.Checker.{IsFinding, FindingsFrom, GoesOn, finding_shown};
 

@@ -1,6 +1,6 @@
 //! The entries of a configuration file.
 ghost use Rattle.std.specs.Prelude.{◌≡◌, ◌++◌, MatchOption, None, Some, IfOk, OnOk, option_to_list};
-ghost use Rattle.gix_config_value.specs.Settings{entry_texts};
+ghost use Rattle.gix_config_value.specs.Settings.{entry_texts};
 ghost use Rattle.callers.specs.Entries.{line_entry, file_entries};
 
 use crate::lines::cut_line;

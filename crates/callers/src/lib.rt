@@ -5,10 +5,16 @@
 //! - `precedence` resolves one setting over the system's, the user's and the repository's entries.
 //! - `theme` composes a base style with an override, and spells the style in two ways that agree.
 //! - `checker` tells which lines of a file are not in canonical form, and what they should be.
+//! - `words` reads color names and attributes, one word at a time.
+//! - `json` gives a size as a JSON number.
+//! - `paths` interpolates paths without a lookup of users, with one over a passwd text, and with a function.
 #![tactic(auto)]
 
 pub mod checker;
 pub mod entries;
+pub mod json;
 mod lines;
+pub mod paths;
 pub mod precedence;
 pub mod theme;
+pub mod words;

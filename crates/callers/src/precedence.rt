@@ -1,6 +1,6 @@
 //! One setting over several sources, in order of precedence.
 ghost use Rattle.std.specs.Prelude.{◌≡◌, ◌++◌, ℕ, List, MatchBool, IfOk, IfErr};
-ghost use Rattle.gix_config_value.specs.Settings{entry_texts, IsNamed, IsAbsent, Finds, Refuses};
+ghost use Rattle.gix_config_value.specs.Settings.{entry_texts, IsNamed, IsAbsent, Finds, Refuses};
 ghost use Rattle.callers.specs.Precedence.{RefusesIn};
 
 use gix_config_value::canonical::Value;

@@ -1,5 +1,7 @@
 //! The styles of a terminal theme: a base style with an override.
 ghost use Rattle.std.specs.Prelude.{◌≡◌, ◌++◌, ◌∷◌, [], IfOk, option_map};
+ghost use Rattle.gix_config_value.specs.Color.{ColorText};
+ghost use Rattle.gix_config_value.specs.Value.{Reads};
 ghost use Rattle.callers.specs.Theme.{IsStyleOf};
 
 use arrayvec::ArrayString;
@@ -45,4 +47,14 @@ pub fn both_spellings(
     let composed = style(base, over);
     let joined = normalize(Kind::Color, BStr::new(text.as_slice()));
     Ok((composed, joined))
+}
+
+/// The color that the base, a space and the override read to as one text, without such a text.
+pub fn layered(base: &str, over: &str) -> Option<Color>
+    ensures { Reads ColorText (base.now ++ 32 ∷ [] ++ over.now) result }
+{
+    match (Color::try_from(base), Color::try_from(over)) {
+        (Ok(base), Ok(over)) => compose(base, over),
+        _ => None,
+    }
 }

@@ -1,4 +1,5 @@
 //! Files read into entries, and settings resolved over three of them.
+
 use callers::entries::{read_file, read_line};
 use callers::precedence::{RefusedIn, Source, resolve};
 use gix_config_value::integer::Suffix;
@@ -17,7 +18,7 @@ const USER: &str =
 const REPOSITORY: &str = "core.abbrev = 0x10\nbare =\n";
 
 #[test]
-fn entries(rt: HostRuntime) -> Result<(), Fail> {
+fn reads_entries(rt: HostRuntime) -> Result<(), Fail> {
     let entries = read_file(rt.alloc(), USER.as_bytes())?;
     let wanted = [
         ("core.abbrev", "08"),
@@ -25,9 +26,9 @@ fn entries(rt: HostRuntime) -> Result<(), Fail> {
         ("pager.options", "-F -X=2"),
     ];
     assert_eq!(rt; entries.len(), wanted.len());
-    for (entry, row) in entries.iter().zip(&wanted) {
-        assert_eq!(rt; entry.0, row.0.as_bytes());
-        assert_eq!(rt; entry.1, row.1.as_bytes());
+    for (entry, (name, text)) in entries.iter().zip(wanted) {
+        assert_eq!(rt; entry.0, name.as_bytes(), "the name {name}");
+        assert_eq!(rt; entry.1, text.as_bytes(), "the text of {name}");
     }
     assert!(rt; read_line(b"# no entry").is_none());
     assert!(rt; read_file(rt.alloc(), b"")?.is_empty());
@@ -39,84 +40,41 @@ fn entries(rt: HostRuntime) -> Result<(), Fail> {
     Ok(())
 }
 
+fn integer(value: i64, suffix: Option<Suffix>) -> Integer {
+    Integer { value, suffix }
+}
+
+/// The refusal of the entry at this place of this source.
+fn refuses(
+    source: Source,
+    index: usize,
+    input: &'static [u8],
+) -> Result<Integer, RefusedIn<'static>> {
+    let refused = Refused { index, input };
+    Err(RefusedIn { source, refused })
+}
+
 #[test]
-fn precedence(rt: HostRuntime) -> Result<(), Fail> {
+fn resolves_over_three_sources(rt: HostRuntime) -> Result<(), Fail> {
     let system = read_file(rt.alloc(), SYSTEM.as_bytes())?;
     let user = read_file(rt.alloc(), USER.as_bytes())?;
     let repository = read_file(rt.alloc(), REPOSITORY.as_bytes())?;
-    let seven = Integer {
-        value: 7,
-        suffix: None,
-    };
-    let rows = [
-        (
-            "core.abbrev",
-            Ok(Integer {
-                value: 16,
-                suffix: None,
-            }),
-        ),
-        (
-            "pack.threads",
-            Ok(Integer {
-                value: 1,
-                suffix: None,
-            }),
-        ),
-        (
-            "pack.windowMemory",
-            Ok(Integer {
-                value: 512,
-                suffix: Some(Suffix::Mebi),
-            }),
-        ),
+    let seven = integer(7, None);
+    for (name, wanted) in [
+        ("core.abbrev", Ok(integer(16, None))),
+        ("pack.threads", Ok(integer(1, None))),
+        ("pack.windowMemory", Ok(integer(512, Some(Suffix::Mebi)))),
         ("pack.depth", Ok(seven)),
-        (
-            "pager",
-            Err(RefusedIn {
-                source: Source::User,
-                refused: Refused {
-                    index: 1,
-                    input: b"yes",
-                },
-            }),
-        ),
-        (
-            "bare",
-            Err(RefusedIn {
-                source: Source::Repository,
-                refused: Refused {
-                    index: 1,
-                    input: b"",
-                },
-            }),
-        ),
-    ];
-    for (name, wanted) in rows {
-        assert_eq!(rt;
-            resolve(&system, &user, &repository, name.as_bytes(), seven),
-            wanted,
-            "at {name}"
-        );
+        ("pager", refuses(Source::User, 1, b"yes")),
+        ("bare", refuses(Source::Repository, 1, b"")),
+    ] {
+        let given = resolve(&system, &user, &repository, name.as_bytes(), seven);
+        assert_eq!(rt; given, wanted, "{name}");
     }
     // without the repository's file the user's refuses, though the machine's has a number
-    let refused = RefusedIn {
-        source: Source::User,
-        refused: Refused {
-            index: 0,
-            input: b"08",
-        },
-    };
-    assert_eq!(rt;
-        resolve(&system, &user, &[], b"core.abbrev", seven),
-        Err(refused)
-    );
-    assert_eq!(rt;
-        resolve(&system, &[], &[], b"core.abbrev", seven),
-        Ok(Integer {
-            value: 12,
-            suffix: None
-        })
-    );
+    let given = resolve(&system, &user, &[], b"core.abbrev", seven);
+    assert_eq!(rt; given, refuses(Source::User, 0, b"08"));
+    let given = resolve(&system, &[], &[], b"core.abbrev", seven);
+    assert_eq!(rt; given, Ok(integer(12, None)));
     Ok(())
 }

@@ -1,23 +1,14 @@
 //! Runs of the program in which the growth of a line is refused.
 
 use crate::spares::{spares_for_growths, starved};
-use faulty::{Reader, Writer};
-use gix_config_value::program::{RunError, run, status};
+use faulty::six_lines::{self, ANSWERS};
+use faulty::{Reader, Turn, Writer};
+use gix_config_value::program::{RunError, run};
 use std::alloc::AllocError;
 use std::process::Abort;
 use std::test::Fail;
 
-/// Six lines, the last without LF.
-const SIX: &[u8] = b"boolean\ncolor\n\nInteger 5\ninteger  5\nsuffix M";
-
-static ANSWERS: [&str; 6] = [
-    "ok false\n",
-    "ok \n",
-    "unknown kind\n",
-    "unknown kind\n",
-    "refused\n",
-    "ok m\n",
-];
+const REFUSED: Result<bool, RunError> = Err(RunError::Memory(AllocError));
 
 /// How many first answers the output is, each whole, or `None` where it is no such thing.
 fn whole_answers(output: &[u8], answers: &[&str]) -> Option<usize> {
@@ -43,8 +34,7 @@ fn refused_after(
     let alloc = rt.alloc();
     let mut writer = Writer::new(alloc, 1000, usize::MAX)?;
     let outcome = run(alloc, &mut Reader::new(input, piece), &mut writer);
-    assert_eq!(rt; outcome, Ok(false));
-    assert_eq!(rt; whole_answers(&writer.held, answers), Some(answers.len()));
+    assert_eq!(rt; outcome, Ok(false), "pieces of {piece}");
     writer.held.clear();
     let mut blocks = spares_for_growths(alloc, sizes)?;
     let hoard = starved(rt)?;
@@ -53,19 +43,13 @@ fn refused_after(
     let outcome = run(alloc, &mut reader, &mut writer);
     drop(hoard);
     let written = whole_answers(&writer.held, answers);
-    match outcome {
-        Ok(accepted) => {
-            assert!(rt; !accepted);
-            assert_eq!(rt; written, Some(answers.len()));
-            Ok(None)
-        }
-        Err(error) => {
-            assert_eq!(rt; error, RunError::Memory(AllocError));
-            assert_eq!(rt; status(&outcome), 2);
-            assert!(rt; written.is_some(), "no whole answers");
-            Ok(Some(input.len().saturating_sub(reader.rest.len())))
-        }
+    if outcome == Ok(false) {
+        assert_eq!(rt; written, Some(answers.len()), "pieces of {piece}");
+        return Ok(None);
     }
+    assert_eq!(rt; outcome, REFUSED, "pieces of {piece}");
+    assert!(rt; written.is_some(), "no whole answers at pieces of {piece}");
+    Ok(Some(input.len().saturating_sub(reader.rest.len())))
 }
 
 /// The blocks that a line takes as it grows to 50,000 bytes: it doubles, and the smallest block has 24 bytes.
@@ -81,33 +65,30 @@ fn is_refused_in_turn(
     growths: usize,
     answers: &[&str],
 ) -> Result<(), Fail> {
-    let mut gone = 0usize;
+    let mut gone = 0;
     for count in 0..growths {
-        let Some(sizes) = SIZES.get(..count) else {
-            return Err("too many growths".into());
-        };
-        match refused_after(rt, input, piece, sizes, answers)? {
-            Some(further) => {
-                assert!(rt; further > gone, "{count} growths of {growths}");
-                gone = further;
-            }
-            None => assert!(rt; false, "{count} growths were enough"),
-        }
+        let sizes = SIZES.get(..count).ok_or("too many growths")?;
+        let further = refused_after(rt, input, piece, sizes, answers)?;
+        assert!(rt;
+            further > Some(gone),
+            "{count} growths at pieces of {piece}"
+        );
+        gone = further.unwrap_or(gone);
     }
-    let Some(sizes) = SIZES.get(..growths) else {
-        return Err("too many growths".into());
-    };
-    assert_eq!(rt; refused_after(rt, input, piece, sizes, answers)?, None);
+    let sizes = SIZES.get(..growths).ok_or("too many growths")?;
+    let further = refused_after(rt, input, piece, sizes, answers)?;
+    assert_eq!(rt; further, None, "{growths} growths at pieces of {piece}");
     Ok(())
 }
 
 #[test]
 fn refuses_each_growth_of_six_lines(rt: HostRuntime) -> Result<(), Fail> {
-    for piece in [1, 3, 20] {
-        is_refused_in_turn(&rt, SIX, piece, 1, &ANSWERS)?;
+    let input = six_lines::input(rt.alloc())?;
+    // at 1000 bytes only the last line, which has no LF, crosses the end of a read
+    for piece in [1, 3, 20, 1000] {
+        is_refused_in_turn(&rt, &input, piece, 1, &ANSWERS)?;
     }
-    // Only the last line, which has no LF, crosses the end of a read.
-    is_refused_in_turn(&rt, SIX, 1000, 1, &ANSWERS)
+    Ok(())
 }
 
 #[test]
@@ -119,4 +100,45 @@ fn refuses_each_growth_of_a_long_line(rt: HostRuntime) -> Result<(), Fail> {
     input.extend_from_slice(b"7\nInteger 5")?;
     let answers = ["ok false\n", "ok -7\n", "unknown kind\n"];
     is_refused_in_turn(&rt, &input, 10, SIZES.len(), &answers)
+}
+
+#[test]
+fn writes_what_waits_before_it_fails(rt: HostRuntime) -> Result<(), Fail> {
+    let alloc = rt.alloc();
+    let input = six_lines::input(alloc)?;
+    let mut writer = Writer::new(alloc, 1000, usize::MAX)?;
+    let mut failing = Writer::new(alloc, 1000, usize::MAX)?;
+    failing.otherwise = Some((1, Turn::Fails));
+    let outcome = run(alloc, &mut Reader::new(&input, 20), &mut writer);
+    assert_eq!(rt; outcome, Ok(false));
+    writer.held.clear();
+    let hoard = starved(&rt)?;
+    // the first read ends within the fourth line
+    let outcome = run(alloc, &mut Reader::new(&input, 20), &mut writer);
+    let other = run(alloc, &mut Reader::new(&input, 20), &mut failing);
+    drop(hoard);
+    assert_eq!(rt; outcome, REFUSED);
+    assert_eq!(rt; whole_answers(&writer.held, &ANSWERS), Some(3));
+    // where that write fails too, the error says so
+    assert_eq!(rt; other, Err(RunError::Write));
+    assert!(rt; failing.held.is_empty());
+    Ok(())
+}
+
+#[test]
+fn needs_no_memory_for_whole_lines(rt: HostRuntime) -> Result<(), Fail> {
+    let alloc = rt.alloc();
+    let mut input = six_lines::input(alloc)?;
+    input.push(b'\n')?;
+    let mut writer = Writer::new(alloc, 1000, usize::MAX)?;
+    for starve in [false, true] {
+        writer.held.clear();
+        let hoard = if starve { Some(starved(&rt)?) } else { None };
+        let outcome = run(alloc, &mut Reader::new(&input, usize::MAX), &mut writer);
+        drop(hoard);
+        assert_eq!(rt; outcome, Ok(false), "starved: {starve}");
+        let written = whole_answers(&writer.held, &ANSWERS);
+        assert_eq!(rt; written, Some(ANSWERS.len()), "starved: {starve}");
+    }
+    Ok(())
 }

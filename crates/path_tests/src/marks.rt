@@ -1,86 +1,40 @@
 //! The mark of an optional path, and how paths are compared.
+
 use bstr::{BStr, BString};
 use gix_config_value::Path;
 use std::borrow::CowSlice;
-use std::cmp::Ordering;
 use std::collections::hash_map::DefaultHasher;
 use std::hash::{Hash, Hasher};
 use std::process::Abort;
 use std::test::Fail;
 
 /// A text, whether it is marked as optional, and what is kept of it.
-struct Row {
-    text: &'static str,
-    is_optional: bool,
-    kept: &'static str,
-}
+type Row = (&'static str, bool, &'static str);
 
 static ROWS: [Row; 9] = [
-    Row {
-        text: ":(optional):(optional)x",
-        is_optional: true,
-        kept: ":(optional)x",
-    },
-    Row {
-        text: ":(optional)",
-        is_optional: true,
-        kept: "",
-    },
-    Row {
-        text: ":(optional",
-        is_optional: false,
-        kept: ":(optional",
-    },
-    Row {
-        text: ":(Optional)x",
-        is_optional: false,
-        kept: ":(Optional)x",
-    },
-    Row {
-        text: " :(optional)x",
-        is_optional: false,
-        kept: " :(optional)x",
-    },
-    Row {
-        text: "/etc/gitconfig",
-        is_optional: false,
-        kept: "/etc/gitconfig",
-    },
-    Row {
-        text: ":(optional)~/.gitignore",
-        is_optional: true,
-        kept: "~/.gitignore",
-    },
-    Row {
-        text: ":(optional)~/.git-blame-ignore-revs",
-        is_optional: true,
-        kept: "~/.git-blame-ignore-revs",
-    },
-    Row {
-        text: "",
-        is_optional: false,
-        kept: "",
-    },
+    (":(optional):(optional)x", true, ":(optional)x"),
+    (":(optional)", true, ""),
+    (":(optional", false, ":(optional"),
+    (":(Optional)x", false, ":(Optional)x"),
+    (" :(optional)x", false, " :(optional)x"),
+    ("/etc/gitconfig", false, "/etc/gitconfig"),
+    (":(optional)~/.gitignore", true, "~/.gitignore"),
+    (
+        ":(optional)~/.git-blame-ignore-revs",
+        true,
+        "~/.git-blame-ignore-revs",
+    ),
+    ("", false, ""),
 ];
 
 fn is_path(rt: &impl Abort, path: &Path, row: &Row) {
-    assert_eq!(rt;
-        path.is_optional,
-        row.is_optional,
-        "the flag of {}",
-        row.text
-    );
-    assert_eq!(rt;
-        path.as_bytes(),
-        row.kept.as_bytes(),
-        "the bytes of {}",
-        row.text
-    );
+    let (text, is_optional, kept) = *row;
+    assert_eq!(rt; path.is_optional, is_optional, "the flag of {text}");
+    assert_eq!(rt; path.as_bytes(), kept.as_bytes(), "the bytes of {text}");
     assert_eq!(rt;
         path.as_bstr(),
-        BStr::new(row.kept.as_bytes()),
-        "the byte string of {}",
-        row.text
+        BStr::from(kept),
+        "the byte string of {text}"
     );
 }
 
@@ -88,11 +42,11 @@ fn is_path(rt: &impl Abort, path: &Path, row: &Row) {
 fn reads_the_mark(rt: HostRuntime) -> Result<(), Fail> {
     let alloc = rt.alloc();
     for row in &ROWS {
-        let bytes = row.text.as_bytes();
+        let bytes = row.0.as_bytes();
         let owned = Vec::from_slice(alloc, bytes)?;
         let paths = [
             Path::from(BString::from_slice(alloc, bytes)?),
-            Path::from_text(alloc, row.text)?,
+            Path::from_text(alloc, row.0)?,
             Path::from_bstr(alloc, BStr::new(bytes))?,
             Path::from_cow(alloc, CowSlice::Borrowed(bytes))?,
             Path::from_cow(alloc, CowSlice::Owned(owned))?,
@@ -100,7 +54,6 @@ fn reads_the_mark(rt: HostRuntime) -> Result<(), Fail> {
         for path in &paths {
             is_path(&rt, path, row);
             is_path(&rt, &path.clone(alloc)?, row);
-            assert_eq!(rt; *path, path.clone(alloc)?, "a clone of {}", row.text);
         }
     }
     Ok(())
@@ -113,21 +66,25 @@ fn hash_of(path: &Path) -> u64 {
 }
 
 #[test]
-fn compares_bytes_then_flag(rt: HostRuntime) -> Result<(), Fail> {
+fn compares_bytes_and_then_flags(rt: HostRuntime) -> Result<(), Fail> {
     let alloc = rt.alloc();
     let paths = [
         Path::from_text(alloc, "a")?,
         Path::from_text(alloc, ":(optional)a")?,
         Path::from_text(alloc, "b")?,
     ];
-    for (i, p) in paths.iter().enumerate() {
-        for (j, q) in paths.iter().enumerate() {
-            assert_eq!(rt; p.cmp(q), i.cmp(&j));
-            assert_eq!(rt; p.partial_cmp(q), Some(i.cmp(&j)));
-            assert_eq!(rt; p == q, i == j);
+    for (i, a) in paths.iter().enumerate() {
+        for (j, b) in paths.iter().enumerate() {
+            assert_eq!(rt; a.cmp(b), i.cmp(&j), "{i} and {j}");
+            assert_eq!(rt; a.partial_cmp(b), Some(i.cmp(&j)), "{i} and {j}");
+            assert_eq!(rt; a == b, i == j, "{i} and {j}");
+            let other = b.clone(alloc)?;
+            assert_eq!(rt;
+                hash_of(a) == hash_of(&other),
+                i == j,
+                "hashes of {i} and {j}"
+            );
         }
-        assert_eq!(rt; hash_of(p), hash_of(&p.clone(alloc)?));
     }
-    assert_eq!(rt; paths[0].cmp(&paths[1]), Ordering::Less);
     Ok(())
 }

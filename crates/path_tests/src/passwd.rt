@@ -1,7 +1,6 @@
 //! The home directory in a passwd text.
-use gix_config_value::Path;
-use gix_config_value::path::interpolate::{Error, home_for_user};
-use path_callers::{path_at_home, path_of_service, path_of_user};
+
+use gix_config_value::path::interpolate::home_for_user;
 use std::test::Fail;
 
 /// Only the second line has seven fields.
@@ -33,26 +32,13 @@ fn finds_the_home(rt: HostRuntime) {
 }
 
 #[test]
-fn callers_interpolate(rt: HostRuntime) -> Result<(), Fail> {
-    let alloc = rt.alloc();
-    let below_a = Path::from_text(alloc, "~a/x")?;
-    let below_b = Path::from_text(alloc, "~b/x")?;
-    let below_home = Path::from_text(alloc, "~/x")?;
-    let below_www = Path::from_text(alloc, "~www/x")?;
-    assert_eq!(rt;
-        path_of_user(alloc, &below_a, TWO_LINES)?.as_str(),
-        "/h/b/x"
-    );
-    assert_eq!(rt;
-        path_of_user(alloc, &below_b, TWO_LINES),
-        Err(Error::UserNotFound)
-    );
-    assert_eq!(rt; path_at_home(alloc, &below_home, "/h")?.as_str(), "/h/x");
-    assert_eq!(rt;
-        path_at_home(alloc, &below_a, "/h"),
-        Err(Error::LookupMissing)
-    );
-    assert_eq!(rt; path_of_service(alloc, &below_www)?.as_str(), "/srv/www/x");
-    assert_eq!(rt; path_of_service(alloc, &below_a), Err(Error::UserNotFound));
+fn finds_the_home_in_a_long_text(rt: HostRuntime) -> Result<(), Fail> {
+    let mut passwd = String::new(rt.alloc());
+    for _ in 0..100_000 {
+        passwd.push_str("a:x:1:1::/h/short\nb:x:1:1:g:/h/b:/sh:long\n")?;
+    }
+    assert_eq!(rt; home_for_user(&passwd, "a"), None);
+    passwd.push_str("a:x:1:1:g:/h/a:/sh")?;
+    assert_eq!(rt; home_for_user(&passwd, "a"), Some("/h/a"));
     Ok(())
 }

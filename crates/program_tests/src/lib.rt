@@ -1,13 +1,12 @@
-//! Tests of the program: its answers, line by line, and its errors at each call that can fail.
+//! Tests of the program: how it reads and writes, and its errors at each read, write and flush that can fail. What it
+//! answers to each line stands in `crates/config_value/stdin` and `stdout`.
 #![tactic(auto)]
 
 #[cfg(test)]
-mod memory;
+mod batches;
+#[cfg(test)]
+mod outcome;
 #[cfg(test)]
 mod reads;
-#[cfg(test)]
-mod rows;
-#[cfg(test)]
-mod six_lines;
 #[cfg(test)]
 mod writes;

@@ -1,45 +1,52 @@
-//! A reader that fails at each of its calls in turn.
+//! A reader that gives its bytes in pieces, and fails at each of its calls in turn.
 
-use crate::six_lines::{answers_within, is_outcome, six_answers, six_lines};
-use faulty::Reader;
+use crate::outcome::is_outcome;
+use faulty::{Reader, six_lines};
 use gix_config_value::program::{RunError, run};
 use std::io::ErrorKind;
 use std::test::Fail;
 
+const PIECES: [usize; 6] = [1, 2, 3, 7, 20, 1000];
+
+#[test]
+fn reads_in_pieces(rt: HostRuntime) -> Result<(), Fail> {
+    let alloc = rt.alloc();
+    let input = six_lines::input(alloc)?;
+    let answers = six_lines::answers(alloc)?;
+    for piece in PIECES {
+        let mut reader = Reader::new(&input, piece);
+        let mut output = Vec::new(alloc);
+        let outcome = run(alloc, &mut reader, &mut output);
+        is_outcome(&rt, outcome, Ok(false), piece, 0);
+        assert_eq!(rt; output, answers, "pieces of {piece}");
+        // a call for each piece, and one more that meets the end
+        let pieces = input.len().div_ceil(piece) as u64;
+        assert_eq!(rt; reader.calls, pieces + 1, "pieces of {piece}");
+    }
+    Ok(())
+}
+
 #[test]
 fn fails_where_a_read_fails(rt: HostRuntime) -> Result<(), Fail> {
     let alloc = rt.alloc();
-    let input = six_lines(alloc)?;
-    let answers = six_answers(alloc)?;
-    for piece in [1usize, 2, 3, 7, 20, 1000] {
+    let input = six_lines::input(alloc)?;
+    for piece in PIECES {
+        let pieces = input.len().div_ceil(piece) as u64;
         for kind in [
             ErrorKind::BrokenPipe,
             ErrorKind::Interrupted,
             ErrorKind::WouldBlock,
         ] {
-            let mut reached = 0u64;
-            for call in 1..1000u64 {
+            for call in 1..=pieces + 1 {
                 let mut reader = Reader::failing(&input, piece, call, kind);
                 let mut output = Vec::new(alloc);
                 let outcome = run(alloc, &mut reader, &mut output);
-                if reader.calls < call {
-                    is_outcome(&rt, outcome, Ok(false));
-                    assert_eq!(rt; output, answers);
-                    break;
-                }
-                reached = call;
-                is_outcome(&rt, outcome, Err(RunError::Read));
+                is_outcome(&rt, outcome, Err(RunError::Read), piece, call);
                 let gone = input.len().saturating_sub(reader.rest.len());
-                assert_eq!(rt;
-                    output,
-                    answers_within(alloc, gone)?,
-                    "at call {call} of {piece} bytes"
-                );
-                assert_eq!(rt; reader.calls, call);
+                let wanted = six_lines::answers_within(alloc, gone)?;
+                assert_eq!(rt; output, wanted, "pieces of {piece}, call {call}");
+                assert_eq!(rt; reader.calls, call, "pieces of {piece}, call {call}");
             }
-            // Each piece was read by a call of its own, and one more met the end.
-            let pieces = input.len().div_ceil(piece);
-            assert_eq!(rt; reached, pieces as u64 + 1);
         }
     }
     Ok(())

@@ -1,5 +1,5 @@
 use Rattle.std.proofs.Common.{◌≡◌, ◌++◌, length}
-use Rattle.gix_config_value.specs.Settings{entry_texts}
+use Rattle.gix_config_value.specs.Settings.{entry_texts}
 use Rattle.callers.specs.Entries.{file_entries}
 use Rattle.callers.proofs.entries.read_file.Given as goal
 

@@ -1,0 +1,117 @@
+//! The texts of errors, which no contract says, and that different values are unequal: an equality that always holds
+//! would let every other test pass.
+
+use gix_config_value::Fault;
+use gix_config_value::canonical::Kind;
+use gix_config_value::color::{Attribute, Item, Name};
+use gix_config_value::json::JsonError;
+use gix_config_value::path::interpolate::{Class, Place};
+use gix_config_value::program::RunError;
+use std::alloc::AllocError;
+use std::fmt::Debug;
+use std::process::Abort;
+use std::test::Fail;
+
+const OVERFLOW: &str = "integer suffix multiplication overflows `i64`";
+
+static FAULTS: [(Fault, &str); 5] = [
+    (
+        Fault::Boolean,
+        "Booleans need to be 'no', 'off', 'false', '' or 'yes', 'on', 'true' or any number",
+    ),
+    (
+        Fault::Integer,
+        "Integers needs to be positive or negative numbers which may have a suffix like 1k, 42, or 50G",
+    ),
+    (Fault::Overflow, OVERFLOW),
+    (Fault::OutOfRange, "integer is out of range"),
+    (
+        Fault::Color,
+        "Colors are specific color values and their attributes, like 'brightred', or 'blue'",
+    ),
+];
+
+#[test]
+fn errors_have_texts(rt: HostRuntime) -> Result<(), Fail> {
+    for (fault, text) in FAULTS {
+        assert_eq!(rt; fault.to_string(rt.alloc())?.as_str(), text, "{fault:?}");
+    }
+    for (error, text) in [
+        (JsonError::Overflow, OVERFLOW),
+        (JsonError::Memory(AllocError), "no memory"),
+    ] {
+        assert_eq!(rt; error.to_string(rt.alloc())?.as_str(), text, "{error:?}");
+    }
+    for (error, text) in [
+        (RunError::Read, "cannot read"),
+        (RunError::Write, "cannot write"),
+        (RunError::Memory(AllocError), "no memory"),
+    ] {
+        assert_eq!(rt; error.to_string(rt.alloc())?.as_str(), text, "{error:?}");
+    }
+    Ok(())
+}
+
+/// Each value is unequal to each other one.
+fn differ<T: PartialEq + Debug>(rt: &impl Abort, values: &[T]) {
+    for (i, a) in values.iter().enumerate() {
+        for (j, b) in values.iter().enumerate() {
+            assert!(rt; i == j || a != b, "{a:?} and {b:?}");
+        }
+    }
+}
+
+#[test]
+fn different_values_are_unequal(rt: HostRuntime) {
+    differ(
+        &rt,
+        &[
+            Fault::Boolean,
+            Fault::Integer,
+            Fault::Overflow,
+            Fault::OutOfRange,
+            Fault::Color,
+        ],
+    );
+    differ(
+        &rt,
+        &[
+            Kind::Suffix,
+            Kind::Integer,
+            Kind::Boolean,
+            Kind::Name,
+            Kind::Attribute,
+            Kind::Color,
+            Kind::Amount,
+        ],
+    );
+    differ(&rt, &[Class::NotFound, Class::Validation, Class::Memory]);
+    differ(
+        &rt,
+        &[
+            Place::PastPrefix,
+            Place::PastHome,
+            Place::Username,
+            Place::PastUser,
+            Place::Whole,
+        ],
+    );
+    differ(
+        &rt,
+        &[
+            Item::Name(Name::Red),
+            Item::Name(Name::Ansi(1)),
+            Item::Attribute(Attribute::BOLD),
+            Item::Attribute(Attribute::DIM),
+        ],
+    );
+    differ(
+        &rt,
+        &[
+            RunError::Read,
+            RunError::Write,
+            RunError::Memory(AllocError),
+        ],
+    );
+    differ(&rt, &[JsonError::Overflow, JsonError::Memory(AllocError)]);
+}

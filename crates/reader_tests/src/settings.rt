@@ -1,0 +1,130 @@
+//! Lists of entries, and what each answers for a name, before and after its texts are replaced by canonical ones.
+
+use bstr::BStr;
+use gix_config_value::canonical::{Value, normalize_as};
+use gix_config_value::color::{Attribute, Name};
+use gix_config_value::integer::{Amount, Suffix};
+use gix_config_value::settings::{Refused, lookup};
+use gix_config_value::{Boolean, Color, Integer};
+use std::alloc::{AllocError, Global};
+use std::fmt::Debug;
+use std::process::Abort;
+use std::test::Fail;
+
+/// A name and its text.
+type Entry = (&'static [u8], &'static [u8]);
+
+/// The canonical text of each entry that has a value, and the entry's own text where it has none.
+fn canonical_texts<V: Value>(alloc: Global, entries: &[Entry]) -> Result<Vec<Vec<u8>>, AllocError> {
+    let mut texts = Vec::new(alloc);
+    for entry in entries {
+        match normalize_as::<V>(BStr::new(entry.1)) {
+            Some(text) => texts.push(Vec::from_slice(alloc, text.as_str().as_bytes())?)?,
+            None => texts.push(Vec::from_slice(alloc, entry.1)?)?,
+        }
+    }
+    Ok(texts)
+}
+
+/// The entries answer what is wanted for the name, and so they do with canonical texts.
+fn answers<V: Value + Debug>(
+    rt: &(impl AllocGlobal + Abort),
+    entries: &[Entry],
+    name: &[u8],
+    default: V,
+    wanted: Result<V, Refused<'static>>,
+) -> Result<(), AllocError> {
+    assert_eq!(rt;
+        lookup(entries, name, default),
+        wanted,
+        "{}",
+        BStr::new(name)
+    );
+    let texts = canonical_texts::<V>(rt.alloc(), entries)?;
+    let mut replaced: Vec<(&[u8], &[u8])> = Vec::new(rt.alloc());
+    for (entry, text) in entries.iter().zip(&texts) {
+        replaced.push((entry.0, text.as_slice()))?;
+    }
+    assert_eq!(rt;
+        lookup(&replaced, name, default),
+        wanted,
+        "{} replaced",
+        BStr::new(name)
+    );
+    Ok(())
+}
+
+/// The refusal of the entry at this place.
+fn refuses<V>(index: usize, input: &'static [u8]) -> Result<V, Refused<'static>> {
+    Err(Refused { index, input })
+}
+
+fn plain(value: i64) -> Integer {
+    Integer {
+        value,
+        suffix: None,
+    }
+}
+
+fn kibi(value: i64) -> Integer {
+    Integer {
+        value,
+        suffix: Some(Suffix::Kibi),
+    }
+}
+
+#[test]
+fn looks_up_integers(rt: HostRuntime) -> Result<(), Fail> {
+    let rows: [(&[Entry], &[u8], Result<Integer, Refused<'static>>); 9] = [
+        (
+            &[(b"c.x", b"1"), (b"c.x", b"2K"), (b"C.x", b"zz")],
+            b"c.x",
+            Ok(kibi(2)),
+        ),
+        (&[(b"c.x", b"08"), (b"c.x", b"8")], b"c.x", Ok(plain(8))),
+        (
+            &[(b"c.x", b"8"), (b"c.y", b"1"), (b"c.x", b"08")],
+            b"c.x",
+            refuses(2, b"08"),
+        ),
+        (&[(b"", b"3")], b"", Ok(plain(3))),
+        (&[(b"c.x", b"3")], b"", Ok(plain(7))),
+        (&[], b"c.x", Ok(plain(7))),
+        (
+            &[(b"c.x", b"0x10"), (b"c.x ", b"1"), (b"c.xy", b"4")],
+            b"c.x",
+            Ok(plain(16)),
+        ),
+        (&[(b"c.x", b""), (b"d", b"5")], b"c.x", refuses(0, b"")),
+        (&[(b"\xff", b"1"), (b"\xfe", b"2")], b"\xff", Ok(plain(1))),
+    ];
+    for (entries, name, wanted) in rows {
+        answers(&rt, entries, name, plain(7), wanted)?;
+    }
+    Ok(())
+}
+
+#[test]
+fn looks_up_values_of_each_type(rt: HostRuntime) -> Result<(), Fail> {
+    let sizes: [Entry; 2] = [(b"c.x", b"1k"), (b"d", b"5")];
+    answers(&rt, &sizes, b"c.x", Amount(0), Ok(Amount(1024)))?;
+    let past: [Entry; 2] = [(b"c.x", b"1k"), (b"c.x", b"8589934592g")];
+    answers::<Amount>(&rt, &past, b"c.x", Amount(0), refuses(1, b"8589934592g"))?;
+    answers(&rt, &[], b"c.x", Boolean(true), Ok(Boolean(true)))?;
+    let empty: [Entry; 1] = [(b"c.x", b"")];
+    answers(&rt, &empty, b"c.x", Boolean(true), Ok(Boolean(false)))?;
+    let units: [Entry; 1] = [(b"unit", b"M")];
+    answers(&rt, &units, b"unit", Suffix::Gibi, Ok(Suffix::Mebi))?;
+    let names: [Entry; 1] = [(b"n", b"-1")];
+    answers(&rt, &names, b"n", Name::Black, Ok(Name::Normal))?;
+    let words: [Entry; 1] = [(b"a", b"no-ul")];
+    answers(&rt, &words, b"a", Attribute::BOLD, Ok(Attribute::NO_UL))?;
+    let colors: [Entry; 2] = [(b"u", b"red"), (b"u", b"ul  red")];
+    let underlined = Color {
+        foreground: Some(Name::Red),
+        background: None,
+        attributes: Attribute::UL,
+    };
+    answers(&rt, &colors, b"u", Color::default(), Ok(underlined))?;
+    Ok(())
+}
