@@ -1,17 +1,19 @@
 -- What several attributes are shown as has a space, and no attribute text has one.
 use Rattle.std.proofs.Common.{◌≡◌, ◌≢◌, ℕ, inl, inr, Bool, true, false, cond, not, ◌&&◌, List, [], ◌∷◌, ◌++◌, map, filter, refl, sym, ap, ◌∙◌, arith, ◌==◌}
+use Rattle.std.proofs.lemmas.Bool.{and_parts}
 use Rattle.std.proofs.lemmas.Bool.Decides.{Decides-eqb, nat_tests}
 use Rattle.std.specs.Char.{to_ascii_lowercase}
 use Rattle.std.specs.Int.{bit_at}
 use Rattle.std.specs.List.{join_with_byte, list_all}
 use Rattle.config_word.specs.declared.attribute.Attribute.{Attribute}
 use Rattle.config_word.specs.Attribute.{AttributeRow, AttributeText, IsKnownBit, attribute_shown, attributes}
+use Rattle.config_text.specs.Bytes.{space}
 use Rattle.config_text.specs.OneOf.{OneOf}
-use Rattle.config_text.specs.Laws.OneOf.{all-one, both, OneOf-from_map}
+use Rattle.config_text.specs.Laws.OneOf.{all-one, OneOf-from_map}
 use Rattle.config_text.specs.Value.{IsRefused}
 
 abbrev no_space : List ℕ → Bool
-no_space text = list_all (λ c. not (c == 32)) text
+no_space text = list_all (λ c. not (c == space)) text
 
 -- ---- no attribute text has a space
 
@@ -19,13 +21,13 @@ spellings-no_space : list_all (λ row. list_all no_space (row.2 ∷ row.3)) attr
 unfolding attributes
 spellings-no_space = refl
 
-lowered_byte : (c : ℕ) → not (to_ascii_lowercase c == 32) ≡ true → not (c == 32) ≡ true
+lowered_byte : (c : ℕ) → not (to_ascii_lowercase c == space) ≡ true → not (c == space) ≡ true
 lowered_byte c h = grind (arith, nat_tests)
 
 lowered : (t : List ℕ) → no_space (map to_ascii_lowercase t) ≡ true → no_space t ≡ true
 lowered [] h = refl
 lowered (c ∷ cs) h =
-    let b = both (not (to_ascii_lowercase c == 32)) (no_space (map to_ascii_lowercase cs)) h in
+    let b = and_parts (not (to_ascii_lowercase c == space)) (no_space (map to_ascii_lowercase cs)) h in
     rw (lowered_byte c b.0) (lowered cs b.1)
 
 text-no_space : (t : List ℕ) (a : Attribute) → AttributeText t a → no_space t ≡ true
@@ -36,9 +38,9 @@ text-no_space t a (AttributeText.reset s e) = let small : no_space (map to_ascii
 
 -- ---- two words have a space between them
 
-spaced : (x rest : List ℕ) → no_space (x ++ 32 ∷ rest) ≡ false
+spaced : (x rest : List ℕ) → no_space (x ++ space ∷ rest) ≡ false
 spaced [] rest = refl
-spaced (c ∷ cs) rest = rw (spaced cs rest) (none (not (c == 32))) where
+spaced (c ∷ cs) rest = rw (spaced cs rest) (none (not (c == space))) where
   none : (b : Bool) → (b && false) ≡ false
   none true = refl
   none false = refl
@@ -76,8 +78,8 @@ two-kept p (first ∷ rows) r s (inr o) (inl f) apart h k =
     let kept : p first ≡ true = rw (← f) k in rw kept (front first (filter p rows) (one-kept p rows r o h))
 two-kept p (first ∷ rows) r s (inr o) (inr q) apart h k = two-told (p first) first (filter p rows) (two-kept p rows r s o q apart h k)
 
-two-spaced : (rows : List AttributeRow) → HasTwo rows → no_space (join_with_byte 32 (map (λ row. row.2) rows)) ≡ false
-two-spaced rows h = rw h.3 (spaced h.0.2 (join_with_byte 32 (map (λ (row : AttributeRow). row.2) (h.1 ∷ h.2))))
+two-spaced : (rows : List AttributeRow) → HasTwo rows → no_space (join_with_byte space (map (λ row. row.2) rows)) ≡ false
+two-spaced rows h = rw h.3 (spaced h.0.2 (join_with_byte space (map (λ (row : AttributeRow). row.2) (h.1 ∷ h.2))))
 
 pub several_refused : (a : Attribute) (i j : ℕ) → i ≢ j → IsKnownBit i → IsKnownBit j → bit_at a.0 i ≡ 1 → bit_at a.0 j ≡ 1
     → IsRefused AttributeText (attribute_shown a.0)

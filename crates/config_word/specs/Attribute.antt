@@ -3,6 +3,7 @@ use Rattle.std.specs.Prelude.{◌≡◌, ℕ, ◌^◌, List, [], ◌∷◌, map,
 use Rattle.std.specs.Int.{bit_at}
 use Rattle.std.specs.List.{join_with_byte}
 use Rattle.config_word.specs.declared.attribute.Attribute.{Attribute}
+use Rattle.config_text.specs.Bytes.{space}
 use Rattle.config_text.specs.OneOf.{OneOf}
 use Rattle.config_text.specs.SameWord.{SameWord}
 
@@ -38,7 +39,7 @@ attribute_flags = map (λ row. (row.0, 2 ^ row.1)) attributes
 abbrev pub IsKnownBit : ℕ → Type 0
 IsKnownBit bit = OneOf (map (λ row. row.1) attributes) bit
 
--- attribute text: a spelling of one constant, or `reset`, ASCII case aside
+-- attribute text: a spelling of one constant, or `reset`, ignoring ASCII case
 pub data AttributeText (t : List ℕ) (a : Attribute) : Type 0 where
   word : (row : AttributeRow) → OneOf attributes row → OneOf (row.2 ∷ row.3) t → a.0 ≡ 2 ^ row.1 → AttributeText t a
   reset : SameWord t (codes "reset") → a.0 ≡ 2 ^ 8 → AttributeText t a
@@ -49,7 +50,7 @@ attribute_words bits = map (λ row. row.2) (filter (λ row. bit_at bits row.1 ==
 
 -- how a set of bits is shown: the words of its known bits, with one space between; an unknown bit shows as nothing
 abbrev pub attribute_shown : ℕ → List ℕ
-attribute_shown bits = join_with_byte 32 (attribute_words bits)
+attribute_shown bits = join_with_byte space (attribute_words bits)
 
 -- the words of the canonical texts, by rising bit
 unfoldable pub rising_words : List (List ℕ)

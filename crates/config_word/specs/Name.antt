@@ -1,11 +1,11 @@
 -- Color names: eighteen words, `-1`, palette numbers, and `#` with hexadecimal digits.
 use Rattle.std.specs.Prelude.{◌≡◌, ℕ, ◌+◌, ◌*◌, ◌/◌, ◌%◌, ◌<◌, ◌≤◌, ◌⊎◌, List, [], ◌∷◌, ◌++◌, length, codes, decimal, ⊤}
 use Rattle.std.specs.Char.{digit_value, digit_char}
-use Rattle.std.specs.Int.{IsInRange}
 use Rattle.std.specs.List.{AllByRecursion}
 use Rattle.std.specs.Str.Parse.{AllDigits, IsNumeral}
 use Rattle.config_word.specs.declared.name.Name.{Name}
 use Rattle.config_word.specs.declared.name.Name.TheVariants.{Normal, Default, Black, BrightBlack, Red, BrightRed, Green, BrightGreen, Yellow, BrightYellow, Blue, BrightBlue, Magenta, BrightMagenta, Cyan, BrightCyan, White, BrightWhite, Ansi, Rgb}
+use Rattle.config_text.specs.Bytes.{IsLeadingDigit, IsLowerHex}
 use Rattle.config_text.specs.Numerals.{place_sum}
 use Rattle.config_text.specs.OneOf.{OneOf}
 use Rattle.config_text.specs.SameWord.{SameWord}
@@ -35,7 +35,7 @@ name_shown BrightCyan = codes "brightcyan"
 name_shown White = codes "white"
 name_shown BrightWhite = codes "brightwhite"
 name_shown (Ansi n) = decimal n
-name_shown (Rgb r g b) = 35 ∷ hex_pair r ++ hex_pair g ++ hex_pair b
+name_shown (Rgb r g b) = codes "#" ++ hex_pair r ++ hex_pair g ++ hex_pair b
 
 -- the eighteen names that are words
 unfoldable pub word_names : List Name
@@ -49,15 +49,15 @@ pub record HexPair (high low n : ℕ) : Type 0 where
   pub low_digit : digit_value low < 16
   pub number : n ≡ 16 * digit_value high + digit_value low
 
--- name text: a name's word, ASCII case aside; `-1`; an optional `+` and decimal digits whose number is at most
+-- name text: a name's word, ignoring ASCII case; `-1`; an optional `+` and decimal digits whose number is at most
 -- 255; or `#` with two hexadecimal digits for each of red, green and blue, or with one, which then stands twice
 pub data NameText (t : List ℕ) (n : Name) : Type 0 where
   word : OneOf word_names n → SameWord t (name_shown n) → NameText t n
   minus_one : t ≡ codes "-1" → n ≡ Normal → NameText t n
-  palette : (ds : List ℕ) (k : ℕ) → (t ≡ ds) ⊎ (t ≡ 43 ∷ ds) → IsNumeral 10 ds → k ≡ place_sum ds 10 → k ≤ 255 → n ≡ Ansi k → NameText t n
-  pairs : (a b c d e f r g u : ℕ) → t ≡ 35 ∷ a ∷ b ∷ c ∷ d ∷ e ∷ f ∷ [] → HexPair a b r → HexPair c d g → HexPair e f u
+  palette : (ds : List ℕ) (k : ℕ) → (t ≡ ds) ⊎ (t ≡ codes "+" ++ ds) → IsNumeral 10 ds → k ≡ place_sum ds 10 → k ≤ 255 → n ≡ Ansi k → NameText t n
+  pairs : (a b c d e f r g u : ℕ) → t ≡ codes "#" ++ a ∷ b ∷ c ∷ d ∷ e ∷ f ∷ [] → HexPair a b r → HexPair c d g → HexPair e f u
       → n ≡ Rgb r g u → NameText t n
-  doubled : (a c e r g u : ℕ) → t ≡ 35 ∷ a ∷ c ∷ e ∷ [] → HexPair a a r → HexPair c c g → HexPair e e u
+  doubled : (a c e r g u : ℕ) → t ≡ codes "#" ++ a ∷ c ∷ e ∷ [] → HexPair a a r → HexPair c c g → HexPair e e u
       → n ≡ Rgb r g u → NameText t n
 
 -- a name as the code keeps it: each number is at most 255
@@ -73,13 +73,9 @@ lower_words =
     ∷ codes "green" ∷ codes "brightgreen" ∷ codes "yellow" ∷ codes "brightyellow" ∷ codes "blue" ∷ codes "brightblue"
     ∷ codes "magenta" ∷ codes "brightmagenta" ∷ codes "cyan" ∷ codes "brightcyan" ∷ codes "white" ∷ codes "brightwhite" ∷ []
 
--- a decimal digit, or one of the letters `a` to `f`
-abbrev pub IsLowerHex : ℕ → Type 0
-IsLowerHex c = IsInRange 48 57 c ⊎ IsInRange 97 102 c
-
 -- the canonical texts: the words in lower case, 0 to 255 without leading zeros, `#` and six lower-case digits
 pub data CanonicalName (t : List ℕ) : Type 0 where
   word : OneOf lower_words t → CanonicalName t
   nought : t ≡ codes "0" → CanonicalName t
-  palette : (d : ℕ) (ds : List ℕ) → t ≡ d ∷ ds → IsInRange 49 57 d → AllDigits 10 ds → place_sum t 10 ≤ 255 → CanonicalName t
-  rgb : (ds : List ℕ) → t ≡ 35 ∷ ds → length ds ≡ 6 → AllByRecursion IsLowerHex ds → CanonicalName t
+  palette : (d : ℕ) (ds : List ℕ) → t ≡ d ∷ ds → IsLeadingDigit d → AllDigits 10 ds → place_sum t 10 ≤ 255 → CanonicalName t
+  rgb : (ds : List ℕ) → t ≡ codes "#" ++ ds → length ds ≡ 6 → AllByRecursion IsLowerHex ds → CanonicalName t

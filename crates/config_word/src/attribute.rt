@@ -1,12 +1,11 @@
 //! Sets of text attributes.
-ghost use Rattle.std.specs.Prelude.{⊤, ◌≡◌, ◌+◌, ◌≤◌, ◌++◌, ◌==◌, ◌↔◌, length, map, IsTrue, Some};
-ghost use Rattle.std.specs.List.{list_any};
+ghost use Rattle.std.specs.Prelude.{⊤, ◌≡◌, ◌+◌, ◌≤◌, ◌++◌, ◌↔◌, length, map, IsTrue, Some};
 ghost use Rattle.bstr.specs.BStr.{bstr_bytes};
 ghost use Rattle.config_text.specs.declared.errors.Fault.TheVariants as faults;
 ghost use Rattle.config_word.specs.Attribute.{AttributeText, CanonicalAttribute, attribute_flags, attribute_shown};
 ghost use Rattle.config_word.specs.Laws.Attribute.{attribute_canonical_reads, attribute_decided, attribute_one_text, attribute_one_value, attribute_shown_is_text};
 ghost use Rattle.config_word.specs.Reading.Attribute.{shown_row, shown_rows};
-ghost use Rattle.config_text.specs.Refusals.{ReadsOr, ReadsBytes};
+ghost use Rattle.config_text.specs.Refusals.{Always, ReadsBytes, ReadsFault};
 ghost use Rattle.config_text.specs.Value.{HasText, IsTextOf, Reads};
 ghost use Rattle.std.proofs.Common.{rules};
 ghost use Rattle.config_text.specs.Json.{GivesJsonText};
@@ -17,6 +16,7 @@ use bitflags::{Flag, Flags, bitflag_items};
 use bstr::BStr;
 use config_text::errors::{Error, Fault};
 use config_text::json::{JsonError, string};
+use config_text::readers::{TryRead, read_bytes};
 use config_text::value::Value;
 use serde_json::Value as JsonValue;
 use std::alloc::Global;
@@ -40,11 +40,11 @@ bitflag_items! {
         const UL = 1 << 4;
         /// Blinking.
         const BLINK = 1 << 5;
-        /// Foreground and background in each other's place.
+        /// Reverse video: foreground and background change places.
         const REVERSE = 1 << 6;
         /// Struck through.
         const STRIKE = 1 << 7;
-        /// What was set before is put back first.
+        /// Clears all earlier attributes.
         const RESET = 1 << 8;
         /// Not dimmed.
         const NO_DIM = 1 << 21;
@@ -56,14 +56,13 @@ bitflag_items! {
         const NO_UL = 1 << 24;
         /// Not blinking.
         const NO_BLINK = 1 << 25;
-        /// Foreground and background in their own places.
+        /// Not reversed.
         const NO_REVERSE = 1 << 26;
         /// Not struck through.
         const NO_STRIKE = 1 << 27;
     }
 }
 
-#[tactic(auto, unfolding(crate::specs::Attribute::attributes))]
 impl Flags for Attribute {
     type Bits = u32;
 
@@ -119,7 +118,6 @@ const SHOWN: [Shown; 15] = [
 ];
 
 /// The constants and their words.
-#[tactic(auto, unfolding(crate::specs::Attribute::attributes))]
 fn shown_words() -> &'static [Shown]
     ensures { map shown_row result.now ≡ shown_rows }
 {
@@ -127,7 +125,8 @@ fn shown_words() -> &'static [Shown]
 }
 
 impl Attribute {
-    /// Appends the words of the known bits that are set, by rising bit, with one space between.
+    /// Appends the words of the known bits that are set, by rising bit, with one space between, in at most
+    /// 99 bytes. Colors call it behind their names.
     pub fn push_to(self, text: &mut ArrayString<127>)
         requires { length text.old.bytes + 99 ≤ 127 }
         ensures { text.new.bytes ≡ text.old.bytes ++ attribute_shown self.0 }
@@ -144,7 +143,7 @@ impl Attribute {
         }
     }
 
-    /// The set as it is shown.
+    /// The set as it is shown. `Display` and the canonical text answer it.
     pub fn shown(self) -> ArrayString<127>
         ensures bytes { result.bytes ≡ attribute_shown self.0 }
         ensures text { HasText AttributeText self → IsTextOf AttributeText CanonicalAttribute self result.bytes }
@@ -154,9 +153,9 @@ impl Attribute {
         text
     }
 
-    /// Whether the set is one of the constants.
+    /// Whether the set is one of the constants, which are the sets that some text is read as.
     fn is_constant(self) -> bool
-        ensures { result ≡ list_any (λ row. row.0 == self.0) shown_rows }
+        ensures { IsTrue result ↔ (HasText AttributeText self) }
     {
         for shown in shown_words() {
             if shown.attribute == self {
@@ -167,58 +166,51 @@ impl Attribute {
     }
 }
 
-/// Whether some text is read as the set.
-fn has_a_text(set: Attribute) -> bool
-    ensures { IsTrue result ↔ (HasText AttributeText set) }
+/// The attribute that the text is a text of.
+fn attribute_of(text: &[u8]) -> Option<Attribute>
+    ensures { Reads AttributeText text.now result }
 {
-    set.is_constant()
-}
-
-/// The attribute that the input is a text of.
-fn attribute_of(input: BStr<'_>) -> Option<Attribute>
-    ensures { Reads AttributeText (bstr_bytes input.entry) result }
-{
-    match word(input.as_bytes())? {
+    match word(text)? {
         Item::Attribute(attribute) => Some(attribute),
         Item::Name(_) => None,
+    }
+}
+
+impl TryRead for Attribute {
+    ghost refusal = { Always faults.Color };
+
+    /// The attribute that the text is a text of, or `Fault::Color`.
+    fn try_read(text: &[u8]) -> Result<Attribute, Fault> {
+        attribute_of(text).ok_or(Fault::Color)
     }
 }
 
 impl FromStr for Attribute {
     type Err = Fault;
 
-    ghost from_str_gives = { λ s r. ReadsOr AttributeText (λ e. e ≡ faults.Color) s r };
+    ghost from_str_gives = { ReadsFault AttributeText (Always faults.Color) };
 
     /// The attribute that the text is a text of, or `Fault::Color`.
     fn from_str(text: &str) -> Result<Attribute, Fault> {
-        match attribute_of(BStr::new(text.as_bytes())) {
-            Some(attribute) => Ok(attribute),
-            None => Err(Fault::Color),
-        }
+        Attribute::try_read(text.as_bytes())
     }
 }
 
 impl<'a> TryFrom<BStr<'a>> for Attribute {
     type Error = Error<'a>;
 
-    ghost try_from_gives = { λ s r. ReadsBytes AttributeText faults.Color s r };
+    ghost try_from_gives = { ReadsBytes AttributeText (Always faults.Color) };
 
     /// The attribute that the input is a text of, or `Fault::Color` with the whole input.
     fn try_from(input: BStr<'a>) -> Result<Attribute, Error<'a>> {
-        match attribute_of(input) {
-            Some(attribute) => Ok(attribute),
-            None => Err(Error {
-                fault: Fault::Color,
-                input,
-            }),
-        }
+        read_bytes(input)
     }
 }
 
 impl Attribute {
-    /// The text that the set is shown as, as a JSON string: the words of the known bits that are set, by rising
-    /// bit, with one space between. Answers `JsonError::Memory` where there is no memory for the text; an empty
-    /// text takes none.
+    /// The text that the set is shown as, as a JSON string: the words of the known bits that are set, by
+    /// rising bit, with one space between. Answers `JsonError::Memory` where there is no memory for the
+    /// text; an empty text takes none.
     pub fn to_json(&self, alloc: Global) -> Result<JsonValue, JsonError>
         ensures { GivesJsonText (attribute_shown self.now.0) result }
     {
@@ -243,11 +235,11 @@ impl Value for Attribute {
     ghost displayed = { λ a. attribute_shown a.0 };
 
     fn read(input: BStr<'_>) -> Option<Attribute> {
-        attribute_of(input)
+        attribute_of(input.as_bytes())
     }
 
     fn has_text(&self) -> bool {
-        has_a_text(*self)
+        self.is_constant()
     }
 
     fn text(&self) -> ArrayString<127> {

@@ -1,6 +1,5 @@
 //! The words of a color text: the one table of them, and the numbers that stand beside it.
-ghost use Rattle.std.specs.Prelude.{◌≡◌, ◌<◌, map, length, Some, None, SomeIff};
-ghost use Rattle.std.specs.Char.{digit_value};
+ghost use Rattle.std.specs.Prelude.{◌≡◌, map};
 ghost use Rattle.config_text.specs.Value.{Reads};
 ghost use Rattle.config_word.specs.Item.{ItemText};
 ghost use Rattle.config_word.specs.Reading.Item.{fits, found, hex_pair_of, item_of, of_length, palette_of, rgb_of, row_of, word_table};
@@ -155,23 +154,13 @@ fn palette_number(digits: &[u8]) -> Option<u8>
     Some(number)
 }
 
-/// The value of a hexadecimal digit of either case.
-fn hex_digit(byte: u8) -> Option<u8>
-    ensures { SomeIff result (digit_value byte < 16) (digit_value byte) }
-{
-    match byte {
-        b'0'..=b'9' => Some(byte - b'0'),
-        b'a'..=b'f' => Some(byte - b'a' + 10),
-        b'A'..=b'F' => Some(byte - b'A' + 10),
-        _ => None,
-    }
-}
-
 /// The number that two hexadecimal digits write.
 fn hex_pair(high: u8, low: u8) -> Option<u8>
     ensures { result ≡ hex_pair_of high low }
 {
-    Some(16 * hex_digit(high)? + hex_digit(low)?)
+    let high = char::from(high).to_digit(16)?;
+    let low = char::from(low).to_digit(16)?;
+    Some((16 * high + low) as u8)
 }
 
 /// The color of six hexadecimal digits, or of three, each of which then stands twice.

@@ -5,8 +5,8 @@ ghost use Rattle.bstr.specs.BStr.{bstr_bytes};
 ghost use Rattle.config_text.specs.declared.errors.Fault.TheVariants as faults;
 ghost use Rattle.config_word.specs.Name.{NameText, CanonicalName, NameFits, hex_pair, name_shown};
 ghost use Rattle.config_word.specs.Laws.Name.{name_canonical_reads, name_decided, name_one_text, name_one_value, name_shown_is_text};
-ghost use Rattle.config_text.specs.Refusals.{ReadsOr, ReadsBytes};
-ghost use Rattle.config_text.specs.Value.{HasText, IsTextOf, Reads};
+ghost use Rattle.config_text.specs.Refusals.{Always, ReadsBytes, ReadsFault};
+ghost use Rattle.config_text.specs.Value.{IsTextOf, Reads};
 ghost use Rattle.std.proofs.Common.{rules};
 ghost use Rattle.config_text.specs.Json.{GivesJsonText};
 
@@ -15,6 +15,7 @@ use arrayvec::ArrayString;
 use bstr::BStr;
 use config_text::errors::{Error, Fault};
 use config_text::json::{JsonError, string};
+use config_text::readers::{TryRead, read_bytes};
 use config_text::value::Value;
 use itoa::Buffer;
 use serde_json::Value as JsonValue;
@@ -22,7 +23,7 @@ use std::alloc::Global;
 use std::fmt;
 use std::str::FromStr;
 
-/// A color: a word, a palette number, or red, green and blue.
+/// A color's name: a word, a palette number, or red, green and blue.
 #[derive(Clone, Copy, PartialEq, Eq, PartialOrd, Ord, Hash, Debug)]
 pub enum Name {
     /// `normal` or `-1`: the color is left as it is.
@@ -89,7 +90,7 @@ fn hex_char(number: u8) -> char
 }
 
 impl Name {
-    /// Appends the name as it is shown.
+    /// Appends the name as it is shown, in at most 13 bytes. Colors call it for their second name.
     pub fn push_to(self, text: &mut ArrayString<127>)
         requires { length text.old.bytes + 13 ≤ 127 }
         ensures { text.new.bytes ≡ text.old.bytes ++ name_shown self }
@@ -128,7 +129,7 @@ impl Name {
         text.push_str(word);
     }
 
-    /// The name as it is shown.
+    /// The name as it is shown. `Display` and the canonical text answer it, and colors begin with it.
     pub fn shown(self) -> ArrayString<127>
         ensures bytes { result.bytes ≡ name_shown self }
         ensures text { IsTextOf NameText CanonicalName self result.bytes }
@@ -140,62 +141,56 @@ impl Name {
     }
 }
 
-/// Each number of a name is a byte.
+/// States that each number of a name is a byte, which the type says of a name passed by value and a proof
+/// has to be told of any other. It does nothing when it runs; colors call it for the names that they hold.
 pub fn numbers_fit(name: Name)
     ensures { NameFits name }
 {}
 
-/// Some text is read as the name.
-fn has_a_text(name: Name)
-    ensures { HasText NameText name }
+/// The name that the text is a text of.
+fn name_of(text: &[u8]) -> Option<Name>
+    ensures { Reads NameText text.now result }
 {
-    numbers_fit(name);
-}
-
-/// The name that the input is a text of.
-fn name_of(input: BStr<'_>) -> Option<Name>
-    ensures { Reads NameText (bstr_bytes input.entry) result }
-{
-    match word(input.as_bytes())? {
+    match word(text)? {
         Item::Name(name) => Some(name),
         Item::Attribute(_) => None,
+    }
+}
+
+impl TryRead for Name {
+    ghost refusal = { Always faults.Color };
+
+    /// The name that the text is a text of, or `Fault::Color`.
+    fn try_read(text: &[u8]) -> Result<Name, Fault> {
+        name_of(text).ok_or(Fault::Color)
     }
 }
 
 impl FromStr for Name {
     type Err = Fault;
 
-    ghost from_str_gives = { λ s r. ReadsOr NameText (λ e. e ≡ faults.Color) s r };
+    ghost from_str_gives = { ReadsFault NameText (Always faults.Color) };
 
     /// The name that the text is a text of, or `Fault::Color`.
     fn from_str(text: &str) -> Result<Name, Fault> {
-        match name_of(BStr::new(text.as_bytes())) {
-            Some(name) => Ok(name),
-            None => Err(Fault::Color),
-        }
+        Name::try_read(text.as_bytes())
     }
 }
 
 impl<'a> TryFrom<BStr<'a>> for Name {
     type Error = Error<'a>;
 
-    ghost try_from_gives = { λ s r. ReadsBytes NameText faults.Color s r };
+    ghost try_from_gives = { ReadsBytes NameText (Always faults.Color) };
 
     /// The name that the input is a text of, or `Fault::Color` with the whole input.
     fn try_from(input: BStr<'a>) -> Result<Name, Error<'a>> {
-        match name_of(input) {
-            Some(name) => Ok(name),
-            None => Err(Error {
-                fault: Fault::Color,
-                input,
-            }),
-        }
+        read_bytes(input)
     }
 }
 
 impl Name {
-    /// The text that the name is shown as, as a JSON string, or `JsonError::Memory` where there is no memory for
-    /// it.
+    /// The text that the name is shown as, as a JSON string, or `JsonError::Memory` where there is no
+    /// memory for it.
     pub fn to_json(&self, alloc: Global) -> Result<JsonValue, JsonError>
         ensures { GivesJsonText (name_shown self.now) result }
     {
@@ -220,11 +215,12 @@ impl Value for Name {
     ghost displayed = { name_shown };
 
     fn read(input: BStr<'_>) -> Option<Name> {
-        name_of(input)
+        name_of(input.as_bytes())
     }
 
+    #[tactic(auto, using(crate::specs::Laws::Name::name_has_text))]
     fn has_text(&self) -> bool {
-        has_a_text(*self);
+        numbers_fit(*self);
         true
     }
 

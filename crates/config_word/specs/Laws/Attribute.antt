@@ -12,6 +12,7 @@ use Rattle.std.specs.List.{join_with_byte, list_all, list_any}
 use Rattle.config_word.specs.declared.attribute.Attribute.{Attribute}
 use Rattle.config_word.specs.Attribute.{AttributeRow, AttributeText, CanonicalAttribute, IsKnownBit, attribute_shown, attribute_words, attributes, rising_words}
 use Rattle.config_word.specs.Reading.Attribute.{remaining, shown_rows, words_in}
+use Rattle.config_text.specs.Bytes.{space}
 use Rattle.config_text.specs.OneOf.{OneOf}
 use Rattle.config_text.specs.Laws.OneOf.{all-one, OneOf-from_map, OneOf-map}
 use Rattle.config_text.specs.Value.{IsAccepted, IsRefused, IsTextOf, HasText}
@@ -102,12 +103,12 @@ attribute_has_text a = (to, from) where
 -- ---- how several are shown
 
 abbrev pub spaced : List (List ℕ) → List ℕ
-spaced words = flat_map (λ w. 32 ∷ w) words
+spaced words = flat_map (λ w. space ∷ w) words
 
-pub join-remaining : (words : List (List ℕ)) → join_with_byte 32 words ≡ remaining true words
+pub join-remaining : (words : List (List ℕ)) → join_with_byte space words ≡ remaining true words
 join-remaining [] = refl
 join-remaining (w ∷ []) = sym (append-nil w)
-join-remaining (w ∷ x ∷ xs) = ap (λ rest. w ++ 32 ∷ rest) (join-remaining (x ∷ xs))
+join-remaining (w ∷ x ∷ xs) = ap (λ rest. w ++ space ∷ rest) (join-remaining (x ∷ xs))
 
 bit_test-of : (k b : ℕ) → b < 2 → (b * 2 ^ k == 2 ^ k) ≡ (b == 1)
 bit_test-of k zero h = let p = pow_pos k in grind (arith, nat_tests)
@@ -157,7 +158,7 @@ spaced-all = refl
 remaining-short : (words : List (List ℕ)) (n : ℕ) → length (spaced words) ≤ n + 1 → length (remaining true words) ≤ n
 remaining-short [] n h = omega arith
 remaining-short (w ∷ ws) n h =
-    let p = length-append (32 ∷ w) (spaced ws) in
+    let p = length-append (space ∷ w) (spaced ws) in
     simp length-append (omega arith)
 
 -- attributes are shown in at most 99 bytes

@@ -3,7 +3,7 @@ use Rattle.std.proofs.Common.{◌≡◌, ℕ, ◌+◌, ◌-◌, ◌*◌, ◌^◌
 use Rattle.std.proofs.lemmas.Bool.Decides.{Decides-eqb, nat_tests}
 use Rattle.std.proofs.lemmas.Slice.Eq.{bytes_eq-Decides}
 use Rattle.std.proofs.Math.Nat.{le-mul_of_pos_right, one-le-pow, pow-suc}
-use Rattle.std.proofs.lemmas.Bool.{le-leb, leb-true, lt-ltb, ltb-true}
+use Rattle.std.proofs.lemmas.Bool.{and_parts, le-leb, leb-true, lt-ltb, ltb-true}
 use Rattle.std.proofs.lemmas.List.{length-map}
 use Rattle.std.proofs.lemmas.Str.Parse.{digit_from_value}
 use Rattle.std.specs.Char.{digit_value, is_ascii_digit, to_ascii_lowercase}
@@ -18,7 +18,7 @@ use Rattle.config_word.specs.Attribute.{AttributeRow, AttributeText, attributes}
 use Rattle.config_word.specs.Name.{HexPair, NameText, name_shown, word_names}
 use Rattle.config_text.specs.Numerals.{place_sum}
 use Rattle.config_text.specs.OneOf.{OneOf}
-use Rattle.config_text.specs.Laws.OneOf.{all-one, both, OneOf-map, OneOf-from_map, OneOf-front, OneOf-back, OneOf-from_append, OneOf-flat_map, OneOf-from_flat_map}
+use Rattle.config_text.specs.Laws.OneOf.{all-one, OneOf-map, OneOf-from_map, OneOf-front, OneOf-back, OneOf-from_append, OneOf-flat_map, OneOf-from_flat_map}
 use Rattle.config_text.specs.Value.{IsValueOf, Reads}
 use Rattle.config_text.specs.Laws.Value.{one_value_by}
 use Rattle.config_word.specs.Item.{ItemText}
@@ -49,12 +49,12 @@ is_new-apart : (row other : WordRow) (rows : List WordRow) → is_new row rows �
 is_new-apart row other [] h o = absurd o
 is_new-apart row other (first ∷ rows) h (inl e) =
     λ same.
-    let b = both (not (bytes_eq (lowered first.0) (lowered row.0))) (is_new row rows) h in
+    let b = and_parts (not (bytes_eq (lowered first.0) (lowered row.0))) (is_new row rows) h in
     let p : lowered first.0 ≡ lowered row.0 = ap (λ (r : WordRow). lowered r.0) (sym e) ∙ same in
     let q = (bytes_eq-Decides (lowered first.0) (lowered row.0)).1 p in
     let r : not true ≡ true = rw q at b.0 in cc
 is_new-apart row other (first ∷ rows) h (inr o) =
-    is_new-apart row other rows (both (not (bytes_eq (lowered first.0) (lowered row.0))) (is_new row rows) h).1 o
+    is_new-apart row other rows (and_parts (not (bytes_eq (lowered first.0) (lowered row.0))) (is_new row rows) h).1 o
 
 found-told : (first row : WordRow) (rows : List WordRow) (t : List ℕ) → ¬ (fits first t ≡ true) → found rows t ≡ Some row.2
     → (x : Bool) → fits first t ≡ x → cond x (Some first.2) (found rows t) ≡ Some row.2
@@ -67,7 +67,7 @@ row-found [] row t apart o f = absurd o
 row-found (first ∷ rows) row t apart (inl e) f =
     let g : fits first t ≡ true = rw (← e) f in rw (g, e) refl
 row-found (first ∷ rows) row t apart (inr o) f =
-    let b = both (is_new first rows) (are_apart rows) apart in
+    let b = and_parts (is_new first rows) (are_apart rows) apart in
     found-told first row rows t
     (λ h. is_new-apart first row rows b.0 o (sym (fits-lowered row t f) ∙ fits-lowered first t h))
     (row-found rows row t b.1 o f)
@@ -386,7 +386,7 @@ item_reads t (Some v) e = item-derived t v (sym e)
 pub item_one_value : (t : List ℕ) (v w : Item) → ItemText t v → ItemText t w → v ≡ w
 item_one_value = one_value_by item-law
 
--- no text is both a name's and an attribute's
+-- no text is and_parts a name's and an attribute's
 pub not_both : (t : List ℕ) (n : Name) (a : Attribute) → NameText t n → ¬ (AttributeText t a)
 not_both t n a p q = let e : items.Name n ≡ items.Attribute a = item_one_value t (items.Name n) (items.Attribute a) p q in cc
 

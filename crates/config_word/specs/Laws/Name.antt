@@ -10,7 +10,8 @@ use Rattle.std.specs.List.{AllByRecursion, list_all}
 use Rattle.std.specs.Str.Parse.{AllDigits, IsNumeral}
 use Rattle.config_word.specs.declared.name.Name.{Name}
 use Rattle.config_word.specs.declared.name.Name.TheVariants as names
-use Rattle.config_word.specs.Name.{CanonicalName, HexPair, IsLowerHex, NameFits, NameText, hex_pair, lower_words, name_shown, word_names}
+use Rattle.config_word.specs.Name.{CanonicalName, HexPair, NameFits, NameText, hex_pair, lower_words, name_shown, word_names}
+use Rattle.config_text.specs.Bytes.{IsLeadingDigit, IsLowerHex}
 use Rattle.config_text.specs.Numerals.{place_sum}
 use Rattle.config_text.specs.OneOf.{OneOf}
 use Rattle.config_text.specs.Laws.OneOf.{all-one, OneOf-from_map, OneOf-map}
@@ -60,7 +61,7 @@ decimal-canonical n small = told (decimal n) refl (first_byte n small) where
       CanonicalName.palette d ds refl (omega arith, (digit_from_value d all.0).1) all.1 (omega (arith, sum, small))
 
 -- digits that begin with 1 to 9 are what their number is shown as
-digits-shown : (d : ℕ) (ds : List ℕ) → IsInRange 49 57 d → AllDigits 10 ds → place_sum (d ∷ ds) 10 ≤ 255
+digits-shown : (d : ℕ) (ds : List ℕ) → IsLeadingDigit d → AllDigits 10 ds → place_sum (d ∷ ds) 10 ≤ 255
     → IsNumeral 10 (d ∷ ds) × (d ∷ ds ≡ decimal (place_sum (d ∷ ds) 10))
 digits-shown d ds h all small =
     let v : digit_value d < 10 = grind (arith, nat_tests) in

@@ -1,6 +1,7 @@
--- How the code shows attributes: a table of values and words, and what is left to write. The private functions'
--- contracts cite it, and no public one does.
+-- How the code shows attributes: a table of values and words, and what is left to write. `Laws/Attribute` proves that
+-- this is `attribute_shown`. The contracts of private functions cite it, and no public one does.
 use Rattle.std.specs.Prelude.{ℕ, ◌^◌, Bool, true, false, List, [], ◌∷◌, ◌++◌, map, filter, flat_map, bit_and, ◌==◌}
+use Rattle.config_text.specs.Bytes.{space}
 use Rattle.config_word.specs.declared.attribute.Shown.{Shown}
 use Rattle.config_word.specs.Attribute.{attributes}
 
@@ -19,5 +20,5 @@ words_in bits rows = map (λ row. row.1) (filter (λ row. bit_and bits row.0 == 
 -- the words that are left to write, with a space before each but the first of all
 abbrev pub remaining : Bool → List (List ℕ) → List ℕ
 remaining true [] = []
-remaining true (word ∷ words) = word ++ flat_map (λ w. 32 ∷ w) words
-remaining false words = flat_map (λ w. 32 ∷ w) words
+remaining true (word ∷ words) = word ++ flat_map (λ w. space ∷ w) words
+remaining false words = flat_map (λ w. space ∷ w) words

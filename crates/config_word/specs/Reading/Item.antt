@@ -1,6 +1,6 @@
--- Item text as a function: what the code computes, proved in `WordLaws` to be `ItemText`. The private functions'
--- contracts cite it, and no public one does.
-use Rattle.std.specs.Prelude.{ℕ, ◌+◌, ◌-◌, ◌*◌, ◌^◌, Bool, true, false, cond, ◌&&◌, List, [], ◌∷◌, ◌++◌, map, flat_map, filter, length, codes, Option, Some, None, nat_le, nat_lt, ◌==◌, bytes_eq, option_map}
+-- Item text as a function: what the code computes. `Laws/Item` proves that it is `ItemText`. The contracts of private
+-- functions cite it, and no public one does.
+use Rattle.std.specs.Prelude.{ℕ, ◌+◌, ◌-◌, ◌*◌, ◌^◌, Bool, true, false, if◌then◌else◌, ◌&&◌, List, [], ◌∷◌, ◌++◌, map, flat_map, filter, length, codes, Option, Some, None, nat_le, nat_lt, ◌==◌, bytes_eq, option_map}
 use Rattle.std.specs.Char.{digit_value, is_ascii_digit, to_ascii_lowercase}
 use Rattle.config_word.specs.declared.name.Name.{Name}
 use Rattle.config_word.specs.declared.name.Name.TheVariants as names
@@ -10,16 +10,19 @@ use Rattle.config_word.specs.declared.item.Item.TheVariants as items
 use Rattle.config_word.specs.Attribute.{AttributeRow, attributes}
 use Rattle.config_word.specs.Name.{name_shown, word_names}
 
--- a word: its text, whether ASCII case is put aside, and what it stands for
+-- a word: its text, whether ASCII case is ignored, and what it stands for
 abbrev pub WordRow : Type 0
 WordRow = List ℕ × Bool × Item
 
+-- a name's word, which is read in either case
 abbrev pub name_row : Name → WordRow
 name_row n = (name_shown n, true, items.Name n)
 
+-- the attribute of one bit
 abbrev pub attribute_item : ℕ → Item
 attribute_item bit = items.Attribute (record { 0 = 2 ^ bit })
 
+-- the spellings of a constant, of which only `reset` is read in either case
 abbrev pub attribute_rows : AttributeRow → List WordRow
 attribute_rows row = map (λ w. (w, row.1 == 8, attribute_item row.1)) (row.2 ∷ row.3)
 
@@ -33,12 +36,12 @@ word_table = map name_row word_names ++ (codes "-1", false, items.Name names.Nor
 
 -- whether the text is the row's word
 abbrev pub fits : WordRow → List ℕ → Bool
-fits row t = cond row.1 (bytes_eq (map to_ascii_lowercase t) (map to_ascii_lowercase row.0)) (bytes_eq t row.0)
+fits row t = if row.1 then bytes_eq (map to_ascii_lowercase t) (map to_ascii_lowercase row.0) else bytes_eq t row.0
 
 -- what the first row that fits stands for
 abbrev pub found : List WordRow → List ℕ → Option Item
 found [] t = None
-found (row ∷ rows) t = cond (fits row t) (Some row.2) (found rows t)
+found (row ∷ rows) t = if fits row t then Some row.2 else found rows t
 
 -- the rows whose words have this length
 abbrev pub of_length : ℕ → List WordRow → List WordRow
@@ -47,16 +50,20 @@ of_length n rows = filter (λ row. length row.0 == n) rows
 -- the number of decimal digits that follow those of n, where it is at most 255
 abbrev pub decimal_from : List ℕ → ℕ → Option ℕ
 decimal_from [] n = Some n
-decimal_from (d ∷ ds) n = cond (is_ascii_digit d && nat_le (n * 10 + (d - 48)) 255) (decimal_from ds (n * 10 + (d - 48))) None
+decimal_from (d ∷ ds) n =
+    if is_ascii_digit d && nat_le (n * 10 + (d - 48)) 255 then decimal_from ds (n * 10 + (d - 48)) else None
 
 -- the number of one decimal digit or more
 abbrev pub palette_of : List ℕ → Option ℕ
 palette_of [] = None
 palette_of (d ∷ ds) = decimal_from (d ∷ ds) 0
 
+-- the number that two hexadecimal digits write
 abbrev pub hex_pair_of : ℕ → ℕ → Option ℕ
-hex_pair_of high low = cond (nat_lt (digit_value high) 16 && nat_lt (digit_value low) 16) (Some (16 * digit_value high + digit_value low)) None
+hex_pair_of high low =
+    if nat_lt (digit_value high) 16 && nat_lt (digit_value low) 16 then Some (16 * digit_value high + digit_value low) else None
 
+-- the color of red, green and blue, where there are all three
 abbrev pub rgb_from : Option ℕ → Option ℕ → Option ℕ → Option Name
 rgb_from (Some r) (Some g) (Some b) = Some (names.Rgb r g b)
 rgb_from (Some r) (Some g) None = None
@@ -69,17 +76,26 @@ rgb_of (a ∷ b ∷ c ∷ d ∷ e ∷ f ∷ []) = rgb_from (hex_pair_of a b) (he
 rgb_of (a ∷ c ∷ e ∷ []) = rgb_from (hex_pair_of a a) (hex_pair_of c c) (hex_pair_of e e)
 rgb_of _ = None
 
+-- the palette number of these digits
 abbrev pub palette_item : List ℕ → Option Item
 palette_item ds = option_map (λ n. items.Name (names.Ansi n)) (palette_of ds)
 
+-- the color of these hexadecimal digits
 abbrev pub rgb_item : List ℕ → Option Item
 rgb_item ds = option_map items.Name (rgb_of ds)
+
+-- `#`
+abbrev pub hash_sign : ℕ
+hash_sign = 35
+
+-- `+`
+abbrev pub plus_sign : ℕ
+plus_sign = 43
 
 -- what a text stands for, told by its first byte: `#`, `+`, a digit, or that of a word
 abbrev pub item_of : List ℕ → Option Item
 item_of [] = found word_table []
 item_of (c ∷ cs) =
-    cond (c == 35) (rgb_item cs)
-    (cond (c == 43) (palette_item cs)
-    (cond (is_ascii_digit c) (palette_item (c ∷ cs))
-    (found word_table (c ∷ cs))))
+    if c == hash_sign then rgb_item cs
+    else (if c == plus_sign then palette_item cs
+    else (if is_ascii_digit c then palette_item (c ∷ cs) else found word_table (c ∷ cs)))

@@ -1,9 +1,16 @@
+use Rattle.std.proofs.Common.{Some, ap, ◌∙◌}
 use Rattle.config_word.specs.contracts.name.NameHash.TheImpl.Laws.{respects_eq-law}
-use Rattle.config_word.specs.contracts.name.NameOrd.TheImpl.Laws.{total-law}
+use Rattle.config_word.specs.contracts.name.NameOrd.TheImpl.Laws.{matches_eq-law, matches_partial_cmp-law, total-law}
+use Rattle.config_word.specs.contracts.name.NameValue.TheImpl.Laws.{equal_is_same-law}
+use Rattle.config_word.proofs.NameOrder.{name_same}
 use Rattle.config_word.proofs.laws.orders.name_order.Goals as goal
 
-pub returns-clause-total : goal.returns-clause-total
-returns-clause-total c = total-law
-
-pub returns-clause-hashes : goal.returns-clause-hashes
-returns-clause-hashes c = respects_eq-law
+pub returns : goal.returns
+returns c = record {
+  equal = equal_is_same-law;
+  ordered = name_same;
+  partial = λ m n. matches_partial_cmp-law m n ∙ ap Some (name_same m n);
+  total = total-law;
+  agrees = matches_eq-law;
+  hashes = respects_eq-law;
+}
