@@ -14,6 +14,7 @@ then_Equal Less = refl
 then_Equal Equal = refl
 then_Equal Greater = refl
 
+-- names are compared by their places, and then by their numbers
 pub name_same : (m n : Name) → ghosts.cmp m n ≡ name_order m n
 name_same names.Normal names.Normal = refl
 name_same names.Default names.Default = refl

@@ -12,24 +12,29 @@ use Rattle.config_text.specs.OneOf.{OneOf}
 use Rattle.config_text.specs.Laws.OneOf.{all-one, OneOf-from_map}
 use Rattle.config_text.specs.Value.{IsRefused}
 
+-- a text without a space
 abbrev no_space : List ℕ → Bool
 no_space text = list_all (λ c. not (c == space)) text
 
 -- ---- no attribute text has a space
 
+-- no spelling has a space
 spellings-no_space : list_all (λ row. list_all no_space (row.2 ∷ row.3)) attributes ≡ true
 unfolding attributes
 spellings-no_space = refl
 
+-- a byte that is no space in lower case is none
 lowered_byte : (c : ℕ) → not (to_ascii_lowercase c == space) ≡ true → not (c == space) ≡ true
 lowered_byte c h = grind (arith, nat_tests)
 
+-- the same of a text
 lowered : (t : List ℕ) → no_space (map to_ascii_lowercase t) ≡ true → no_space t ≡ true
 lowered [] h = refl
 lowered (c ∷ cs) h =
     let b = and_parts (not (to_ascii_lowercase c == space)) (no_space (map to_ascii_lowercase cs)) h in
     rw (lowered_byte c b.0) (lowered cs b.1)
 
+-- an attribute text has no space
 text-no_space : (t : List ℕ) (a : Attribute) → AttributeText t a → no_space t ≡ true
 text-no_space t a (AttributeText.word row o h e) =
     all-one no_space (row.2 ∷ row.3) t
@@ -38,6 +43,7 @@ text-no_space t a (AttributeText.reset s e) = let small : no_space (map to_ascii
 
 -- ---- two words have a space between them
 
+-- a text with a space is not without one
 spaced : (x rest : List ℕ) → no_space (x ++ space ∷ rest) ≡ false
 spaced [] rest = refl
 spaced (c ∷ cs) rest = rw (spaced cs rest) (none (not (c == space))) where
@@ -45,29 +51,36 @@ spaced (c ∷ cs) rest = rw (spaced cs rest) (none (not (c == space))) where
   none true = refl
   none false = refl
 
+-- a list of one row or more
 abbrev HasOne : List AttributeRow → Type 0
 HasOne rows = (x : AttributeRow) × (rest : List AttributeRow) × (rows ≡ x ∷ rest)
 
+-- a list of two rows or more
 abbrev HasTwo : List AttributeRow → Type 0
 HasTwo rows = (x y : AttributeRow) × (rest : List AttributeRow) × (rows ≡ x ∷ y ∷ rest)
 
+-- a row more, or not, after one
 one-told : (b : Bool) (first : AttributeRow) (rows : List AttributeRow) → HasOne rows → HasOne (cond b (first ∷ rows) rows)
 one-told true first rows h = (first, rows, refl)
 one-told false first rows h = h
 
+-- where a row passes the test, one is kept
 one-kept : (p : AttributeRow → Bool) (rows : List AttributeRow) (r : AttributeRow) → OneOf rows r → p r ≡ true → HasOne (filter p rows)
 one-kept p [] r o h = absurd o
 one-kept p (first ∷ rows) r (inl e) h =
     let kept : p first ≡ true = rw (← e) h in rw kept (first, filter p rows, refl)
 one-kept p (first ∷ rows) r (inr o) h = one-told (p first) first (filter p rows) (one-kept p rows r o h)
 
+-- a row before one makes two
 front : (first : AttributeRow) (rows : List AttributeRow) → HasOne rows → HasTwo (first ∷ rows)
 front first rows h = (first, h.0, h.1, ap (λ rest. first ∷ rest) h.2)
 
+-- a row more, or not, after two
 two-told : (b : Bool) (first : AttributeRow) (rows : List AttributeRow) → HasTwo rows → HasTwo (cond b (first ∷ rows) rows)
 two-told true first rows h = (first, h.0, h.1 ∷ h.2, ap (λ rest. first ∷ rest) h.3)
 two-told false first rows h = h
 
+-- where two rows of different bits pass the test, two are kept
 two-kept : (p : AttributeRow → Bool) (rows : List AttributeRow) (r s : AttributeRow) → OneOf rows r → OneOf rows s → r.1 ≢ s.1
     → p r ≡ true → p s ≡ true → HasTwo (filter p rows)
 two-kept p [] r s o q apart h k = absurd o
@@ -78,9 +91,11 @@ two-kept p (first ∷ rows) r s (inr o) (inl f) apart h k =
     let kept : p first ≡ true = rw (← f) k in rw kept (front first (filter p rows) (one-kept p rows r o h))
 two-kept p (first ∷ rows) r s (inr o) (inr q) apart h k = two-told (p first) first (filter p rows) (two-kept p rows r s o q apart h k)
 
+-- two words or more have a space between them
 two-spaced : (rows : List AttributeRow) → HasTwo rows → no_space (join_with_byte space (map (λ row. row.2) rows)) ≡ false
 two-spaced rows h = rw h.3 (spaced h.0.2 (join_with_byte space (map (λ (row : AttributeRow). row.2) (h.1 ∷ h.2))))
 
+-- where two known bits are set, what is shown is no attribute text
 pub several_refused : (a : Attribute) (i j : ℕ) → i ≢ j → IsKnownBit i → IsKnownBit j → bit_at a.0 i ≡ 1 → bit_at a.0 j ≡ 1
     → IsRefused AttributeText (attribute_shown a.0)
 several_refused a i j apart known_i known_j at_i at_j v h =

@@ -54,11 +54,12 @@ pub record HexPair (high low n : ℕ) : Type 0 where
 pub data NameText (t : List ℕ) (n : Name) : Type 0 where
   word : OneOf word_names n → SameWord t (name_shown n) → NameText t n
   minus_one : t ≡ codes "-1" → n ≡ Normal → NameText t n
-  palette : (ds : List ℕ) (k : ℕ) → (t ≡ ds) ⊎ (t ≡ codes "+" ++ ds) → IsNumeral 10 ds → k ≡ place_sum ds 10 → k ≤ 255 → n ≡ Ansi k → NameText t n
-  pairs : (a b c d e f r g u : ℕ) → t ≡ codes "#" ++ a ∷ b ∷ c ∷ d ∷ e ∷ f ∷ [] → HexPair a b r → HexPair c d g → HexPair e f u
-      → n ≡ Rgb r g u → NameText t n
-  doubled : (a c e r g u : ℕ) → t ≡ codes "#" ++ a ∷ c ∷ e ∷ [] → HexPair a a r → HexPair c c g → HexPair e e u
-      → n ≡ Rgb r g u → NameText t n
+  palette : (ds : List ℕ) (k : ℕ) → (t ≡ ds) ⊎ (t ≡ codes "+" ++ ds) → IsNumeral 10 ds → k ≡ place_sum ds 10 → k ≤ 255
+      → n ≡ Ansi k → NameText t n
+  pairs : (a b c d e f r g u : ℕ) → t ≡ codes "#" ++ a ∷ b ∷ c ∷ d ∷ e ∷ f ∷ []
+      → HexPair a b r → HexPair c d g → HexPair e f u → n ≡ Rgb r g u → NameText t n
+  doubled : (a c e r g u : ℕ) → t ≡ codes "#" ++ a ∷ c ∷ e ∷ []
+      → HexPair a a r → HexPair c c g → HexPair e e u → n ≡ Rgb r g u → NameText t n
 
 -- a name as the code keeps it: each number is at most 255
 abbrev pub NameFits : Name → Type 0
@@ -69,13 +70,15 @@ NameFits _ = ⊤
 -- the words of the canonical texts
 unfoldable pub lower_words : List (List ℕ)
 lower_words =
-    codes "normal" ∷ codes "default" ∷ codes "black" ∷ codes "brightblack" ∷ codes "red" ∷ codes "brightred"
-    ∷ codes "green" ∷ codes "brightgreen" ∷ codes "yellow" ∷ codes "brightyellow" ∷ codes "blue" ∷ codes "brightblue"
-    ∷ codes "magenta" ∷ codes "brightmagenta" ∷ codes "cyan" ∷ codes "brightcyan" ∷ codes "white" ∷ codes "brightwhite" ∷ []
+    codes "normal" ∷ codes "default" ∷ codes "black" ∷ codes "brightblack" ∷ codes "red"
+    ∷ codes "brightred" ∷ codes "green" ∷ codes "brightgreen" ∷ codes "yellow" ∷ codes "brightyellow"
+    ∷ codes "blue" ∷ codes "brightblue" ∷ codes "magenta" ∷ codes "brightmagenta" ∷ codes "cyan"
+    ∷ codes "brightcyan" ∷ codes "white" ∷ codes "brightwhite" ∷ []
 
 -- the canonical texts: the words in lower case, 0 to 255 without leading zeros, `#` and six lower-case digits
 pub data CanonicalName (t : List ℕ) : Type 0 where
   word : OneOf lower_words t → CanonicalName t
   nought : t ≡ codes "0" → CanonicalName t
-  palette : (d : ℕ) (ds : List ℕ) → t ≡ d ∷ ds → IsLeadingDigit d → AllDigits 10 ds → place_sum t 10 ≤ 255 → CanonicalName t
+  palette : (d : ℕ) (ds : List ℕ) → t ≡ d ∷ ds → IsLeadingDigit d → AllDigits 10 ds → place_sum t 10 ≤ 255
+      → CanonicalName t
   rgb : (ds : List ℕ) → t ≡ codes "#" ++ ds → length ds ≡ 6 → AllByRecursion IsLowerHex ds → CanonicalName t

@@ -23,8 +23,8 @@ use std::alloc::Global;
 use std::fmt;
 use std::str::FromStr;
 
-/// A set of attributes, such as bold or not underlined. Each attribute is one bit; bits that have no
-/// constant are kept.
+/// A set of attributes, such as bold or not underlined. Each attribute is one bit; bits that have
+/// no constant are kept.
 #[derive(Clone, Copy, PartialEq, Eq, PartialOrd, Ord, Hash, Debug, Default)]
 pub struct Attribute(u32);
 
@@ -125,8 +125,8 @@ fn shown_words() -> &'static [Shown]
 }
 
 impl Attribute {
-    /// Appends the words of the known bits that are set, by rising bit, with one space between, in at most
-    /// 99 bytes. Colors call it behind their names.
+    /// Appends the words of the known bits that are set, by rising bit, with one space between, in
+    /// at most 99 bytes. Colors append their attributes by it.
     pub fn push_to(self, text: &mut ArrayString<127>)
         requires { length text.old.bytes + 99 ≤ 127 }
         ensures { text.new.bytes ≡ text.old.bytes ++ attribute_shown self.0 }
@@ -143,10 +143,11 @@ impl Attribute {
         }
     }
 
-    /// The set as it is shown. `Display` and the canonical text answer it.
+    /// The set as it is shown, for `Display` and the canonical text.
     pub fn shown(self) -> ArrayString<127>
         ensures bytes { result.bytes ≡ attribute_shown self.0 }
-        ensures text { HasText AttributeText self → IsTextOf AttributeText CanonicalAttribute self result.bytes }
+        ensures text { HasText AttributeText self
+            → IsTextOf AttributeText CanonicalAttribute self result.bytes }
     {
         let mut text = ArrayString::new();
         self.push_to(&mut text);
@@ -208,9 +209,9 @@ impl<'a> TryFrom<BStr<'a>> for Attribute {
 }
 
 impl Attribute {
-    /// The text that the set is shown as, as a JSON string: the words of the known bits that are set, by
-    /// rising bit, with one space between. Answers `JsonError::Memory` where there is no memory for the
-    /// text; an empty text takes none.
+    /// The text that the set is shown as, as a JSON string: the words of the known bits that are
+    /// set, by rising bit, with one space between. Answers `JsonError::Memory` where there is no
+    /// memory for the text; an empty text takes none.
     pub fn to_json(&self, alloc: Global) -> Result<JsonValue, JsonError>
         ensures { GivesJsonText (attribute_shown self.now.0) result }
     {

@@ -192,7 +192,8 @@ fn read_item(input: &[u8]) -> Option<Item>
     }
 }
 
-/// The name or the attribute that the input is a text of, or `None` where it is neither's. No text is both.
+/// The name or the attribute that the input is a text of, or `None` where it is neither's. No text
+/// is both.
 pub fn word(input: &[u8]) -> Option<Item>
     ensures { Reads ItemText input.now result }
 {

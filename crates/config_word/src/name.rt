@@ -90,7 +90,7 @@ fn hex_char(number: u8) -> char
 }
 
 impl Name {
-    /// Appends the name as it is shown, in at most 13 bytes. Colors call it for their second name.
+    /// Appends the name as it is shown, in at most 13 bytes. Colors append their second name by it.
     pub fn push_to(self, text: &mut ArrayString<127>)
         requires { length text.old.bytes + 13 ≤ 127 }
         ensures { text.new.bytes ≡ text.old.bytes ++ name_shown self }
@@ -129,7 +129,7 @@ impl Name {
         text.push_str(word);
     }
 
-    /// The name as it is shown. `Display` and the canonical text answer it, and colors begin with it.
+    /// The name as it is shown, for `Display`, the canonical text and colors.
     pub fn shown(self) -> ArrayString<127>
         ensures bytes { result.bytes ≡ name_shown self }
         ensures text { IsTextOf NameText CanonicalName self result.bytes }
@@ -141,8 +141,9 @@ impl Name {
     }
 }
 
-/// States that each number of a name is a byte, which the type says of a name passed by value and a proof
-/// has to be told of any other. It does nothing when it runs; colors call it for the names that they hold.
+/// Does nothing when it runs. It tells a proof that each number of a name is a byte, which is known
+/// of a name that is passed by value, and not of one inside another value: so colors call it for
+/// the names that they hold.
 pub fn numbers_fit(name: Name)
     ensures { NameFits name }
 {}
@@ -189,8 +190,8 @@ impl<'a> TryFrom<BStr<'a>> for Name {
 }
 
 impl Name {
-    /// The text that the name is shown as, as a JSON string, or `JsonError::Memory` where there is no
-    /// memory for it.
+    /// The text that the name is shown as, as a JSON string, or `JsonError::Memory` where there is
+    /// no memory for it.
     pub fn to_json(&self, alloc: Global) -> Result<JsonValue, JsonError>
         ensures { GivesJsonText (name_shown self.now) result }
     {

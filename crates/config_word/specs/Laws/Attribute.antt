@@ -16,12 +16,14 @@ use Rattle.config_text.specs.Bytes.{space}
 use Rattle.config_text.specs.OneOf.{OneOf}
 use Rattle.config_text.specs.Laws.OneOf.{all-one, OneOf-from_map, OneOf-map}
 use Rattle.config_text.specs.Value.{IsAccepted, IsRefused, IsTextOf, HasText}
-use Rattle.config_text.specs.Laws.Value.{decided_by, one_value_by}
+use Rattle.config_text.specs.Laws.Value.{IsShown, canonical_reads_by, decided_by, one_text_by, one_value_by}
 use Rattle.config_word.specs.Laws.Item.{attribute-law, reset-known}
 
+-- a text is that of one attribute at most
 pub attribute_one_value : (t : List ℕ) (v w : Attribute) → AttributeText t v → AttributeText t w → v ≡ w
 attribute_one_value = one_value_by attribute-law
 
+-- each text is told to be that of an attribute, or of none
 pub attribute_decided : (t : List ℕ) → IsAccepted AttributeText t ⊎ IsRefused AttributeText t
 attribute_decided = decided_by attribute-law
 
@@ -31,53 +33,56 @@ attribute_decided = decided_by attribute-law
 abbrev IsConstant : Attribute → Type 0
 IsConstant a = (row : AttributeRow) × OneOf attributes row × (a.0 ≡ 2 ^ row.1)
 
+-- an attribute that has a text is a constant
 text-constant : (t : List ℕ) (a : Attribute) → AttributeText t a → IsConstant a
 text-constant t a (AttributeText.word row o h e) = (row, o, e)
 text-constant t a (AttributeText.reset s e) = ((codes "RESET", 8, codes "reset", []), reset-known, e)
 
+-- each constant is shown as its word
 singles-shown : list_all (λ row. bytes_eq (attribute_shown (2 ^ row.1)) row.2) attributes ≡ true
 unfolding attributes
 singles-shown = refl
 
+-- the same of one row
 single-shown : (row : AttributeRow) → OneOf attributes row → attribute_shown (2 ^ row.1) ≡ row.2
 single-shown row o =
     (bytes_eq-Decides (attribute_shown (2 ^ row.1)) row.2).0
     (all-one (λ (r : AttributeRow). bytes_eq (attribute_shown (2 ^ r.1)) r.2) attributes row singles-shown o)
 
+-- the same of an attribute
 constant-shown : (a : Attribute) (k : IsConstant a) → attribute_shown a.0 ≡ k.0.2
 constant-shown a (row, o, e) = ap attribute_shown e ∙ single-shown row o
 
+-- the words of the canonical texts are those of the constants
 rising : map (λ row. row.2) attributes ≡ rising_words
 unfolding attributes rising_words
 rising = refl
 
+-- a word has at most 9 bytes
 words-short : list_all (λ row. nat_le (length row.2) 9) attributes ≡ true
 unfolding attributes
 words-short = refl
 
+-- the word of a constant is a text of it
 spelled-as : (row : AttributeRow) (s : List ℕ) → OneOf attributes row → s ≡ row.2 → AttributeText s (record { 0 = 2 ^ row.1 })
 spelled-as row s o e = AttributeText.word row o (inl e) refl
 
-abbrev IsShown : List ℕ → Type 0
-IsShown s = (row : AttributeRow) × OneOf attributes row × (s ≡ row.2)
+-- a canonical text is what its constant is shown as
+canonical-shown : (s : List ℕ) → CanonicalAttribute s → IsShown AttributeText (λ a. attribute_shown a.0) s
+canonical-shown s c =
+    let r = OneOf-from_map (λ (r : AttributeRow). r.2) attributes s (rw rising c) in
+    record { value = record { 0 = 2 ^ r.0.1 }; reads_to = spelled-as r.0 s r.1 r.2; same = r.2 ∙ sym (single-shown r.0 r.1) }
 
-canonical-shown : (s : List ℕ) → CanonicalAttribute s → IsShown s
-canonical-shown s c = OneOf-from_map (λ (r : AttributeRow). r.2) attributes s (rw rising c)
-
+-- a canonical text is that of an attribute
 pub attribute_canonical_reads : (t : List ℕ) → CanonicalAttribute t → IsAccepted AttributeText t
-attribute_canonical_reads t c =
-    let r = canonical-shown t c in (record { 0 = 2 ^ r.0.1 }, spelled-as r.0 t r.1 r.2)
+attribute_canonical_reads = canonical_reads_by canonical-shown
 
-canonical-is : (s : List ℕ) (v : Attribute) → CanonicalAttribute s → AttributeText s v → s ≡ attribute_shown v.0
-canonical-is s v c h =
-    let r = canonical-shown s c in
-    let reads = spelled-as r.0 s r.1 r.2 in
-    r.2 ∙ sym (single-shown r.0 r.1) ∙ ap (λ (a : Attribute). attribute_shown a.0) (attribute_one_value s (record { 0 = 2 ^ r.0.1 }) v reads h)
-
+-- an attribute has one canonical text at most
 pub attribute_one_text : (s t : List ℕ) (v : Attribute) → CanonicalAttribute s → CanonicalAttribute t
     → AttributeText s v → AttributeText t v → s ≡ t
-attribute_one_text s t v c d p q = canonical-is s v c p ∙ sym (canonical-is t v d q)
+attribute_one_text = one_text_by attribute_one_value canonical-shown
 
+-- what an attribute that has a text is shown as is its canonical text
 pub attribute_shown_is_text : (v : Attribute) → HasText AttributeText v → IsTextOf AttributeText CanonicalAttribute v (attribute_shown v.0)
 attribute_shown_is_text v h = told (text-constant h.0 v h.1) where
   told : IsConstant v → IsTextOf AttributeText CanonicalAttribute v (attribute_shown v.0)
@@ -102,14 +107,17 @@ attribute_has_text a = (to, from) where
 
 -- ---- how several are shown
 
+-- words with a space before each
 abbrev pub spaced : List (List ℕ) → List ℕ
 spaced words = flat_map (λ w. space ∷ w) words
 
+-- words with a space between are what is left to write at first
 pub join-remaining : (words : List (List ℕ)) → join_with_byte space words ≡ remaining true words
 join-remaining [] = refl
 join-remaining (w ∷ []) = sym (append-nil w)
 join-remaining (w ∷ x ∷ xs) = ap (λ rest. w ++ space ∷ rest) (join-remaining (x ∷ xs))
 
+-- a multiple below 2 of a power is the power exactly where it is the one of 1
 bit_test-of : (k b : ℕ) → b < 2 → (b * 2 ^ k == 2 ^ k) ≡ (b == 1)
 bit_test-of k zero h = let p = pow_pos k in grind (arith, nat_tests)
 bit_test-of k (suc zero) h = let e : 1 * 2 ^ k ≡ 2 ^ k = omega arith in grind (arith, nat_tests)
@@ -119,6 +127,7 @@ bit_test-of k (suc (suc b)) h = absurd (omega arith)
 bit_test : (bits k : ℕ) → (bit_and bits (2 ^ k) == 2 ^ k) ≡ (bit_at bits k == 1)
 bit_test bits k = ap (λ n. n == 2 ^ k) (and_pow bits k) ∙ bit_test-of k (bit_at bits k) (bit_at-lt bits k)
 
+-- one row more, with its bit in the set or not
 words_in-step : (x y : Bool) (p : ℕ × List ℕ) (row : AttributeRow) (ps : List (ℕ × List ℕ)) (rows : List AttributeRow) → x ≡ y → p.1 ≡ row.2
     → map (λ (q : ℕ × List ℕ). q.1) ps ≡ map (λ (r : AttributeRow). r.2) rows
     → map (λ (q : ℕ × List ℕ). q.1) (cond x (p ∷ ps) ps) ≡ map (λ (r : AttributeRow). r.2) (cond y (row ∷ rows) rows)
@@ -127,6 +136,7 @@ words_in-step false false p row ps rows e f rest = rest
 words_in-step true false p row ps rows e f rest = cc
 words_in-step false true p row ps rows e f rest = cc
 
+-- the words that the code writes are those of the bits that are set
 words_in-rows : (bits : ℕ) (rows : List AttributeRow)
     → words_in bits (map (λ row. (2 ^ row.1, row.2)) rows) ≡ map (λ row. row.2) (filter (λ row. bit_at bits row.1 == 1) rows)
 words_in-rows bits [] = refl
@@ -137,24 +147,29 @@ words_in-rows bits (row ∷ rows) =
 pub words_in-shown : (bits : ℕ) → words_in bits shown_rows ≡ attribute_words bits
 words_in-shown bits = words_in-rows bits attributes
 
+-- at first all that is shown is left to write
 pub shown-remaining : (bits : ℕ) → attribute_shown bits ≡ remaining true (words_in bits shown_rows)
 shown-remaining bits = join-remaining (attribute_words bits) ∙ ap (remaining true) (sym (words_in-shown bits))
 
+-- one row more, left out or not
 spaced-step : (x : Bool) (w : List ℕ) (row : AttributeRow) (rows all : List AttributeRow)
     → length (spaced (map (λ (r : AttributeRow). r.2) rows)) ≤ length (spaced (map (λ (r : AttributeRow). r.2) all))
     → length (spaced (map (λ (r : AttributeRow). r.2) (cond x (row ∷ rows) rows))) ≤ length (spaced (map (λ (r : AttributeRow). r.2) (row ∷ all)))
 spaced-step true w row rows all h = simp length-append (omega arith)
 spaced-step false w row rows all h = simp length-append (omega arith)
 
+-- fewer words have no more bytes
 spaced-filter : (p : AttributeRow → Bool) (rows : List AttributeRow)
     → length (spaced (map (λ (r : AttributeRow). r.2) (filter p rows))) ≤ length (spaced (map (λ (r : AttributeRow). r.2) rows))
 spaced-filter p [] = lit≤ tt
 spaced-filter p (row ∷ rows) = spaced-step (p row) [] row (filter p rows) rows (spaced-filter p rows)
 
+-- all words have 100 bytes, with a space before each
 spaced-all : length (spaced (map (λ row. row.2) attributes)) ≡ 100
 unfolding attributes
 spaced-all = refl
 
+-- the first word has no space before it
 remaining-short : (words : List (List ℕ)) (n : ℕ) → length (spaced words) ≤ n + 1 → length (remaining true words) ≤ n
 remaining-short [] n h = omega arith
 remaining-short (w ∷ ws) n h =
@@ -171,6 +186,7 @@ attribute_short bits =
 
 -- ---- the test that the code makes
 
+-- a set that passes the test of some row is the constant of that row
 any-one : (bits : ℕ) (rows : List AttributeRow) → list_any (λ (row : ℕ × List ℕ). row.0 == bits) (map (λ (row : AttributeRow). (2 ^ row.1, row.2)) rows) ≡ true
     → (row : AttributeRow) × OneOf rows row × (bits ≡ 2 ^ row.1)
 any-one bits [] h = cc
@@ -181,6 +197,7 @@ any-one bits (row ∷ rows) h = told (2 ^ row.1 == bits) refl h (any-one bits ro
   told true e f rest = (row, inl refl, sym ((Decides-eqb (2 ^ row.1) bits).0 e))
   told false e f rest = let r = rest f in (r.0, inr r.1, r.2)
 
+-- a constant passes the test of its row
 one-any : (bits : ℕ) (rows : List AttributeRow) (row : AttributeRow) → OneOf rows row → bits ≡ 2 ^ row.1
     → list_any (λ (row : ℕ × List ℕ). row.0 == bits) (map (λ (row : AttributeRow). (2 ^ row.1, row.2)) rows) ≡ true
 one-any bits [] row o e = absurd o

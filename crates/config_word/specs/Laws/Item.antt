@@ -26,6 +26,7 @@ use Rattle.config_word.specs.Reading.Item.{WordRow, name_row, attribute_item, at
 
 -- ---- one row fits
 
+-- a text in lower case
 abbrev lowered : List ℕ → List ℕ
 lowered t = map to_ascii_lowercase t
 
@@ -34,17 +35,21 @@ abbrev is_new : WordRow → List WordRow → Bool
 is_new row [] = true
 is_new row (other ∷ rows) = not (bytes_eq (lowered other.0) (lowered row.0)) && is_new row rows
 
+-- no two rows have one word, ignoring ASCII case
 abbrev are_apart : List WordRow → Bool
 are_apart [] = true
 are_apart (row ∷ rows) = is_new row rows && are_apart rows
 
+-- a text that fits a word is the word, ignoring ASCII case
 fits_cases : (folds : Bool) (t w : List ℕ) → cond folds (bytes_eq (lowered t) (lowered w)) (bytes_eq t w) ≡ true → lowered t ≡ lowered w
 fits_cases true t w h = (bytes_eq-Decides (lowered t) (lowered w)).0 h
 fits_cases false t w h = ap (map to_ascii_lowercase) ((bytes_eq-Decides t w).0 h)
 
+-- the same of a row
 fits-lowered : (row : WordRow) (t : List ℕ) → fits row t ≡ true → lowered t ≡ lowered row.0
 fits-lowered row t h = fits_cases row.1 t row.0 h
 
+-- a row without its word in a list has another word than each row of the list
 is_new-apart : (row other : WordRow) (rows : List WordRow) → is_new row rows ≡ true → OneOf rows other → ¬ (lowered other.0 ≡ lowered row.0)
 is_new-apart row other [] h o = absurd o
 is_new-apart row other (first ∷ rows) h (inl e) =
@@ -56,6 +61,7 @@ is_new-apart row other (first ∷ rows) h (inl e) =
 is_new-apart row other (first ∷ rows) h (inr o) =
     is_new-apart row other rows (and_parts (not (bytes_eq (lowered first.0) (lowered row.0))) (is_new row rows) h).1 o
 
+-- what a later row says is found where the first does not fit
 found-told : (first row : WordRow) (rows : List WordRow) (t : List ℕ) → ¬ (fits first t ≡ true) → found rows t ≡ Some row.2
     → (x : Bool) → fits first t ≡ x → cond x (Some first.2) (found rows t) ≡ Some row.2
 found-told first row rows t no_fit rest true h = absurd (no_fit h)
@@ -73,38 +79,47 @@ row-found (first ∷ rows) row t apart (inr o) f =
     (row-found rows row t b.1 o f)
     (fits first t) refl
 
+-- a row of the list that fits the text and stands for the item
 abbrev FoundRow : List WordRow → List ℕ → Item → Type 0
 FoundRow rows t i = (row : WordRow) × OneOf rows row × (fits row t ≡ true) × (row.2 ≡ i)
 
+-- what is found behind a first row, or at it
 found-row-told : (first : WordRow) (rows : List WordRow) (t : List ℕ) (i : Item) → (found rows t ≡ Some i → FoundRow rows t i)
     → (x : Bool) → fits first t ≡ x → cond x (Some first.2) (found rows t) ≡ Some i → FoundRow (first ∷ rows) t i
 found-row-told first rows t i rest true f e = (first, inl refl, f, cc)
 found-row-told first rows t i rest false f e = let r = rest e in (r.0, inr r.1, r.2, r.3)
 
+-- what is found is what some row that fits says
 found-row : (rows : List WordRow) (t : List ℕ) (i : Item) → found rows t ≡ Some i → FoundRow rows t i
 found-row [] t i h = cc
 found-row (first ∷ rows) t i h = found-row-told first rows t i (λ e. found-row rows t i e) (fits first t) refl h
 
+-- no two of the 41 words are one, ignoring ASCII case
 word_table-apart : are_apart word_table ≡ true
 unfolding attributes word_names
 word_table-apart = refl
 
 -- ---- the first byte of a word
 
+-- neither `#` nor `+` nor a digit
 abbrev is_word_byte : ℕ → Bool
 is_word_byte c = not (c == 35) && (not (c == 43) && not (is_ascii_digit c))
 
+-- a text that begins with such a byte
 abbrev starts_word : List ℕ → Bool
 starts_word [] = false
 starts_word (c ∷ cs) = is_word_byte c
 
+-- each of the 41 words begins with such a byte
 word_table-starts : list_all (λ row. starts_word (lowered row.0)) word_table ≡ true
 unfolding attributes word_names
 word_table-starts = refl
 
+-- what the tests of the first byte answer there
 byte_marks : (c : ℕ) → is_word_byte c ≡ true → ((c == 35) ≡ false) × ((c == 43) ≡ false) × (is_ascii_digit c ≡ false)
 byte_marks c h = grind (arith, nat_tests)
 
+-- such a byte is one in capitals too
 lowered_byte : (c : ℕ) → is_word_byte (to_ascii_lowercase c) ≡ true → is_word_byte c ≡ true
 lowered_byte c h = grind (arith, nat_tests)
 
@@ -135,11 +150,13 @@ length-fits row t f =
     let same : length row.0 ≡ length t = omega arith in
     grind (arith, nat_tests)
 
+-- a row of another length may be left out
 skipped : (row : WordRow) (t : List ℕ) (rest : Option Item) (x : Bool) → fits row t ≡ x → (length row.0 == length t) ≡ false
     → rest ≡ cond x (Some row.2) rest
 skipped row t rest true f no_fit = cc (length-fits row t f)
 skipped row t rest false f no_fit = refl
 
+-- one row more, of this length or of another
 found-of_length-told : (first : WordRow) (rows : List WordRow) (t : List ℕ) → found (of_length (length t) rows) t ≡ found rows t
     → (x : Bool) → (length first.0 == length t) ≡ x
     → found (cond x (first ∷ of_length (length t) rows) (of_length (length t) rows)) t ≡ found (first ∷ rows) t
@@ -153,15 +170,19 @@ found-of_length (first ∷ rows) t = found-of_length-told first rows t (found-of
 
 -- ---- numbers
 
+-- a digit value below 10 is that of a decimal digit
 digit-is : (d : ℕ) → digit_value d < 10 → (is_ascii_digit d ≡ true) × (digit_value d ≡ d - 48)
 digit-is d h = let r = digit_from_value d h in grind (arith, nat_tests)
 
+-- a decimal digit has a value below 10
 digit-from : (d : ℕ) → is_ascii_digit d ≡ true → (digit_value d < 10) × (digit_value d ≡ d - 48)
 digit-from d h = grind (arith, nat_tests)
 
+-- one digit more, in the two ways to add it
 shifted : (n v k p : ℕ) → (n * 10 + v) * 10 ^ k + p ≡ n * 10 ^ suc k + (v * 10 ^ k + p)
 shifted n v k p = rw (pow-suc 10 k) (omega arith)
 
+-- digits that follow make a number no smaller
 one_more : (n v k p : ℕ) → n * 10 ^ suc k + (v * 10 ^ k + p) ≤ 255 → n * 10 + v ≤ 255
 one_more n v k p h =
     let e = shifted n v k p in
@@ -172,6 +193,7 @@ one_more n v k p h =
 place_sum-more : (d : ℕ) (ds : List ℕ) → digit_value d < 10 → place_sum (d ∷ ds) 10 ≡ (d - 48) * 10 ^ length ds + place_sum ds 10
 place_sum-more d ds h = ap (λ x. x * 10 ^ length ds + place_sum ds 10) (digit-is d h).1
 
+-- digits whose sum is small enough are read to it
 decimal-found : (ds : List ℕ) (n : ℕ) → AllDigits 10 ds → n * 10 ^ length ds + place_sum ds 10 ≤ 255
     → decimal_from ds n ≡ Some (n * 10 ^ length ds + place_sum ds 10)
 decimal-found [] n all h = ap Some (omega arith)
@@ -182,9 +204,11 @@ decimal-found (d ∷ ds) n all h =
     let rest = decimal-found ds (n * 10 + (d - 48)) all.1 (omega arith) in
     rw ((digit-is d all.0).0, le-leb (n * 10 + (d - 48)) 255 small) (rest ∙ ap Some (omega arith))
 
+-- digits that are read behind a number, and the number of both
 abbrev DecimalRead : List ℕ → ℕ → ℕ → Type 0
 DecimalRead ds n k = AllDigits 10 ds × (k ≡ n * 10 ^ length ds + place_sum ds 10) × (k ≤ 255)
 
+-- one digit, and what is read behind it
 decimal-derived-told : (d : ℕ) (ds : List ℕ) (n k : ℕ)
     → (n * 10 + (d - 48) ≤ 255 → decimal_from ds (n * 10 + (d - 48)) ≡ Some k → DecimalRead ds (n * 10 + (d - 48)) k)
     → (x y : Bool) → is_ascii_digit d ≡ x → nat_le (n * 10 + (d - 48)) 255 ≡ y
@@ -198,6 +222,7 @@ decimal-derived-told d ds n k rest true true digit fit h =
 decimal-derived-told d ds n k rest true false digit fit h = cc
 decimal-derived-told d ds n k rest false y digit fit h = cc
 
+-- what is read are digits, and their sum is small enough
 decimal-derived : (ds : List ℕ) (n k : ℕ) → n ≤ 255 → decimal_from ds n ≡ Some k → DecimalRead ds n k
 decimal-derived [] n k small h = let e : n ≡ k = cc in (tt, omega arith, omega arith)
 decimal-derived (d ∷ ds) n k small h =
@@ -209,6 +234,7 @@ pub palette-found : (ds : List ℕ) → IsNumeral 10 ds → place_sum ds 10 ≤ 
 palette-found [] h small = absurd (omega (arith, h.0))
 palette-found (d ∷ ds) h small = decimal-found (d ∷ ds) 0 h.1 (omega arith) ∙ ap Some (omega arith)
 
+-- a number that is read is the sum of decimal digits
 pub palette-derived : (ds : List ℕ) (k : ℕ) → palette_of ds ≡ Some k → IsNumeral 10 ds × (k ≡ place_sum ds 10) × (k ≤ 255)
 palette-derived [] k h = cc
 palette-derived (d ∷ ds) k h =
@@ -217,9 +243,11 @@ palette-derived (d ∷ ds) k h =
 
 -- ---- hexadecimal digits
 
+-- two hexadecimal digits are read to the number that they write
 pair-found : (a b n : ℕ) → HexPair a b n → hex_pair_of a b ≡ Some n
 pair-found a b n h = rw (lt-ltb (digit_value a) 16 h.high_digit, lt-ltb (digit_value b) 16 h.low_digit) (ap Some (sym h.number))
 
+-- what is read to a number are two hexadecimal digits that write it
 pair-derived : (a b n : ℕ) → hex_pair_of a b ≡ Some n → HexPair a b n
 pair-derived a b n h = told (nat_lt (digit_value a) 16) (nat_lt (digit_value b) 16) refl refl h where
   told : (x y : Bool) → nat_lt (digit_value a) 16 ≡ x → nat_lt (digit_value b) 16 ≡ y
@@ -230,20 +258,25 @@ pair-derived a b n h = told (nat_lt (digit_value a) 16) (nat_lt (digit_value b) 
 
 -- ---- names and attributes are found
 
+-- `-1` stands for `normal`
 minus_one-item : item_of (codes "-1") ≡ Some (items.Name names.Normal)
 unfolding attributes word_names
 minus_one-item = refl
 
+-- what the tests of the first byte answer at a digit
 digit_marks : (d : ℕ) → digit_value d < 10 → ((d == 35) ≡ false) × ((d == 43) ≡ false) × (is_ascii_digit d ≡ true)
 digit_marks d h = let r = digit_from_value d h in grind (arith, nat_tests)
 
+-- decimal digits stand for the palette number that they write
 palette_item-found : (ds : List ℕ) → IsNumeral 10 ds → place_sum ds 10 ≤ 255 → palette_item ds ≡ Some (items.Name (names.Ansi (place_sum ds 10)))
 palette_item-found ds h small = rw (palette-found ds h small) refl
 
+-- a text that begins with a digit is read as a palette number
 item_of-digits : (ds : List ℕ) → IsNumeral 10 ds → item_of ds ≡ palette_item ds
 item_of-digits [] h = absurd (omega (arith, h.0))
 item_of-digits (d ∷ ds) h = let m = digit_marks d h.1.0 in rw (m.0, m.1, m.2) refl
 
+-- the text of a name stands for the name
 name-found : (t : List ℕ) (n : Name) → NameText t n → item_of t ≡ Some (items.Name n)
 name-found t n (NameText.word o s) =
     row-item (name_row n) t
@@ -260,6 +293,7 @@ name-found t n (NameText.pairs a b c d e f r g u is x y z v) =
 name-found t n (NameText.doubled a c e r g u is x y z v) =
     rw (is, v, pair-found a a r x, pair-found c c g y, pair-found e e u z) refl
 
+-- each word fits itself
 fits-self : (t : List ℕ) (folds : Bool) (i : Item) → fits (t, folds, i) t ≡ true
 fits-self t true i = (bytes_eq-Decides (lowered t) (lowered t)).1 refl
 fits-self t false i = (bytes_eq-Decides t t).1 refl
@@ -273,13 +307,16 @@ spelling-row row w o h =
     (inr (OneOf-flat_map attribute_rows attributes row (w, row.1 == 8, attribute_item row.1) o
     (OneOf-map (λ (x : List ℕ). (x, row.1 == 8, attribute_item row.1)) (row.2 ∷ row.3) w h)))
 
+-- `reset` is one of the constants
 pub reset-known : OneOf attributes (codes "RESET", 8, codes "reset", [])
 unfolding attributes
 reset-known = inr (inr (inr (inr (inr (inr (inr (inl refl)))))))
 
+-- a bit is the attribute that has it alone
 attribute_is : (a : Attribute) (bit : ℕ) → a.0 ≡ 2 ^ bit → attribute_item bit ≡ items.Attribute a
 attribute_is a bit e = ap (λ n. items.Attribute (record { 0 = n })) (sym e)
 
+-- the text of an attribute stands for the attribute
 attribute-found : (t : List ℕ) (a : Attribute) → AttributeText t a → item_of t ≡ Some (items.Attribute a)
 attribute-found t a (AttributeText.word row o h e) =
     row-item (t, row.1 == 8, attribute_item row.1) t (spelling-row row t o h) (fits-self t (row.1 == 8) (attribute_item row.1))
@@ -290,22 +327,26 @@ attribute-found t a (AttributeText.reset s e) =
     ((bytes_eq-Decides (lowered t) (lowered (codes "reset"))).1 s)
     ∙ ap Some (attribute_is a 8 e)
 
+-- the text of an item stands for the item
 item-found : (t : List ℕ) (v : Item) → ItemText t v → item_of t ≡ Some v
 item-found t (items.Name n) h = name-found t n h
 item-found t (items.Attribute a) h = attribute-found t a h
 
 -- ---- what is found is a name or an attribute
 
+-- only bit 8 is read in either case, and has one spelling
 reset-spelled : list_all (λ row. not (row.1 == 8) || list_all (λ w. bytes_eq w (codes "reset")) (row.2 ∷ row.3)) attributes ≡ true
 unfolding attributes
 reset-spelled = refl
 
+-- the same of a row
 reset-only : (row : AttributeRow) (w : List ℕ) → OneOf attributes row → (row.1 == 8) ≡ true → OneOf (row.2 ∷ row.3) w → w ≡ codes "reset"
 reset-only row w o e h =
     let p = all-one (λ (r : AttributeRow). not (r.1 == 8) || list_all (λ w. bytes_eq w (codes "reset")) (r.2 ∷ r.3)) attributes row reset-spelled o in
     let q : list_all (λ w. bytes_eq w (codes "reset")) (row.2 ∷ row.3) ≡ true = rw e at p in
     (bytes_eq-Decides w (codes "reset")).0 (all-one (λ w. bytes_eq w (codes "reset")) (row.2 ∷ row.3) w q h)
 
+-- a text that fits a spelling is an attribute text
 spelled : (row : AttributeRow) (w t : List ℕ) → OneOf attributes row → OneOf (row.2 ∷ row.3) w
     → (x : Bool) → (row.1 == 8) ≡ x → cond x (bytes_eq (lowered t) (lowered w)) (bytes_eq t w) ≡ true
     → AttributeText t (record { 0 = 2 ^ row.1 })
@@ -316,6 +357,7 @@ spelled row w t o h true e f =
 spelled row w t o h false e f =
     AttributeText.word row o (rw ((bytes_eq-Decides t w).0 f) h) refl
 
+-- a text that fits a row is one of what the row says
 row-text : (row : WordRow) (t : List ℕ) → OneOf word_table row → fits row t ≡ true → ItemText t row.2
 row-text row t o f =
     elim (OneOf-from_append (map name_row word_names) ((codes "-1", false, items.Name names.Normal) ∷ flat_map attribute_rows attributes) row o) [
@@ -327,6 +369,7 @@ row-text row t o f =
           rw q.2 (spelled r.0 q.0 t r.1 q.1 (r.0.1 == 8) refl (rw q.2 at f)))
     ]
 
+-- a color has red, green and blue
 rgb_from-parts : (x y z : Option ℕ) (n : Name) → rgb_from x y z ≡ Some n
     → (r g b : ℕ) × (x ≡ Some r) × (y ≡ Some g) × (z ≡ Some b) × (n ≡ names.Rgb r g b)
 rgb_from-parts (Some r) (Some g) (Some b) n h = (r, g, b, refl, refl, refl, cc)
@@ -334,6 +377,7 @@ rgb_from-parts (Some r) (Some g) None n h = cc
 rgb_from-parts (Some r) None z n h = cc
 rgb_from-parts None y z n h = cc
 
+-- digits that are read to a color write it
 rgb-derived : (ds : List ℕ) (n : Name) → rgb_of ds ≡ Some n → NameText (35 ∷ ds) n
 rgb-derived (a ∷ b ∷ c ∷ d ∷ e ∷ f ∷ []) n h =
     let p = rgb_from-parts (hex_pair_of a b) (hex_pair_of c d) (hex_pair_of e f) n h in
@@ -343,12 +387,14 @@ rgb-derived (a ∷ c ∷ e ∷ []) n h =
     NameText.doubled a c e p.0 p.1 p.2 refl (pair-derived a a p.0 p.3) (pair-derived c c p.1 p.4) (pair-derived e e p.2 p.5) p.6
 rgb-derived _ n h = cc
 
+-- the same behind `#`
 rgb_item-derived : (ds : List ℕ) (v : Item) → rgb_item ds ≡ Some v → ItemText (35 ∷ ds) v
 rgb_item-derived ds v h = told (rgb_of ds) refl h where
   told : (x : Option Name) → rgb_of ds ≡ x → option_map items.Name x ≡ Some v → ItemText (35 ∷ ds) v
   told (Some n) e f = let same : items.Name n ≡ v = cc in rw (← same) (rgb-derived ds n e)
   told None e f = cc
 
+-- digits that are read to a palette number write it, also behind `+`
 palette_item-derived : (t ds : List ℕ) (v : Item) → (t ≡ ds) ⊎ (t ≡ 43 ∷ ds) → palette_item ds ≡ Some v → ItemText t v
 palette_item-derived t ds v spelled h = told (palette_of ds) refl h where
   told : (x : Option ℕ) → palette_of ds ≡ x → option_map (λ n. items.Name (names.Ansi n)) x ≡ Some v → ItemText t v
@@ -358,9 +404,11 @@ palette_item-derived t ds v spelled h = told (palette_of ds) refl h where
       rw (← same) (NameText.palette ds k spelled r.0 r.1 r.2 refl)
   told None e f = cc
 
+-- what the table says of a text, the grammar says
 found-derived : (t : List ℕ) (v : Item) → found word_table t ≡ Some v → ItemText t v
 found-derived t v h = let r = found-row word_table t v h in rw (← r.3) (row-text r.0 t r.1 r.2)
 
+-- what is read of a text, the grammar says
 item-derived : (t : List ℕ) (v : Item) → item_of t ≡ Some v → ItemText t v
 item-derived [] v h = found-derived [] v h
 item-derived (c ∷ cs) v h = told (c == 35) (c == 43) (is_ascii_digit c) refl refl h where
@@ -374,6 +422,7 @@ item-derived (c ∷ cs) v h = told (c == 35) (c == 43) (is_ascii_digit c) refl r
 
 -- ---- the laws
 
+-- `item_of` is the grammar of items
 pub item-law : IsValueOf ItemText item_of
 item-law = record { found = item-found; derived = item-derived }
 
@@ -390,16 +439,19 @@ item_one_value = one_value_by item-law
 pub not_both : (t : List ℕ) (n : Name) (a : Attribute) → NameText t n → ¬ (AttributeText t a)
 not_both t n a p q = let e : items.Name n ≡ items.Attribute a = item_one_value t (items.Name n) (items.Attribute a) p q in cc
 
+-- the name of an item
 abbrev pub item_name : Option Item → Option Name
 item_name (Some (items.Name n)) = Some n
 item_name (Some (items.Attribute a)) = None
 item_name None = None
 
+-- the attribute of an item
 abbrev pub item_attribute : Option Item → Option Attribute
 item_attribute (Some (items.Attribute a)) = Some a
 item_attribute (Some (items.Name n)) = None
 item_attribute None = None
 
+-- the name of `item_of` is the grammar of names
 pub name-law : IsValueOf NameText (λ t. item_name (item_of t))
 name-law = record {
   found = λ t n h. rw (name-found t n h) refl;
@@ -410,6 +462,7 @@ name-law = record {
   told t n (Some (items.Attribute a)) e f = cc
   told t n None e f = cc
 
+-- the attribute of `item_of` is the grammar of attributes
 pub attribute-law : IsValueOf AttributeText (λ t. item_attribute (item_of t))
 attribute-law = record {
   found = λ t a h. rw (attribute-found t a h) refl;
@@ -426,6 +479,7 @@ reads_name t (Some (items.Name n)) h = h
 reads_name t (Some (items.Attribute a)) h = λ n p. not_both t n a p h
 reads_name t None h = λ n p. h (items.Name n) p
 
+-- the same of attributes
 pub reads_attribute : (t : List ℕ) (r : Option Item) → Reads ItemText t r → Reads AttributeText t (item_attribute r)
 reads_attribute t (Some (items.Attribute a)) h = h
 reads_attribute t (Some (items.Name n)) h = λ a p. not_both t n a h p

@@ -16,31 +16,37 @@ use Rattle.config_text.specs.Numerals.{place_sum}
 use Rattle.config_text.specs.OneOf.{OneOf}
 use Rattle.config_text.specs.Laws.OneOf.{all-one, OneOf-from_map, OneOf-map}
 use Rattle.config_text.specs.Value.{IsAccepted, IsRefused, IsTextOf, HasText}
-use Rattle.config_text.specs.Laws.Value.{decided_by, one_value_by}
+use Rattle.config_text.specs.Laws.Value.{IsShown, canonical_reads_by, decided_by, one_text_by, one_value_by}
 use Rattle.config_word.specs.Laws.Item.{name-law}
 
+-- a text is that of one name at most
 pub name_one_value : (t : List ℕ) (v w : Name) → NameText t v → NameText t w → v ≡ w
 name_one_value = one_value_by name-law
 
+-- each text is told to be that of a name, or of none
 pub name_decided : (t : List ℕ) → IsAccepted NameText t ⊎ IsRefused NameText t
 name_decided = decided_by name-law
 
 -- ---- decimal numbers
 
+-- what a decimal digit adds to the sum of its text
 weight : (c : ℕ) (cs : List ℕ) → IsInRange 48 57 c → place_sum (c ∷ cs) 10 ≡ (c - 48) * 10 ^ length cs + place_sum cs 10
 weight c cs h =
     let v : digit_value c ≡ c - 48 = grind (arith, nat_tests) in
     ap (λ x. x * 10 ^ length cs + place_sum cs 10) v
 
+-- decimal digits as std's lemmas on numerals take them
 numerals : IsNumeralModel (AllDigits 10) (λ ds. place_sum ds 10)
 numerals = numerals_by_weight (AllDigits 10) tells_digits (λ ds. place_sum ds 10) record { empty = refl; more = weight }
 
+-- a number is shown by digits whose sum it is
 decimal_text : (n : ℕ) → n ≤ 255 → IsNumeral 10 (decimal n) × (n ≡ place_sum (decimal n) 10)
 decimal_text n small =
     let fits : n < 2 ^ 64 = omega arith in
     let r = decimal_is_IsNumeral n fits in
     (r.0, sym (numerals.same (decimal n) r.0.1 ∙ r.1))
 
+-- a number is 0, or its digits do not begin with `0`
 first_byte : (n : ℕ) → n ≤ 255 → (n ≡ 0) ⊎ (48 < get_or (decimal n) 0 0)
 first_byte n small = told (n == 0) refl where
   told : (x : Bool) → (n == 0) ≡ x → (n ≡ 0) ⊎ (48 < get_or (decimal n) 0 0)
@@ -67,17 +73,21 @@ digits-shown d ds h all small =
     let v : digit_value d < 10 = grind (arith, nat_tests) in
     ((omega arith, (v, all)), sym (decimal-digits_value numerals (d ∷ ds) (v, all) (omega arith) (λ e. absurd (omega (arith, h.0, e))) (omega arith)))
 
+-- `0` is what 0 is shown as
 digits-of_nought : IsNumeral 10 (codes "0") × (0 ≡ place_sum (codes "0") 10) × (codes "0" ≡ decimal 0)
 digits-of_nought = ((lit< tt, (lit< tt, tt)), refl, sym (decimal_digit 0 (lit< tt)))
 
 -- ---- hexadecimal digits
 
+-- a lower-case digit is what its value is shown as
 lower_digit : (c : ℕ) → IsLowerHex c → (digit_value c < 16) × (digit_char (digit_value c) ≡ c)
 lower_digit c h = grind (arith, nat_tests)
 
+-- a value below 16 is shown by the lower-case digit that has it
 shown_digit : (n : ℕ) → n < 16 → IsLowerHex (digit_char n) × (digit_value (digit_char n) ≡ n)
 shown_digit n h = grind (arith, nat_tests)
 
+-- two lower-case digits are what their number is shown as
 hex_pair-back : (a b : ℕ) → IsLowerHex a → IsLowerHex b → hex_pair (16 * digit_value a + digit_value b) ≡ a ∷ b ∷ []
 hex_pair-back a b h k =
     let p = lower_digit a h in
@@ -86,9 +96,11 @@ hex_pair-back a b h k =
     let low : (16 * digit_value a + digit_value b) % 16 ≡ digit_value b = omega arith in
     rw (high, low, p.1, q.1) refl
 
+-- two lower-case digits write their number
 pair_of : (a b : ℕ) → IsLowerHex a → IsLowerHex b → HexPair a b (16 * digit_value a + digit_value b)
 pair_of a b h k = record { high_digit = (lower_digit a h).0; low_digit = (lower_digit b k).0; number = refl }
 
+-- a byte is shown by two digits that write it
 pair_shown : (n : ℕ) → n ≤ 255 → HexPair (digit_char (n / 16)) (digit_char (n % 16)) n
 pair_shown n small =
     let p = shown_digit (n / 16) (omega arith) in
@@ -97,44 +109,49 @@ pair_shown n small =
 
 -- ---- canonical texts
 
+-- the words of the canonical texts are what the words are shown as
 shown_words : map name_shown word_names ≡ lower_words
 unfolding word_names lower_words
 shown_words = refl
 
+-- six digits, in three pairs
 six : (a b c d e f : ℕ) (x y z : List ℕ) → x ≡ a ∷ b ∷ [] → y ≡ c ∷ d ∷ [] → z ≡ e ∷ f ∷ [] → 35 ∷ a ∷ b ∷ c ∷ d ∷ e ∷ f ∷ [] ≡ 35 ∷ x ++ y ++ z
 six a b c d e f x y z p q r = rw (p, q, r) refl
 
-abbrev IsShown : List ℕ → Type 0
-IsShown s = (v : Name) × NameText s v × (s ≡ name_shown v)
-
-rgb-shown : (ds : List ℕ) → length ds ≡ 6 → AllByRecursion IsLowerHex ds → IsShown (35 ∷ ds)
-rgb-shown (a ∷ b ∷ c ∷ d ∷ e ∷ f ∷ []) l h = (
-  names.Rgb (16 * digit_value a + digit_value b) (16 * digit_value c + digit_value d) (16 * digit_value e + digit_value f),
-  NameText.pairs a b c d e f _ _ _ refl (pair_of a b h.0 h.1.0) (pair_of c d h.1.1.0 h.1.1.1.0) (pair_of e f h.1.1.1.1.0 h.1.1.1.1.1.0) refl,
-  six a b c d e f _ _ _ (hex_pair-back a b h.0 h.1.0) (hex_pair-back c d h.1.1.0 h.1.1.1.0) (hex_pair-back e f h.1.1.1.1.0 h.1.1.1.1.1.0),
-)
+-- six lower-case digits are what their color is shown as
+rgb-shown : (ds : List ℕ) → length ds ≡ 6 → AllByRecursion IsLowerHex ds → IsShown NameText name_shown (codes "#" ++ ds)
+rgb-shown (a ∷ b ∷ c ∷ d ∷ e ∷ f ∷ []) l h = record {
+  value = names.Rgb (16 * digit_value a + digit_value b) (16 * digit_value c + digit_value d) (16 * digit_value e + digit_value f);
+  reads_to = NameText.pairs a b c d e f _ _ _ refl (pair_of a b h.0 h.1.0) (pair_of c d h.1.1.0 h.1.1.1.0) (pair_of e f h.1.1.1.1.0 h.1.1.1.1.1.0) refl;
+  same = six a b c d e f _ _ _ (hex_pair-back a b h.0 h.1.0) (hex_pair-back c d h.1.1.0 h.1.1.1.0) (hex_pair-back e f h.1.1.1.1.0 h.1.1.1.1.1.0);
+}
 rgb-shown _ l h = absurd (omega (arith, l))
 
-canonical-shown : (s : List ℕ) → CanonicalName s → IsShown s
+-- a canonical text is what its name is shown as
+canonical-shown : (s : List ℕ) → CanonicalName s → IsShown NameText name_shown s
 canonical-shown s (CanonicalName.word o) =
     let r : (n : Name) × OneOf word_names n × (s ≡ name_shown n) = OneOf-from_map name_shown word_names s (rw shown_words o) in
-    (r.0, NameText.word r.1 (ap (map to_ascii_lowercase) r.2), r.2)
+    record { value = r.0; reads_to = NameText.word r.1 (ap (map to_ascii_lowercase) r.2); same = r.2 }
 canonical-shown s (CanonicalName.nought e) =
-    let r = digits-of_nought in rw e (names.Ansi 0, NameText.palette (codes "0") 0 (inl refl) r.0 r.1 (lit≤ tt) refl, r.2)
+    let r = digits-of_nought in
+    rw e record { value = names.Ansi 0; reads_to = NameText.palette (codes "0") 0 (inl refl) r.0 r.1 (lit≤ tt) refl; same = r.2 }
 canonical-shown s (CanonicalName.palette d ds e h all small) =
     let small_sum : place_sum (d ∷ ds) 10 ≤ 255 = rw e at small in
     let r = digits-shown d ds h all small_sum in
-    rw e (names.Ansi (place_sum (d ∷ ds) 10), NameText.palette (d ∷ ds) (place_sum (d ∷ ds) 10) (inl refl) r.0 refl small_sum refl, r.1)
+    rw e record {
+      value = names.Ansi (place_sum (d ∷ ds) 10);
+      reads_to = NameText.palette (d ∷ ds) (place_sum (d ∷ ds) 10) (inl refl) r.0 refl small_sum refl;
+      same = r.1;
+    }
 canonical-shown s (CanonicalName.rgb ds e l h) = rw e (rgb-shown ds l h)
 
+-- a canonical text is that of a name
 pub name_canonical_reads : (t : List ℕ) → CanonicalName t → IsAccepted NameText t
-name_canonical_reads t c = let r = canonical-shown t c in (r.0, r.1)
+name_canonical_reads = canonical_reads_by canonical-shown
 
-canonical-is : (s : List ℕ) (v : Name) → CanonicalName s → NameText s v → s ≡ name_shown v
-canonical-is s v c h = let r = canonical-shown s c in r.2 ∙ ap name_shown (name_one_value s r.0 v r.1 h)
-
+-- a name has one canonical text at most
 pub name_one_text : (s t : List ℕ) (v : Name) → CanonicalName s → CanonicalName t → NameText s v → NameText t v → s ≡ t
-name_one_text s t v c d p q = canonical-is s v c p ∙ sym (canonical-is t v d q)
+name_one_text = one_text_by name_one_value canonical-shown
 
 -- ---- shown texts
 
@@ -142,6 +159,7 @@ name_one_text s t v c d p q = canonical-is s v c p ∙ sym (canonical-is t v d q
 abbrev NameKind : Name → Type 0
 NameKind v = OneOf word_names v ⊎ (((n : ℕ) × (v ≡ names.Ansi n)) ⊎ ((r g b : ℕ) × (v ≡ names.Rgb r g b)))
 
+-- which of the three a name is
 name_told : (v : Name) → NameKind v
 unfolding word_names
 name_told names.Normal = inl (inl refl)
@@ -165,28 +183,34 @@ name_told names.BrightWhite = inl (inr (inr (inr (inr (inr (inr (inr (inr (inr (
 name_told (names.Ansi n) = inr (inl (n, refl))
 name_told (names.Rgb r g b) = inr (inr (r, g, b, refl))
 
+-- a name without numbers
 abbrev is_word : Name → Bool
 is_word (names.Ansi n) = false
 is_word (names.Rgb r g b) = false
 is_word _ = true
 
+-- the words have no numbers
 words-are : list_all is_word word_names ≡ true
 unfolding word_names
 words-are = refl
 
+-- the words have at most 13 bytes
 words-short : list_all (λ v. nat_le (length (name_shown v)) 13) word_names ≡ true
 unfolding word_names
 words-short = refl
 
+-- what a name is shown as is a canonical text of it, of at most 13 bytes
 abbrev ShownWell : Name → Type 0
 ShownWell v = NameText (name_shown v) v × CanonicalName (name_shown v) × (length (name_shown v) ≤ 13)
 
+-- a palette number is shown well
 ansi-shown : (n : ℕ) → n ≤ 255 → ShownWell (names.Ansi n)
 ansi-shown n small =
     let r = decimal_text n small in
     let size : length (decimal n) ≤ 3 = length-decimal-le 3 n (lit< tt) (omega arith) (omega arith) in
     (NameText.palette (decimal n) n (inl refl) r.0 r.1 small refl, decimal-canonical n small, omega (arith, size))
 
+-- red, green and blue are shown well
 rgb-shown_well : (r g b : ℕ) → r ≤ 255 → g ≤ 255 → b ≤ 255 → ShownWell (names.Rgb r g b)
 rgb-shown_well r g b p q u =
     let x = pair_shown r p in
@@ -204,6 +228,7 @@ rgb-shown_well r g b p q u =
     ) in
     (NameText.pairs _ _ _ _ _ _ r g b refl x y z refl, CanonicalName.rgb (hex_pair r ++ hex_pair g ++ hex_pair b) refl refl hex, lit≤ tt)
 
+-- each name is shown well
 shown-well : (v : Name) → NameFits v → ShownWell v
 shown-well v fits = told (name_told v) fits where
   told : NameKind v → NameFits v → ShownWell v
@@ -219,11 +244,13 @@ shown-well v fits = told (name_told v) fits where
 pub name_short : (v : Name) → NameFits v → length (name_shown v) ≤ 13
 name_short v h = (shown-well v h).2
 
+-- a word has no number that could be too large
 word-fits : (v : Name) → is_word v ≡ true → NameFits v
 word-fits (names.Ansi n) h = cc
 word-fits (names.Rgb r g b) h = cc
 word-fits _ h = tt
 
+-- two hexadecimal digits write a byte
 pair-small : (a b n : ℕ) → HexPair a b n → n ≤ 255
 pair-small a b n h = omega (arith, h.high_digit, h.low_digit, h.number)
 
@@ -235,6 +262,7 @@ name_fits t v (NameText.palette ds k s h sum small f) = rw f small
 name_fits t v (NameText.pairs a b c d e f r g u is x y z w) = rw w (pair-small a b r x, pair-small c d g y, pair-small e f u z)
 name_fits t v (NameText.doubled a c e r g u is x y z w) = rw w (pair-small a a r x, pair-small c c g y, pair-small e e u z)
 
+-- what a name is shown as is its canonical text
 pub name_shown_is_text : (v : Name) → HasText NameText v → IsTextOf NameText CanonicalName v (name_shown v)
 name_shown_is_text v h =
     let s = shown-well v (name_fits h.0 v h.1) in

@@ -32,7 +32,8 @@ row_of e = (e.text.now, e.any_case, e.item)
 
 -- the 41 words
 abbrev pub word_table : List WordRow
-word_table = map name_row word_names ++ (codes "-1", false, items.Name names.Normal) ∷ flat_map attribute_rows attributes
+word_table =
+    map name_row word_names ++ (codes "-1", false, items.Name names.Normal) ∷ flat_map attribute_rows attributes
 
 -- whether the text is the row's word
 abbrev pub fits : WordRow → List ℕ → Bool
@@ -61,7 +62,8 @@ palette_of (d ∷ ds) = decimal_from (d ∷ ds) 0
 -- the number that two hexadecimal digits write
 abbrev pub hex_pair_of : ℕ → ℕ → Option ℕ
 hex_pair_of high low =
-    if nat_lt (digit_value high) 16 && nat_lt (digit_value low) 16 then Some (16 * digit_value high + digit_value low) else None
+    if nat_lt (digit_value high) 16 && nat_lt (digit_value low) 16
+    then Some (16 * digit_value high + digit_value low) else None
 
 -- the color of red, green and blue, where there are all three
 abbrev pub rgb_from : Option ℕ → Option ℕ → Option ℕ → Option Name

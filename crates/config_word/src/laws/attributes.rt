@@ -7,10 +7,12 @@ ghost use Rattle.config_text.specs.Value.{HasText, IsRefused};
 
 /// A set has a text exactly where one bit is set and that bit has a constant.
 pub fn one_known_bit()
-    ensures { (a : Attribute) → (HasText AttributeText a) ↔ ((bit : ℕ) × IsKnownBit bit × (a.0 ≡ 2 ^ bit)) }
+    ensures { (a : Attribute)
+        → (HasText AttributeText a) ↔ ((bit : ℕ) × IsKnownBit bit × (a.0 ≡ 2 ^ bit)) }
 {}
 
-/// Where two or more bits that have constants are set, what the set is shown as is no attribute text.
+/// Where two or more bits that have constants are set, what the set is shown as is no attribute
+/// text.
 pub fn several()
     ensures { (a : Attribute) (i j : ℕ) → i ≢ j → IsKnownBit i → IsKnownBit j
         → bit_at a.0 i ≡ 1 → bit_at a.0 j ≡ 1 → IsRefused AttributeText (attribute_shown a.0) }

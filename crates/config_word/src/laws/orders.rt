@@ -1,4 +1,5 @@
-//! What `==`, `cmp`, `partial_cmp` and hashes answer for names and sets of attributes, and what the default is.
+//! What `==`, `cmp`, `partial_cmp` and hashes answer for names and sets of attributes, and what the
+//! default is.
 ghost use Rattle.std.specs.Prelude.{◌≡◌};
 ghost use Rattle.config_text.specs.Orders.{HasOrder};
 ghost use Rattle.config_word.specs.declared.attribute.Attribute.{Attribute};
@@ -8,8 +9,8 @@ use crate::attribute::Attribute;
 use crate::name::Name;
 use std::hash::Hash;
 
-/// Sets of attributes are ordered by the number that their bits write, and equal ones hash equally; the
-/// default is the empty set.
+/// Sets of attributes are ordered by the number that their bits write, and equal ones hash equally;
+/// the default is the empty set.
 pub fn attribute_order()
     ensures order { HasOrder (◌≡◌) attribute_order
         ⟦<Attribute as PartialEq>⟧.eq ⟦<Attribute as Ord>⟧.cmp
@@ -17,8 +18,8 @@ pub fn attribute_order()
     ensures default { (a : Attribute) → ⟦<Attribute as Default>⟧.is_default a → a.0 ≡ 0 }
 {}
 
-/// Names are ordered by their places, the words before palette numbers and these before red, green and
-/// blue, and then by their numbers; equal names hash equally.
+/// Names are ordered by their places, the words before palette numbers and these before red, green
+/// and blue, and then by their numbers; equal names hash equally.
 pub fn name_order()
     ensures { HasOrder (◌≡◌) name_order
         ⟦<Name as PartialEq>⟧.eq ⟦<Name as Ord>⟧.cmp
