@@ -21,15 +21,20 @@ pub data Form : Type 0 where
   below_user : (name : List ℕ) → (rest : Option (List ℕ)) → Form
   other : Form
 
+-- `/`
+abbrev pub slash : ℕ
+slash = 47
+
 -- a text with no `/` in it
 abbrev pub IsOneName : List ℕ → Type 0
-IsOneName name = AllByRecursion (λ b. b ≢ 47) name
+IsOneName name = AllByRecursion (λ b. b ≢ slash) name
 
 -- a name alone, or a name, a `/` and the rest
 abbrev pub below : List ℕ → Option (List ℕ) → List ℕ
 below name None = name
-below name (Some rest) = name ++ 47 ∷ rest
+below name (Some rest) = name ++ codes "/" ++ rest
 
+-- what a value of each form is; each value has just one form
 abbrev pub HasForm : List ℕ → Form → Type 0
 HasForm value empty = value ≡ []
 HasForm value (below_prefix rest) = value ≡ codes "%(prefix)/" ++ rest
@@ -46,7 +51,7 @@ separator (c ∷ cs) = if ends_with nat_eq (c ∷ cs) (codes "/") then [] else c
 abbrev pub join : List ℕ → List ℕ → List ℕ
 join dir rest = if starts_with nat_eq rest (codes "/") then rest else dir ++ separator dir ++ rest
 
--- the text; want of memory is an answer too where the text is not empty
+-- the text, or out of memory, which is an answer only where the text is not empty
 abbrev pub GivesText : List ℕ → Result (String Global) Error → Type 0
 GivesText text (Ok s) = string_bytes s ≡ text
 GivesText text (Err (Memory e)) = text ≢ []
@@ -57,6 +62,7 @@ abbrev pub IsIllFormed : Place → List ℕ → Error → Type 0
 IsIllFormed place bytes (IllFormed at input) = (at ≡ place) × (input.now ≡ bytes)
 IsIllFormed place bytes _ = ⊥
 
+-- refused as ill-formed UTF-8 at this place
 abbrev pub RefusesBytes : Place → List ℕ → Result (String Global) Error → Type 0
 RefusesBytes place bytes (Err e) = IsIllFormed place bytes e
 RefusesBytes place bytes (Ok s) = ⊥
@@ -75,6 +81,7 @@ abbrev pub GivesBelowGiven : Error → Place → Option (List ℕ) → Option (L
 GivesBelowGiven missing place None rest r = r ≡ Err missing
 GivesBelowGiven missing place (Some dir) rest r = GivesBelow place dir rest r
 
+-- below the directory that the lookup answered, or no such user
 abbrev pub GivesAnswered : Option (List ℕ) → Option (List ℕ) → Result (String Global) Error → Type 0
 GivesAnswered None rest r = r ≡ Err UserNotFound
 GivesAnswered (Some dir) rest r = GivesBelow PastUser dir rest r
@@ -89,7 +96,7 @@ GivesBelowUser answers (Some f) name rest r =
 abbrev pub GivesValue : List ℕ → Result (String Global) Error → Type 0
 GivesValue value r = WhereUtf8 Whole value (GivesText value r) r
 
--- the path table, by the form of the value; in each form the rows are tried in order
+-- the path table: what a value of this form gives
 abbrev pub Gives : {F : Type 0} → (F → List ℕ → Option (List ℕ) → Type 0) → Context F → List ℕ → Form → Result (String Global) Error → Type 0
 Gives answers context value empty r = r ≡ Err PathMissing
 Gives answers context value (below_prefix rest) r = GivesBelowGiven InstallDirMissing PastPrefix (option_copied context.git_install_dir) (Some rest) r

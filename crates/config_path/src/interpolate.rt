@@ -2,13 +2,16 @@
 ghost use Rattle.std.specs.Prelude.{◌≡◌, ◌≢◌, ◌≤◌, ◌<◌, ◌++◌, ℕ, List, [], ◌∷◌, length, Option, None, Some, IsUtf8, MatchOption, MatchResult, IfSome, option_copied, string_bytes};
 ghost use Rattle.std.specs.Option.{ForSome};
 ghost use Rattle.config_path.specs.Interpolation.{Interpolated, LooksUp, IsOneName, below, join, IsIllFormed, GivesBelow, GivesBelowGiven, GivesBelowUser, GivesValue, place_shown, class_of};
-ghost use Rattle.config_path.specs.Passwd.{pieces, home_of_fields, home_in};
+ghost use Rattle.config_path.specs.Passwd.{colon, pieces, home_of_fields, home_in};
 
 use crate::path::past;
 use bstr::ByteSlice;
 use std::alloc::{AllocError, Global};
 use std::fmt;
 use thiserror::Error as ThisError;
+
+/// What a value begins with where it refers to the install directory.
+const PREFIX: &[u8] = b"%(prefix)/";
 
 /// What a path value may refer to.
 #[derive(Clone, Copy)]
@@ -17,11 +20,11 @@ pub struct Context<'a, F> {
     pub git_install_dir: Option<&'a str>,
     /// The home directory of the current user, for `~`.
     pub home_dir: Option<&'a str>,
-    /// What answers the home directory of the user of a name, for `~user`.
+    /// The home directory of a user by name, for `~user`.
     pub home_for_user: Option<F>,
 }
 
-/// Which part of a path value is no UTF-8.
+/// Which part of a path value is not UTF-8.
 #[derive(Clone, Copy, PartialEq, Eq, Debug)]
 pub enum Place {
     /// What follows `%(prefix)/`.
@@ -43,7 +46,7 @@ pub enum Class {
     NotFound,
     /// The value itself is at fault.
     Validation,
-    /// Memory was refused.
+    /// Out of memory.
     Memory,
 }
 
@@ -65,7 +68,7 @@ pub enum Error<'p> {
     /// The lookup knows no user of the name.
     #[error("pwd user info is missing")]
     UserNotFound,
-    /// A part of the value is no UTF-8.
+    /// A part of the value is not UTF-8.
     #[error("Ill-formed UTF-8 in {place}")]
     IllFormed {
         /// Which part.
@@ -73,7 +76,7 @@ pub enum Error<'p> {
         /// The bytes of that part.
         input: &'p [u8],
     },
-    /// Memory for the result was refused.
+    /// Out of memory for the result.
     #[error("no memory")]
     Memory(AllocError),
 }
@@ -109,8 +112,8 @@ impl Error<'_> {
     }
 }
 
-/// No lookup, for a `Context` that is written out. The closure is dropped and never called: it only
-/// names the type of the lookup, as in `absent(|_name: &str| None)`.
+/// No lookup, for a `Context` that is written out: `absent(|_name: &str| None)`. The closure only
+/// names the type of the lookup. It is dropped and never called.
 pub fn absent<'a, F>(lookup: F) -> Option<F>
 where
     F: FnOnce(&str) -> Option<&'a str> + Drop,
@@ -121,7 +124,9 @@ where
 }
 
 impl<'a, F> Default for Context<'a, F> {
-    ghost is_default = { λ context. (context.git_install_dir ≡ None) × (context.home_dir ≡ None) × (context.home_for_user ≡ None) };
+    ghost is_default = { λ context. (context.git_install_dir ≡ None)
+        × (context.home_dir ≡ None)
+        × (context.home_for_user ≡ None) };
 
     /// No directory and no lookup.
     fn default() -> Context<'a, F> {
@@ -133,9 +138,11 @@ impl<'a, F> Default for Context<'a, F> {
     }
 }
 
-/// The bytes as text. The error is `IllFormed`, with the place and all the bytes.
+/// The bytes as text. Fails with `IllFormed`, which holds the place and all the bytes.
 fn text_at<'p>(place: Place, bytes: &'p [u8]) -> Result<&'p str, Error<'p>>
-    ensures { MatchResult result (λ text. (text.now ≡ bytes.now) × IsUtf8 bytes.now) (λ e. ¬ (IsUtf8 bytes.now) × IsIllFormed place bytes.now e) }
+    ensures { MatchResult result
+        (λ text. (text.now ≡ bytes.now) × IsUtf8 bytes.now)
+        (λ e. ¬ (IsUtf8 bytes.now) × IsIllFormed place bytes.now e) }
 {
     match str::from_utf8(bytes) {
         Ok(text) => Ok(text),
@@ -146,10 +153,13 @@ fn text_at<'p>(place: Place, bytes: &'p [u8]) -> Result<&'p str, Error<'p>>
     }
 }
 
-/// Three texts as one, in memory that is asked for once. The error comes only where they are not all empty.
+/// Three texts as one, in one allocation. Fails only if memory runs out, and never where all three
+/// are empty.
 fn concatenated(alloc: Global, first: &str, second: &str, third: &str) -> Result<String, AllocError>
     requires { length second.now ≤ 1 }
-    ensures { MatchResult result (λ whole. string_bytes whole ≡ first.now ++ second.now ++ third.now) (λ _. first.now ++ second.now ++ third.now ≢ []) }
+    ensures { MatchResult result
+        (λ whole. string_bytes whole ≡ first.now ++ second.now ++ third.now)
+        (λ _. first.now ++ second.now ++ third.now ≢ []) }
 {
     let mut whole = String::with_capacity(alloc, first.len() + second.len() + third.len())?;
     whole.push_str(first)?;
@@ -158,9 +168,12 @@ fn concatenated(alloc: Global, first: &str, second: &str, third: &str) -> Result
     Ok(whole)
 }
 
-/// A directory and a rest as one path.
+/// A directory and a rest as one path. Fails only if memory runs out, and never where that path is
+/// empty.
 fn joined(alloc: Global, dir: &str, rest: &str) -> Result<String, AllocError>
-    ensures { MatchResult result (λ path. string_bytes path ≡ join dir.now rest.now) (λ _. join dir.now rest.now ≢ []) }
+    ensures { MatchResult result
+        (λ path. string_bytes path ≡ join dir.now rest.now)
+        (λ _. join dir.now rest.now ≢ []) }
 {
     if rest.as_bytes().starts_with(b"/") {
         return concatenated(alloc, "", "", rest);
@@ -181,8 +194,8 @@ fn answer<'p>(text: Result<String, AllocError>) -> Result<String, Error<'p>>
     }
 }
 
-/// The directory, or the directory and the rest joined. The error is `IllFormed` at the place, where
-/// the rest is no UTF-8, or `Memory`.
+/// The directory, or the directory and the rest joined. Fails with `IllFormed` at the place where
+/// the rest is not UTF-8, and else only with `Memory`.
 fn below_dir<'p>(
     alloc: Global,
     place: Place,
@@ -197,7 +210,7 @@ fn below_dir<'p>(
     }
 }
 
-/// The same below a directory that may be missing: then the error is `missing`.
+/// The same below a directory that may be missing: then it fails with `missing`.
 fn below_given<'p>(
     alloc: Global,
     missing: Error<'p>,
@@ -205,7 +218,8 @@ fn below_given<'p>(
     dir: Option<&str>,
     rest: Option<&'p [u8]>,
 ) -> Result<String, Error<'p>>
-    ensures { GivesBelowGiven missing.entry place (option_copied dir.entry) (option_copied rest.entry) result }
+    ensures { GivesBelowGiven missing.entry place (option_copied dir.entry)
+        (option_copied rest.entry) result }
 {
     match dir {
         None => Err(missing),
@@ -223,7 +237,8 @@ fn below_user<'p, 'a, F>(
 where
     F: FnOnce(&str) -> Option<&'a str> + Drop,
     requires { ForSome lookup (λ f. (name : _) → IsUtf8 name.now → F.pre f name) }
-    ensures { GivesBelowUser (LooksUp F.FnOnce) lookup name.now (option_copied rest.entry) result }
+    ensures { GivesBelowUser (LooksUp F.FnOnce) lookup name.now
+        (option_copied rest.entry) result }
 {
     let Some(lookup) = lookup else {
         return Err(Error::LookupMissing);
@@ -246,14 +261,14 @@ fn name_and_rest(path: &[u8]) -> (&[u8], Option<&[u8]>)
     }
 }
 
-/// The value, where it refers to nothing. The error is `IllFormed` or `Memory`.
+/// The value itself. Fails with `IllFormed` where it is not UTF-8, and else only with `Memory`.
 fn unchanged<'p>(alloc: Global, value: &'p [u8]) -> Result<String, Error<'p>>
     ensures { GivesValue value.now result }
 {
     answer(concatenated(alloc, text_at(Place::Whole, value)?, "", ""))
 }
 
-/// The value with what it refers to.
+/// The value with what it refers to: what `Path::interpolate` answers for a path of these bytes.
 pub(crate) fn interpolated<'p, 'a, F>(
     alloc: Global,
     value: &'p [u8],
@@ -272,7 +287,7 @@ where
     if value.is_empty() {
         return Err(Error::PathMissing);
     }
-    if let Some(rest) = past(value, b"%(prefix)/") {
+    if let Some(rest) = past(value, PREFIX) {
         return below_given(
             alloc,
             Error::InstallDirMissing,
@@ -291,10 +306,13 @@ where
     below_user(alloc, home_for_user, name, rest)
 }
 
-/// The piece before the first separator and what follows it, or `None` where no separator stands in the text.
+/// The piece before the first separator and what follows it, or `None` where the text holds no
+/// separator.
 fn split_piece<'a>(text: &'a str, separator: char) -> Option<(&'a str, &'a str)>
     requires { separator < 128 }
-    ensures cut { MatchOption result (pieces separator text.now ≡ text.now ∷ []) (λ cut. pieces separator text.now ≡ cut.0.now ∷ pieces separator cut.1.now) }
+    ensures cut { MatchOption result
+        (pieces separator text.now ≡ text.now ∷ [])
+        (λ cut. pieces separator text.now ≡ cut.0.now ∷ pieces separator cut.1.now) }
     ensures shorter { IfSome result (λ cut. length cut.1.now < length text.now) }
 {
     text.split_once(separator)
@@ -302,7 +320,7 @@ fn split_piece<'a>(text: &'a str, separator: char) -> Option<(&'a str, &'a str)>
 
 /// The home directory in one line, where it has seven fields and is that of the user.
 fn home_in_line<'a>(line: &'a str, name: &str) -> Option<&'a str>
-    ensures { option_copied result ≡ home_of_fields name.now (pieces 58 line.now) }
+    ensures { option_copied result ≡ home_of_fields name.now (pieces colon line.now) }
 {
     let (user, rest) = split_piece(line, ':')?;
     let (_password, rest) = split_piece(rest, ':')?;
@@ -316,10 +334,12 @@ fn home_in_line<'a>(line: &'a str, name: &str) -> Option<&'a str>
     }
 }
 
-/// The home directory of the user of that name, as a passwd text has it: the sixth field of the first
-/// line of exactly seven fields whose first is the name. Lines end at LF, a CR is part of its field,
-/// the last line may lack its LF, and there are no comments. `None` where no line fits, and for a
-/// name that holds a NUL.
+/// The home directory of the user of that name in a passwd text: the sixth field of the first line of
+/// exactly seven fields whose first field is the name. `None` where no line fits, and for a name that
+/// holds a NUL.
+///
+/// Fields are separated by `:`. Lines end at LF, the last line may lack its LF, a CR is part of its
+/// field, and there are no comments.
 pub fn home_for_user<'a>(passwd: &'a str, name: &str) -> Option<&'a str>
     ensures { option_copied result ≡ home_in passwd.now name.now }
 {

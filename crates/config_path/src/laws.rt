@@ -1,3 +1,3 @@
-//! Laws over the definitions, each the contract of a function that does nothing.
+//! Laws of paths, each the contract of a function that does nothing.
 
 pub mod paths;

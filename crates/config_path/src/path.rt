@@ -1,4 +1,4 @@
-//! Paths that may be marked as optional.
+//! Path values, which may be marked as optional.
 ghost use Rattle.std.specs.Prelude.{◌≡◌, ◌≢◌, ◌++◌, ℕ, List, IsUtf8, MatchOption, IsOk, IfOk};
 ghost use Rattle.std.specs.Option.{ForSome};
 ghost use Rattle.std.specs.Cow.{cow_slice_items, IsOwnedSlice};
@@ -12,6 +12,9 @@ use bstr::{BStr, BString};
 use std::alloc::{AllocError, Global};
 use std::borrow::CowSlice;
 
+/// The mark of an optional path.
+const MARK: &[u8] = b":(optional)";
+
 /// A path, and whether it may be missing.
 #[derive(PartialEq, Eq, PartialOrd, Ord, Hash, Debug, Drop)]
 pub struct Path {
@@ -21,9 +24,11 @@ pub struct Path {
     pub is_optional: bool,
 }
 
-/// What follows the front, where the bytes begin with it.
+/// What follows the front, or `None` where the bytes do not begin with it.
 pub(crate) fn past<'a>(bytes: &'a [u8], front: &[u8]) -> Option<&'a [u8]>
-    ensures { MatchOption result ((rest : List ℕ) → bytes.now ≢ front.now ++ rest) (λ rest. bytes.now ≡ front.now ++ rest.now) }
+    ensures { MatchOption result
+        ((rest : List ℕ) → bytes.now ≢ front.now ++ rest)
+        (λ rest. bytes.now ≡ front.now ++ rest.now) }
 {
     bytes.strip_prefix(front)
 }
@@ -31,11 +36,13 @@ pub(crate) fn past<'a>(bytes: &'a [u8], front: &[u8]) -> Option<&'a [u8]>
 impl From<BString> for Path {
     ghost from_gives = { λ value path. IsPathOf (bstring_bytes value) path };
 
+    /// The path of these bytes. One leading `:(optional)` is cut off and makes the path optional. A
+    /// second one is part of the path. The memory of the bytes is used as it is.
     fn from(value: BString) -> Path {
         let mut bytes = value.into_vec();
-        let is_optional = past(&bytes, b":(optional)").is_some();
+        let is_optional = past(&bytes, MARK).is_some();
         if is_optional {
-            bytes.drain(..11);
+            bytes.drain(..MARK.len());
         }
         Path {
             value: BString::new(bytes),
@@ -45,22 +52,25 @@ impl From<BString> for Path {
 }
 
 impl Path {
-    /// The path of a text, copied. The error is want of memory.
+    /// The path of a text, copied. One leading `:(optional)` is cut off, as by `From<BString>`. Fails
+    /// only if memory runs out.
     pub fn from_text(alloc: Global, value: &str) -> Result<Path, AllocError>
         ensures { IfOk result (IsPathOf value.now) }
     {
         Path::from_bstr(alloc, BStr::from(value))
     }
 
-    /// The path of a byte string, copied. The error is want of memory.
+    /// The path of a byte string, copied. One leading `:(optional)` is cut off, as by
+    /// `From<BString>`. Fails only if memory runs out.
     pub fn from_bstr(alloc: Global, value: BStr<'_>) -> Result<Path, AllocError>
         ensures { IfOk result (IsPathOf (bstr_bytes value.entry)) }
     {
         Ok(Path::from(BString::from_slice(alloc, value)?))
     }
 
-    /// The path of bytes that are borrowed or owned. Owned bytes are used as they are, and take no
-    /// memory; for borrowed ones the error is want of memory.
+    /// The path of bytes that are borrowed or owned. One leading `:(optional)` is cut off, as by
+    /// `From<BString>`. Owned bytes are used as they are, and never fail; borrowed ones are copied,
+    /// which fails only if memory runs out.
     pub fn from_cow(alloc: Global, value: CowSlice<'_, u8>) -> Result<Path, AllocError>
         ensures path { IfOk result (IsPathOf (cow_slice_items value.entry)) }
         ensures owned { IsOwnedSlice value.entry → IsOk result }
@@ -68,7 +78,7 @@ impl Path {
         Ok(Path::from(BString::new(value.into_owned(alloc)?)))
     }
 
-    /// An equal path. The error is want of memory.
+    /// An equal path. Fails only if memory runs out.
     pub fn clone(&self, alloc: Global) -> Result<Path, AllocError>
         ensures { IfOk result (IsEqualPath self.now) }
     {
@@ -96,13 +106,17 @@ impl Path {
     /// home directory, and `~user` for what the lookup answers for that name. A rest that begins with
     /// `/` is the whole result. Any other value is answered unchanged.
     ///
-    /// The mark is not looked at. The lookup is called at most once, with the user's name, and has to
-    /// take every text. Memory is asked for once, for the whole result, and not for an empty one.
+    /// Whether the path is optional makes no difference. The lookup is called at most once, with the
+    /// user's name, and must be callable with any text. The result takes one allocation, and none
+    /// where it is empty.
     ///
-    /// Errors: `PathMissing` for the empty value; `InstallDirMissing`, `HomeMissing` and
-    /// `LookupMissing` where the value needs what the context lacks; `UserNotFound` where the lookup
-    /// answers `None`; `IllFormed` where the rest, the name or, in any other value, the whole is no
-    /// UTF-8, with those bytes; and `Memory`.
+    /// Errors:
+    /// - `PathMissing`: the path is empty.
+    /// - `InstallDirMissing`, `HomeMissing`, `LookupMissing`: the path needs what the context lacks.
+    /// - `UserNotFound`: the lookup answers `None`.
+    /// - `IllFormed`: the rest, the name or, in any other value, the whole is not UTF-8. The error
+    ///   lends those bytes.
+    /// - `Memory`: out of memory.
     #[tactic(auto, using(crate::specs::Laws::Interpolation::at_form))]
     pub fn interpolate<'p, 'a, F>(
         &'p self,
@@ -112,8 +126,10 @@ impl Path {
     where
         F: FnOnce(&str) -> Option<&'a str> + Drop,
         requires { ForSome context.home_for_user (λ f. (name : _) → IsUtf8 name.now → F.pre f name) }
-        ensures answer { Interpolated (LooksUp F.FnOnce) context.entry (bstring_bytes self.now.value) result }
-        ensures at_form { (form : Form) → HasForm (bstring_bytes self.now.value) form → Gives (LooksUp F.FnOnce) context.entry (bstring_bytes self.now.value) form result }
+        ensures answer { Interpolated (LooksUp F.FnOnce) context.entry
+            (bstring_bytes self.now.value) result }
+        ensures at_form { (form : Form) → HasForm (bstring_bytes self.now.value) form
+            → Gives (LooksUp F.FnOnce) context.entry (bstring_bytes self.now.value) form result }
     {
         interpolate::interpolated(alloc, self.as_bytes(), context)
     }
