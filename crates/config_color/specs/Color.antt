@@ -1,14 +1,20 @@
 -- Colors: a foreground, a background and a set of attributes.
 use Rattle.std.specs.Prelude.{◌≡◌, ℕ, ◌≤◌, ◌⊎◌, List, [], ◌∷◌, ◌++◌, length, zero, suc, Option, None, Some}
 use Rattle.std.specs.Bool.{⊤}
-use Rattle.std.specs.Int.RustNames.{bit_and, bit_or}
+use Rattle.std.specs.Int.{bit_at}
+use Rattle.std.specs.Int.RustNames.{bit_or}
 use Rattle.std.specs.List.{AllByRecursion, join_with_byte}
 use Rattle.config_color.specs.declared.color.Color.{Color}
 use Rattle.config_word.specs.declared.attribute.Attribute.{Attribute}
 use Rattle.config_word.specs.declared.name.Name.{Name}
-use Rattle.config_word.specs.Attribute.{AttributeText, attribute_shown, rising_words}
+use Rattle.config_text.specs.Bytes.{space}
+use Rattle.config_word.specs.Attribute.{AttributeText, IsKnownBit, attribute_shown, rising_words}
 use Rattle.config_word.specs.Name.{NameText, CanonicalName, NameFits, name_shown}
 use Rattle.config_color.specs.Split.{words}
+
+-- the color of no word: no names and no attributes
+abbrev pub no_color : Color
+no_color = record { foreground = None; background = None; attributes = record { 0 = 0 } }
 
 -- each word is a name text or an attribute text: the names that the words have, in order, and the union of the
 -- attributes' bits
@@ -32,19 +38,19 @@ pub record ColorText (t : List ℕ) (c : Color) : Type 0 where
   pub read : WordsRead (words t) names c.attributes.0
   pub placed : Placed names c.foreground c.background
 
--- the text of a name that is there
+-- the text of a name, if there is one
 abbrev pub part_shown : Option Name → List (List ℕ)
 part_shown None = []
 part_shown (Some n) = name_shown n ∷ []
 
--- the text of the attributes, where some bit is set
+-- the text of the attributes, if some bit is set
 abbrev pub set_shown : ℕ → List (List ℕ)
 set_shown zero = []
 set_shown (suc n) = attribute_shown (suc n) ∷ []
 
--- how a color is shown: foreground, background and attributes, those that are there, with one space between
+-- how a color is shown: those of foreground, background and attributes that there are, with one space between
 abbrev pub color_shown : Color → List ℕ
-color_shown c = join_with_byte 32 ((part_shown c.foreground ++ part_shown c.background) ++ set_shown c.attributes.0)
+color_shown c = join_with_byte space ((part_shown c.foreground ++ part_shown c.background) ++ set_shown c.attributes.0)
 
 -- some of the rows, in their order, each at most once
 abbrev pub Chosen : List (List ℕ) → List (List ℕ) → Type 0
@@ -52,12 +58,6 @@ Chosen [] [] = ⊤
 Chosen [] (w ∷ ws) = ⊥
 Chosen (row ∷ rows) [] = ⊤
 Chosen (row ∷ rows) (w ∷ ws) = ((w ≡ row) × Chosen rows ws) ⊎ Chosen rows (w ∷ ws)
-
--- the words with one space between
-abbrev pub spaced_out : List (List ℕ) → List ℕ
-spaced_out [] = []
-spaced_out (w ∷ []) = w
-spaced_out (w ∷ v ∷ ws) = w ++ 32 ∷ spaced_out (v ∷ ws)
 
 -- the canonical texts: at most two canonical names, then some of the attributes' words by rising bit, each at
 -- most once, with one space between
@@ -67,13 +67,13 @@ pub record CanonicalColor (t : List ℕ) : Type 0 where
   pub at_most_two : length names ≤ 2
   pub named : AllByRecursion CanonicalName names
   pub chosen : Chosen rising_words words
-  pub spelled : t ≡ spaced_out (names ++ words)
+  pub spelled : t ≡ join_with_byte space (names ++ words)
 
--- the numbers of a name that is there are bytes
+-- the numbers of a name, if there is one, are bytes
 abbrev pub PartFits : Option Name → Type 0
 PartFits None = ⊤
 PartFits (Some n) = NameFits n
 
--- no bit is set but 1 to 8 and 21 to 27, which are those that have a constant
+-- each bit that is set has a constant
 abbrev pub AreKnown : ℕ → Type 0
-AreKnown bits = bit_and bits 266338814 ≡ bits
+AreKnown bits = (bit : ℕ) → bit_at bits bit ≡ 1 → IsKnownBit bit

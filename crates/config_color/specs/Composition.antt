@@ -1,5 +1,6 @@
 -- The composition of two colors, and what it says of joined texts and of texts that mean the same.
-use Rattle.std.specs.Prelude.{◌≡◌, ℕ, ◌<◌, ◌↔◌, List, [], ◌∷◌, ◌++◌, length, Option, None, Some, Bool, IsTrue, MatchOption}
+use Rattle.std.specs.Prelude.{◌≡◌, ℕ, ◌<◌, ◌↔◌, List, ◌++◌, length, Option, None, Some, Bool, IsTrue, MatchOption}
+use Rattle.std.specs.Option.{option_to_list}
 use Rattle.std.specs.Int.RustNames.{bit_or}
 use Rattle.arrayvec.specs.ArrayString.{ArrayString}
 use Rattle.config_color.specs.declared.color.Color.{Color}
@@ -9,14 +10,9 @@ use Rattle.config_color.specs.Space.{Space}
 use Rattle.config_text.specs.Value.{HasText, IsTextOf}
 use Rattle.config_color.specs.Split.{words}
 
--- the name, where it is there
-abbrev pub named : Option Name → List Name
-named None = []
-named (Some n) = n ∷ []
-
--- a color's names: its foreground, then its background, each where it is there
+-- a color's names: its foreground, then its background, those that there are
 abbrev pub color_words : Color → List Name
-color_words c = named c.foreground ++ named c.background
+color_words c = option_to_list c.foreground ++ option_to_list c.background
 
 -- the composition: the names of a and then those of b are placed anew, and the attributes are united
 pub record Composition (a b c : Color) : Type 0 where

@@ -3,29 +3,29 @@
 -- Where no spelling of white space stands in the text, its words are the text itself, or none where it is
 -- empty. Otherwise it is cut at the last place at which one stands: its words are those of what stands before
 -- that spelling, and then what follows it, where that is not empty.
-use Rattle.std.specs.Prelude.{ℕ, zero, suc, ◌==◌, cond, List, [], ◌∷◌, ◌++◌, length, Option, None, Some}
-use Rattle.config_color.specs.Space.{spellings}
+use Rattle.std.specs.Prelude.{◌≡◌, ℕ, zero, suc, ◌<◌, ◌==◌, List, [], ◌∷◌, ◌++◌, length, drop, Option, None, Some, if◌then◌else◌}
+use Rattle.std.specs.Option.{option_or}
+use Rattle.config_color.specs.Space.{spellings, Space}
 
 -- what follows `front`, where the text begins with it
 abbrev pub after : List ℕ → List ℕ → Option (List ℕ)
 after [] text = Some text
 after (x ∷ front) [] = None
-after (x ∷ front) (y ∷ text) = cond (x == y) (after front text) None
-
--- the first answer, else the second
-abbrev pub or_else : Option (List ℕ) → Option (List ℕ) → Option (List ℕ)
-or_else None b = b
-or_else (Some r) b = Some r
+after (x ∷ front) (y ∷ text) = if x == y then after front text else None
 
 -- what follows the first of these rows with which the text begins
 abbrev pub after_one : List (List ℕ) → List ℕ → Option (List ℕ)
 after_one [] text = None
-after_one (row ∷ rows) text = or_else (after row text) (after_one rows text)
+after_one (row ∷ rows) text = option_or (after row text) (after_one rows text)
 
 -- what follows the spelling of white space with which the text begins
 unfoldable pub after_space : List ℕ → Option (List ℕ)
 unfolding spellings
 after_space text = after_one spellings text
+
+-- no spelling of white space stands at the first n places of the text
+abbrev pub IsWithoutSpace : List ℕ → ℕ → Type 0
+IsWithoutSpace text n = (k : ℕ) → k < n → (space rest : List ℕ) → Space space → ¬ (drop k text ≡ space ++ rest)
 
 -- a cut of a text: what stands before a spelling, and what follows it
 abbrev pub Cut : Type 0

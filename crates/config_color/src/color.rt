@@ -1,25 +1,25 @@
-//! Color names, attributes and colors.
-ghost use Rattle.std.specs.Prelude.{◌↔◌, IsTrue, ◌≡◌, ◌+◌, ◌<◌, ◌≤◌, Option, Some, None, length, slice_range};
+//! Colors: what text is drawn with, read from a text and shown as one.
+ghost use Rattle.std.specs.Prelude.{◌↔◌, IsTrue, ◌≡◌, ◌+◌, ◌<◌, ◌≤◌, Some, length, slice_range};
 ghost use Rattle.std.specs.Cow.{cow_slice_items};
 ghost use Rattle.bstr.specs.BStr.{bstr_bytes};
 ghost use Rattle.bstr.specs.Owned.{bstring_bytes};
 ghost use Rattle.config_text.specs.declared.errors.Fault.TheVariants as faults;
-ghost use Rattle.config_color.specs.Color.{ColorText, CanonicalColor, PartFits, color_shown};
+ghost use Rattle.config_color.specs.Color.{ColorText, CanonicalColor, PartFits, color_shown, no_color};
 ghost use Rattle.config_color.specs.Laws.Color.{color_one_value, color_decided};
-ghost use Rattle.config_color.specs.Reading.Color.{no_color, next_name, with_item, read_from, names_shown};
+ghost use Rattle.config_color.specs.Reading.Color.{next_name, with_item, read_from, names_shown};
 ghost use Rattle.config_color.specs.Laws.ColorShown.{color_equal, color_canonical_reads, color_one_text, color_shown_is_text};
 ghost use Rattle.std.proofs.Common.{rules};
-ghost use Rattle.config_text.specs.Refusals.{ReadsBytes, ReadsText, ReadsOwned};
+ghost use Rattle.config_text.specs.Refusals.{Always, ReadsBytes, ReadsText, ReadsOwned};
 ghost use Rattle.config_color.specs.Space.{Space};
 ghost use Rattle.config_text.specs.Value.{HasText, Reads};
-ghost use Rattle.config_color.specs.Split.{piece};
-ghost use Rattle.config_color.specs.Laws.Split.{IsWithoutSpace};
+ghost use Rattle.config_color.specs.Split.{IsWithoutSpace, piece};
 
 use crate::space::space_at;
 use arrayvec::ArrayString;
 use bitflags::Flags;
 use bstr::{BStr, BString};
 use config_text::errors::{Error, Fault, Returned};
+use config_text::readers::{TryRead, read_bytes, read_cow, read_owned, read_text};
 use config_text::value::Value;
 use config_word::attribute::Attribute;
 use config_word::item::{Item, word};
@@ -27,12 +27,12 @@ use config_word::name::{Name, numbers_fit};
 use std::borrow::CowSlice;
 use std::fmt;
 
-/// A color: the two that text is drawn in, and its attributes.
+/// What text is drawn with: a foreground, a background and attributes.
 #[derive(Clone, Copy, PartialEq, Eq, PartialOrd, Ord, Hash, Debug)]
 pub struct Color {
-    /// The color of the text, where one is named.
+    /// The color of the text, if one is named.
     pub foreground: Option<Name>,
-    /// The color behind the text, where one is named.
+    /// The color behind the text, if one is named.
     pub background: Option<Name>,
     /// The attributes.
     pub attributes: Attribute,
@@ -52,9 +52,11 @@ impl Default for Color {
 }
 
 impl Color {
-    /// This color with one more name: the foreground, else the background. `None` where both are there.
+    /// This color with one more name: as its foreground, or else as its background. `None` where it
+    /// has both.
     fn with_name(self, name: Name) -> Option<Color>
-        ensures { result ≡ next_name self.foreground self.background self.attributes.0 name }
+        ensures { result
+            ≡ next_name self.foreground self.background self.attributes.0 name }
     {
         match (self.foreground, self.background) {
             (None, _) => Some(Color {
@@ -82,7 +84,8 @@ impl Color {
         }
     }
 
-    /// This color with the item of one more word, where the word is not empty. `None` where it is no word.
+    /// This color with the item that a word stands for, or as it is where the word is empty. `None`
+    /// where the word stands for nothing, or for a third name.
     fn with_word(self, text: &[u8]) -> Option<Color>
         ensures { result ≡ read_from self (piece text.now) }
     {
@@ -93,7 +96,7 @@ impl Color {
     }
 }
 
-/// The numbers of a name that is there are bytes.
+/// Does nothing: what it ensures is used by the proof of `is_readable`.
 fn part_fits(part: Option<Name>)
     ensures { PartFits part }
 {
@@ -103,7 +106,7 @@ fn part_fits(part: Option<Name>)
 }
 
 impl Color {
-    /// The names as they are shown, with one space between.
+    /// The names as they are shown, with one space between them.
     #[tactic(auto, using(config_word::specs::Laws::Name::name_short))]
     fn names_shown(&self) -> ArrayString<127>
         ensures text { result.bytes ≡ names_shown self.now.foreground self.now.background }
@@ -126,8 +129,8 @@ impl Color {
         }
     }
 
-    /// Whether some text reads to this color: all set bits have a constant, and a background stands only beside a
-    /// foreground.
+    /// Whether some text reads to this color: each set bit has a constant, and a background stands
+    /// only beside a foreground.
     fn is_readable(&self) -> bool
         ensures { IsTrue result ↔ (HasText ColorText self.now) }
     {
@@ -166,7 +169,8 @@ struct FirstWord {
 fn first_word(text: &[u8]) -> FirstWord
     ensures clear { IsWithoutSpace text.now result.length }
     ensures within { result.length + result.space ≤ length text.now }
-    ensures parted { 0 < result.space → Space (slice_range text.now result.length (result.length + result.space)) }
+    ensures parted { 0 < result.space
+        → Space (slice_range text.now result.length (result.length + result.space)) }
     ensures last { result.space ≡ 0 → result.length ≡ length text.now }
 {
     for at in 0..text.len() {
@@ -198,71 +202,58 @@ fn color_of(input: &[u8]) -> Option<Color>
     }
 }
 
+impl TryRead for Color {
+    ghost refusal = { Always faults.Color };
+
+    /// The color of the text, or `Fault::Color` where it is no color text.
+    fn try_read(text: &[u8]) -> Result<Color, Fault> {
+        color_of(text).ok_or(Fault::Color)
+    }
+}
+
 impl<'a> TryFrom<BStr<'a>> for Color {
     type Error = Error<'a>;
 
-    ghost try_from_gives = { ReadsBytes ColorText faults.Color };
+    ghost try_from_gives = { ReadsBytes ColorText (Always faults.Color) };
 
     /// Refuses with `Fault::Color` and the whole input where it is no color text.
     fn try_from(input: BStr<'a>) -> Result<Color, Error<'a>> {
-        match color_of(input.as_bytes()) {
-            Some(color) => Ok(color),
-            None => Err(Error {
-                fault: Fault::Color,
-                input,
-            }),
-        }
+        read_bytes(input)
     }
 }
 
 impl<'a> TryFrom<&'a str> for Color {
     type Error = Error<'a>;
 
-    ghost try_from_gives = { λ s r. ReadsText ColorText faults.Color s.now r };
+    ghost try_from_gives = { λ s r. ReadsText ColorText (Always faults.Color) s.now r };
 
     /// Refuses with `Fault::Color` and the whole input where it is no color text.
     fn try_from(input: &'a str) -> Result<Color, Error<'a>> {
-        match color_of(input.as_bytes()) {
-            Some(color) => Ok(color),
-            None => Err(Error {
-                fault: Fault::Color,
-                input: BStr::from(input),
-            }),
-        }
+        read_text(input)
     }
 }
 
 impl TryFrom<BString> for Color {
     type Error = Returned<BString>;
 
-    ghost try_from_gives = { λ s r. ReadsOwned ColorText faults.Color (bstring_bytes s) s r };
+    ghost try_from_gives = { λ s r.
+        ReadsOwned ColorText (Always faults.Color) (bstring_bytes s) s r };
 
     /// Refuses with `Fault::Color` where the input is no color text, and hands it back.
     fn try_from(input: BString) -> Result<Color, Returned<BString>> {
-        match color_of(input.as_bytes()) {
-            Some(color) => Ok(color),
-            None => Err(Returned {
-                fault: Fault::Color,
-                input,
-            }),
-        }
+        read_owned(input)
     }
 }
 
 impl<'a> TryFrom<CowSlice<'a, u8>> for Color {
     type Error = Returned<CowSlice<'a, u8>>;
 
-    ghost try_from_gives = { λ s r. ReadsOwned ColorText faults.Color (cow_slice_items s) s r };
+    ghost try_from_gives = { λ s r.
+        ReadsOwned ColorText (Always faults.Color) (cow_slice_items s) s r };
 
     /// Refuses with `Fault::Color` where the input is no color text, and hands it back.
     fn try_from(input: CowSlice<'a, u8>) -> Result<Color, Returned<CowSlice<'a, u8>>> {
-        match color_of(&input) {
-            Some(color) => Ok(color),
-            None => Err(Returned {
-                fault: Fault::Color,
-                input,
-            }),
-        }
+        read_cow(input)
     }
 }
 

@@ -9,8 +9,8 @@ use crate::color::Color;
 use bitflags::Flags;
 use config_word::name::Name;
 
-/// The foreground and the background of the names of `a` and then those of `b`, or `None` where they are more
-/// than two.
+/// The foreground and the background that the names of `a` and then those of `b` make, or `None`
+/// where they are more than two.
 fn places(a: Color, b: Color) -> Option<(Option<Name>, Option<Name>)>
     ensures { result ≡ places_of a.foreground a.background b.foreground b.background }
 {
@@ -27,9 +27,10 @@ fn places(a: Color, b: Color) -> Option<(Option<Name>, Option<Name>)>
     }
 }
 
-/// The color that a text of `a`, white space and a text of `b` reads to: the names of `a` and then those of `b`
-/// as foreground and background, and the attributes of both. `None` where the names are more than two. Both
-/// colors have a text, as [`Value::has_text`](config_text::value::Value::has_text) tells, and so has the answer.
+/// The color that a text of `a`, white space and a text of `b` reads to: the names of `a` and then
+/// those of `b` as foreground and background, and the attributes of both. `None` where the names
+/// are more than two. Both colors must have a text, as
+/// [`Value::has_text`](config_text::value::Value::has_text) tells, and the answer has one.
 pub fn compose(a: Color, b: Color) -> Option<Color>
     requires first { HasText ColorText a }
     requires second { HasText ColorText b }

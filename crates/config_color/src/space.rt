@@ -1,4 +1,4 @@
-//! White space in a text, told by its bytes.
+//! White space in a text, by its bytes.
 ghost use Rattle.std.specs.Prelude.{◌≡◌, ℕ, ◌+◌, ◌<◌, ◌≤◌, ◌↔◌, ◌++◌, IsTrue, List, [], ◌∷◌, length, drop, slice_range};
 ghost use Rattle.config_color.specs.Space.{Space};
 
@@ -36,9 +36,11 @@ fn is_triple(first: u8, second: u8, third: u8) -> bool
     }
 }
 
-/// The length of the spelling of white space at the head of these bytes, or 0 where none stands there.
+/// The length of the spelling of white space at the head of these bytes, or 0 where none stands
+/// there.
 fn space_length(bytes: &[u8]) -> usize
-    ensures none { result ≡ 0 → (space rest : List ℕ) → Space space → ¬ (bytes.now ≡ space ++ rest) }
+    ensures none { result ≡ 0
+        → (space rest : List ℕ) → Space space → ¬ (bytes.now ≡ space ++ rest) }
     ensures within { result ≤ length bytes.now }
     ensures some { 0 < result → Space (slice_range bytes.now 0 result) }
 {
@@ -50,12 +52,13 @@ fn space_length(bytes: &[u8]) -> usize
     }
 }
 
-/// The length in bytes of the spelling of white space that stands in the input at this place, counted from 0,
-/// or 0 where none stands there: 1 to 3 for the 25 code points that are white space. The place is within the
-/// input or its end.
+/// The length in bytes of the white space that stands in the input at the byte `at`, or 0 where
+/// none stands there: 1 to 3, for the 25 code points of Unicode that are white space as UTF-8
+/// spells them. `at` is at most `input.len()`.
 pub fn space_at(input: &[u8], at: usize) -> usize
     requires { at ≤ length input.now }
-    ensures none { result ≡ 0 → (space rest : List ℕ) → Space space → ¬ (drop at input.now ≡ space ++ rest) }
+    ensures none { result ≡ 0
+        → (space rest : List ℕ) → Space space → ¬ (drop at input.now ≡ space ++ rest) }
     ensures within { at + result ≤ length input.now }
     ensures some { 0 < result → Space (slice_range input.now at (at + result)) }
 {

@@ -334,9 +334,9 @@ fn home_in_line<'a>(line: &'a str, name: &str) -> Option<&'a str>
     }
 }
 
-/// The home directory of the user of that name in a passwd text: the sixth field of the first line of
-/// exactly seven fields whose first field is the name. `None` where no line fits, and for a name that
-/// holds a NUL.
+/// The home directory of the user of that name in a passwd text: the sixth field of the first line
+/// of exactly seven fields whose first field is the name. `None` where no line fits, and for a name
+/// that holds a NUL.
 ///
 /// Fields are separated by `:`. Lines end at LF, the last line may lack its LF, a CR is part of its
 /// field, and there are no comments.

@@ -1,15 +1,17 @@
-//! Git's path values: a path that may be marked as optional, and the directories that it may refer to.
+//! Git's path values: a path that may be marked as optional, and the directories that it may refer
+//! to.
 //!
-//! [`path::Path`] is made of a text or of bytes, borrowed or owned. One leading `:(optional)` is the
-//! mark of an optional path, and no part of it.
+//! [`path::Path`] is made of a text or of bytes, borrowed or owned. One leading `:(optional)` is
+//! the mark of an optional path, and no part of it.
 //!
-//! [`path::Path::interpolate`] replaces what the path begins with: `%(prefix)/` by the directory that
-//! Git is installed in, `~` and `~/` by the home directory, `~user` and `~user/` by that user's home.
-//! The caller hands in these directories as an [`interpolate::Context`], with a lookup for users; for
-//! one there is [`interpolate::home_for_user`], which reads the text of a passwd file.
+//! [`path::Path::interpolate`] replaces what the path begins with: `%(prefix)/` by the directory
+//! that Git is installed in, `~` and `~/` by the home directory, `~user` and `~user/` by that
+//! user's home. The caller hands in these directories as an [`interpolate::Context`], with a lookup
+//! for users; for one there is [`interpolate::home_for_user`], which reads the text of a passwd
+//! file.
 //!
-//! What fails says why: [`interpolate::Error`], by [`interpolate::Class`]. Results are allocated, so
-//! each call that makes one takes the allocator.
+//! What fails says why: [`interpolate::Error`], by [`interpolate::Class`]. Results are allocated,
+//! so each call that makes one takes the allocator.
 //!
 //! [`laws`] states what holds of paths beside their calls: a text stands for one path, how paths
 //! compare, and that each path has just one form in the table of `interpolate`.

@@ -52,8 +52,8 @@ impl From<BString> for Path {
 }
 
 impl Path {
-    /// The path of a text, copied. One leading `:(optional)` is cut off, as by `From<BString>`. Fails
-    /// only if memory runs out.
+    /// The path of a text, copied. One leading `:(optional)` is cut off, as by `From<BString>`.
+    /// Fails only if memory runs out.
     pub fn from_text(alloc: Global, value: &str) -> Result<Path, AllocError>
         ensures { IfOk result (IsPathOf value.now) }
     {
@@ -103,16 +103,17 @@ impl Path {
     }
 
     /// The path with what it refers to: `%(prefix)/` stands for the install directory, `~` for the
-    /// home directory, and `~user` for what the lookup answers for that name. A rest that begins with
-    /// `/` is the whole result. Any other value is answered unchanged.
+    /// home directory, and `~user` for what the lookup answers for that name. A rest that begins
+    /// with `/` is the whole result. Any other value is answered unchanged.
     ///
-    /// Whether the path is optional makes no difference. The lookup is called at most once, with the
-    /// user's name, and must be callable with any text. The result takes one allocation, and none
-    /// where it is empty.
+    /// Whether the path is optional makes no difference. The lookup is called at most once, with
+    /// the user's name, and must be callable with any text. The result takes one allocation, and
+    /// none where it is empty.
     ///
     /// Errors:
     /// - `PathMissing`: the path is empty.
-    /// - `InstallDirMissing`, `HomeMissing`, `LookupMissing`: the path needs what the context lacks.
+    /// - `InstallDirMissing`, `HomeMissing`, `LookupMissing`: the path needs what the context
+    ///   lacks.
     /// - `UserNotFound`: the lookup answers `None`.
     /// - `IllFormed`: the rest, the name or, in any other value, the whole is not UTF-8. The error
     ///   lends those bytes.
@@ -125,7 +126,8 @@ impl Path {
     ) -> Result<String, Error<'p>>
     where
         F: FnOnce(&str) -> Option<&'a str> + Drop,
-        requires { ForSome context.home_for_user (λ f. (name : _) → IsUtf8 name.now → F.pre f name) }
+        requires { ForSome context.home_for_user
+            (λ f. (name : _) → IsUtf8 name.now → F.pre f name) }
         ensures answer { Interpolated (LooksUp F.FnOnce) context.entry
             (bstring_bytes self.now.value) result }
         ensures at_form { (form : Form) → HasForm (bstring_bytes self.now.value) form

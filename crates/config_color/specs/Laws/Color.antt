@@ -11,16 +11,16 @@ use Rattle.config_word.specs.declared.name.Name.{Name}
 use Rattle.config_word.specs.declared.item.Item.{Item}
 use Rattle.config_word.specs.declared.item.Item.TheVariants as items
 use Rattle.config_word.specs.Attribute.{AttributeText}
-use Rattle.config_color.specs.Color.{WordsRead, Placed, ColorText}
-use Rattle.config_color.specs.Reading.Color.{word_item, no_color, next_name, with_found, go_on, read_from, color_of}
-use Rattle.config_color.specs.Composition.{named}
+use Rattle.config_color.specs.Color.{WordsRead, Placed, ColorText, no_color}
+use Rattle.config_color.specs.Reading.Color.{word_item, next_name, with_item, read_from, color_of}
+use Rattle.std.specs.Option.{option_and_then, option_to_list}
 use Rattle.config_word.specs.Name.{NameText}
 use Rattle.config_text.specs.Value.{IsAccepted, IsRefused, Reads, IsValueOf}
 use Rattle.config_text.specs.Laws.Value.{decided_by, one_value_by}
 use Rattle.config_word.specs.Item.{ItemText}
 use Rattle.config_word.specs.Laws.Item.{item-law, item_one_value, not_both}
-use Rattle.config_color.specs.Split.{piece, words}
-use Rattle.config_color.specs.Laws.Split.{IsWithoutSpace, words_step, words_last, eqb_told}
+use Rattle.config_color.specs.Split.{IsWithoutSpace, piece, words}
+use Rattle.config_color.specs.Laws.Split.{words_step, words_last, eqb_told}
 use Rattle.config_color.specs.Space.{Space}
 
 word_item-value : IsValueOf ItemText word_item
@@ -75,7 +75,7 @@ WordsRead-one (w ∷ ws) ns ms i j (inr (a, more, t, e, r)) (inl (m, rest, u, f,
 WordsRead-one (w ∷ ws) ns ms i j (inr (a, more, t, e, r)) (inr (b, rest, u, f, s)) =
     let o = WordsRead-one ws ns ms more rest r s in let k = one_attribute w a b t u in (o.0, e ∙ (ap (λ a. bit_or a.0 more) k ∙ (ap (λ m. bit_or b.0 m) o.1 ∙ sym f)))
 
-pub Placed-words : (ns : List Name) (f b : Option Name) → Placed ns f b → named f ++ named b ≡ ns
+pub Placed-words : (ns : List Name) (f b : Option Name) → Placed ns f b → option_to_list f ++ option_to_list b ≡ ns
 Placed-words [] f b p = rw (p.0, p.1) refl
 Placed-words (n ∷ []) f b p = rw (p.0, p.1) refl
 Placed-words (n ∷ m ∷ []) f b p = rw (p.0, p.1) refl
@@ -160,7 +160,7 @@ reading_derived [] p c ns before h =
     record { names = []; bits = 0; read = (refl, refl); placed = rw append-nil (rw e at before); united = ap (λ (c : Color). c.attributes.0) (sym e) ∙ sym (or_zero_r p.attributes.0) }
 reading_derived (w ∷ ws) p c ns before h = at_item w ws p c ns before (word_item w) refl h (λ d ms q e. reading_derived ws d c ms q e) where
   at_name : (w : List ℕ) (ws : List (List ℕ)) (p c : Color) (ns : List Name) → Placed ns p.foreground p.background → (n : Name) → NameText w n
-      → (o : Option Color) → next_name p.foreground p.background p.attributes.0 n ≡ o → go_on o (λ d. read_from d ws) ≡ Some c
+      → (o : Option Color) → next_name p.foreground p.background p.attributes.0 n ≡ o → option_and_then (λ d. read_from d ws) o ≡ Some c
       → ((d : Color) (ms : List Name) → Placed ms d.foreground d.background → read_from d ws ≡ Some c → ReadOn ws d c ms) → ReadOn (w ∷ ws) p c ns
   at_name w ws p c ns before n t None e h more = absurd (cc)
   at_name w ws p c ns before n t (Some d) e h more =
@@ -169,7 +169,7 @@ reading_derived (w ∷ ws) p c ns before h = at_item w ws p c ns before (word_it
       record { names = n ∷ r.names; bits = r.bits; read = inl (n, r.names, t, refl, r.read); placed = rw append_assoc at r.placed; united = r.united ∙ ap (λ a. bit_or a r.bits) k.1 }
 
   at_item : (w : List ℕ) (ws : List (List ℕ)) (p c : Color) (ns : List Name) → Placed ns p.foreground p.background
-      → (o : Option Item) → word_item w ≡ o → go_on (with_found p o) (λ d. read_from d ws) ≡ Some c
+      → (o : Option Item) → word_item w ≡ o → option_and_then (λ d. read_from d ws) (option_and_then (λ i. with_item p i) o) ≡ Some c
       → ((d : Color) (ms : List Name) → Placed ms d.foreground d.background → read_from d ws ≡ Some c → ReadOn ws d c ms) → ReadOn (w ∷ ws) p c ns
   at_item w ws p c ns before None e h more = absurd (cc)
   at_item w ws p c ns before (Some (items.Name n)) e h more =
@@ -211,27 +211,27 @@ read_is {V} {grammar} {value_of} law t None h = told (value_of t) refl where
   told (Some v) e = absurd (h v (law.derived t v e))
 read_is law t (Some v) h = law.found t v h
 
-go_on_only : (o : Option Color) → go_on o (λ d. Some d) ≡ o
-go_on_only None = refl
-go_on_only (Some c) = refl
+and_then_only : (o : Option Color) → option_and_then (λ d. Some d) o ≡ o
+and_then_only None = refl
+and_then_only (Some c) = refl
 
-go_on_both : (o : Option Color) (more : Color → Option Color) → go_on o more ≡ go_on (go_on o (λ d. Some d)) more
-go_on_both None more = refl
-go_on_both (Some c) more = refl
+and_then_both : (o : Option Color) (more : Color → Option Color) → option_and_then more o ≡ option_and_then more (option_and_then (λ d. Some d) o)
+and_then_both None more = refl
+and_then_both (Some c) more = refl
 
 -- one more word, by the item that it was found to be
-pub read_word : (c : Color) (t : List ℕ) (r : Option Item) → t ≢ [] → Reads ItemText t r → read_from c (piece t) ≡ with_found c r
+pub read_word : (c : Color) (t : List ℕ) (r : Option Item) → t ≢ [] → Reads ItemText t r → read_from c (piece t) ≡ option_and_then (λ i. with_item c i) r
 read_word c [] r n h = absurd (n refl)
-read_word c (x ∷ t) r n h = rw (read_is word_item-value (x ∷ t) r h) (go_on_only (with_found c r))
+read_word c (x ∷ t) r n h = rw (read_is word_item-value (x ∷ t) r h) (and_then_only (option_and_then (λ i. with_item c i) r))
 
 -- a piece, and the words behind it
-read_piece : (c : Color) (t : List ℕ) (ws : List (List ℕ)) → read_from c (piece t ++ ws) ≡ go_on (read_from c (piece t)) (λ d. read_from d ws)
+read_piece : (c : Color) (t : List ℕ) (ws : List (List ℕ)) → read_from c (piece t ++ ws) ≡ option_and_then (λ d. read_from d ws) (read_from c (piece t))
 read_piece c [] ws = refl
-read_piece c (x ∷ t) ws = go_on_both (with_found c (word_item (x ∷ t))) (λ d. read_from d ws)
+read_piece c (x ∷ t) ws = and_then_both (option_and_then (λ i. with_item c i) (word_item (x ∷ t))) (λ d. read_from d ws)
 
 -- a text whose first word is n bytes long, and s bytes of white space behind it
 pub read_step : (c : Color) (text : List ℕ) (n s : ℕ) → IsWithoutSpace text n → n + s ≤ length text → Space (slice_range text n (n + s))
-    → read_from c (words text) ≡ go_on (read_from c (piece (take n text))) (λ d. read_from d (words (drop (n + s) text)))
+    → read_from c (words text) ≡ option_and_then (λ d. read_from d (words (drop (n + s) text))) (read_from c (piece (take n text)))
 read_step c text n s h l k = ap (λ ws. read_from c ws) (words_step text n s h l k) ∙ read_piece c (take n text) (words (drop (n + s) text))
 
 pub read_last : (c : Color) (text : List ℕ) → IsWithoutSpace text (length text) → read_from c (words text) ≡ read_from c (piece text)
@@ -249,7 +249,7 @@ walk_refused input rest c n s same clear within parted last e =
           reads_by color_of-value input None (same ∙ (read_last c rest clear_all ∙ (ap (λ t. read_from c (piece t)) (sym (take_all n rest (omega arith))) ∙ e)))
       | inr z ↦
           let some : 0 < s = grind (arith, nat_tests) in
-          reads_by color_of-value input None (same ∙ (read_step c rest n s clear within (parted some) ∙ ap (λ o. go_on o (λ d. read_from d (words (drop (n + s) rest)))) e))
+          reads_by color_of-value input None (same ∙ (read_step c rest n s clear within (parted some) ∙ ap (λ o. option_and_then (λ d. read_from d (words (drop (n + s) rest))) o) e))
     ]
 
 pub walk_done : (input rest : List ℕ) (c d : Color) (n s : ℕ) → read_from no_color (words input) ≡ read_from c (words rest)
@@ -264,4 +264,4 @@ pub walk_goes_on : (input rest : List ℕ) (c d : Color) (n s : ℕ) → read_fr
     → IsWithoutSpace rest n → n + s ≤ length rest → (0 < s → Space (slice_range rest n (n + s))) → ¬ (s ≡ 0)
     → read_from c (piece (take n rest)) ≡ Some d → read_from no_color (words input) ≡ read_from d (words (drop (n + s) rest))
 walk_goes_on input rest c d n s same clear within parted z e =
-    same ∙ (read_step c rest n s clear within (parted (omega arith)) ∙ ap (λ o. go_on o (λ d. read_from d (words (drop (n + s) rest)))) e)
+    same ∙ (read_step c rest n s clear within (parted (omega arith)) ∙ ap (λ o. option_and_then (λ d. read_from d (words (drop (n + s) rest))) o) e)

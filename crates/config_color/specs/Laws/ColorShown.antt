@@ -1,7 +1,8 @@
--- The laws of `Value` for colors: canonical texts read, one for each color, and it is the displayed text.
-use Rattle.std.proofs.Common.{◌≡◌, ◌≢◌, ℕ, zero, suc, ◌+◌, ◌*◌, ◌^◌, ◌<◌, ◌≤◌, ◌↔◌, ◌⊎◌, inl, inr, ◌&&◌, nat_le, Bool, true, false, ◌==◌, List, [], ◌∷◌, ◌++◌, length, map, filter, Option, Some, None, bit_and, refl, sym, ap, subst, ◌∙◌, length-append, arith}
+-- The laws of `Value` for colors: canonical texts read, one for each color, and it is the text that the color is
+-- shown as.
+use Rattle.std.proofs.Common.{◌≡◌, ◌≢◌, ℕ, zero, suc, ◌+◌, ◌*◌, ◌^◌, ◌<◌, ◌≤◌, ◌↔◌, ◌⊎◌, inl, inr, ◌&&◌, nat_le, Bool, true, false, ◌==◌, List, [], ◌∷◌, ◌++◌, length, map, filter, Option, Some, None, bit_and, min, refl, sym, ap, subst, ◌∙◌, length-append, arith}
 use Rattle.std.specs.Bool.{⊤, IsTrue}
-use Rattle.std.specs.Option.{option_eq, is_some}
+use Rattle.std.specs.Option.{option_eq, is_some, option_to_list}
 use Rattle.std.specs.Prelude.{not}
 use Rattle.bitflags.specs.Sets.{known_bits as known_bits_of, known_from}
 use Rattle.std.specs.Int.{bit_at}
@@ -9,25 +10,26 @@ use Rattle.std.specs.Int.RustNames.{bit_or}
 use Rattle.std.specs.Int.Bits.{or_zero_l}
 use Rattle.std.specs.List.{AllByRecursion, join_with_byte}
 use Rattle.std.proofs.lemmas.List.{append-nil, map-append, length-map}
-use Rattle.std.proofs.lemmas.Bool.{leb-true}
+use Rattle.std.proofs.lemmas.Bool.{and_parts, leb-true}
 use Rattle.std.proofs.lemmas.Nat.{and_comm}
 use Rattle.std.proofs.lemmas.Bool.Decides.{Decides-eqb}
 use Rattle.std.proofs.lemmas.Nat.Bits.{and_pow, bit_at_or, bit_at_and, bit_at-lt, bit_at-zero, bit_at-pow_same, bit_at-pow_other, same_from_bits}
 use Rattle.config_color.specs.declared.color.Color.{Color}
 use Rattle.config_word.specs.declared.attribute.Attribute.{Attribute}
 use Rattle.config_word.specs.declared.name.Name.{Name}
-use Rattle.config_word.specs.Attribute.{AttributeRow, attributes, attribute_flags, AttributeText, attribute_words, rising_words}
-use Rattle.config_color.specs.Color.{WordsRead, Placed, ColorText, part_shown, set_shown, color_shown, Chosen, spaced_out, CanonicalColor, PartFits, AreKnown}
+use Rattle.config_word.specs.Attribute.{AttributeRow, IsKnownBit, attributes, attribute_flags, AttributeText, attribute_words, rising_words}
+use Rattle.config_color.specs.Color.{WordsRead, Placed, ColorText, part_shown, set_shown, color_shown, Chosen, CanonicalColor, PartFits, AreKnown}
 use Rattle.config_color.specs.Laws.Color.{WordsRead-join, Placed-words, placing, same_color, color_one_value}
-use Rattle.config_color.specs.Composition.{named}
+use Rattle.config_text.specs.Bytes.{space}
 use Rattle.config_color.specs.Laws.Composition.{background_beside, some_none}
 use Rattle.config_word.specs.Name.{NameText, CanonicalName, name_shown}
 use Rattle.config_word.specs.Laws.Name.{name_canonical_reads, name_one_text, name_short, name_fits, name_shown_is_text, name_has_text}
 use Rattle.config_text.specs.OneOf.{OneOf}
-use Rattle.config_text.specs.Laws.OneOf.{both, all-one}
+use Rattle.config_text.specs.Laws.OneOf.{all-one}
 use Rattle.config_color.specs.Laws.PlainWords.{words_spaced, all_plain_append, chosen_plain, names_plain}
 use Rattle.config_text.specs.Value.{IsAccepted, HasText, IsTextOf}
 use Rattle.config_color.specs.Split.{words}
+use Rattle.config_color.specs.Laws.Split.{eqb_told}
 
 -- the words of the rows whose bits are set
 abbrev pub set_words : ℕ → List AttributeRow → List (List ℕ)
@@ -152,7 +154,7 @@ rises low (row ∷ rows) = nat_le low row.1 && rises (row.1 + 1) rows
 rise : (low : ℕ) (rows : List AttributeRow) → rises low rows ≡ true → Rise low rows
 unfolding rises
 rise low [] h = tt
-rise low (row ∷ rows) h = let k = both (nat_le low row.1) (rises (row.1 + 1) rows) h in (leb-true low row.1 k.0, rise (row.1 + 1) rows k.1)
+rise low (row ∷ rows) h = let k = and_parts (nat_le low row.1) (rises (row.1 + 1) rows) h in (leb-true low row.1 k.0, rise (row.1 + 1) rows k.1)
 
 attributes_rise : Rise 0 attributes
 unfolding attributes rises
@@ -165,6 +167,34 @@ rising_is = refl
 known_bits : bits_of attributes ≡ 266338814
 unfolding attributes
 known_bits = refl
+
+-- the bits of the rows are those that are set in their union
+row_bit : (rows : List AttributeRow) (i : ℕ) → OneOf (map (λ row. row.1) rows) i → bit_at (bits_of rows) i ≡ 1
+row_bit [] i o = absurd o
+row_bit (row ∷ rows) i (inl e) = rw e (bit_at_or (2 ^ row.1) (bits_of rows) row.1 ∙ rw (bit_at-pow_same row.1) (omega (arith, bit_at-lt (bits_of rows) row.1)))
+row_bit (row ∷ rows) i (inr o) = bit_at_or (2 ^ row.1) (bits_of rows) i ∙ rw (row_bit rows i o) (omega (arith, bit_at-lt (2 ^ row.1) i))
+
+bit_row : (rows : List AttributeRow) (i : ℕ) → bit_at (bits_of rows) i ≡ 1 → OneOf (map (λ row. row.1) rows) i
+bit_row [] i h = absurd (omega (arith, bit_at-zero i))
+bit_row (row ∷ rows) i h =
+    elim (eqb_told i row.1) [
+      | inl e ↦ inl e.1
+      | inr n ↦
+          let other : i ≢ row.1 = λ e. cc (n, (Decides-eqb i row.1).1 e) in
+          inr (bit_row rows i (omega (arith, h, bit_at_or (2 ^ row.1) (bits_of rows) i, bit_at-pow_other row.1 i other)))
+    ]
+
+-- each set bit is known exactly where the known bits are all that is set
+known_mask : (bits : ℕ) → AreKnown bits → bit_and bits 266338814 ≡ bits
+known_mask bits known = same_from_bits _ _ (λ i. ap (λ m. bit_at (bit_and bits m) i) (sym known_bits) ∙ (bit_at_and bits (bits_of attributes) i ∙ at_bit i (bit_told bits i))) where
+  at_bit : (i : ℕ) → (bit_at bits i ≡ 1) ⊎ (bit_at bits i ≡ 0) → min (bit_at bits i) (bit_at (bits_of attributes) i) ≡ bit_at bits i
+  at_bit i (inl e) = rw (e, row_bit attributes i (known i e)) refl
+  at_bit i (inr e) = rw e (omega arith)
+
+mask_known : (bits : ℕ) → bit_and bits 266338814 ≡ bits → AreKnown bits
+mask_known bits h = λ i e.
+    let masked : bit_at (bit_and bits (bits_of attributes)) i ≡ bit_at bits i = ap (λ m. bit_at (bit_and bits m) i) known_bits ∙ ap (λ n. bit_at n i) h in
+    bit_row attributes i (omega (arith, masked, e, bit_at_and bits (bits_of attributes) i, bit_at-lt (bits_of attributes) i))
 
 -- chosen words of the canonical ones
 pub rising_read : (ws : List (List ℕ)) → Chosen rising_words ws → ChosenRead 0 attributes ws
@@ -226,40 +256,34 @@ canonical_names_read (t ∷ ts) h = with_name (name_canonical_reads t h.0) (cano
         as_many = ap suc more.as_many;
       }
 
-join_spaced : (ws : List (List ℕ)) → join_with_byte 32 ws ≡ spaced_out ws
-join_spaced [] = refl
-join_spaced (w ∷ []) = refl
-join_spaced (w ∷ v ∷ ws) = ap (λ t. w ++ 32 ∷ t) (join_spaced (v ∷ ws))
-
 -- words that are joined behind others are joined with them
 join_last : (xs : List (List ℕ)) (y : List ℕ) (ys : List (List ℕ))
-    → join_with_byte 32 (xs ++ join_with_byte 32 (y ∷ ys) ∷ []) ≡ join_with_byte 32 (xs ++ y ∷ ys)
+    → join_with_byte space (xs ++ join_with_byte space (y ∷ ys) ∷ []) ≡ join_with_byte space (xs ++ y ∷ ys)
 join_last [] y ys = refl
 join_last (x ∷ []) y ys = refl
 join_last (x ∷ z ∷ xs) y ys = ap (λ t. x ++ 32 ∷ t) (join_last (z ∷ xs) y ys)
 
-part_named : (o : Option Name) → part_shown o ≡ map name_shown (named o)
+part_named : (o : Option Name) → part_shown o ≡ map name_shown (option_to_list o)
 part_named None = refl
 part_named (Some n) = refl
 
 join_set : (xs : List (List ℕ)) (bits : ℕ) → bit_and bits 266338814 ≡ bits
-    → join_with_byte 32 (xs ++ set_shown bits) ≡ join_with_byte 32 (xs ++ attribute_words bits)
-join_set xs zero e = ap (λ ws. join_with_byte 32 (xs ++ ws)) (sym (set_words_zero attributes))
+    → join_with_byte space (xs ++ set_shown bits) ≡ join_with_byte space (xs ++ attribute_words bits)
+join_set xs zero e = ap (λ ws. join_with_byte space (xs ++ ws)) (sym (set_words_zero attributes))
 join_set xs (suc n) e = some (attribute_words (suc n)) refl where
   some : (ws : List (List ℕ)) → attribute_words (suc n) ≡ ws
-      → join_with_byte 32 (xs ++ join_with_byte 32 (attribute_words (suc n)) ∷ []) ≡ join_with_byte 32 (xs ++ attribute_words (suc n))
+      → join_with_byte space (xs ++ join_with_byte space (attribute_words (suc n)) ∷ []) ≡ join_with_byte space (xs ++ attribute_words (suc n))
   some [] k = let r = subst (λ (ws : List (List ℕ)). WordsRead ws [] (suc n)) k (attribute_words_read (suc n) e) in absurd (omega (arith, r.1))
   some (y ∷ ys) k = rw k (join_last xs y ys)
 
--- a color's displayed text, as its words
+-- the text that a color is shown as, as its words
 pub shown_spaced : (c : Color) → bit_and c.attributes.0 266338814 ≡ c.attributes.0
-    → color_shown c ≡ spaced_out (map name_shown (named c.foreground ++ named c.background) ++ attribute_words c.attributes.0)
+    → color_shown c ≡ join_with_byte space (map name_shown (option_to_list c.foreground ++ option_to_list c.background) ++ attribute_words c.attributes.0)
 shown_spaced c e =
     join_set (part_shown c.foreground ++ part_shown c.background) c.attributes.0 e
-    ∙ (ap (λ xs. join_with_byte 32 (xs ++ attribute_words c.attributes.0)) parts
-    ∙ join_spaced (map name_shown (named c.foreground ++ named c.background) ++ attribute_words c.attributes.0)) where
-      parts : part_shown c.foreground ++ part_shown c.background ≡ map name_shown (named c.foreground ++ named c.background)
-      parts = rw (part_named c.foreground, part_named c.background) (sym (map-append name_shown (named c.foreground) (named c.background)))
+    ∙ ap (λ xs. join_with_byte space (xs ++ attribute_words c.attributes.0)) parts where
+      parts : part_shown c.foreground ++ part_shown c.background ≡ map name_shown (option_to_list c.foreground ++ option_to_list c.background)
+      parts = rw (part_named c.foreground, part_named c.background) (sym (map-append name_shown (option_to_list c.foreground) (option_to_list c.background)))
 
 -- a canonical text reads to a color, and is its displayed text
 pub canonical_shown : (t : List ℕ) → CanonicalColor t → (c : Color) × ColorText t c × (t ≡ color_shown c)
@@ -278,9 +302,9 @@ canonical_shown t h = whole (canonical_names_read h.names h.named) (rising_read 
     placed (f, b, p) =
         let c : Color = record { foreground = f; background = b; attributes = record { 0 = w.bits } } in
         let read : ColorText t c = record { names = n.names; read = subst (λ (ws : List (List ℕ)). WordsRead ws n.names w.bits) (sym spelled_words) joined; placed = p } in
-        let ts : h.names ≡ map name_shown (named f ++ named b) = n.shown ∙ ap (λ ns. map name_shown ns) (sym (Placed-words n.names f b p)) in
-        let whole : h.names ++ h.words ≡ map name_shown (named f ++ named b) ++ attribute_words w.bits = ap (λ ts. ts ++ h.words) ts ∙ ap (λ ws. map name_shown (named f ++ named b) ++ ws) w.shown in
-        (c, read, h.spelled ∙ (ap (λ ws. spaced_out ws) whole ∙ sym (shown_spaced c (WordsRead-known (h.names ++ h.words) n.names w.bits joined))))
+        let ts : h.names ≡ map name_shown (option_to_list f ++ option_to_list b) = n.shown ∙ ap (λ ns. map name_shown ns) (sym (Placed-words n.names f b p)) in
+        let whole : h.names ++ h.words ≡ map name_shown (option_to_list f ++ option_to_list b) ++ attribute_words w.bits = ap (λ ts. ts ++ h.words) ts ∙ ap (λ ws. map name_shown (option_to_list f ++ option_to_list b) ++ ws) w.shown in
+        (c, read, h.spelled ∙ (ap (λ ws. join_with_byte space ws) whole ∙ sym (shown_spaced c (WordsRead-known (h.names ++ h.words) n.names w.bits joined))))
 
 pub color_canonical_reads : (t : List ℕ) → CanonicalColor t → IsAccepted ColorText t
 color_canonical_reads t h = let k = canonical_shown t h in (k.0, k.1)
@@ -296,11 +320,11 @@ abbrev pub weight : List (List ℕ) → ℕ
 weight [] = 0
 weight (w ∷ ws) = length w + 1 + weight ws
 
-spaced_weight : (w : List ℕ) (ws : List (List ℕ)) → length (spaced_out (w ∷ ws)) + 1 ≡ weight (w ∷ ws)
+spaced_weight : (w : List ℕ) (ws : List (List ℕ)) → length (join_with_byte space (w ∷ ws)) + 1 ≡ weight (w ∷ ws)
 spaced_weight w [] = omega arith
-spaced_weight w (v ∷ ws) = omega (arith, length-append w (32 ∷ spaced_out (v ∷ ws)), spaced_weight v ws)
+spaced_weight w (v ∷ ws) = omega (arith, length-append w (32 ∷ join_with_byte space (v ∷ ws)), spaced_weight v ws)
 
-spaced_short : (ws : List (List ℕ)) (n : ℕ) → weight ws ≤ n + 1 → length (spaced_out ws) ≤ n
+spaced_short : (ws : List (List ℕ)) (n : ℕ) → weight ws ≤ n + 1 → length (join_with_byte space ws) ≤ n
 spaced_short [] n l = omega arith
 spaced_short (w ∷ ws) n l = omega (arith, spaced_weight w ws)
 
@@ -326,45 +350,45 @@ rows_weight = refl
 
 -- the displayed text of a color whose names have texts, whose bits are known, and whose background stands beside
 -- a foreground
-pub shown_is_text : (c : Color) → AllByRecursion (HasText NameText) (named c.foreground ++ named c.background)
+pub shown_is_text : (c : Color) → AllByRecursion (HasText NameText) (option_to_list c.foreground ++ option_to_list c.background)
     → bit_and c.attributes.0 266338814 ≡ c.attributes.0 → (c.foreground ≡ None → c.background ≡ None)
     → IsTextOf ColorText CanonicalColor c (color_shown c)
 shown_is_text c h e beside = record {
   canonical_text = record {
-    names = map name_shown (named c.foreground ++ named c.background);
+    names = map name_shown (option_to_list c.foreground ++ option_to_list c.background);
     words = attribute_words c.attributes.0;
-    at_most_two = omega (arith, length-map (named c.foreground ++ named c.background) name_shown, two c.foreground c.background);
-    named = names_canonical (named c.foreground ++ named c.background) h;
+    at_most_two = omega (arith, length-map (option_to_list c.foreground ++ option_to_list c.background) name_shown, two c.foreground c.background);
+    named = names_canonical (option_to_list c.foreground ++ option_to_list c.background) h;
     chosen = attribute_words_chosen c.attributes.0;
     spelled = shown_spaced c e;
   };
   reads_to = record {
-    names = named c.foreground ++ named c.background;
-    read = subst (λ (ws : List (List ℕ)). WordsRead ws (named c.foreground ++ named c.background) c.attributes.0) (sym shown_words)
-        (subst (λ (ns : List Name). WordsRead (map name_shown (named c.foreground ++ named c.background) ++ attribute_words c.attributes.0) ns c.attributes.0) (append-nil (named c.foreground ++ named c.background))
-        (subst (λ (b : ℕ). WordsRead (map name_shown (named c.foreground ++ named c.background) ++ attribute_words c.attributes.0) ((named c.foreground ++ named c.background) ++ []) b) (or_zero_l c.attributes.0)
-        (WordsRead-join (map name_shown (named c.foreground ++ named c.background)) (attribute_words c.attributes.0) (named c.foreground ++ named c.background) [] 0 c.attributes.0
-        (names_read (named c.foreground ++ named c.background) h) (attribute_words_read c.attributes.0 e))));
+    names = option_to_list c.foreground ++ option_to_list c.background;
+    read = subst (λ (ws : List (List ℕ)). WordsRead ws (option_to_list c.foreground ++ option_to_list c.background) c.attributes.0) (sym shown_words)
+        (subst (λ (ns : List Name). WordsRead (map name_shown (option_to_list c.foreground ++ option_to_list c.background) ++ attribute_words c.attributes.0) ns c.attributes.0) (append-nil (option_to_list c.foreground ++ option_to_list c.background))
+        (subst (λ (b : ℕ). WordsRead (map name_shown (option_to_list c.foreground ++ option_to_list c.background) ++ attribute_words c.attributes.0) ((option_to_list c.foreground ++ option_to_list c.background) ++ []) b) (or_zero_l c.attributes.0)
+        (WordsRead-join (map name_shown (option_to_list c.foreground ++ option_to_list c.background)) (attribute_words c.attributes.0) (option_to_list c.foreground ++ option_to_list c.background) [] 0 c.attributes.0
+        (names_read (option_to_list c.foreground ++ option_to_list c.background) h) (attribute_words_read c.attributes.0 e))));
     placed = place c.foreground c.background beside;
   };
-  short = rw (shown_spaced c e) (spaced_short (map name_shown (named c.foreground ++ named c.background) ++ attribute_words c.attributes.0) 127
-      (omega (arith, weight-append (map name_shown (named c.foreground ++ named c.background)) (attribute_words c.attributes.0), names_weight (named c.foreground ++ named c.background) h, two c.foreground c.background, set_words_weight attributes c.attributes.0, rows_weight)));
+  short = rw (shown_spaced c e) (spaced_short (map name_shown (option_to_list c.foreground ++ option_to_list c.background) ++ attribute_words c.attributes.0) 127
+      (omega (arith, weight-append (map name_shown (option_to_list c.foreground ++ option_to_list c.background)) (attribute_words c.attributes.0), names_weight (option_to_list c.foreground ++ option_to_list c.background) h, two c.foreground c.background, set_words_weight attributes c.attributes.0, rows_weight)));
 } where
-  two : (f b : Option Name) → length (named f ++ named b) ≤ 2
+  two : (f b : Option Name) → length (option_to_list f ++ option_to_list b) ≤ 2
   two None None = omega arith
   two None (Some m) = omega arith
   two (Some n) None = omega arith
   two (Some n) (Some m) = omega arith
 
-  place : (f b : Option Name) → (f ≡ None → b ≡ None) → Placed (named f ++ named b) f b
+  place : (f b : Option Name) → (f ≡ None → b ≡ None) → Placed (option_to_list f ++ option_to_list b) f b
   place None None k = (refl, refl)
   place None (Some m) k = absurd (some_none m (k refl))
   place (Some n) None k = (refl, refl)
   place (Some n) (Some m) k = (refl, refl)
 
-  shown_words : words (color_shown c) ≡ map name_shown (named c.foreground ++ named c.background) ++ attribute_words c.attributes.0
-  shown_words = ap words (shown_spaced c e) ∙ words_spaced (map name_shown (named c.foreground ++ named c.background) ++ attribute_words c.attributes.0)
-      (all_plain_append (map name_shown (named c.foreground ++ named c.background)) (attribute_words c.attributes.0) (names_plain (map name_shown (named c.foreground ++ named c.background)) (names_canonical (named c.foreground ++ named c.background) h)) (chosen_plain (attribute_words c.attributes.0) (attribute_words_chosen c.attributes.0)))
+  shown_words : words (color_shown c) ≡ map name_shown (option_to_list c.foreground ++ option_to_list c.background) ++ attribute_words c.attributes.0
+  shown_words = ap words (shown_spaced c e) ∙ words_spaced (map name_shown (option_to_list c.foreground ++ option_to_list c.background) ++ attribute_words c.attributes.0)
+      (all_plain_append (map name_shown (option_to_list c.foreground ++ option_to_list c.background)) (attribute_words c.attributes.0) (names_plain (map name_shown (option_to_list c.foreground ++ option_to_list c.background)) (names_canonical (option_to_list c.foreground ++ option_to_list c.background) h)) (chosen_plain (attribute_words c.attributes.0) (attribute_words_chosen c.attributes.0)))
 
 pub color_shown_is_text : (c : Color) → HasText ColorText c → IsTextOf ColorText CanonicalColor c (color_shown c)
 color_shown_is_text c (t, h) =
@@ -377,18 +401,25 @@ color_shown_is_text c (t, h) =
 pub color_has_text : (c : Color) → PartFits c.foreground → PartFits c.background
     → (HasText ColorText c) ↔ (AreKnown c.attributes.0 × (c.foreground ≡ None → c.background ≡ None))
 color_has_text c f b = (
-  λ h. (WordsRead-known (words h.0) h.1.names c.attributes.0 h.1.read, background_beside h.0 c h.1),
-  λ k. (color_shown c, (shown_is_text c (parts c.foreground c.background f b) k.0 k.1).reads_to),
+  λ h. (mask_known c.attributes.0 (WordsRead-known (words h.0) h.1.names c.attributes.0 h.1.read), background_beside h.0 c h.1),
+  λ k. (color_shown c, (shown_is_text c (parts c.foreground c.background f b) (known_mask c.attributes.0 k.0) k.1).reads_to),
 ) where
-  parts : (f b : Option Name) → PartFits f → PartFits b → AllByRecursion (HasText NameText) (named f ++ named b)
+  parts : (f b : Option Name) → PartFits f → PartFits b → AllByRecursion (HasText NameText) (option_to_list f ++ option_to_list b)
   parts None None p q = tt
   parts None (Some m) p q = (name_has_text m q, tt)
   parts (Some n) None p q = (name_has_text n p, tt)
   parts (Some n) (Some m) p q = (name_has_text n p, (name_has_text m q, tt))
 
+-- whether the parts of two colors are the same, in the order in which `==` tries them
+abbrev pub same_parts : (Name → Name → Bool) → Color → Color → Bool
+same_parts E v w = option_eq E v.foreground w.foreground && (option_eq E v.background w.background && (v.attributes.0 == w.attributes.0))
+
+-- tests all of which pass
+all_pass : (a b c : Bool) → (a && (b && c)) ≡ true → (a ≡ true) × (b ≡ true) × (c ≡ true)
+all_pass a b c h = let k = and_parts a (b && c) h in let l = and_parts b c k.1 in (k.0, l.0, l.1)
+
 -- colors are equal where their parts are
-pub color_equal : (E : Name → Name → Bool) → ((n m : Name) → (IsTrue (E n m)) ↔ (n ≡ m)) → (v w : Color)
-    → (IsTrue (option_eq E v.foreground w.foreground && (option_eq E v.background w.background && (v.attributes.0 == w.attributes.0)))) ↔ (v ≡ w)
+pub color_equal : (E : Name → Name → Bool) → ((n m : Name) → (IsTrue (E n m)) ↔ (n ≡ m)) → (v w : Color) → (IsTrue (same_parts E v w)) ↔ (v ≡ w)
 color_equal E law v w = (to, from) where
   part_same : (f g : Option Name) → option_eq E f g ≡ true → f ≡ g
   part_same None None h = refl
@@ -400,21 +431,20 @@ color_equal E law v w = (to, from) where
   part_equal None = refl
   part_equal (Some n) = (law n n).1 refl
 
-  to : IsTrue (option_eq E v.foreground w.foreground && (option_eq E v.background w.background && (v.attributes.0 == w.attributes.0))) → v ≡ w
+  to : IsTrue (same_parts E v w) → v ≡ w
   to h =
-      let k = both (option_eq E v.foreground w.foreground) (option_eq E v.background w.background && (v.attributes.0 == w.attributes.0)) h in
-      let l = both (option_eq E v.background w.background) (v.attributes.0 == w.attributes.0) k.1 in
-      same_color v w (part_same v.foreground w.foreground k.0) (part_same v.background w.background l.0) ((Decides-eqb v.attributes.0 w.attributes.0).0 l.1)
+      let k = all_pass (option_eq E v.foreground w.foreground) (option_eq E v.background w.background) (v.attributes.0 == w.attributes.0) h in
+      same_color v w (part_same v.foreground w.foreground (assumption k)) (part_same v.background w.background (assumption k)) ((Decides-eqb v.attributes.0 w.attributes.0).0 (assumption k))
 
-  from : v ≡ w → IsTrue (option_eq E v.foreground w.foreground && (option_eq E v.background w.background && (v.attributes.0 == w.attributes.0)))
+  from : v ≡ w → IsTrue (same_parts E v w)
   from e = rw (← e) (rw (part_equal v.foreground, part_equal v.background, (Decides-eqb v.attributes.0 v.attributes.0).1 refl) refl)
 
 -- the test whether all set bits are known
 pub known_told : (all bits : ℕ) (r : Bool) → all ≡ known_bits_of attribute_flags → r ≡ (bit_and all bits == bits) → (IsTrue r) ↔ (AreKnown bits)
 unfolding attributes known_from
 known_told all bits r e f = (
-  λ h. and_comm bits 266338814 ∙ (ap (λ m. bit_and m bits) (sym e) ∙ (Decides-eqb (bit_and all bits) bits).0 (sym f ∙ h)),
-  λ h. f ∙ (Decides-eqb (bit_and all bits) bits).1 (ap (λ m. bit_and m bits) e ∙ (and_comm 266338814 bits ∙ h)),
+  λ h. mask_known bits (and_comm bits 266338814 ∙ (ap (λ m. bit_and m bits) (sym e) ∙ (Decides-eqb (bit_and all bits) bits).0 (sym f ∙ h))),
+  λ h. f ∙ (Decides-eqb (bit_and all bits) bits).1 (ap (λ m. bit_and m bits) e ∙ (and_comm 266338814 bits ∙ known_mask bits h)),
 )
 
 -- the test whether a background stands beside a foreground, where there is one

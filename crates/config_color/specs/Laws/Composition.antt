@@ -1,14 +1,15 @@
 -- The laws of composition: the color of a joined text is the composition of its parts' colors, and what follows
 -- from that for the answers of `normalize` and `same`.
-use Rattle.std.proofs.Common.{◌≡◌, ℕ, ◌+◌, ◌<◌, ◌≤◌, List, [], ◌∷◌, ◌++◌, length, Option, Some, None, Bool, refl, sym, ap, subst, ◌∙◌, append_assoc, length-append, arith}
+use Rattle.std.proofs.Common.{◌≡◌, ℕ, ◌+◌, ◌<◌, ◌≤◌, List, [], ◌∷◌, ◌++◌, length, codes, Option, Some, None, Bool, refl, sym, ap, subst, ◌∙◌, append_assoc, length-append, arith}
 use Rattle.arrayvec.specs.ArrayString.{ArrayString}
 use Rattle.std.proofs.lemmas.Option.{some_pair_parts}
+use Rattle.std.specs.Option.{option_to_list}
 use Rattle.config_color.specs.declared.color.Color.{Color}
 use Rattle.config_word.specs.declared.name.Name.{Name}
 use Rattle.config_color.specs.Color.{WordsRead, Placed, ColorText, CanonicalColor}
 use Rattle.config_color.specs.Laws.Color.{WordsRead-join, PartsRead, WordsRead-split, WordsRead-one, Placed-words, Placed-short, Placed-one, placing, same_color, color_one_value}
 use Rattle.config_color.specs.Reading.Color.{places_of}
-use Rattle.config_color.specs.Composition.{named, color_words, Composition, Composes, Joined, Joins, SameWords, ComparesWords}
+use Rattle.config_color.specs.Composition.{color_words, Composition, Composes, Joined, Joins, SameWords, ComparesWords}
 use Rattle.config_color.specs.Space.{Space}
 use Rattle.config_text.specs.Value.{HasText, IsRefused, Reads, Normalizes, Compares}
 use Rattle.config_color.specs.Split.{words}
@@ -82,14 +83,14 @@ compares_words a b (Some same) (v, w, p, q, k, texts) = (λ e. agree (k.0 e), λ
 
 -- a composition of colors that have texts has one
 pub composition_has_text : (a b c : Color) → HasText ColorText a → HasText ColorText b → Composition a b c → HasText ColorText c
-composition_has_text a b c (s, p) (t, q) k = (s ++ (32 ∷ []) ++ t, joined_reads s (32 ∷ []) t c space_byte (a, b, p, q, k))
+composition_has_text a b c (s, p) (t, q) k = (s ++ codes " " ++ t, joined_reads s (codes " ") t c space_byte (a, b, p, q, k))
 
 pub some_none : (n : Name) → Some n ≡ None → ⊥
 some_none n e = cc
 
 -- the places that the names of two colors have
 places_some : (f b g d : Option Name) (h i : Option Name) → (f ≡ None → b ≡ None) → (g ≡ None → d ≡ None) → places_of f b g d ≡ Some (h, i)
-    → Placed ((named f ++ named b) ++ (named g ++ named d)) h i
+    → Placed ((option_to_list f ++ option_to_list b) ++ (option_to_list g ++ option_to_list d)) h i
 places_some None (Some o) g d h i p q e = absurd (some_none o (p refl))
 places_some None None None None h i p q e = let k = some_pair_parts None h None i e in (sym k.0, sym k.1)
 places_some None None None (Some m) h i p q e = absurd (some_none m (q refl))
@@ -104,7 +105,7 @@ places_some (Some n) (Some o) (Some m) d h i p q e = absurd (cc)
 
 -- there is no place for more than two
 places_none : (f b g d : Option Name) → (f ≡ None → b ≡ None) → (g ≡ None → d ≡ None) → places_of f b g d ≡ None
-    → 2 < length ((named f ++ named b) ++ (named g ++ named d))
+    → 2 < length ((option_to_list f ++ option_to_list b) ++ (option_to_list g ++ option_to_list d))
 places_none None b g d p q e = absurd (cc)
 places_none (Some n) None g None p q e = absurd (cc)
 places_none (Some n) None None (Some m) p q e = absurd (some_none m (q refl))

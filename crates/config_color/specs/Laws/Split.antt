@@ -1,14 +1,15 @@
--- The laws of words: the two sentences of their definition, the words of a text that is joined of two by white
+-- The laws of `Split`: the two sentences of the definition of words, the words of a text that is joined of two by white
 -- space, and the first word of a text that is walked from its front.
 use Rattle.std.proofs.Common.{◌≡◌, ℕ, zero, suc, ◌+◌, ◌-◌, ◌<◌, ◌≤◌, ◌==◌, ◌⊎◌, inl, inr, Bool, true, false, List, [], ◌∷◌, ◌++◌, length, take, drop, slice_range, Option, Some, None, refl, sym, ap, ◌∙◌, append_assoc, length-append, arith}
 use Rattle.std.specs.Bool.{Decides}
 use Rattle.std.specs.List.{AllByRecursion}
+use Rattle.std.specs.Option.{option_or}
 use Rattle.std.proofs.lemmas.Bool.Decides.{Decides-eqb}
 use Rattle.std.proofs.lemmas.List.{append-nil, take-append-drop, drop-drop, take_all}
 use Rattle.config_text.specs.OneOf.{OneOf}
 use Rattle.config_color.specs.Space.{spellings, Space}
 use Rattle.config_color.specs.Laws.Space.{no_empty}
-use Rattle.config_color.specs.Split.{after, or_else, after_one, after_space, Cut, cut_at, last_cut, piece, words_within, words}
+use Rattle.config_color.specs.Split.{IsWithoutSpace, after, after_one, after_space, Cut, cut_at, last_cut, piece, words_within, words}
 
 pub space_byte : Space (32 ∷ [])
 unfolding spellings
@@ -47,7 +48,7 @@ after_one_is : (rows : List (List ℕ)) (text rest : List ℕ) → after_one row
     → (space : List ℕ) × OneOf rows space × (text ≡ space ++ rest)
 after_one_is [] text rest h = absurd (cc)
 after_one_is (row ∷ rows) text rest h = told (after row text) refl h (after_one_is rows text rest) where
-  told : (o : Option (List ℕ)) → after row text ≡ o → or_else o (after_one rows text) ≡ Some rest
+  told : (o : Option (List ℕ)) → after row text ≡ o → option_or o (after_one rows text) ≡ Some rest
       → (after_one rows text ≡ Some rest → (space : List ℕ) × OneOf rows space × (text ≡ space ++ rest))
       → (space : List ℕ) × OneOf (row ∷ rows) space × (text ≡ space ++ rest)
   told (Some r) e k more = (row, inl refl, after_is row text rest (e ∙ k))
@@ -151,11 +152,7 @@ words_joined_within (suc n) before space rest l s =
 pub words_joined : (before space rest : List ℕ) → Space space → words (before ++ (space ++ rest)) ≡ words before ++ words rest
 words_joined before space rest s = words_joined_within (length rest) before space rest (omega arith) s
 
--- no spelling stands at the first n places of the text
-abbrev pub IsWithoutSpace : List ℕ → ℕ → Type 0
-IsWithoutSpace text n = (k : ℕ) → k < n → (space rest : List ℕ) → Space space → ¬ (drop k text ≡ space ++ rest)
-
--- then nothing is cut in front of them
+-- where no spelling stands at the first n places, nothing is cut in front of them
 uncut : (n : ℕ) (text : List ℕ) → IsWithoutSpace text n → last_cut (take n text) ≡ None
 uncut zero text h = refl
 uncut (suc n) [] h = refl

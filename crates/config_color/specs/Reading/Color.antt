@@ -1,23 +1,21 @@
--- Color text as a function, from the front: what the code computes, proved in `ColorLaws` to be `ColorText`. The
--- private functions' contracts cite it, and no public one does.
+-- Color text as a function, from the front: what the code computes, proved in `Laws.Color` to be `ColorText`. The
+-- contracts of private functions cite it, and no public one does.
 use Rattle.std.specs.Prelude.{ℕ, List, [], ◌∷◌, ◌++◌, Option, None, Some}
 use Rattle.std.specs.Int.RustNames.{bit_or}
 use Rattle.std.specs.List.{join_with_byte}
+use Rattle.std.specs.Option.{option_and_then}
+use Rattle.config_text.specs.Bytes.{space}
 use Rattle.config_color.specs.declared.color.Color.{Color}
 use Rattle.config_word.specs.declared.name.Name.{Name}
 use Rattle.config_word.specs.declared.item.Item.{Item}
 use Rattle.config_word.specs.declared.item.Item.TheVariants as items
-use Rattle.config_color.specs.Color.{part_shown}
+use Rattle.config_color.specs.Color.{no_color, part_shown}
 use Rattle.config_word.specs.Reading.Item.{item_of}
 use Rattle.config_color.specs.Split.{words}
 
 -- what a word stands for
 unfoldable pub word_item : List ℕ → Option Item
 word_item t = item_of t
-
--- the color of no word
-abbrev pub no_color : Color
-no_color = record { foreground = None; background = None; attributes = record { 0 = 0 } }
 
 -- the color with one more name: the foreground, else the background, else there is no place for it
 abbrev pub next_name : Option Name → Option Name → ℕ → Name → Option Color
@@ -30,21 +28,12 @@ abbrev pub with_item : Color → Item → Option Color
 with_item c (items.Name n) = next_name c.foreground c.background c.attributes.0 n
 with_item c (items.Attribute a) = Some (record { foreground = c.foreground; background = c.background; attributes = record { 0 = bit_or c.attributes.0 a.0 } })
 
--- the color with the item that a word was found to be
-abbrev pub with_found : Color → Option Item → Option Color
-with_found c None = None
-with_found c (Some i) = with_item c i
-
--- what is done with the color so far, where there is one
-abbrev pub go_on : Option Color → (Color → Option Color) → Option Color
-go_on None more = None
-go_on (Some c) more = more c
-
 -- the color of these words, behind those that gave the color so far
 abbrev pub read_from : Color → List (List ℕ) → Option Color
 read_from c [] = Some c
-read_from c (w ∷ ws) = go_on (with_found c (word_item w)) (λ d. read_from d ws)
+read_from c (w ∷ ws) = option_and_then (λ d. read_from d ws) (option_and_then (λ i. with_item c i) (word_item w))
 
+-- the color of a text
 abbrev pub color_of : List ℕ → Option Color
 color_of t = read_from no_color (words t)
 
@@ -58,4 +47,4 @@ places_of (Some n) (Some o) (Some m) d = None
 
 -- the names as they are shown
 abbrev pub names_shown : Option Name → Option Name → List ℕ
-names_shown f b = join_with_byte 32 (part_shown f ++ part_shown b)
+names_shown f b = join_with_byte space (part_shown f ++ part_shown b)

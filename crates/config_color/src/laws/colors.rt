@@ -1,4 +1,4 @@
-//! What holds of colors and of the words of their texts.
+//! Laws about colors and about the words of their texts.
 ghost use Rattle.std.specs.Prelude.{◌≡◌, ◌≤◌, ◌↔◌, ◌++◌, ℕ, List, length, None};
 ghost use Rattle.config_color.specs.declared.color.Color.{Color};
 ghost use Rattle.config_color.specs.Color.{ColorText, PartFits, AreKnown};
@@ -7,11 +7,12 @@ ghost use Rattle.config_color.specs.Space.{Space};
 ghost use Rattle.config_text.specs.Value.{HasText};
 ghost use Rattle.config_color.specs.Split.{piece, words};
 
-/// A color has a text exactly where all its set bits have a constant, and its background stands only beside a
-/// foreground.
+/// A color has a text exactly where each of its set bits has a constant, and its background stands
+/// only beside a foreground.
 pub fn known_and_beside()
     ensures { (c : Color) → PartFits c.foreground → PartFits c.background
-        → (HasText ColorText c) ↔ (AreKnown c.attributes.0 × (c.foreground ≡ None → c.background ≡ None)) }
+        → (HasText ColorText c)
+        ↔ (AreKnown c.attributes.0 × (c.foreground ≡ None → c.background ≡ None)) }
 {}
 
 /// A text in which no white space stands is its own one word, or has no word where it is empty.
@@ -21,21 +22,24 @@ pub fn whole_words()
         → words text ≡ piece text }
 {}
 
-/// Behind the last white space in a text stands its last word, or none where the text ends there. Its other words
-/// are those of what stands before.
+/// Behind the last white space in a text stands its last word, or none where the text ends there.
+/// Its other words are those of what stands before.
 pub fn last_words()
     ensures { (before space rest : List ℕ) → Space space
-        → ((front other back : List ℕ) → Space other → before ++ space ++ rest ≡ front ++ other ++ back → length front ≤ length before)
+        → ((front other back : List ℕ) → Space other
+        → before ++ space ++ rest ≡ front ++ other ++ back → length front ≤ length before)
         → words (before ++ space ++ rest) ≡ words before ++ piece rest }
 {}
 
-/// The words of a text are those of what stands before any white space in it, then those of what follows.
+/// The words of a text are those of what stands before any white space in it, then those of what
+/// follows.
 pub fn joined_words()
-    ensures { (before space rest : List ℕ) → Space space → words (before ++ space ++ rest) ≡ words before ++ words rest }
+    ensures { (before space rest : List ℕ) → Space space
+        → words (before ++ space ++ rest) ≡ words before ++ words rest }
 {}
 
-/// Two texts joined by white space have a color exactly where both have one and these have a composition, which is
-/// the color.
+/// Two texts joined by white space have a color exactly where both have one and these have a
+/// composition, which is the color.
 pub fn joined_colors()
     ensures { (front space back : List ℕ) (c : Color) → Space space
         → (ColorText (front ++ space ++ back) c) ↔ (Joined front back c) }

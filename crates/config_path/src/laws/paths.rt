@@ -13,8 +13,8 @@ pub fn one_path()
     ensures { (text : List ℕ) (p q : Path) → IsPathOf text p → IsPathOf text q → IsEqualPath p q }
 {}
 
-/// Paths are equal where their bytes and their flags are. They are ordered by their bytes and then by
-/// their flag, `false` first.
+/// Paths are equal where their bytes and their flags are. They are ordered by their bytes and then
+/// by their flag, `false` first.
 pub fn path_order()
     ensures { HasOrder IsEqualPath path_order ⟦<Path as PartialEq>⟧.eq ⟦<Path as Ord>⟧.cmp
         ⟦<Path as PartialOrd>⟧.partial_cmp ⟦<Path as Hash>⟧.hash_input }

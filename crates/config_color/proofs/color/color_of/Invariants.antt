@@ -1,5 +1,6 @@
 use Rattle.std.proofs.Common.{◌≡◌, length}
-use Rattle.config_color.specs.Reading.Color.{no_color, read_from}
+use Rattle.config_color.specs.Reading.Color.{read_from}
+use Rattle.config_color.specs.Color.{no_color}
 use Rattle.config_color.specs.Split.{words}
 use Rattle.config_color.proofs.color.color_of.Given as goal
 

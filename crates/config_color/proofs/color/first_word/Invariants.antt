@@ -1,4 +1,4 @@
-use Rattle.config_color.specs.Laws.Split.{IsWithoutSpace}
+use Rattle.config_color.specs.Split.{IsWithoutSpace}
 use Rattle.config_color.proofs.color.first_word.Given as goal
 
 abbrev pub invariant-loop-at : goal.invariant-loop-at
