@@ -1,5 +1,6 @@
 -- What holds of every kind: its name tells it apart, and each text is refused or has a canonical text.
-use Rattle.std.proofs.Common.{◌≡◌, ◌≢◌, ℕ, ◌⊎◌, inl, inr, List, codes}
+use Rattle.std.proofs.Common.{◌≡◌, ◌≢◌, ℕ, ◌⊎◌, inl, inr, List, [], ◌∷◌}
+use Rattle.std.specs.List.{AllByRecursion}
 use Rattle.gix_config_value.specs.declared.kind.Kind.{Kind}
 use Rattle.gix_config_value.specs.declared.kind.Kind.TheVariants as kinds
 use Rattle.gix_config_value.specs.Kinds.{kind_name, KindGrammar, KindCanonical}
@@ -10,6 +11,8 @@ use Rattle.config_integer.specs.Laws.Suffix.{suffix_decided, suffix_shown_is_tex
 use Rattle.config_integer.specs.Integer.{IntegerText, CanonicalInteger, integer_shown}
 use Rattle.config_integer.specs.Laws.Integer.{integer_decided}
 use Rattle.config_integer.specs.Laws.IntegerShown.{integer_shown_is_text}
+use Rattle.config_integer.specs.Amount.{AmountText, CanonicalAmount, amount_shown}
+use Rattle.config_integer.specs.Laws.Amount.{amount_decided, amount_shown_is_text}
 use Rattle.config_boolean.specs.Boolean.{BooleanText, CanonicalBoolean, boolean_shown}
 use Rattle.config_boolean.specs.Laws.Boolean.{boolean_decided, boolean_shown_is_text}
 use Rattle.config_word.specs.Name.{NameText, CanonicalName, name_shown}
@@ -19,48 +22,29 @@ use Rattle.config_word.specs.Laws.Attribute.{attribute_decided, attribute_shown_
 use Rattle.config_color.specs.Color.{ColorText, CanonicalColor, color_shown}
 use Rattle.config_color.specs.Laws.Color.{color_decided}
 use Rattle.config_color.specs.Laws.ColorShown.{color_shown_is_text}
-use Rattle.config_integer.specs.Amount.{AmountText, CanonicalAmount, amount_shown}
-use Rattle.config_integer.specs.Laws.Amount.{amount_decided, amount_shown_is_text}
+
+-- a text is the name of one of these kinds, or of none of them
+named_among : (kinds : List Kind) (head : List ℕ) → ((kind : Kind) × (kind_name kind ≡ head)) ⊎ AllByRecursion (λ kind. kind_name kind ≢ head) kinds
+named_among [] head = inr tt
+named_among (kind ∷ kinds) head = elim (text_told (kind_name kind) head) [
+  | inl named ↦ inl (kind, named)
+  | inr other ↦ elim (named_among kinds head) [ inl found ↦ inl found | inr none ↦ inr (other, none) ]
+]
 
 -- a text is the name of a kind, or of none
 pub kind_told : (head : List ℕ) → ((kind : Kind) × (kind_name kind ≡ head)) ⊎ ((kind : Kind) → kind_name kind ≢ head)
 kind_told head =
-    elim (text_told (codes "suffix") head) [
-      | inl p ↦ inl (kinds.Suffix, p)
-      | inr suffix ↦
-          elim (text_told (codes "integer") head) [
-            | inl p ↦ inl (kinds.Integer, p)
-            | inr integer ↦
-                elim (text_told (codes "boolean") head) [
-                  | inl p ↦ inl (kinds.Boolean, p)
-                  | inr boolean ↦
-                      elim (text_told (codes "name") head) [
-                        | inl p ↦ inl (kinds.Name, p)
-                        | inr name ↦
-                            elim (text_told (codes "attribute") head) [
-                              | inl p ↦ inl (kinds.Attribute, p)
-                              | inr attribute ↦
-                                  elim (text_told (codes "color") head) [
-                                    | inl p ↦ inl (kinds.Color, p)
-                                    | inr color ↦
-                                        elim (text_told (codes "amount") head) [
-                                          | inl p ↦ inl (kinds.Amount, p)
-                                          | inr amount ↦
-                                              inr (λ kind. elim kind as (λ k. kind_name k ≢ head) [
-                                                | kinds.Suffix ↦ suffix
-                                                | kinds.Integer ↦ integer
-                                                | kinds.Boolean ↦ boolean
-                                                | kinds.Name ↦ name
-                                                | kinds.Attribute ↦ attribute
-                                                | kinds.Color ↦ color
-                                                | kinds.Amount ↦ amount
-                                              ])
-                                        ]
-                                  ]
-                            ]
-                      ]
-                ]
-          ]
+    elim (named_among (kinds.Suffix ∷ kinds.Integer ∷ kinds.Amount ∷ kinds.Boolean ∷ kinds.Name ∷ kinds.Attribute ∷ kinds.Color ∷ []) head) [
+      | inl found ↦ inl found
+      | inr none ↦ inr (λ kind. elim kind as (λ k. kind_name k ≢ head) [
+        | kinds.Suffix ↦ none.0
+        | kinds.Integer ↦ none.1.0
+        | kinds.Amount ↦ none.1.1.0
+        | kinds.Boolean ↦ none.1.1.1.0
+        | kinds.Name ↦ none.1.1.1.1.0
+        | kinds.Attribute ↦ none.1.1.1.1.1.0
+        | kinds.Color ↦ none.1.1.1.1.1.1.0
+      ])
     ]
 
 abbrev pub HasCanonicalText : {V : Type 0} → (List ℕ → V → Type 0) → (List ℕ → Type 0) → List ℕ → Type 0
@@ -79,8 +63,8 @@ decided_with grammar canonical displayed decided shown t = elim (decided t) [
 pub kind_decided : (kind : Kind) (t : List ℕ) → HasCanonicalText (KindGrammar kind) (KindCanonical kind) t ⊎ IsRefused (KindGrammar kind) t
 kind_decided kinds.Suffix t = decided_with SuffixText CanonicalSuffix suffix_shown suffix_decided suffix_shown_is_text t
 kind_decided kinds.Integer t = decided_with IntegerText CanonicalInteger integer_shown integer_decided integer_shown_is_text t
+kind_decided kinds.Amount t = decided_with AmountText CanonicalAmount amount_shown amount_decided amount_shown_is_text t
 kind_decided kinds.Boolean t = decided_with BooleanText CanonicalBoolean boolean_shown boolean_decided boolean_shown_is_text t
 kind_decided kinds.Name t = decided_with NameText CanonicalName name_shown name_decided name_shown_is_text t
 kind_decided kinds.Attribute t = decided_with AttributeText CanonicalAttribute (λ a. attribute_shown a.0) attribute_decided attribute_shown_is_text t
 kind_decided kinds.Color t = decided_with ColorText CanonicalColor color_shown color_decided color_shown_is_text t
-kind_decided kinds.Amount t = decided_with AmountText CanonicalAmount amount_shown amount_decided amount_shown_is_text t

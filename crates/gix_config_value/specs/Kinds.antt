@@ -5,59 +5,59 @@ use Rattle.gix_config_value.specs.declared.kind.Kind.{Kind}
 use Rattle.gix_config_value.specs.declared.kind.Kind.TheVariants as kinds
 use Rattle.config_integer.specs.declared.suffix.Suffix as suffix
 use Rattle.config_integer.specs.declared.integer.Integer as integer
+use Rattle.config_integer.specs.declared.amount.Amount as amount
 use Rattle.config_boolean.specs.declared.boolean.Boolean as boolean
 use Rattle.config_word.specs.declared.name.Name as name
 use Rattle.config_word.specs.declared.attribute.Attribute as attribute
 use Rattle.config_color.specs.declared.color.Color as color
-use Rattle.config_integer.specs.declared.amount.Amount as amount
 use Rattle.config_integer.specs.Suffix.{SuffixText, CanonicalSuffix}
 use Rattle.config_integer.specs.Integer.{IntegerText, CanonicalInteger}
+use Rattle.config_integer.specs.Amount.{AmountText, CanonicalAmount}
 use Rattle.config_boolean.specs.Boolean.{BooleanText, CanonicalBoolean}
 use Rattle.config_word.specs.Name.{NameText, CanonicalName}
 use Rattle.config_word.specs.Attribute.{AttributeText, CanonicalAttribute}
 use Rattle.config_color.specs.Color.{ColorText, CanonicalColor}
 use Rattle.config_color.specs.Composition.{Joins, ComparesWords}
-use Rattle.config_integer.specs.Amount.{AmountText, CanonicalAmount}
 
 -- the name that a line begins with
 abbrev pub kind_name : Kind → List ℕ
 kind_name kinds.Suffix = codes "suffix"
 kind_name kinds.Integer = codes "integer"
+kind_name kinds.Amount = codes "amount"
 kind_name kinds.Boolean = codes "boolean"
 kind_name kinds.Name = codes "name"
 kind_name kinds.Attribute = codes "attribute"
 kind_name kinds.Color = codes "color"
-kind_name kinds.Amount = codes "amount"
 
 -- the values of a kind
 abbrev pub KindValue : Kind → Type 0
 KindValue kinds.Suffix = suffix.Suffix
 KindValue kinds.Integer = integer.Integer
+KindValue kinds.Amount = amount.Amount
 KindValue kinds.Boolean = boolean.Boolean
 KindValue kinds.Name = name.Name
 KindValue kinds.Attribute = attribute.Attribute
 KindValue kinds.Color = color.Color
-KindValue kinds.Amount = amount.Amount
 
 -- which texts read to which values
 abbrev pub KindGrammar : (kind : Kind) → List ℕ → KindValue kind → Type 0
 KindGrammar kinds.Suffix = SuffixText
 KindGrammar kinds.Integer = IntegerText
+KindGrammar kinds.Amount = AmountText
 KindGrammar kinds.Boolean = BooleanText
 KindGrammar kinds.Name = NameText
 KindGrammar kinds.Attribute = AttributeText
 KindGrammar kinds.Color = ColorText
-KindGrammar kinds.Amount = AmountText
 
 -- the canonical texts
 abbrev pub KindCanonical : Kind → List ℕ → Type 0
 KindCanonical kinds.Suffix = CanonicalSuffix
 KindCanonical kinds.Integer = CanonicalInteger
+KindCanonical kinds.Amount = CanonicalAmount
 KindCanonical kinds.Boolean = CanonicalBoolean
 KindCanonical kinds.Name = CanonicalName
 KindCanonical kinds.Attribute = CanonicalAttribute
 KindCanonical kinds.Color = CanonicalColor
-KindCanonical kinds.Amount = CanonicalAmount
 
 -- what a normaliser says of a text in which white space stands: for colors, what follows from the texts beside it
 abbrev pub KindJoins : Kind → List ℕ → Option ArrayString → Type 0

@@ -23,6 +23,8 @@ pub enum Kind {
     Suffix,
     /// Numbers with at most one suffix.
     Integer,
+    /// Numbers whose product with their suffix fits `i64`.
+    Amount,
     /// Truth values, as words or as numbers.
     Boolean,
     /// The names of colors.
@@ -31,8 +33,6 @@ pub enum Kind {
     Attribute,
     /// Colors: names of a foreground and a background, and attributes.
     Color,
-    /// Numbers whose product with their suffix fits `i64`.
-    Amount,
 }
 
 /// The kind of exactly this name.
@@ -42,11 +42,11 @@ pub(crate) fn kind_by_name(name: &[u8]) -> Option<Kind>
     match name {
         b"suffix" => Some(Kind::Suffix),
         b"integer" => Some(Kind::Integer),
+        b"amount" => Some(Kind::Amount),
         b"boolean" => Some(Kind::Boolean),
         b"name" => Some(Kind::Name),
         b"attribute" => Some(Kind::Attribute),
         b"color" => Some(Kind::Color),
-        b"amount" => Some(Kind::Amount),
         _ => None,
     }
 }
@@ -64,11 +64,11 @@ pub fn normalize(kind: Kind, input: BStr<'_>) -> Option<ArrayString<127>>
     match kind {
         Kind::Suffix => normalize_as::<Suffix>(input),
         Kind::Integer => normalize_as::<Integer>(input),
+        Kind::Amount => normalize_as::<Amount>(input),
         Kind::Boolean => normalize_as::<Boolean>(input),
         Kind::Name => normalize_as::<Name>(input),
         Kind::Attribute => normalize_as::<Attribute>(input),
         Kind::Color => normalize_as::<Color>(input),
-        Kind::Amount => normalize_as::<Amount>(input),
     }
 }
 
@@ -81,11 +81,11 @@ pub fn same(kind: Kind, a: BStr<'_>, b: BStr<'_>) -> Option<bool>
     match kind {
         Kind::Suffix => same_as::<Suffix>(a, b),
         Kind::Integer => same_as::<Integer>(a, b),
+        Kind::Amount => same_as::<Amount>(a, b),
         Kind::Boolean => same_as::<Boolean>(a, b),
         Kind::Name => same_as::<Name>(a, b),
         Kind::Attribute => same_as::<Attribute>(a, b),
         Kind::Color => same_as::<Color>(a, b),
-        Kind::Amount => same_as::<Amount>(a, b),
     }
 }
 

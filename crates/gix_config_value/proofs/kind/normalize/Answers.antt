@@ -7,6 +7,9 @@ returns-in-Suffix c = rw c.in-Suffix.is (record { answer = c.normalize_as.ensure
 pub returns-in-Integer : goal.returns-in-Integer
 returns-in-Integer c = rw c.in-Integer.is (record { answer = c.normalize_as-in-Integer.ensures.answer; only = c.normalize_as-in-Integer.ensures.only; unchanged = c.normalize_as-in-Integer.ensures.unchanged; joined = tt })
 
+pub returns-in-Amount : goal.returns-in-Amount
+returns-in-Amount c = rw c.in-Amount.is (record { answer = c.normalize_as-in-Amount.ensures.answer; only = c.normalize_as-in-Amount.ensures.only; unchanged = c.normalize_as-in-Amount.ensures.unchanged; joined = tt })
+
 pub returns-in-Boolean : goal.returns-in-Boolean
 returns-in-Boolean c = rw c.in-Boolean.is (record { answer = c.normalize_as-in-Boolean.ensures.answer; only = c.normalize_as-in-Boolean.ensures.only; unchanged = c.normalize_as-in-Boolean.ensures.unchanged; joined = tt })
 
@@ -18,6 +21,3 @@ returns-in-Attribute c = rw c.in-Attribute.is (record { answer = c.normalize_as-
 
 pub returns-in-Color : goal.returns-in-Color
 returns-in-Color c = rw c.in-Color.is (record { answer = c.normalize_as-in-Color.ensures.answer; only = c.normalize_as-in-Color.ensures.only; unchanged = c.normalize_as-in-Color.ensures.unchanged; joined = normalizes_joins _ _ c.normalize_as-in-Color.ensures.answer })
-
-pub returns-in-Amount : goal.returns-in-Amount
-returns-in-Amount c = rw c.in-Amount.is (record { answer = c.normalize_as-in-Amount.ensures.answer; only = c.normalize_as-in-Amount.ensures.only; unchanged = c.normalize_as-in-Amount.ensures.unchanged; joined = tt })

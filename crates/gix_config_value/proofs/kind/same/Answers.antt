@@ -7,6 +7,9 @@ returns-in-Suffix c = rw c.in-Suffix.is (record { answer = c.same_as.ensures; wo
 pub returns-in-Integer : goal.returns-in-Integer
 returns-in-Integer c = rw c.in-Integer.is (record { answer = c.same_as-in-Integer.ensures; words = tt })
 
+pub returns-in-Amount : goal.returns-in-Amount
+returns-in-Amount c = rw c.in-Amount.is (record { answer = c.same_as-in-Amount.ensures; words = tt })
+
 pub returns-in-Boolean : goal.returns-in-Boolean
 returns-in-Boolean c = rw c.in-Boolean.is (record { answer = c.same_as-in-Boolean.ensures; words = tt })
 
@@ -18,6 +21,3 @@ returns-in-Attribute c = rw c.in-Attribute.is (record { answer = c.same_as-in-At
 
 pub returns-in-Color : goal.returns-in-Color
 returns-in-Color c = rw c.in-Color.is (record { answer = c.same_as-in-Color.ensures; words = compares_words _ _ _ c.same_as-in-Color.ensures })
-
-pub returns-in-Amount : goal.returns-in-Amount
-returns-in-Amount c = rw c.in-Amount.is (record { answer = c.same_as-in-Amount.ensures; words = tt })
