@@ -6,7 +6,7 @@ use Rattle.std.proofs.lemmas.List.{get_or-take}
 use Rattle.bstr.specs.Find.{Passes, Nowhere, NoneBefore, is_byte}
 use Rattle.std.proofs.Math.Seq.{take-length}
 use Rattle.std.proofs.Math.ListN.{drop_of_length-le}
-use Rattle.gix_config_value.specs.Answers.{IsUnbroken, line_head, line_value}
+use Rattle.gix_config_value.specs.Answers.{line_feed, space, IsUnbroken, line_head, line_value}
 use Rattle.gix_config_value.specs.Reading.Steps.{CutsLine}
 
 false_from : (b : Bool) → ¬ (b ≡ true) → b ≡ false
@@ -33,19 +33,19 @@ AllByRecursion-from_places P [] each = tt
 AllByRecursion-from_places P (x ∷ xs) each =
     (each 0 (omega arith), AllByRecursion-from_places P xs (λ k below. each (suc k) (omega arith)))
 
-pub unbroken_nowhere : (bytes : List ℕ) → Nowhere (Passes (is_byte 10) bytes) 0 (length bytes) → IsUnbroken bytes
-unbroken_nowhere bytes none = AllByRecursion-from_places (λ b. b ≢ 10) bytes (λ k below is. none k (omega arith) below (eq-eqb _ 10 is))
+pub unbroken_nowhere : (bytes : List ℕ) → Nowhere (Passes (is_byte line_feed) bytes) 0 (length bytes) → IsUnbroken bytes
+unbroken_nowhere bytes none = AllByRecursion-from_places (λ b. b ≢ line_feed) bytes (λ k below is. none k (omega arith) below (eq-eqb _ line_feed is))
 
-pub cuts_first : (bytes : List ℕ) (i : ℕ) → NoneBefore (Passes (is_byte 10) bytes) 0 (length bytes) i → Passes (is_byte 10) bytes i → CutsLine bytes i
+pub cuts_first : (bytes : List ℕ) (i : ℕ) → NoneBefore (Passes (is_byte line_feed) bytes) 0 (length bytes) i → Passes (is_byte line_feed) bytes i → CutsLine bytes i
 cuts_first bytes i first passes = record {
   parts =
       let inside : i < length bytes = first.high in
-      let here : get_or bytes i 0 ≡ 10 = eqb-true _ 10 passes in
-      let from_here : drop i bytes ≡ 10 ∷ drop (i + 1) bytes = rw (add-one, drop-cons bytes i 0) (ap (λ b. b ∷ drop (suc i) bytes) here) in
+      let here : get_or bytes i 0 ≡ line_feed = eqb-true _ line_feed passes in
+      let from_here : drop i bytes ≡ line_feed ∷ drop (i + 1) bytes = rw (add-one, drop-cons bytes i 0) (ap (λ b. b ∷ drop (suc i) bytes) here) in
       rw append_assoc (sym (take-append-drop i bytes) ∙ ap (λ l. take i bytes ++ l) from_here);
-  unbroken = AllByRecursion-from_places (λ b. b ≢ 10) (take i bytes) (λ k below is.
+  unbroken = AllByRecursion-from_places (λ b. b ≢ line_feed) (take i bytes) (λ k below is.
       let before : k < i = omega (arith, length-take {A = ℕ}) in
-      first.before k (omega arith) before (eq-eqb _ 10 (sym (get_or-take i bytes k 0 before) ∙ is)));
+      first.before k (omega arith) before (eq-eqb _ line_feed (sym (get_or-take i bytes k 0 before) ∙ is)));
 }
 
 -- the rest of a slice, as a range to its end
@@ -54,15 +54,15 @@ take_rest n xs = rw (← length-drop n xs) (take-length (drop n xs))
 
 -- ---- the head of a line and what follows it
 
-pub head_first : (line : List ℕ) (i : ℕ) → position_or_len (λ b. b == 32) line ≡ i → take i line ≡ line_head line
+pub head_first : (line : List ℕ) (i : ℕ) → position_or_len (λ b. b == space) line ≡ i → take i line ≡ line_head line
 head_first line i at = ap (λ n. take n line) (sym at)
 
-pub head_nowhere : (line : List ℕ) → position_or_len (λ b. b == 32) line ≡ length line → line ≡ line_head line
+pub head_nowhere : (line : List ℕ) → position_or_len (λ b. b == space) line ≡ length line → line ≡ line_head line
 head_nowhere line at = sym (ap (λ n. take n line) at ∙ take-length line)
 
-pub value_first : (line : List ℕ) (i : ℕ) → position_or_len (λ b. b == 32) line ≡ i
+pub value_first : (line : List ℕ) (i : ℕ) → position_or_len (λ b. b == space) line ≡ i
     → take (length line - (i + 1)) (drop (i + 1) line) ≡ line_value line
 value_first line i at = take_rest (i + 1) line ∙ ap (λ n. drop (n + 1) line) (sym at)
 
-pub value_nowhere : (line : List ℕ) → position_or_len (λ b. b == 32) line ≡ length line → [] ≡ line_value line
+pub value_nowhere : (line : List ℕ) → position_or_len (λ b. b == space) line ≡ length line → [] ≡ line_value line
 value_nowhere line at = sym (ap (λ n. drop (n + 1) line) at ∙ drop_of_length-le line (omega arith))

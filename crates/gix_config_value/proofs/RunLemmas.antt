@@ -3,7 +3,8 @@ use Rattle.std.proofs.Common.{◌≡◌, ◌≢◌, ◌==◌, ℕ, ◌<◌, List
 use Rattle.std.specs.Io.KnownBytes.{Appends, Consumes, Keeps, IsAtEnd}
 use Rattle.gix_config_value.specs.declared.program.RunError.{RunError}
 use Rattle.gix_config_value.specs.declared.program.RunError.TheVariants.{Read, Write, Memory}
-use Rattle.gix_config_value.specs.Answers.{IsCut, Outcome, LineOutcome, outcome_text, is_accepted, IsBeginningOfAnswers, AnswersAllBut, AnswersLines, Completes, Fails}
+use Rattle.gix_config_value.specs.declared.program.Outcome.{Outcome}
+use Rattle.gix_config_value.specs.Answers.{IsCut, LineOutcome, outcome_text, is_accepted, IsBeginningOfAnswers, AnswersAllBut, AnswersLines, Completes, Fails}
 use Rattle.gix_config_value.specs.Reading.Steps.{Takes, AnswersLast, EmitsAnswer, TakesEmitting, MayMiss, WritesPart, Stops, EndsAnswered, EndsEarly, Goes}
 use Rattle.gix_config_value.proofs.ReaderWriterLemmas.{Keeps-refl, Appends-nil, Appends-trans, Consumes-nil, Consumes-trans, Consumes-kept}
 use Rattle.gix_config_value.proofs.StepLemmas.{Takes-nil, Takes-trans, takes_any, last_any, Answers-last, begins, all_but, Stops-first, Stops-after}

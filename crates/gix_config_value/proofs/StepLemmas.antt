@@ -11,8 +11,11 @@ use Rattle.gix_config_value.specs.declared.program.RunError.{RunError}
 use Rattle.gix_config_value.specs.declared.program.RunError.TheVariants.{Write}
 use Rattle.gix_config_value.specs.Kinds.{kind_name, KindValue, KindGrammar, KindCanonical}
 use Rattle.config_text.specs.Value.{IsTextOf}
-use Rattle.gix_config_value.specs.Answers.{ended, IsUnbroken, line_head, line_value, Outcome, accepted, refused, unknown, LineOutcome, outcome_text, is_accepted, Answers, IsBeginningOfAnswers, AnswersAllBut}
-use Rattle.gix_config_value.specs.Reading.Steps.{PutsAnswer, Takes, AnswersLast, Emits, EmitsAnswer, TakesEmitting, WritesPart, Stops, CutsLine, AnswersUpTo}
+use Rattle.gix_config_value.specs.declared.program.Outcome.{Outcome}
+use Rattle.gix_config_value.specs.declared.program.Outcome.TheVariants.{Accepted, Refused, UnknownKind}
+use Rattle.arrayvec.specs.ArrayString.{ArrayString}
+use Rattle.gix_config_value.specs.Answers.{ended, line_feed, IsUnbroken, line_head, line_value, LineOutcome, outcome_text, is_accepted, Answers, IsBeginningOfAnswers, AnswersAllBut}
+use Rattle.gix_config_value.specs.Reading.Steps.{Takes, AnswersLast, Emits, EmitsAnswer, TakesEmitting, WritesPart, Stops, CutsLine, AnswersUpTo}
 use Rattle.gix_config_value.proofs.KindLemmas.{kind_told, kind_decided}
 use Rattle.gix_config_value.proofs.ReaderWriterLemmas.{Appends-nil, Appends-trans}
 
@@ -91,17 +94,17 @@ Takes-trans line p line' q line'' ok ok' ok'' first second t u = record {
 
 -- ---- every line has an outcome, and every input answers
 
-pub accepts_line : (line head value s : List ℕ) (kind : Kind) → head ≡ line_head line → value ≡ line_value line → kind_name kind ≡ head
-    → ((v : KindValue kind) × KindGrammar kind value v × IsTextOf (KindGrammar kind) (KindCanonical kind) v s) → LineOutcome line (accepted s)
+pub accepts_line : (line head value : List ℕ) (s : ArrayString) (kind : Kind) → head ≡ line_head line → value ≡ line_value line → kind_name kind ≡ head
+    → ((v : KindValue kind) × KindGrammar kind value v × IsTextOf (KindGrammar kind) (KindCanonical kind) v s.bytes) → LineOutcome line (Accepted s)
 accepts_line line head value s kind at_head at_value named text =
     (kind, named ∙ at_head, (text.0, subst (λ t. KindGrammar kind t text.0) at_value text.1, text.2))
 
 pub line_decided : (line : List ℕ) → (outcome : Outcome) × LineOutcome line outcome
 line_decided line = elim (kind_told (line_head line)) [
-  | inr none ↦ (unknown, none)
+  | inr none ↦ (UnknownKind, none)
   | inl found ↦ elim (kind_decided found.0 (line_value line)) [
-    | inl text ↦ (accepted text.0, (found.0, found.1, text.1))
-    | inr none ↦ (refused, (found.0, found.1, none))
+    | inl text ↦ (Accepted (record { bytes = text.0; spare = [] }), (found.0, found.1, text.1))
+    | inr none ↦ (Refused, (found.0, found.1, none))
   ]
 ]
 
@@ -113,14 +116,14 @@ take_on : (line : List ℕ) (ok : Bool) (b : ℕ) (bs line' : List ℕ) (ok' : B
 take_on line ok b bs line' ok' output t rest =
     (rest.0, rest.1, output ++ rest.2, Takes-trans line (b ∷ []) line' bs rest.0 ok ok' rest.1 output rest.2 t rest.3)
 
-take_line_feed : (line : List ℕ) (ok : Bool) → TakesSome line ok (10 ∷ [])
+take_line_feed : (line : List ℕ) (ok : Bool) → TakesSome line ok (line_feed ∷ [])
 take_line_feed line ok = let o = line_decided (line ++ []) in
     ([], ok && is_accepted o.0, outcome_text o.0, Takes-line line [] ok o.0 tt o.1)
 
 -- any bytes complete some lines and leave some line begun
 pub takes_any : (line : List ℕ) (ok : Bool) (bytes : List ℕ) → TakesSome line ok bytes
 takes_any line ok [] = (line, ok, [], Takes-nil line ok)
-takes_any line ok (b ∷ bs) = elim (eqb_tells b 10) [
+takes_any line ok (b ∷ bs) = elim (eqb_tells b line_feed) [
   | inl at ↦ let t = take_line_feed line ok in
       take_on line ok b bs t.0 t.1 t.2 (subst (λ x. Takes line ok (x ∷ []) t.0 t.1 t.2) (sym at.1) t.3) (takes_any t.0 t.1 bs)
   | inr other ↦ take_on line ok b bs (line ++ b ∷ []) ok [] (Takes-begun line (b ∷ []) ok (other.1, tt)) (takes_any (line ++ b ∷ []) ok bs)
@@ -203,14 +206,13 @@ pub Emits-all : (held holds : Option (List ℕ)) (waiting : List ℕ) → Append
 Emits-all held holds waiting h = record { written = waiting; appended = h; same = refl }
 
 -- an answer was put behind what waited
-pub Emits-answer : (line : List ℕ) (a b : Option (List ℕ)) (w w' w'' : List ℕ) (ok : Bool) → Emits a w b w' [] → PutsAnswer line w' w'' ok
-    → EmitsAnswer line a w b w'' ok
-Emits-answer line a b w w' w'' ok e p = record {
-  outcome = p.outcome;
-  is = p.is;
-  accepts = p.accepts;
-  emits = Emits-trans a b b w w' w'' [] (outcome_text p.outcome) e
-      (record { written = []; appended = Appends-nil b; same = sym p.behind });
+pub Emits-answer : (line : List ℕ) (a b : Option (List ℕ)) (w w' w'' : List ℕ) (outcome : Outcome) (ok : Bool) → Emits a w b w' []
+    → LineOutcome line outcome → w'' ≡ w' ++ outcome_text outcome → ok ≡ is_accepted outcome → EmitsAnswer line a w b w'' ok
+Emits-answer line a b w w' w'' outcome ok e is behind accepts = record {
+  outcome = outcome;
+  is = is;
+  accepts = accepts;
+  emits = Emits-trans a b b w w' w'' [] (outcome_text outcome) e (record { written = []; appended = Appends-nil b; same = sym behind });
 }
 
 -- an error after an output was put behind what waited

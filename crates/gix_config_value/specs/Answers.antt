@@ -8,18 +8,28 @@ use Rattle.std.specs.Io.KnownBytes.{Consumes, Appends, IsAtEnd}
 use Rattle.gix_config_value.specs.declared.kind.Kind.{Kind}
 use Rattle.gix_config_value.specs.declared.program.RunError.{RunError}
 use Rattle.gix_config_value.specs.declared.program.RunError.TheVariants.{Read, Write, Memory}
+use Rattle.gix_config_value.specs.declared.program.Outcome.{Outcome}
+use Rattle.gix_config_value.specs.declared.program.Outcome.TheVariants.{Accepted, Refused, UnknownKind}
 use Rattle.gix_config_value.specs.Kinds.{kind_name, KindValue, KindGrammar, KindCanonical}
 use Rattle.config_text.specs.Value.{IsRefused, IsTextOf}
 
 -- ---- lines
 
+-- LF, which ends a line
+abbrev pub line_feed : ℕ
+line_feed = 0x0A
+
+-- the space between the head of a line and its value
+abbrev pub space : ℕ
+space = 0x20
+
 -- a line with the LF that ends it
 abbrev pub ended : List ℕ → List ℕ
-ended line = line ++ 10 ∷ []
+ended line = line ++ line_feed ∷ []
 
 -- no LF stands in it
 abbrev pub IsUnbroken : List ℕ → Type 0
-IsUnbroken line = AllByRecursion (λ b. b ≢ 10) line
+IsUnbroken line = AllByRecursion (λ b. b ≢ line_feed) line
 
 -- the input is these lines, each ended by LF, and then a rest without LF
 pub record IsCut (input : List ℕ) (lines : List (List ℕ)) (rest : List ℕ) : Type 0 where
@@ -34,37 +44,33 @@ counted_lines lines (b ∷ bs) = lines ++ (b ∷ bs) ∷ []
 
 -- what stands before the first space, or the whole line where there is none
 abbrev pub line_head : List ℕ → List ℕ
-line_head line = before_first (λ b. b == 32) line
+line_head line = before_first (λ b. b == space) line
 
 -- what stands after the first space, or nothing where there is none
 abbrev pub line_value : List ℕ → List ℕ
-line_value line = after_first (λ b. b == 32) line
+line_value line = after_first (λ b. b == space) line
 
 -- ---- the outcome of a line
-
-pub data Outcome : Type 0 where
-  accepted : List ℕ → Outcome
-  refused : Outcome
-  unknown : Outcome
 
 -- accepted with a canonical text that has the value of the line's text, refused where the kind's grammar gives
 -- the text no value, and unknown where the head of the line is no kind's name
 abbrev pub LineOutcome : List ℕ → Outcome → Type 0
-LineOutcome line (accepted s) = (kind : Kind) × (kind_name kind ≡ line_head line)
-    × ((v : KindValue kind) × KindGrammar kind (line_value line) v × IsTextOf (KindGrammar kind) (KindCanonical kind) v s)
-LineOutcome line refused = (kind : Kind) × (kind_name kind ≡ line_head line) × IsRefused (KindGrammar kind) (line_value line)
-LineOutcome line unknown = (kind : Kind) → kind_name kind ≢ line_head line
+LineOutcome line (Accepted s) = (kind : Kind) × (kind_name kind ≡ line_head line)
+    × ((v : KindValue kind) × KindGrammar kind (line_value line) v × IsTextOf (KindGrammar kind) (KindCanonical kind) v s.bytes)
+LineOutcome line Refused = (kind : Kind) × (kind_name kind ≡ line_head line) × IsRefused (KindGrammar kind) (line_value line)
+LineOutcome line UnknownKind = (kind : Kind) → kind_name kind ≢ line_head line
 
--- how an outcome is answered
+-- the line that says an outcome
 abbrev pub outcome_text : Outcome → List ℕ
-outcome_text (accepted s) = codes "ok " ++ s ++ 10 ∷ []
-outcome_text refused = codes "refused" ++ 10 ∷ []
-outcome_text unknown = codes "unknown kind" ++ 10 ∷ []
+outcome_text (Accepted s) = ended (codes "ok " ++ s.bytes)
+outcome_text Refused = ended (codes "refused")
+outcome_text UnknownKind = ended (codes "unknown kind")
 
+-- whether a line was accepted
 abbrev pub is_accepted : Outcome → Bool
-is_accepted (accepted s) = true
-is_accepted refused = false
-is_accepted unknown = false
+is_accepted (Accepted s) = true
+is_accepted Refused = false
+is_accepted UnknownKind = false
 
 -- ---- the answers to an input
 

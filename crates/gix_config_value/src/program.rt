@@ -5,8 +5,8 @@
 ghost use Rattle.std.specs.Prelude.{◌≡◌, ℕ, List, ◌+◌, ◌≤◌, ◌<◌, [], ◌++◌, length, take, drop, vec_len, MatchOption, OnOk, IfOk, IfErr, Option};
 ghost use Rattle.bstr.specs.BStr.{bstr_bytes};
 ghost use Rattle.std.specs.Io.KnownBytes.{Appends, Keeps};
-ghost use Rattle.gix_config_value.specs.Answers.{ended, line_head, line_value, IsUnbroken, Completes, Fails, status_of};
-ghost use Rattle.gix_config_value.specs.Reading.Steps.{CutsLine, PutsAnswer, Takes, Emits, WritesPart, Stops, EmitsAnswer, TakesEmitting, AnswersUpTo, EndsAnswered, EndsEarly};
+ghost use Rattle.gix_config_value.specs.Answers.{ended, line_head, line_value, IsUnbroken, LineOutcome, outcome_text, is_accepted, Completes, Fails, status_of};
+ghost use Rattle.gix_config_value.specs.Reading.Steps.{CutsLine, Takes, Emits, WritesPart, Stops, EmitsAnswer, TakesEmitting, AnswersUpTo, EndsAnswered, EndsEarly};
 
 use crate::kind::{kind_by_name, normalize};
 use arrayvec::ArrayString;
@@ -29,6 +29,45 @@ pub enum RunError {
     Memory(AllocError),
 }
 
+/// What a line is answered. A line is the name of a kind, one space, and the text of a value; without a space the
+/// text is empty.
+#[derive(Clone, Copy, PartialEq, Eq, Debug)]
+pub enum Outcome {
+    /// The kind's grammar gives the text a value: the canonical text of that value.
+    Accepted(ArrayString<127>),
+    /// The kind's grammar gives the text no value.
+    Refused,
+    /// What stands before the first space, or the whole line without a space, is the name of no kind.
+    UnknownKind,
+}
+
+impl Outcome {
+    ghost use Rattle.gix_config_value.specs.Answers.{outcome_text, is_accepted};
+
+    /// Puts the line that says this outcome behind a text.
+    fn push_to(&self, text: &mut ArrayString<8192>)
+        requires { length text.old.bytes + LONGEST_ANSWER ≤ 8192 }
+        ensures { text.new.bytes ≡ text.old.bytes ++ outcome_text self.now }
+    {
+        match self {
+            Outcome::Accepted(canonical) => {
+                text.push_str("ok ");
+                text.push_str(canonical.as_str());
+                text.push_str("\n");
+            }
+            Outcome::Refused => text.push_str("refused\n"),
+            Outcome::UnknownKind => text.push_str("unknown kind\n"),
+        }
+    }
+
+    /// Whether the line has a value.
+    fn is_accepted(&self) -> bool
+        ensures { result ≡ is_accepted self.now }
+    {
+        matches!(self, Outcome::Accepted(_))
+    }
+}
+
 /// The longest answer: `ok `, a canonical text of 127 bytes, and LF.
 const LONGEST_ANSWER: usize = 131;
 
@@ -43,24 +82,20 @@ fn split_line(line: &[u8]) -> (&[u8], &[u8])
     }
 }
 
-/// Puts the answer to a line behind those that wait, and says whether the line was accepted.
-fn push_answer(waiting: &mut ArrayString<8192>, line: &[u8]) -> bool
-    requires { length waiting.old.bytes + 131 ≤ 8192 }
-    ensures { PutsAnswer line.now waiting.old.bytes waiting.new.bytes result }
+/// What a line is answered: `Accepted` with the canonical text of the line's value, `Refused` exactly where the
+/// grammar of the line's kind gives the line's text no value, and `UnknownKind` exactly where the line begins with
+/// the name of no kind. The line is passed without the LF that ends it.
+pub fn answer(line: &[u8]) -> Outcome
+    ensures { LineOutcome line.now result }
 {
-    let (head, value) = split_line(line);
+    let (head, text) = split_line(line);
     let Some(kind) = kind_by_name(head) else {
-        waiting.push_str("unknown kind\n");
-        return false;
+        return Outcome::UnknownKind;
     };
-    let Some(text) = normalize(kind, BStr::new(value)) else {
-        waiting.push_str("refused\n");
-        return false;
-    };
-    waiting.push_str("ok ");
-    waiting.push_str(text.as_str());
-    waiting.push_str("\n");
-    true
+    match normalize(kind, BStr::new(text)) {
+        Some(canonical) => Outcome::Accepted(canonical),
+        None => Outcome::Refused,
+    }
 }
 
 /// The place of the first LF.
@@ -114,7 +149,9 @@ fn answer_line<W: Write>(
     ensures write { IfErr result (λ e. e ≡ RunError.Write) }
 {
     make_room(waiting, writer)?;
-    Ok(push_answer(waiting, line))
+    let outcome = answer(line);
+    outcome.push_to(waiting);
+    Ok(outcome.is_accepted())
 }
 
 /// Answers each line that ends within the bytes, and gives what follows the last of them.

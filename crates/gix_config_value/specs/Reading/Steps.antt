@@ -7,19 +7,13 @@ use Rattle.std.specs.List.{AllByRecursion, AllZip, list_all}
 use Rattle.std.specs.Io.KnownBytes.{Appends, Consumes}
 use Rattle.gix_config_value.specs.declared.program.RunError.{RunError}
 use Rattle.gix_config_value.specs.declared.program.RunError.TheVariants.{Read, Write, Memory}
-use Rattle.gix_config_value.specs.Answers.{ended, IsUnbroken, Outcome, LineOutcome, outcome_text, is_accepted}
+use Rattle.gix_config_value.specs.declared.program.Outcome.{Outcome}
+use Rattle.gix_config_value.specs.Answers.{ended, IsUnbroken, LineOutcome, outcome_text, is_accepted}
 
 -- the bytes at place i are an LF, and none stands before it
 pub record CutsLine (bytes : List ℕ) (i : ℕ) : Type 0 where
   pub parts : bytes ≡ ended (take i bytes) ++ drop (i + 1) bytes
   pub unbroken : IsUnbroken (take i bytes)
-
--- the answer to a line is put behind what waited
-pub record PutsAnswer (line waiting waiting' : List ℕ) (ok : Bool) : Type 0 where
-  pub outcome : Outcome
-  pub is : LineOutcome line outcome
-  pub behind : waiting' ≡ waiting ++ outcome_text outcome
-  pub accepts : ok ≡ is_accepted outcome
 
 -- with this line begun and this truth so far, the bytes complete lines whose answers are the output, and leave
 -- another line begun
