@@ -12,13 +12,12 @@ ghost use Rattle.config_boolean.specs.Boolean.{Affirms, Denies, BooleanText, Can
 ghost use Rattle.serde_json.specs.Data.{boolean};
 ghost use Rattle.config_text.specs.Json.{IsJson};
 
-use arrayvec::ArrayString;
 use bstr::{BStr, BString};
 use config_integer::amount::Amount;
 use config_text::errors::{Error, Fault, Returned};
 use config_text::json::JsonError;
 use config_text::readers::{TryRead, read_bytes, read_cow, read_owned, read_text};
-use config_text::value::Value;
+use config_text::value::{Text, Value};
 use serde_json::Value as JsonValue;
 use std::alloc::Global;
 use std::borrow::CowSlice;
@@ -170,8 +169,8 @@ impl Value for Boolean {
         true
     }
 
-    fn text(&self) -> ArrayString<127> {
-        let mut text = ArrayString::new();
+    fn text(&self) -> Text {
+        let mut text = Text::new();
         text.push_str(self.shown());
         text
     }

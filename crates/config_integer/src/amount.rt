@@ -10,11 +10,10 @@ ghost use Rattle.config_integer.specs.Amount.{AmountText, AmountRefusal, Canonic
 ghost use Rattle.config_integer.specs.Laws.Amount.{amount_one_value, amount_one_text, amount_canonical_reads, amount_shown_is_text, amount_decided};
 
 use crate::integer::scan;
-use arrayvec::ArrayString;
 use bstr::{BStr, BString};
 use config_text::errors::{Error, Fault, Returned};
 use config_text::readers::{TryRead, read_bytes, read_cow, read_owned, read_text};
-use config_text::value::Value;
+use config_text::value::{Text, Value};
 use itoa::Buffer;
 use std::borrow::CowSlice;
 use std::fmt;
@@ -89,10 +88,10 @@ impl<'a> TryFrom<CowSlice<'a, u8>> for Amount {
 
 impl Amount {
     /// The number in decimal.
-    fn shown(&self) -> ArrayString<127>
+    fn shown(&self) -> Text
         ensures { result.bytes ≡ amount_shown self.now }
     {
-        let mut text = ArrayString::new();
+        let mut text = Text::new();
         text.push_str(Buffer::new().format(self.0));
         text
     }
@@ -123,7 +122,7 @@ impl Value for Amount {
         true
     }
 
-    fn text(&self) -> ArrayString<127> {
+    fn text(&self) -> Text {
         self.shown()
     }
 

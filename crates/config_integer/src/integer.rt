@@ -17,12 +17,11 @@ ghost use Rattle.config_text.specs.Json.{GivesJsonNumber};
 
 use crate::magnitude;
 use crate::suffix::Suffix;
-use arrayvec::ArrayString;
 use bstr::{BStr, BString};
 use config_text::errors::{Error, Fault, Returned};
 use config_text::json::JsonError;
 use config_text::readers::{TryRead, read_bytes, read_cow, read_owned, read_text};
-use config_text::value::Value;
+use config_text::value::{Text, Value};
 use itoa::Buffer;
 use serde_json::Value as JsonValue;
 use std::alloc::Global;
@@ -203,10 +202,10 @@ impl Integer {
     }
 
     /// The number in decimal, and the letter of its suffix.
-    fn shown(&self) -> ArrayString<127>
+    fn shown(&self) -> Text
         ensures { result.bytes ≡ integer_shown self.now }
     {
-        let mut text = ArrayString::new();
+        let mut text = Text::new();
         text.push_str(Buffer::new().format(self.value));
         if let Some(suffix) = self.suffix {
             text.push_str(suffix.letter());
@@ -232,7 +231,7 @@ impl Value for Integer {
         true
     }
 
-    fn text(&self) -> ArrayString<127> {
+    fn text(&self) -> Text {
         self.shown()
     }
 

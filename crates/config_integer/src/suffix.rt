@@ -9,10 +9,9 @@ ghost use Rattle.config_integer.specs.Laws.Suffix.{suffix_one_value, suffix_one_
 ghost use Rattle.std.proofs.Common.{rules};
 ghost use Rattle.config_text.specs.Json.{GivesJsonText};
 
-use arrayvec::ArrayString;
 use bstr::BStr;
 use config_text::json::{JsonError, string};
-use config_text::value::Value;
+use config_text::value::{Text, Value};
 use serde_json::Value as JsonValue;
 use std::alloc::Global;
 use std::fmt;
@@ -131,8 +130,8 @@ impl Value for Suffix {
         true
     }
 
-    fn text(&self) -> ArrayString<127> {
-        let mut text = ArrayString::new();
+    fn text(&self) -> Text {
+        let mut text = Text::new();
         text.push_str(self.letter());
         text
     }

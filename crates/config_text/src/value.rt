@@ -6,6 +6,13 @@ ghost use Rattle.config_text.specs.Value.{IsRefused, IsAccepted, HasText, Reads,
 use arrayvec::ArrayString;
 use bstr::BStr;
 
+/// The bytes of the longest canonical text: two names of 13 bytes, the fifteen words of attributes, and the spaces
+/// between.
+pub const LONGEST_TEXT: usize = 127;
+
+/// A canonical text, which has room for the longest.
+pub type Text = ArrayString<LONGEST_TEXT>;
+
 /// A kind of value that has texts: which texts read to which value, and which one of them is
 /// canonical. A type of the caller's own may be one too.
 pub trait Value: Copy + Eq {
@@ -27,7 +34,7 @@ pub trait Value: Copy + Eq {
         ensures { IsTrue result ↔ (HasText grammar self.now) };
 
     /// The one canonical text that reads to this value: its displayed text, of at most 127 bytes.
-    fn text(&self) -> ArrayString<127>
+    fn text(&self) -> Text
         requires { HasText grammar self.now }
         ensures text { IsTextOf grammar canonical self.now result.bytes }
         ensures shown { result.bytes ≡ displayed self.now };
@@ -56,7 +63,7 @@ pub trait Value: Copy + Eq {
 
 /// The canonical text that reads to the value of the input, or `None` where the input has no value.
 /// A canonical input is answered byte for byte.
-pub fn normalize_as<V: Value>(input: BStr<'_>) -> Option<ArrayString<127>>
+pub fn normalize_as<V: Value>(input: BStr<'_>) -> Option<Text>
     ensures answer { Normalizes V.grammar V.canonical (bstr_bytes input.entry) result }
     ensures only { IsOnlyText V.grammar V.canonical (bstr_bytes input.entry) result }
     ensures unchanged { V.canonical (bstr_bytes input.entry)
