@@ -1,4 +1,4 @@
-//! Inputs that fill the buffers of a run, and one with nothing in it.
+//! Inputs that fill the buffers of a run, one with a line in it, and one with none.
 
 use crate::outcome::is_outcome;
 use faulty::{Reader, Writer};
@@ -12,6 +12,19 @@ fn answers_no_line(rt: HostRuntime) -> Result<(), Fail> {
     let outcome = run(rt.alloc(), &mut Reader::new(b"", 1), &mut writer);
     is_outcome(&rt, outcome, Ok(true), 1, 0);
     assert_eq!(rt; (writer.calls, writer.flushes), (0, 1));
+    Ok(())
+}
+
+#[test]
+fn answers_one_line(rt: HostRuntime) -> Result<(), Fail> {
+    let mut output = Vec::new(rt.alloc());
+    let outcome = run(
+        rt.alloc(),
+        &mut Reader::new(b"integer 0x10k\n", 1),
+        &mut output,
+    );
+    is_outcome(&rt, outcome, Ok(true), 1, 0);
+    assert_eq!(rt; output.as_slice(), "ok 16k\n".as_bytes());
     Ok(())
 }
 

@@ -1,6 +1,7 @@
 //! How a run ends.
 
 use gix_config_value::program::{RunError, status};
+use std::alloc::AllocError;
 use std::process::Abort;
 
 /// The run ended as expected, with the status of that: with pieces of so many bytes, and something done at this call.
@@ -18,4 +19,15 @@ pub fn is_outcome(
     };
     assert_eq!(rt; outcome, expected, "pieces of {piece}, call {call}");
     assert_eq!(rt; status(&outcome), exit, "pieces of {piece}, call {call}");
+}
+
+#[test]
+fn errors_end_with_status_two(rt: HostRuntime) {
+    for error in [
+        RunError::Read,
+        RunError::Write,
+        RunError::Memory(AllocError),
+    ] {
+        assert_eq!(rt; status(&Err(error)), 2, "{error:?}");
+    }
 }

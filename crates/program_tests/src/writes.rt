@@ -49,9 +49,9 @@ fn fails_where_a_write_fails(rt: HostRuntime) -> Result<(), Fail> {
             let outcome = run(alloc, &mut Reader::new(&input, read), &mut writer);
             is_outcome(&rt, outcome, Ok(false), piece, 0);
             assert_eq!(rt; writer.held, answers, "reads of {read}, writes of {piece}");
-            for call in 1..=writer.calls {
-                fails_at(&rt, read, piece, call, Turn::Fails)?;
-                fails_at(&rt, read, piece, call, Turn::TakesNone)?;
+            for before in 0..writer.calls {
+                fails_at(&rt, read, piece, before + 1, Turn::Fails)?;
+                fails_at(&rt, read, piece, before + 1, Turn::TakesNone)?;
             }
         }
     }

@@ -94,15 +94,12 @@ fn answers_by_bits(rt: HostRuntime) {
             Attribute::BOLD.intersects(Attribute::UL),
             false,
         ),
-        ("from_bits", Attribute::from_bits(1 << 0).is_some(), false),
-        (
-            "from_bits",
-            Attribute::from_bits(1 << 1 | 1 << 2).is_some(),
-            true,
-        ),
     ] {
         assert_eq!(rt; given, wanted, "{call}");
     }
+    assert_eq!(rt; Attribute::from_bits(1 << 0), None);
+    let bold_and_dim = Attribute::from_bits(1 << 1 | 1 << 2);
+    assert_eq!(rt; bold_and_dim, Some(Attribute::BOLD | Attribute::DIM));
 }
 
 #[test]
