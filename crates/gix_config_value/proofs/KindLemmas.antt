@@ -47,6 +47,7 @@ kind_told head =
       ])
     ]
 
+-- a text has a value, and s is a canonical text of that value
 abbrev pub HasCanonicalText : {V : Type 0} → (List ℕ → V → Type 0) → (List ℕ → Type 0) → List ℕ → Type 0
 HasCanonicalText {V} grammar canonical t = (s : List ℕ) × ((v : V) × grammar t v × IsTextOf grammar canonical v s)
 

@@ -1,4 +1,3 @@
-pub mod ReaderWriterLemmas
 pub mod LineLemmas
 pub mod KindLemmas
 pub mod StepLemmas

@@ -1,10 +1,12 @@
 -- How the steps of a run compose, and that every line and every input has answers.
-use Rattle.std.proofs.Common.{Result, Ok, Err, OnOk, IfErr, ◌+◌, take, drop, take-append-drop, ◌≡◌, ℕ, inl, inr, List, [], ◌∷◌, ◌++◌, ◌&&◌, flat_map, Bool, true, false, Option, refl, sym, ap, ◌∙◌, append_assoc, append-nil, subst}
+use Rattle.std.proofs.Common.{length, Result, Ok, Err, OnOk, IfErr, ◌+◌, take, drop, take-append-drop, ◌≡◌, ℕ, inl, inr, List, [], ◌∷◌, ◌++◌, ◌&&◌, flat_map, Bool, true, Option, refl, sym, ap, ◌∙◌, append_assoc, append-nil, subst}
 use Rattle.std.specs.List.{AllByRecursion, AllZip, list_all}
+use Rattle.std.specs.Result.{IsErrAnd}
 use Rattle.std.specs.Io.KnownBytes.{Appends}
-use Rattle.std.proofs.Math.Bool.{and-true}
+use Rattle.std.proofs.Math.Bool.{and-true, and_assoc}
 use Rattle.std.proofs.lemmas.List.Folds.{list_all-append}
 use Rattle.std.proofs.lemmas.Grind.{flat_map-append}
+use Rattle.std.proofs.lemmas.List.{nil_from_length}
 use Rattle.std.proofs.lemmas.Bool.Decides.{eqb_tells}
 use Rattle.gix_config_value.specs.declared.kind.Kind.{Kind}
 use Rattle.gix_config_value.specs.declared.program.RunError.{RunError}
@@ -15,9 +17,9 @@ use Rattle.gix_config_value.specs.declared.program.Outcome.{Outcome}
 use Rattle.gix_config_value.specs.declared.program.Outcome.TheVariants.{Accepted, Refused, UnknownKind}
 use Rattle.arrayvec.specs.ArrayString.{ArrayString}
 use Rattle.gix_config_value.specs.Answers.{ended, line_feed, IsUnbroken, line_head, line_value, LineOutcome, outcome_text, is_accepted, Answers, IsBeginningOfAnswers, AnswersAllBut}
-use Rattle.gix_config_value.specs.Reading.Steps.{Takes, AnswersLast, Emits, EmitsAnswer, TakesEmitting, WritesPart, Stops, CutsLine, AnswersUpTo}
+use Rattle.gix_config_value.specs.Reading.Steps.{Takes, AnswersLast, CutsLine, Sent, Sends, SendsAnswer, Breaks, Going, with_more, Advances, Stops, AnswersUpTo}
 use Rattle.gix_config_value.proofs.KindLemmas.{kind_told, kind_decided}
-use Rattle.gix_config_value.proofs.ReaderWriterLemmas.{Appends-nil, Appends-trans}
+use Rattle.std.proofs.KnownBytes.{Appends-nil, Appends-trans}
 
 -- ---- lists
 
@@ -30,10 +32,6 @@ AllZip-append R [] [] vs ws p q = q
 AllZip-append R [] (y ∷ ys) vs ws p q = absurd p
 AllZip-append R (x ∷ xs) [] vs ws p q = absurd p
 AllZip-append R (x ∷ xs) (y ∷ ys) vs ws p q = (p.0, AllZip-append R xs ys vs ws p.1 q)
-
-and_assoc : (a b c : Bool) → ((a && b) && c) ≡ (a && (b && c))
-and_assoc true b c = refl
-and_assoc false b c = refl
 
 -- ---- bytes taken
 
@@ -188,200 +186,204 @@ all_but input left line line' output output' ok ok' t u = let whole = Takes-tran
   },
 )
 
--- ---- what waits and what is written
+-- ---- what is sent
 
-pub Emits-nil : (held : Option (List ℕ)) (waiting : List ℕ) → Emits held waiting held waiting []
-Emits-nil held waiting = record { written = []; appended = Appends-nil held; same = append-nil waiting }
+pub Sends-nil : (a : Sent) → Sends a a []
+Sends-nil a = record { same_writer = refl; written = []; appended = Appends-nil a.held; in_order = append-nil a.waiting }
 
-pub Emits-trans : (a b c : Option (List ℕ)) (w w' w'' o o' : List ℕ) → Emits a w b w' o → Emits b w' c w'' o' → Emits a w c w'' (o ++ o')
-Emits-trans a b c w w' w'' o o' e f = record {
-  written = e.written ++ f.written;
-  appended = Appends-trans a b c e.written f.written e.appended f.appended;
-  same = sym (append_assoc w o o') ∙ ap (λ x. x ++ o') e.same ∙ append_assoc e.written w' o' ∙ ap (λ x. e.written ++ x) f.same
-      ∙ sym (append_assoc e.written f.written w'');
+pub Sends-trans : (a b c : Sent) (o o' : List ℕ) → Sends a b o → Sends b c o' → Sends a c (o ++ o')
+Sends-trans a b c o o' s t = record {
+  same_writer = t.same_writer ∙ s.same_writer;
+  written = s.written ++ t.written;
+  appended = Appends-trans a.held b.held c.held s.written t.written s.appended t.appended;
+  in_order = sym (append_assoc a.waiting o o') ∙ ap (λ x. x ++ o') s.in_order ∙ append_assoc s.written b.waiting o'
+      ∙ ap (λ x. s.written ++ x) t.in_order ∙ sym (append_assoc s.written t.written c.waiting);
 }
 
--- all that waited was written
-pub Emits-all : (held holds : Option (List ℕ)) (waiting : List ℕ) → Appends held holds waiting → Emits held waiting holds [] []
-Emits-all held holds waiting h = record { written = waiting; appended = h; same = refl }
+-- some first bytes of what waits are written
+pub Sends-write : (a b : Sent) (held : Option (List ℕ)) (n : ℕ) → Sends a b [] → Appends b.held held (take n b.waiting)
+    → Sends a (record { writer = b.writer; held = held; waiting = drop n b.waiting }) []
+Sends-write a b held n s h = Sends-trans a b _ [] [] s
+    (record { same_writer = refl; written = take n b.waiting; appended = h; in_order = append-nil b.waiting ∙ sym (take-append-drop n b.waiting) })
 
--- an answer was put behind what waited
-pub Emits-answer : (line : List ℕ) (a b : Option (List ℕ)) (w w' w'' : List ℕ) (outcome : Outcome) (ok : Bool) → Emits a w b w' []
-    → LineOutcome line outcome → w'' ≡ w' ++ outcome_text outcome → ok ≡ is_accepted outcome → EmitsAnswer line a w b w'' ok
-Emits-answer line a b w w' w'' outcome ok e is behind accepts = record {
-  outcome = outcome;
-  is = is;
-  accepts = accepts;
-  emits = Emits-trans a b b w w' w'' [] (outcome_text outcome) e (record { written = []; appended = Appends-nil b; same = sym behind });
-}
+-- bytes are put behind what waits
+pub Sends-put : (a b : Sent) (waiting bytes : List ℕ) → Sends a b [] → waiting ≡ b.waiting ++ bytes → Sends a (record b { waiting = waiting }) bytes
+Sends-put a b waiting bytes s put = Sends-trans a b _ [] bytes s (record { same_writer = refl; written = []; appended = Appends-nil b.held; in_order = sym put })
 
--- an error after an output was put behind what waited
-pub WritesPart-after : (a b c : Option (List ℕ)) (w w' o o' : List ℕ) (e : RunError) → Emits a w b w' o → WritesPart b (w' ++ o') c e
-    → WritesPart a (w ++ (o ++ o')) c e
-WritesPart-after a b c w w' o o' e m p = record {
-  written = m.written ++ p.written;
-  missing = p.missing;
-  appended = Appends-trans a b c m.written p.written m.appended p.appended;
-  same = sym (append_assoc w o o') ∙ ap (λ x. x ++ o') m.same ∙ append_assoc m.written w' o' ∙ ap (λ x. m.written ++ x) p.same
-      ∙ sym (append_assoc m.written p.written p.missing);
-  allowed = p.allowed;
-}
+-- all is written
+pub Sends-all : (a b : Sent) (bytes : List ℕ) → a.waiting ≡ [] → b.waiting ≡ [] → Sends a b bytes → Appends a.held b.held bytes
+Sends-all a b bytes first last s = subst (Appends a.held b.held)
+    (sym (ap (λ x. x ++ bytes) (sym first) ∙ s.in_order ∙ ap (λ x. s.written ++ x) last ∙ append-nil s.written)) s.appended
 
--- ---- bytes taken while answers wait
+pub Breaks-after : (a b c : Sent) (o o' : List ℕ) (e : RunError) → Sends a b o → Breaks b c o' e → Breaks a c (o ++ o') e
+Breaks-after a b c o o' e s k =
+    record { missing = k.missing; sends = Sends-trans a b (record c { waiting = k.missing }) o o' s k.sends; allowed = k.allowed }
 
-pub TakesEmitting-nil : (line : List ℕ) (ok : Bool) (held : Option (List ℕ)) (w : List ℕ) → TakesEmitting line ok [] line ok held w held w
-TakesEmitting-nil line ok held w = record { output = []; taken = Takes-nil line ok; emits = Emits-nil held w }
+-- nothing is left of what waited, and the buffer is cleared
+pub Sends-cleared : (a b : Sent) (waiting : List ℕ) → Sends a b [] → length b.waiting ≡ 0 → waiting ≡ [] → Sends a (record b { waiting = waiting }) []
+Sends-cleared a b waiting s none cleared =
+    subst (λ w. Sends a (record b { waiting = w }) []) (nil_from_length b.waiting none ∙ sym cleared) s
 
-pub TakesEmitting-trans : (line p line' q line'' : List ℕ) (ok ok' ok'' : Bool) (a b c : Option (List ℕ)) (w w' w'' : List ℕ)
-    → TakesEmitting line ok p line' ok' a w b w' → TakesEmitting line' ok' q line'' ok'' b w' c w'' → TakesEmitting line ok (p ++ q) line'' ok'' a w c w''
-TakesEmitting-trans line p line' q line'' ok ok' ok'' a b c w w' w'' t u = record {
-  output = t.output ++ u.output;
-  taken = Takes-trans line p line' q line'' ok ok' ok'' t.output u.output t.taken u.taken;
-  emits = Emits-trans a b c w w' w'' t.output u.output t.emits u.emits;
-}
-
--- the line begun is completed by bytes up to an LF, and answered
-pub TakesEmitting-line : (line front : List ℕ) (ok accepts : Bool) (a b : Option (List ℕ)) (w w' : List ℕ) → IsUnbroken front
-    → EmitsAnswer (line ++ front) a w b w' accepts → TakesEmitting line ok (ended front) [] (ok && accepts) a w b w'
-TakesEmitting-line line front ok accepts a b w w' unbroken e = record {
-  output = outcome_text e.outcome;
-  taken = subst (λ x. Takes line ok (ended front) [] (ok && x) (outcome_text e.outcome)) (sym e.accepts) (Takes-line line front ok e.outcome unbroken e.is);
-  emits = e.emits;
-}
-
--- bytes without LF go on with the line begun, and no answer comes
-pub TakesEmitting-begun : (line front : List ℕ) (ok : Bool) (held : Option (List ℕ)) (w : List ℕ) → IsUnbroken front
-    → TakesEmitting line ok front (line ++ front) ok held w held w
-TakesEmitting-begun line front ok held w unbroken = record { output = []; taken = Takes-begun line front ok unbroken; emits = Emits-nil held w }
-
--- an error before any of the bytes completed a line
-pub Stops-first : (line bytes : List ℕ) (ok : Bool) (held holds : Option (List ℕ)) (w : List ℕ) (e : RunError) → WritesPart held w holds e
-    → Stops line ok bytes held w holds e
-Stops-first line bytes ok held holds w e p = record {
-  done = [];
-  left = bytes;
-  split = refl;
-  line' = line;
-  ok' = ok;
-  output = [];
-  taken = Takes-nil line ok;
-  part = subst (λ x. WritesPart held x holds e) (sym (append-nil w)) p;
-}
-
--- an error after some of the bytes were taken
-pub Stops-after : (line p line' q : List ℕ) (ok ok' : Bool) (a b c : Option (List ℕ)) (w w' : List ℕ) (e : RunError)
-    → TakesEmitting line ok p line' ok' a w b w' → Stops line' ok' q b w' c e → Stops line ok (p ++ q) a w c e
-Stops-after line p line' q ok ok' a b c w w' e t s = record {
-  done = p ++ s.done;
-  left = s.left;
-  split = ap (λ x. p ++ x) s.split ∙ sym (append_assoc p s.done s.left);
-  line' = s.line';
-  ok' = s.ok';
-  output = t.output ++ s.output;
-  taken = Takes-trans line p line' s.done s.line' ok ok' s.ok' t.output s.output t.taken s.taken;
-  part = WritesPart-after a b c w w' t.output s.output e t.emits s.part;
-}
-
--- ---- the loop that writes out what waits
-
-pub Emits-more : (a b c : Option (List ℕ)) (w rest : List ℕ) (n : ℕ) → Emits a w b rest [] → Appends b c (take n rest) → Emits a w c (drop n rest) []
-Emits-more a b c w rest n e h = record {
-  written = e.written ++ take n rest;
-  appended = Appends-trans a b c e.written (take n rest) e.appended h;
-  same = e.same ∙ ap (λ x. e.written ++ x) (sym (take-append-drop n rest)) ∙ sym (append_assoc e.written (take n rest) (drop n rest));
-}
-
-pub Emits-whole : (a b : Option (List ℕ)) (w rest : List ℕ) → Emits a w b rest [] → rest ≡ [] → Appends a b w
-Emits-whole a b w rest e none = subst (Appends a b) (sym (append-nil e.written) ∙ ap (λ x. e.written ++ x) (sym none) ∙ sym e.same ∙ append-nil w) e.appended
-
--- a failed write
-pub WritesPart-write : (a b c : Option (List ℕ)) (w rest : List ℕ) → Emits a w b rest [] → Appends b c [] → WritesPart a w c Write
-WritesPart-write a b c w rest e h = record {
-  written = e.written ++ [];
-  missing = rest;
-  appended = Appends-trans a b c e.written [] e.appended h;
-  same = sym (append-nil w) ∙ e.same ∙ ap (λ x. x ++ rest) (sym (append-nil e.written));
+-- a failed write, while these bytes are left
+pub Breaks-write : (a b after : Sent) (bytes : List ℕ) → Sends a b bytes → Appends b.held after.held [] → after.writer ≡ b.writer → Breaks a after bytes Write
+Breaks-write a b after bytes s h same = record {
+  missing = b.waiting;
+  sends = record {
+    same_writer = same ∙ s.same_writer;
+    written = s.written ++ [];
+    appended = Appends-trans a.held b.held after.held s.written [] s.appended h;
+    in_order = s.in_order ∙ ap (λ x. x ++ b.waiting) (sym (append-nil s.written));
+  };
   allowed = tt;
 }
 
--- ---- the loop that answers lines
+-- ---- bytes taken, and their answers sent
 
-pub AnswersUpTo-start : (bytes : List ℕ) (ok : Bool) (held : Option (List ℕ)) (w : List ℕ) → AnswersUpTo bytes bytes ok ok held w held w
-AnswersUpTo-start bytes ok held w = record { done = []; split = refl; taken = TakesEmitting-nil [] ok held w }
+pub Advances-nil : (a : Going) → Advances a a []
+Advances-nil a = record { output = []; taken = Takes-nil a.line a.accepted; sends = Sends-nil a.to }
 
-pub AnswersUpTo-more : (bytes rest : List ℕ) (place : ℕ) (ok ok' accepts : Bool) (a b c : Option (List ℕ)) (w w' w'' : List ℕ)
-    → AnswersUpTo bytes rest ok ok' a w b w' → CutsLine rest place → EmitsAnswer (take place rest) b w' c w'' accepts
-    → AnswersUpTo bytes (drop (place + 1) rest) ok (ok' && accepts) a w c w''
-AnswersUpTo-more bytes rest place ok ok' accepts a b c w w' w'' t cut e = record {
-  done = t.done ++ ended (take place rest);
-  split = t.split ∙ ap (λ x. t.done ++ x) cut.parts ∙ sym (append_assoc t.done (ended (take place rest)) (drop (place + 1) rest));
-  taken = TakesEmitting-trans [] t.done [] (ended (take place rest)) [] ok ok' (ok' && accepts) a b c w w' w'' t.taken
-      (TakesEmitting-line [] (take place rest) ok' accepts b c w' w'' cut.unbroken e);
+pub Advances-trans : (a b c : Going) (p q : List ℕ) → Advances a b p → Advances b c q → Advances a c (p ++ q)
+Advances-trans a b c p q t u = record {
+  output = t.output ++ u.output;
+  taken = Takes-trans a.line p b.line q c.line a.accepted b.accepted c.accepted t.output u.output t.taken u.taken;
+  sends = Sends-trans a.to b.to c.to t.output u.output t.sends u.sends;
 }
 
--- an error at the answer to a line
-pub Stops-in_lines : (bytes rest : List ℕ) (ok ok' : Bool) (a b c : Option (List ℕ)) (w w' : List ℕ) (e : RunError)
-    → AnswersUpTo bytes rest ok ok' a w b w' → WritesPart b w' c e → Stops [] ok bytes a w c e
-Stops-in_lines bytes rest ok ok' a b c w w' e t p =
-    subst (λ x. Stops [] ok x a w c e) (sym t.split) (Stops-after [] t.done [] rest ok ok' a b c w w' e t.taken (Stops-first [] rest ok' b c w' e p))
+-- what waited is written once the bytes are taken
+pub Advances-sent : (a b : Going) (to : Sent) (bytes : List ℕ) → Advances a b bytes → Sends b.to to [] → Advances a (record b { to = to }) bytes
+Advances-sent a b to bytes t s = record {
+  output = t.output;
+  taken = t.taken;
+  sends = subst (Sends a.to to) (append-nil t.output) (Sends-trans a.to b.to to t.output [] t.sends s);
+}
 
--- three pieces pushed one after the other
-pub pushed_thrice : (w x y z first second third : List ℕ) → first ≡ w ++ x → second ≡ first ++ y → third ≡ second ++ z → third ≡ w ++ (x ++ y ++ z)
-pushed_thrice w x y z first second third p q r =
-    r ∙ ap (λ l. l ++ z) (q ∙ ap (λ l. l ++ y) p ∙ append_assoc w x y) ∙ append_assoc w (x ++ y) z
+-- bytes without LF go on with the line begun, and no answer comes
+pub Advances-begun : (a b : Going) (bytes : List ℕ) → IsUnbroken bytes → b ≡ with_more a bytes → Advances a b bytes
+Advances-begun a b bytes unbroken gathered = subst (λ x. Advances a x bytes) (sym gathered)
+    (record { output = []; taken = Takes-begun a.line bytes a.accepted unbroken; sends = Sends-nil a.to })
 
--- ---- the line begun, gathered and completed
-
-pub gathered : (line bytes line' : List ℕ) (ok : Bool) (a b : Option (List ℕ)) (w w' : List ℕ) → IsUnbroken bytes → line' ≡ line ++ bytes → w' ≡ w → b ≡ a
-    → TakesEmitting line ok bytes line' ok a w b w'
-gathered line bytes line' ok a b w w' unbroken items waits kept =
-    subst (λ x. TakesEmitting line ok bytes line' ok a w x w') (sym kept)
-    (subst (λ x. TakesEmitting line ok bytes line' ok a w a x) (sym waits)
-    (subst (λ x. TakesEmitting line ok bytes x ok a w a w) (sym items) (TakesEmitting-begun line bytes ok a w unbroken)))
-
--- the line begun is gathered up to an LF and answered
-pub completed : (line front line' line'' : List ℕ) (ok accepts : Bool) (a a' b : Option (List ℕ)) (w w' w'' : List ℕ) → IsUnbroken front
-    → line' ≡ line ++ front → w' ≡ w → a' ≡ a → EmitsAnswer line' a' w' b w'' accepts → line'' ≡ []
-    → TakesEmitting line ok (ended front) line'' (ok && accepts) a w b w''
-completed line front line' line'' ok accepts a a' b w w' w'' unbroken items waits kept e none =
-    let answered : EmitsAnswer (line ++ front) a w b w'' accepts =
-    subst (λ x. EmitsAnswer x a w b w'' accepts) items
-    (subst (λ x. EmitsAnswer line' x w b w'' accepts) kept (subst (λ x. EmitsAnswer line' a' x b w'' accepts) waits e)) in
-    subst (λ x. TakesEmitting line ok (ended front) x (ok && accepts) a w b w'') (sym none) (TakesEmitting-line line front ok accepts a b w w'' unbroken answered)
-
--- ---- a call that gathers or takes the rest, and may fail
-
-pub gathered_on : (r : Result (Unit {0}) RunError) (line bytes line' : List ℕ) (ok : Bool) (a b : Option (List ℕ)) (w w' : List ℕ) → IsUnbroken bytes
-    → OnOk r (line' ≡ line ++ bytes) → OnOk r (w' ≡ w) → OnOk r (b ≡ a) → OnOk r (TakesEmitting line ok bytes line' ok a w b w')
-gathered_on (Ok x) line bytes line' ok a b w w' unbroken items waits kept = gathered line bytes line' ok a b w w' unbroken items waits kept
-gathered_on (Err e) line bytes line' ok a b w w' unbroken items waits kept = tt
+-- the line begun is completed by bytes up to an LF, and answered
+pub Advances-line : (a : Going) (front : List ℕ) (to : Sent) (accepts : Bool) → IsUnbroken front → SendsAnswer (a.line ++ front) a.to to accepts
+    → Advances a (record { line = []; accepted = a.accepted && accepts; to = to }) (ended front)
+Advances-line a front to accepts unbroken e = record {
+  output = outcome_text e.outcome;
+  taken = subst (λ x. Takes a.line a.accepted (ended front) [] (a.accepted && x) (outcome_text e.outcome)) (sym e.accepts)
+      (Takes-line a.line front a.accepted e.outcome unbroken e.is);
+  sends = e.sends;
+}
 
 -- an error before any of the bytes completed a line
-pub stopped_first : (r : Result (Unit {0}) RunError) (line bytes : List ℕ) (ok : Bool) (held holds : Option (List ℕ)) (w : List ℕ)
-    → IfErr r (WritesPart held w holds) → IfErr r (Stops line ok bytes held w holds)
-stopped_first (Ok x) line bytes ok held holds w p = tt
-stopped_first (Err e) line bytes ok held holds w p = Stops-first line bytes ok held holds w e p
+pub Stops-first : (a : Going) (after : Sent) (bytes : List ℕ) (e : RunError) → Breaks a.to after [] e → Stops a after bytes e
+Stops-first a after bytes e k = record {
+  done = [];
+  left = bytes;
+  split = refl;
+  line = a.line;
+  accepted = a.accepted;
+  output = [];
+  taken = Takes-nil a.line a.accepted;
+  breaks = k;
+}
 
--- an error after the lines that end within the bytes
-pub stopped_in_lines : (r : Result (Unit {0}) RunError) (bytes rest : List ℕ) (ok ok' : Bool) (a b c : Option (List ℕ)) (w w' : List ℕ)
-    → AnswersUpTo bytes rest ok ok' a w b w' → IfErr r (WritesPart b w' c) → IfErr r (Stops [] ok bytes a w c)
-stopped_in_lines (Ok x) bytes rest ok ok' a b c w w' t p = tt
-stopped_in_lines (Err e) bytes rest ok ok' a b c w w' t p = Stops-in_lines bytes rest ok ok' a b c w w' e t p
+-- an error after some of the bytes were taken
+pub Stops-after : (a b : Going) (after : Sent) (p q : List ℕ) (e : RunError) → Advances a b p → Stops b after q e → Stops a after (p ++ q) e
+Stops-after a b after p q e t s = record {
+  done = p ++ s.done;
+  left = s.left;
+  split = ap (λ x. p ++ x) s.split ∙ sym (append_assoc p s.done s.left);
+  line = s.line;
+  accepted = s.accepted;
+  output = t.output ++ s.output;
+  taken = Takes-trans a.line p b.line s.done s.line a.accepted b.accepted s.accepted t.output s.output t.taken s.taken;
+  breaks = Breaks-after a.to b.to after t.output s.output e t.sends s.breaks;
+}
 
-module _ (line bytes : List ℕ) (place : ℕ) (cut : CutsLine bytes place) (line' : List ℕ) (none : line' ≡ []) (ok ok' : Bool)
-    (a b : Option (List ℕ)) (w w' : List ℕ) (t : TakesEmitting line ok (ended (take place bytes)) line' ok' a w b w') where
-  front : TakesEmitting line ok (ended (take place bytes)) [] ok' a w b w'
-  front = subst (λ x. TakesEmitting line ok (ended (take place bytes)) x ok' a w b w') none t
+-- an error once all of the bytes are taken
+pub Stops-whole : (a b : Going) (after : Sent) (bytes : List ℕ) (e : RunError) → Advances a b bytes → Breaks b.to after [] e → Stops a after bytes e
+Stops-whole a b after bytes e t k =
+    subst (λ x. Stops a after x e) (append-nil bytes) (Stops-after a b after bytes [] e t (Stops-first b after [] e k))
 
+-- ---- the parts of a read
+
+pub AnswersUpTo-start : (a : Going) (bytes : List ℕ) → a.line ≡ [] → AnswersUpTo a a bytes bytes
+AnswersUpTo-start a bytes none = record { done = []; split = refl; advances = Advances-nil a; none = none }
+
+pub AnswersUpTo-more : (a b : Going) (bytes rest : List ℕ) (place : ℕ) (to : Sent) (accepts : Bool) → AnswersUpTo a b bytes rest → CutsLine rest place
+    → SendsAnswer (take place rest) b.to to accepts
+    → AnswersUpTo a (record { line = b.line; accepted = b.accepted && accepts; to = to }) bytes (drop (place + 1) rest)
+AnswersUpTo-more a b bytes rest place to accepts t cut e = record {
+  done = t.done ++ ended (take place rest);
+  split = t.split ∙ ap (λ x. t.done ++ x) cut.parts ∙ sym (append_assoc t.done (ended (take place rest)) (drop (place + 1) rest));
+  advances = Advances-trans a b _ t.done (ended (take place rest)) t.advances
+      (subst (λ l. Advances b (record { line = l; accepted = b.accepted && accepts; to = to }) (ended (take place rest))) (sym t.none)
+      (Advances-line b (take place rest) to accepts cut.unbroken
+      (subst (λ l. SendsAnswer (l ++ take place rest) b.to to accepts) (sym t.none) e)));
+  none = t.none;
+}
+
+-- an error at the answer to a line, or once the lines that end within the bytes are answered
+pub Stops-in_lines : (a b : Going) (bytes rest : List ℕ) (after : Sent) (e : RunError) → AnswersUpTo a b bytes rest → Breaks b.to after [] e
+    → Stops a after bytes e
+Stops-in_lines a b bytes rest after e t k =
+    subst (λ x. Stops a after x e) (sym t.split) (Stops-after a b after t.done rest e t.advances (Stops-first b after rest e k))
+
+-- the lines that end within the bytes are answered, and the rest is gathered
+pub Advances-lines : (a b c : Going) (bytes rest : List ℕ) → AnswersUpTo a b bytes rest → IsUnbroken rest → c ≡ with_more b rest → Advances a c bytes
+Advances-lines a b c bytes rest t unbroken gathered = subst (λ x. Advances a c x) (sym t.split)
+    (Advances-trans a b c t.done rest t.advances (Advances-begun b c rest unbroken gathered))
+
+-- the line begun is gathered up to an LF, and answered
+pub Advances-completed : (a b : Going) (front line : List ℕ) (to : Sent) (accepts : Bool) → IsUnbroken front → b ≡ with_more a front
+    → SendsAnswer b.line b.to to accepts → line ≡ [] → Advances a (record { line = line; accepted = b.accepted && accepts; to = to }) (ended front)
+Advances-completed a b front line to accepts unbroken gathered e none =
+    subst (λ l. Advances a (record { line = l; accepted = b.accepted && accepts; to = to }) (ended front)) (sym none)
+    (subst (λ x. Advances a (record { line = []; accepted = x.accepted && accepts; to = to }) (ended front)) (sym gathered)
+    (Advances-line a front to accepts unbroken (subst (λ x. SendsAnswer x.line x.to to accepts) gathered e)))
+
+-- ---- a call that may fail
+
+-- what holds of an error holds where `?` passes it on
+pub passed_on : {T : Type 0} (r : Result T RunError) (e : RunError) (P : RunError → Type 0) → IsErrAnd r (λ x. x ≡ e) → P e → IfErr r P
+passed_on (Ok x) e P is p = tt
+passed_on (Err x) e P is p = subst P (sym is) p
+
+-- the bytes are gathered
+pub begun_on : (r : Result (Unit {0}) RunError) (a b : Going) (bytes : List ℕ) → IsUnbroken bytes → OnOk r (b ≡ with_more a bytes)
+    → OnOk r (Advances a b bytes)
+begun_on (Ok x) a b bytes unbroken gathered = Advances-begun a b bytes unbroken gathered
+begun_on (Err e) a b bytes unbroken gathered = tt
+
+pub stopped_first : (r : Result (Unit {0}) RunError) (a : Going) (after : Sent) (bytes : List ℕ) → IfErr r (Breaks a.to after [])
+    → IfErr r (Stops a after bytes)
+stopped_first (Ok x) a after bytes k = tt
+stopped_first (Err e) a after bytes k = Stops-first a after bytes e k
+
+module _ (r : Result (Unit {0}) RunError) (a b : Going) (bytes rest : List ℕ) (t : AnswersUpTo a b bytes rest) where
+  -- the rest is gathered behind the lines that end within the bytes
+  pub lines_on : (c : Going) → IsUnbroken rest → OnOk r (c ≡ with_more b rest) → OnOk r (Advances a c bytes)
+  lines_on c unbroken = on r where
+    on : (r : Result (Unit {0}) RunError) → OnOk r (c ≡ with_more b rest) → OnOk r (Advances a c bytes)
+    on (Ok x) gathered = Advances-lines a b c bytes rest t unbroken gathered
+    on (Err e) gathered = tt
+
+  pub stopped_in_lines : (after : Sent) → IfErr r (Breaks b.to after []) → IfErr r (Stops a after bytes)
+  stopped_in_lines after = on r where
+    on : (r : Result (Unit {0}) RunError) → IfErr r (Breaks b.to after []) → IfErr r (Stops a after bytes)
+    on (Ok x) k = tt
+    on (Err e) k = Stops-in_lines a b bytes rest after e t k
+
+module _ (r : Result (Unit {0}) RunError) (a b : Going) (bytes : List ℕ) (place : ℕ) (cut : CutsLine bytes place)
+    (t : Advances a b (ended (take place bytes))) where
   -- the line begun ends at the first LF, and then the rest is taken
-  pub taken_after : (r : Result (Unit {0}) RunError) (line'' : List ℕ) (ok'' : Bool) (c : Option (List ℕ)) (w'' : List ℕ)
-      → OnOk r (TakesEmitting [] ok' (drop (place + 1) bytes) line'' ok'' b w' c w'') → OnOk r (TakesEmitting line ok bytes line'' ok'' a w c w'')
-  taken_after (Ok x) line'' ok'' c w'' u = subst (λ l. TakesEmitting line ok l line'' ok'' a w c w'') (sym cut.parts)
-      (TakesEmitting-trans line (ended (take place bytes)) [] (drop (place + 1) bytes) line'' ok ok' ok'' a b c w w' w'' front u)
-  taken_after (Err e) line'' ok'' c w'' u = tt
+  pub taken_after : (c : Going) → OnOk r (Advances b c (drop (place + 1) bytes)) → OnOk r (Advances a c bytes)
+  taken_after c = on r where
+    on : (r : Result (Unit {0}) RunError) → OnOk r (Advances b c (drop (place + 1) bytes)) → OnOk r (Advances a c bytes)
+    on (Ok x) u = subst (Advances a c) (sym cut.parts) (Advances-trans a b c (ended (take place bytes)) (drop (place + 1) bytes) t u)
+    on (Err e) u = tt
 
-  pub stopped_after : (r : Result (Unit {0}) RunError) (c : Option (List ℕ)) → IfErr r (Stops [] ok' (drop (place + 1) bytes) b w' c)
-      → IfErr r (Stops line ok bytes a w c)
-  stopped_after (Ok x) c s = tt
-  stopped_after (Err e) c s = subst (λ l. Stops line ok l a w c e) (sym cut.parts)
-      (Stops-after line (ended (take place bytes)) [] (drop (place + 1) bytes) ok ok' a b c w w' e front s)
+  pub stopped_after : (after : Sent) → IfErr r (Stops b after (drop (place + 1) bytes)) → IfErr r (Stops a after bytes)
+  stopped_after after = on r where
+    on : (r : Result (Unit {0}) RunError) → IfErr r (Stops b after (drop (place + 1) bytes)) → IfErr r (Stops a after bytes)
+    on (Ok x) s = tt
+    on (Err e) s = subst (λ l. Stops a after l e) (sym cut.parts)
+        (Stops-after a b after (ended (take place bytes)) (drop (place + 1) bytes) e t s)

@@ -130,6 +130,7 @@ pub record Fails (unread left held holds : Option (List ℕ)) (e : RunError) : T
 
 -- ---- the exit status
 
+-- 0 where every line was accepted, 1 where some line was not, and 2 after an error
 abbrev pub status_of : Result Bool RunError → ℕ
 status_of (Ok true) = 0
 status_of (Ok false) = 1

@@ -59,7 +59,7 @@ KindCanonical kinds.Name = CanonicalName
 KindCanonical kinds.Attribute = CanonicalAttribute
 KindCanonical kinds.Color = CanonicalColor
 
--- what a normaliser says of a text in which white space stands: for colors, what follows from the texts beside it
+-- what a normalizer says of a text in which white space stands: for colors, what follows from the texts beside it
 abbrev pub KindJoins : Kind → List ℕ → Option ArrayString → Type 0
 KindJoins kinds.Color t result = Joins t result
 KindJoins _ t result = Unit {0}

@@ -37,7 +37,8 @@ pub enum Kind {
 
 /// The kind of exactly this name.
 pub(crate) fn kind_by_name(name: &[u8]) -> Option<Kind>
-    ensures { MatchOption result ((k : kind.Kind) → kind_name k ≢ name.now) (λ k. kind_name k ≡ name.now) }
+    ensures { MatchOption result ((k : kind.Kind) → kind_name k ≢ name.now)
+        (λ k. kind_name k ≡ name.now) }
 {
     match name {
         b"suffix" => Some(Kind::Suffix),
@@ -51,12 +52,15 @@ pub(crate) fn kind_by_name(name: &[u8]) -> Option<Kind>
     }
 }
 
-/// The canonical text of this kind that reads to the value of the input, or `None` where the kind's grammar
-/// gives the input no value. A canonical input is answered byte for byte. A color text in which white space stands
-/// is answered by what stands before it and what follows it: with the canonical text of their composition.
+/// The canonical text of this kind that reads to the value of the input, or `None` exactly where
+/// the kind's grammar gives the input no value. A canonical input is answered byte for byte. A
+/// color text in which white space stands is answered by what stands before it and what follows
+/// it: with the canonical text of their composition.
 pub fn normalize(kind: Kind, input: BStr<'_>) -> Option<ArrayString<127>>
-    ensures answer { Normalizes (KindGrammar kind) (KindCanonical kind) (bstr_bytes input.entry) result }
-    ensures only { IsOnlyText (KindGrammar kind) (KindCanonical kind) (bstr_bytes input.entry) result }
+    ensures answer { Normalizes (KindGrammar kind) (KindCanonical kind)
+        (bstr_bytes input.entry) result }
+    ensures only { IsOnlyText (KindGrammar kind) (KindCanonical kind)
+        (bstr_bytes input.entry) result }
     ensures unchanged { KindCanonical kind (bstr_bytes input.entry)
         → IsSomeAnd result (λ s. s.bytes ≡ bstr_bytes input.entry) }
     ensures joined { KindJoins kind (bstr_bytes input.entry) result }
@@ -72,10 +76,12 @@ pub fn normalize(kind: Kind, input: BStr<'_>) -> Option<ArrayString<127>>
     }
 }
 
-/// Whether two texts of this kind mean the same, or `None` where the kind's grammar gives one of them no value. For
-/// colors that is whether their words have the same names in the same order, and attributes of the same bits.
+/// Whether two texts of this kind mean the same, or `None` exactly where the kind's grammar gives
+/// one of them no value. For colors that is whether their words have the same names in the same
+/// order, and attributes of the same bits.
 pub fn same(kind: Kind, a: BStr<'_>, b: BStr<'_>) -> Option<bool>
-    ensures answer { Compares (KindGrammar kind) (KindCanonical kind) (bstr_bytes a.entry) (bstr_bytes b.entry) result }
+    ensures answer { Compares (KindGrammar kind) (KindCanonical kind)
+        (bstr_bytes a.entry) (bstr_bytes b.entry) result }
     ensures words { KindComparesWords kind (bstr_bytes a.entry) (bstr_bytes b.entry) result }
 {
     match kind {
@@ -89,7 +95,8 @@ pub fn same(kind: Kind, a: BStr<'_>, b: BStr<'_>) -> Option<bool>
     }
 }
 
-/// Whether two texts of a type mean the same, or `None` where the type's grammar gives one of them no value.
+/// Whether two texts of a type mean the same, or `None` where the type's grammar gives one of them
+/// no value.
 fn same_as<V: Value>(a: BStr<'_>, b: BStr<'_>) -> Option<bool>
     ensures { Compares V.grammar V.canonical (bstr_bytes a.entry) (bstr_bytes b.entry) result }
 {

@@ -48,7 +48,8 @@ pub mod laws {
     pub use config_text::laws::settings;
     pub use config_word::laws::attributes;
 
-    /// What `==`, `cmp`, `partial_cmp` and hashes answer for the value types, and what their defaults are.
+    /// What `==`, `cmp`, `partial_cmp` and hashes answer for the value types, and what their
+    /// defaults are.
     pub mod orders {
         pub use config_boolean::laws::orders::boolean_order;
         pub use config_color::laws::orders::color_order;

@@ -1,12 +1,12 @@
 //! The program: it answers each line of its input with the canonical text of the line's value.
 //!
-//! Answers wait in a buffer, and are written out when it is full, before the next read and at the end. Lines that
-//! lie within one read are answered from its slice; only a line that crosses the end of a read is gathered.
+//! Answers wait in a buffer, and are written out when it is full, before the next read and at the
+//! end. Lines that lie within one read are answered from its slice; only a line that crosses the
+//! end of a read is gathered.
 ghost use Rattle.std.specs.Prelude.{◌≡◌, ℕ, List, ◌+◌, ◌≤◌, ◌<◌, [], ◌++◌, length, take, drop, vec_len, MatchOption, OnOk, IfOk, IfErr, Option};
 ghost use Rattle.bstr.specs.BStr.{bstr_bytes};
-ghost use Rattle.std.specs.Io.KnownBytes.{Appends, Keeps};
 ghost use Rattle.gix_config_value.specs.Answers.{ended, line_head, line_value, IsUnbroken, LineOutcome, outcome_text, is_accepted, Completes, Fails, status_of};
-ghost use Rattle.gix_config_value.specs.Reading.Steps.{CutsLine, Takes, Emits, WritesPart, Stops, EmitsAnswer, TakesEmitting, AnswersUpTo, EndsAnswered, EndsEarly};
+ghost use Rattle.gix_config_value.specs.Reading.Steps.{CutsLine, sent, Sends, SendsAnswer, Breaks, going, with_more, Advances, Stops, AnswersUpTo, EndsAnswered, EndsEarly};
 
 use crate::kind::{kind_by_name, normalize};
 use arrayvec::ArrayString;
@@ -29,15 +29,15 @@ pub enum RunError {
     Memory(AllocError),
 }
 
-/// What a line is answered. A line is the name of a kind, one space, and the text of a value; without a space the
-/// text is empty.
+/// What a line is answered. A line is the name of a kind, one space, and the text of a value;
+/// without a space the text is empty.
 #[derive(Clone, Copy, PartialEq, Eq, Debug)]
 pub enum Outcome {
     /// The kind's grammar gives the text a value: the canonical text of that value.
     Accepted(ArrayString<127>),
     /// The kind's grammar gives the text no value.
     Refused,
-    /// What stands before the first space, or the whole line without a space, is the name of no kind.
+    /// What stands before the first space, or the whole line where there is none, names no kind.
     UnknownKind,
 }
 
@@ -45,8 +45,8 @@ impl Outcome {
     ghost use Rattle.gix_config_value.specs.Answers.{outcome_text, is_accepted};
 
     /// Puts the line that says this outcome behind a text.
-    fn push_to(&self, text: &mut ArrayString<8192>)
-        requires { length text.old.bytes + LONGEST_ANSWER ≤ 8192 }
+    fn push_to(&self, text: &mut ArrayString<ROOM>)
+        requires { length text.old.bytes + LONGEST_ANSWER ≤ ROOM }
         ensures { text.new.bytes ≡ text.old.bytes ++ outcome_text self.now }
     {
         match self {
@@ -71,7 +71,11 @@ impl Outcome {
 /// The longest answer: `ok `, a canonical text of 127 bytes, and LF.
 const LONGEST_ANSWER: usize = 131;
 
-/// What stands before the first space of a line and what follows it; the whole line and nothing without a space.
+/// The room for answers that wait.
+const ROOM: usize = 8192;
+
+/// What stands before the first space of a line, and what follows it. Without a space these are
+/// the whole line and nothing.
 fn split_line(line: &[u8]) -> (&[u8], &[u8])
     ensures head { result.0.now ≡ line_head line.now }
     ensures value { result.1.now ≡ line_value line.now }
@@ -82,9 +86,10 @@ fn split_line(line: &[u8]) -> (&[u8], &[u8])
     }
 }
 
-/// What a line is answered: `Accepted` with the canonical text of the line's value, `Refused` exactly where the
-/// grammar of the line's kind gives the line's text no value, and `UnknownKind` exactly where the line begins with
-/// the name of no kind. The line is passed without the LF that ends it.
+/// What a line is answered, with no reader and no writer. `Accepted` holds the canonical text of
+/// the line's value. `Refused` is answered exactly where the grammar of the line's kind gives its
+/// text no value, and `UnknownKind` exactly where the line begins with the name of no kind.
+/// Pass the line without the LF that ends it, since an LF would count as part of the text.
 pub fn answer(line: &[u8]) -> Outcome
     ensures { LineOutcome line.now result }
 {
@@ -105,223 +110,210 @@ fn first_line_feed(bytes: &[u8]) -> Option<usize>
     bytes.find_byte(b'\n')
 }
 
-/// Writes out what waits, by as many writes as it takes. A write that takes no byte is an error.
-fn write_out<W: Write>(waiting: &mut ArrayString<8192>, writer: &mut W) -> Result<(), RunError>
-    ensures ok { OnOk result (Appends (W.contents writer.old) (W.contents writer.new) waiting.old.bytes) }
-    ensures empty { OnOk result (waiting.new.bytes ≡ []) }
-    ensures err { IfErr result (WritesPart (W.contents writer.old) waiting.old.bytes (W.contents writer.new)) }
-    ensures write { IfErr result (λ e. e ≡ RunError.Write) }
-{
-    let mut rest = waiting.as_str().as_bytes();
-    while !rest.is_empty() {
-        match writer.write(rest) {
-            Ok(0) => return Err(RunError::Write),
-            Ok(count) => rest = &rest[count..],
-            Err(_) => return Err(RunError::Write),
+/// Answers on their way to a writer: those that wait, and the writer that takes them.
+#[derive(Drop)]
+struct Output<'w, W: Write> {
+    waiting: ArrayString<ROOM>,
+    writer: &'w mut W,
+}
+
+impl<'w, W: Write> Output<'w, W> {
+    /// Writes out what waits, by as many writes as it takes. A write of no byte is an error.
+    fn write_out(&mut self) -> Result<(), RunError>
+        ensures ok { OnOk result (Sends (sent W.contents self.old) (sent W.contents self.new) []) }
+        ensures empty { OnOk result (self.new.waiting.bytes ≡ []) }
+        ensures err { IfErr result
+            (Breaks (sent W.contents self.old) (sent W.contents self.new) []) }
+        ensures write { IfErr result (λ e. e ≡ RunError.Write) }
+    {
+        let mut rest = self.waiting.as_str().as_bytes();
+        while !rest.is_empty() {
+            match self.writer.write(rest) {
+                Ok(0) => return Err(RunError::Write),
+                Ok(count) => rest = &rest[count..],
+                Err(_) => return Err(RunError::Write),
+            }
         }
+        self.waiting.clear();
+        Ok(())
     }
-    waiting.clear();
-    Ok(())
-}
 
-/// Writes out what waits where there is no room for one more answer.
-fn make_room<W: Write>(waiting: &mut ArrayString<8192>, writer: &mut W) -> Result<(), RunError>
-    ensures room { OnOk result (length waiting.new.bytes + 131 ≤ 8192) }
-    ensures ok { OnOk result (Emits (W.contents writer.old) waiting.old.bytes (W.contents writer.new) waiting.new.bytes []) }
-    ensures err { IfErr result (WritesPart (W.contents writer.old) waiting.old.bytes (W.contents writer.new)) }
-    ensures write { IfErr result (λ e. e ≡ RunError.Write) }
-{
-    if waiting.remaining_capacity() < LONGEST_ANSWER {
-        write_out(waiting, writer)?;
-    }
-    Ok(())
-}
-
-/// Answers a line, and says whether it was accepted.
-fn answer_line<W: Write>(
-    waiting: &mut ArrayString<8192>,
-    writer: &mut W,
-    line: &[u8],
-) -> Result<bool, RunError>
-    ensures ok { IfOk result
-        (EmitsAnswer line.now (W.contents writer.old) waiting.old.bytes (W.contents writer.new) waiting.new.bytes) }
-    ensures err { IfErr result (WritesPart (W.contents writer.old) waiting.old.bytes (W.contents writer.new)) }
-    ensures write { IfErr result (λ e. e ≡ RunError.Write) }
-{
-    make_room(waiting, writer)?;
-    let outcome = answer(line);
-    outcome.push_to(waiting);
-    Ok(outcome.is_accepted())
-}
-
-/// Answers each line that ends within the bytes, and gives what follows the last of them.
-fn answer_lines<'b, W: Write>(
-    all_accepted: &mut bool,
-    waiting: &mut ArrayString<8192>,
-    writer: &mut W,
-    bytes: &'b [u8],
-) -> Result<&'b [u8], RunError>
-    ensures ok { IfOk result (λ rest. AnswersUpTo bytes.now rest.now all_accepted.old all_accepted.new
-        (W.contents writer.old) waiting.old.bytes (W.contents writer.new) waiting.new.bytes) }
-    ensures unbroken { IfOk result (λ rest. IsUnbroken rest.now) }
-    ensures err { IfErr result
-        (Stops [] all_accepted.old bytes.now (W.contents writer.old) waiting.old.bytes (W.contents writer.new)) }
-{
-    let mut rest = bytes;
-    while let Some(place) = first_line_feed(rest) {
-        match answer_line(waiting, writer, &rest[..place]) {
-            Ok(accepted) => *all_accepted &= accepted,
-            Err(error) => return Err(error),
+    /// Writes out what waits where there is no room for one more answer.
+    fn make_room(&mut self) -> Result<(), RunError>
+        ensures room { OnOk result (length self.new.waiting.bytes + LONGEST_ANSWER ≤ ROOM) }
+        ensures ok { OnOk result (Sends (sent W.contents self.old) (sent W.contents self.new) []) }
+        ensures err { IfErr result
+            (Breaks (sent W.contents self.old) (sent W.contents self.new) []) }
+        ensures write { IfErr result (λ e. e ≡ RunError.Write) }
+    {
+        if self.waiting.remaining_capacity() < LONGEST_ANSWER {
+            self.write_out()?;
         }
-        rest = &rest[place + 1..];
+        Ok(())
     }
-    Ok(rest)
-}
 
-/// Puts bytes behind the line begun. At want of memory what waits is written out first.
-fn gather<W: Write>(
-    line: &mut Vec<u8>,
-    waiting: &mut ArrayString<8192>,
-    writer: &mut W,
-    bytes: &[u8],
-) -> Result<(), RunError>
-    ensures ok { OnOk result (line.new.items ≡ line.old.items ++ bytes.now) }
-    ensures waits { OnOk result (waiting.new.bytes ≡ waiting.old.bytes) }
-    ensures kept { OnOk result (W.contents writer.new ≡ W.contents writer.old) }
-    ensures err { IfErr result (WritesPart (W.contents writer.old) waiting.old.bytes (W.contents writer.new)) }
-{
-    match line.extend_from_slice(bytes) {
-        Ok(()) => Ok(()),
-        Err(error) => {
-            write_out(waiting, writer)?;
-            Err(RunError::Memory(error))
+    /// Answers a line, and says whether it was accepted.
+    fn answer_line(&mut self, line: &[u8]) -> Result<bool, RunError>
+        ensures ok { IfOk result
+            (SendsAnswer line.now (sent W.contents self.old) (sent W.contents self.new)) }
+        ensures err { IfErr result
+            (Breaks (sent W.contents self.old) (sent W.contents self.new) []) }
+        ensures write { IfErr result (λ e. e ≡ RunError.Write) }
+    {
+        self.make_room()?;
+        let outcome = answer(line);
+        outcome.push_to(&mut self.waiting);
+        Ok(outcome.is_accepted())
+    }
+
+    /// Writes out what waits, and flushes.
+    fn end(&mut self) -> Result<(), RunError>
+        ensures ok { OnOk result (Sends (sent W.contents self.old) (sent W.contents self.new) []) }
+        ensures empty { OnOk result (self.new.waiting.bytes ≡ []) }
+        ensures err { IfErr result
+            (Breaks (sent W.contents self.old) (sent W.contents self.new) []) }
+        ensures write { IfErr result (λ e. e ≡ RunError.Write) }
+    {
+        self.write_out()?;
+        match self.writer.flush() {
+            Ok(()) => Ok(()),
+            Err(_) => Err(RunError::Write),
         }
     }
 }
 
-/// The line begun, and whether each line before it was accepted.
+/// A run between two reads: the line begun, and whether each line before it was accepted.
 #[derive(Drop)]
 struct Progress {
     line: Vec<u8>,
     all_accepted: bool,
 }
 
-/// Completes the line begun with what stands before the LF, and answers it.
-fn end_line<W: Write>(
-    progress: &mut Progress,
-    waiting: &mut ArrayString<8192>,
-    writer: &mut W,
-    front: &[u8],
-) -> Result<(), RunError>
-    requires { IsUnbroken front.now }
-    ensures ok { OnOk result (TakesEmitting progress.old.line.items progress.old.all_accepted (ended front.now)
-        progress.new.line.items progress.new.all_accepted
-        (W.contents writer.old) waiting.old.bytes (W.contents writer.new) waiting.new.bytes) }
-    ensures empty { OnOk result (progress.new.line.items ≡ []) }
-    ensures err { IfErr result (WritesPart (W.contents writer.old) waiting.old.bytes (W.contents writer.new)) }
-{
-    if let Err(error) = gather(&mut progress.line, waiting, writer, front) {
-        return Err(error);
+impl Progress {
+    /// Answers each line that ends within the bytes, and gives what follows the last of them.
+    /// No line is begun yet.
+    fn answer_lines<'b, W: Write>(
+        &mut self,
+        output: &mut Output<'_, W>,
+        bytes: &'b [u8],
+    ) -> Result<&'b [u8], RunError>
+        requires { self.old.line.items ≡ [] }
+        ensures ok { IfOk result (λ rest. AnswersUpTo (going W.contents self.old output.old)
+            (going W.contents self.new output.new) bytes.now rest.now) }
+        ensures unbroken { IfOk result (λ rest. IsUnbroken rest.now) }
+        ensures err { IfErr result
+            (Stops (going W.contents self.old output.old) (sent W.contents output.new) bytes.now) }
+    {
+        let mut rest = bytes;
+        while let Some(place) = first_line_feed(rest) {
+            let accepted = output.answer_line(&rest[..place])?;
+            self.all_accepted &= accepted;
+            rest = &rest[place + 1..];
+        }
+        Ok(rest)
     }
-    match answer_line(waiting, writer, progress.line.as_slice()) {
-        Ok(accepted) => progress.all_accepted &= accepted,
-        Err(error) => return Err(error),
-    }
-    progress.line.clear();
-    Ok(())
-}
 
-/// Answers each line that ends within the bytes, and begins the next one with what follows. No line is begun yet.
-fn take_lines<W: Write>(
-    progress: &mut Progress,
-    waiting: &mut ArrayString<8192>,
-    writer: &mut W,
-    bytes: &[u8],
-) -> Result<(), RunError>
-    requires { progress.old.line.items ≡ [] }
-    ensures ok { OnOk result (TakesEmitting [] progress.old.all_accepted bytes.now
-        progress.new.line.items progress.new.all_accepted
-        (W.contents writer.old) waiting.old.bytes (W.contents writer.new) waiting.new.bytes) }
-    ensures err { IfErr result (Stops [] progress.old.all_accepted bytes.now
-        (W.contents writer.old) waiting.old.bytes (W.contents writer.new)) }
-{
-    match answer_lines(&mut progress.all_accepted, waiting, writer, bytes) {
-        Ok(begun) => gather(&mut progress.line, waiting, writer, begun),
-        Err(error) => Err(error),
+    /// Puts bytes behind the line begun. Where there is no memory, what waits is written out first.
+    fn gather<W: Write>(&mut self, output: &mut Output<'_, W>, bytes: &[u8]) -> Result<(), RunError>
+        ensures ok { OnOk result (going W.contents self.new output.new
+            ≡ with_more (going W.contents self.old output.old) bytes.now) }
+        ensures err { IfErr result
+            (Breaks (sent W.contents output.old) (sent W.contents output.new) []) }
+    {
+        match self.line.extend_from_slice(bytes) {
+            Ok(()) => Ok(()),
+            Err(error) => {
+                output.write_out()?;
+                Err(RunError::Memory(error))
+            }
+        }
     }
-}
 
-/// Answers each line that the bytes of one read complete, and begins the next one with what follows.
-fn take_bytes<W: Write>(
-    progress: &mut Progress,
-    waiting: &mut ArrayString<8192>,
-    writer: &mut W,
-    bytes: &[u8],
-) -> Result<(), RunError>
-    ensures ok { OnOk result (TakesEmitting progress.old.line.items progress.old.all_accepted bytes.now
-        progress.new.line.items progress.new.all_accepted
-        (W.contents writer.old) waiting.old.bytes (W.contents writer.new) waiting.new.bytes) }
-    ensures err { IfErr result (Stops progress.old.line.items progress.old.all_accepted bytes.now
-        (W.contents writer.old) waiting.old.bytes (W.contents writer.new)) }
-{
-    if progress.line.is_empty() {
-        return take_lines(progress, waiting, writer, bytes);
+    /// Completes the line begun with what stands before the LF, and answers it.
+    fn end_line<W: Write>(
+        &mut self,
+        output: &mut Output<'_, W>,
+        front: &[u8],
+    ) -> Result<(), RunError>
+        requires { IsUnbroken front.now }
+        ensures ok { OnOk result (Advances (going W.contents self.old output.old)
+            (going W.contents self.new output.new) (ended front.now)) }
+        ensures empty { OnOk result (self.new.line.items ≡ []) }
+        ensures err { IfErr result
+            (Breaks (sent W.contents output.old) (sent W.contents output.new) []) }
+    {
+        self.gather(output, front)?;
+        let accepted = output.answer_line(self.line.as_slice())?;
+        self.all_accepted &= accepted;
+        self.line.clear();
+        Ok(())
     }
-    let Some(place) = first_line_feed(bytes) else {
-        return gather(&mut progress.line, waiting, writer, bytes);
-    };
-    match end_line(progress, waiting, writer, &bytes[..place]) {
-        Ok(()) => take_lines(progress, waiting, writer, &bytes[place + 1..]),
-        Err(error) => Err(error),
-    }
-}
 
-/// Writes out what waits, and flushes.
-fn end_output<W: Write>(waiting: &mut ArrayString<8192>, writer: &mut W) -> Result<(), RunError>
-    ensures ok { OnOk result (Appends (W.contents writer.old) (W.contents writer.new) waiting.old.bytes) }
-    ensures err { IfErr result (WritesPart (W.contents writer.old) waiting.old.bytes (W.contents writer.new)) }
-    ensures write { IfErr result (λ e. e ≡ RunError.Write) }
-{
-    write_out(waiting, writer)?;
-    match writer.flush() {
-        Ok(()) => Ok(()),
-        Err(_) => Err(RunError::Write),
+    /// Answers each line that ends within the bytes, and begins the next one with what follows.
+    /// No line is begun yet.
+    fn take_lines<W: Write>(
+        &mut self,
+        output: &mut Output<'_, W>,
+        bytes: &[u8],
+    ) -> Result<(), RunError>
+        requires { self.old.line.items ≡ [] }
+        ensures ok { OnOk result (Advances (going W.contents self.old output.old)
+            (going W.contents self.new output.new) bytes.now) }
+        ensures err { IfErr result
+            (Stops (going W.contents self.old output.old) (sent W.contents output.new) bytes.now) }
+    {
+        let begun = self.answer_lines(output, bytes)?;
+        self.gather(output, begun)
     }
-}
 
-/// Answers the line begun if it is not empty, writes out what waits, and flushes.
-fn finish<W: Write>(
-    progress: &Progress,
-    waiting: &mut ArrayString<8192>,
-    writer: &mut W,
-) -> Result<bool, RunError>
-    requires { waiting.old.bytes ≡ [] }
-    ensures ok { IfOk result (EndsAnswered progress.now.line.items progress.now.all_accepted (W.contents writer.old) (W.contents writer.new)) }
-    ensures err { IfErr result (EndsEarly progress.now.line.items progress.now.all_accepted (W.contents writer.old) (W.contents writer.new)) }
-{
-    let line = progress.line.as_slice();
-    if line.is_empty() {
-        return match end_output(waiting, writer) {
-            Ok(()) => Ok(progress.all_accepted),
-            Err(error) => Err(error),
+    /// Answers each line that the bytes of one read complete, and begins the next one with what
+    /// follows.
+    fn take_bytes<W: Write>(
+        &mut self,
+        output: &mut Output<'_, W>,
+        bytes: &[u8],
+    ) -> Result<(), RunError>
+        ensures ok { OnOk result (Advances (going W.contents self.old output.old)
+            (going W.contents self.new output.new) bytes.now) }
+        ensures err { IfErr result
+            (Stops (going W.contents self.old output.old) (sent W.contents output.new) bytes.now) }
+    {
+        if self.line.is_empty() {
+            return self.take_lines(output, bytes);
+        }
+        let Some(place) = first_line_feed(bytes) else {
+            return self.gather(output, bytes);
         };
+        self.end_line(output, &bytes[..place])?;
+        self.take_lines(output, &bytes[place + 1..])
     }
-    match answer_line(waiting, writer, line) {
-        Ok(accepted) => match end_output(waiting, writer) {
-            Ok(()) => Ok(progress.all_accepted & accepted),
-            Err(error) => Err(error),
-        },
-        Err(error) => Err(error),
+
+    /// Answers the line begun if it is not empty, writes out what waits, and flushes.
+    fn finish<W: Write>(&self, output: &mut Output<'_, W>) -> Result<bool, RunError>
+        ensures ok { IfOk result
+            (EndsAnswered (going W.contents self.now output.old) (sent W.contents output.new)) }
+        ensures err { IfErr result
+            (EndsEarly (going W.contents self.now output.old) (sent W.contents output.new)) }
+    {
+        if self.line.is_empty() {
+            output.end()?;
+            return Ok(self.all_accepted);
+        }
+        let accepted = output.answer_line(self.line.as_slice())?;
+        output.end()?;
+        Ok(self.all_accepted & accepted)
     }
 }
 
-/// Answers each line of the input, in order: `ok ` and the canonical text of the line's value, `refused`, or
-/// `unknown kind`. A line is the name of a kind, one space, and the value; without a space the value is empty.
-/// A last line without LF counts if it is not empty. The answer is whether every line was accepted.
+/// Answers each line of the input, in order: `ok ` and the canonical text of the line's value,
+/// `refused`, or `unknown kind`, as `answer` decides. A last line without LF counts if it is not
+/// empty. The result is whether every line was accepted; with no line it is true.
 ///
-/// An error of a read, and an input that has not ended after 18446744073709551615 reads, is `Read`; an error of a
-/// write or of the flush at the end, and a write that takes no byte, is `Write`; want of memory for a line that
-/// crosses the end of a read is `Memory`.
+/// `Read` is an error of a read, and an input that has not ended after 18446744073709551615 reads.
+/// Exactly the lines that were read with their LF are then answered. `Write` is an error of a
+/// write or of the flush at the end, and a write that takes no byte. `Memory` is answered where
+/// there is no memory for a line that crosses the end of a read: some first lines are then
+/// answered. After any error what was written is a beginning of the answers.
 pub fn run<R: Read, W: Write>(
     alloc: Global,
     reader: &mut R,
@@ -333,10 +325,13 @@ pub fn run<R: Read, W: Write>(
         (W.contents writer.old) (W.contents writer.new)) }
 {
     let mut buffer = [0u8; 65536];
-    let mut waiting = ArrayString::new();
     let mut progress = Progress {
         line: Vec::new(alloc),
         all_accepted: true,
+    };
+    let mut output = Output {
+        waiting: ArrayString::new(),
+        writer,
     };
     for _ in 0..u64::MAX {
         let count = match reader.read(&mut buffer) {
@@ -344,20 +339,17 @@ pub fn run<R: Read, W: Write>(
             Err(_) => return Err(RunError::Read),
         };
         if count == 0 {
-            return finish(&progress, &mut waiting, writer);
+            let all_accepted = progress.finish(&mut output)?;
+            return Ok(all_accepted);
         }
-        let bytes = &buffer[..count];
-        if let Err(error) = take_bytes(&mut progress, &mut waiting, writer, bytes) {
-            return Err(error);
-        }
-        if let Err(error) = write_out(&mut waiting, writer) {
-            return Err(error);
-        }
+        progress.take_bytes(&mut output, &buffer[..count])?;
+        output.write_out()?;
     }
     Err(RunError::Read)
 }
 
-/// The exit status of a run: 0 where every line was accepted, 1 where some line was not, and 2 after an error.
+/// The exit status of a run: 0 where every line was accepted, 1 where some line was not, and 2
+/// after an error.
 pub fn status(outcome: &Result<bool, RunError>) -> u8
     ensures { result ≡ status_of outcome.now }
 {

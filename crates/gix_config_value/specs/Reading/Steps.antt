@@ -5,9 +5,12 @@
 use Rattle.std.specs.Prelude.{◌≡◌, ℕ, ◌+◌, List, [], ◌∷◌, ◌++◌, take, drop, flat_map, Bool, true, ◌&&◌, Option}
 use Rattle.std.specs.List.{AllByRecursion, AllZip, list_all}
 use Rattle.std.specs.Io.KnownBytes.{Appends, Consumes}
+use Rattle.std.specs.Borrow.{GName}
 use Rattle.gix_config_value.specs.declared.program.RunError.{RunError}
 use Rattle.gix_config_value.specs.declared.program.RunError.TheVariants.{Read, Write, Memory}
 use Rattle.gix_config_value.specs.declared.program.Outcome.{Outcome}
+use Rattle.gix_config_value.specs.declared.program.Output.{Output}
+use Rattle.gix_config_value.specs.declared.program.Progress.{Progress}
 use Rattle.gix_config_value.specs.Answers.{ended, IsUnbroken, LineOutcome, outcome_text, is_accepted}
 
 -- the bytes at place i are an LF, and none stands before it
@@ -33,78 +36,107 @@ AnswersLast [] ok ok' output = (output ≡ []) × (ok' ≡ ok)
 AnswersLast (b ∷ bs) ok ok' output = (outcome : Outcome) × LineOutcome (b ∷ bs) outcome × (output ≡ outcome_text outcome)
     × (ok' ≡ (ok && is_accepted outcome))
 
--- the output was put behind what waited, and some first bytes of both were appended to what the writer held
-pub record Emits (held : Option (List ℕ)) (waiting : List ℕ) (holds : Option (List ℕ)) (waiting' output : List ℕ) : Type 0 where
-  pub written : List ℕ
-  pub appended : Appends held holds written
-  pub same : waiting ++ output ≡ written ++ waiting'
+-- ---- what is sent
 
--- the answer to a line was put behind what waited, and some first bytes of both were written
-pub record EmitsAnswer (line : List ℕ) (held : Option (List ℕ)) (waiting : List ℕ) (holds : Option (List ℕ)) (waiting' : List ℕ) (ok : Bool) : Type 0 where
+-- what an output has sent to its writer: what the writer holds, where that is known, and then what waits
+pub record Sent : Type 0 where
+  pub writer : GName
+  pub held : Option (List ℕ)
+  pub waiting : List ℕ
+
+-- what this output has sent
+abbrev pub sent : {W : Type 0} → (W → Option (List ℕ)) → Output W → Sent
+sent contents o = record { writer = o.writer.ghost_name; held = contents o.writer.now; waiting = o.waiting.bytes }
+
+-- the bytes were sent to one writer: some first bytes of what waited and of them are written, and the others wait
+pub record Sends (before after : Sent) (bytes : List ℕ) : Type 0 where
+  pub same_writer : after.writer ≡ before.writer
+  pub written : List ℕ
+  pub appended : Appends before.held after.held written
+  pub in_order : before.waiting ++ bytes ≡ written ++ after.waiting
+
+-- the answer to a line was sent
+pub record SendsAnswer (line : List ℕ) (before after : Sent) (ok : Bool) : Type 0 where
   pub outcome : Outcome
   pub is : LineOutcome line outcome
-  pub emits : Emits held waiting holds waiting' (outcome_text outcome)
+  pub sends : Sends before after (outcome_text outcome)
   pub accepts : ok ≡ is_accepted outcome
 
--- the bytes were taken, and the answers that they complete put behind what waited
-pub record TakesEmitting (line : List ℕ) (ok : Bool) (bytes line' : List ℕ) (ok' : Bool) (held : Option (List ℕ)) (waiting : List ℕ) (holds : Option (List ℕ)) (waiting' : List ℕ) : Type 0 where
-  pub output : List ℕ
-  pub taken : Takes line ok bytes line' ok' output
-  pub emits : Emits held waiting holds waiting' output
-
--- how much may be missing after an error: nothing at want of memory. Only the reading function answers `Read`.
+-- how much may be missing after an error: nothing where there was no memory. Only the reading function answers `Read`.
 abbrev pub MayMiss : RunError → List ℕ → Type 0
 MayMiss Read missing = ⊥
 MayMiss Write missing = Unit {0}
 MayMiss (Memory e) missing = missing ≡ []
 
--- an error while these bytes waited: all but the missing last ones were appended to what the writer held
-pub record WritesPart (held : Option (List ℕ)) (waiting : List ℕ) (holds : Option (List ℕ)) (e : RunError) : Type 0 where
-  pub written : List ℕ
+-- an error while bytes were sent: all but the missing last ones are written
+pub record Breaks (before after : Sent) (bytes : List ℕ) (e : RunError) : Type 0 where
   pub missing : List ℕ
-  pub appended : Appends held holds written
-  pub same : waiting ≡ written ++ missing
+  pub sends : Sends before (record after { waiting = missing }) bytes
   pub allowed : MayMiss e missing
 
--- an error in the middle of the bytes: the lines that the first ones complete are answered, and of what waited
--- and these answers a part was written
-pub record Stops (line : List ℕ) (ok : Bool) (bytes : List ℕ) (held : Option (List ℕ)) (waiting : List ℕ) (holds : Option (List ℕ)) (e : RunError) : Type 0 where
+-- ---- a run in its middle
+
+-- the line begun, whether each line before it was accepted, and what was sent
+pub record Going : Type 0 where
+  pub line : List ℕ
+  pub accepted : Bool
+  pub to : Sent
+
+-- how far this run has come
+abbrev pub going : {W : Type 0} → (W → Option (List ℕ)) → Progress → Output W → Going
+going contents p o = record { line = p.line.items; accepted = p.all_accepted; to = sent contents o }
+
+-- with these bytes behind the line begun
+abbrev pub with_more : Going → List ℕ → Going
+with_more g bytes = record g { line = g.line ++ bytes }
+
+-- the bytes were taken, and the answers to the lines that they complete sent
+pub record Advances (before after : Going) (bytes : List ℕ) : Type 0 where
+  pub output : List ℕ
+  pub taken : Takes before.line before.accepted bytes after.line after.accepted output
+  pub sends : Sends before.to after.to output
+
+-- an error in the middle of the bytes: the lines that the first ones complete are answered, and of the answers a
+-- part is written
+pub record Stops (before : Going) (after : Sent) (bytes : List ℕ) (e : RunError) : Type 0 where
   pub done : List ℕ
   pub left : List ℕ
   pub split : bytes ≡ done ++ left
-  pub line' : List ℕ
-  pub ok' : Bool
+  pub line : List ℕ
+  pub accepted : Bool
   pub output : List ℕ
-  pub taken : Takes line ok done line' ok' output
-  pub part : WritesPart held (waiting ++ output) holds e
+  pub taken : Takes before.line before.accepted done line accepted output
+  pub breaks : Breaks before.to after output e
 
--- with no line begun, the lines that end within the bytes are answered, and the rest follows them
-pub record AnswersUpTo (bytes rest : List ℕ) (ok ok' : Bool) (held : Option (List ℕ)) (waiting : List ℕ) (holds : Option (List ℕ)) (waiting' : List ℕ) : Type 0 where
+-- the lines that end within the bytes are answered, no line is begun, and the rest follows them
+pub record AnswersUpTo (before after : Going) (bytes rest : List ℕ) : Type 0 where
   pub done : List ℕ
   pub split : bytes ≡ done ++ rest
-  pub taken : TakesEmitting [] ok done [] ok' held waiting holds waiting'
+  pub advances : Advances before after done
+  pub none : after.line ≡ []
 
--- the end of the input: the last line is answered, and its answer written
-pub record EndsAnswered (line : List ℕ) (ok : Bool) (held holds : Option (List ℕ)) (ok' : Bool) : Type 0 where
+-- the end of the input: the last line is answered, and all is written
+pub record EndsAnswered (before : Going) (after : Sent) (ok : Bool) : Type 0 where
   pub last : List ℕ
-  pub answered : AnswersLast line ok ok' last
-  pub appended : Appends held holds last
+  pub answered : AnswersLast before.line before.accepted ok last
+  pub sends : Sends before.to after last
+  pub empty : after.waiting ≡ []
 
--- an error at the end of the input: some first bytes of the answer to the last line were written
-pub record EndsEarly (line : List ℕ) (ok : Bool) (held holds : Option (List ℕ)) (e : RunError) : Type 0 where
+-- an error at the end of the input: of the answer to the last line a part is written
+pub record EndsEarly (before : Going) (after : Sent) (e : RunError) : Type 0 where
   pub last : List ℕ
-  pub ok' : Bool
-  pub answered : AnswersLast line ok ok' last
-  pub written : List ℕ
-  pub missing : List ℕ
-  pub appended : Appends held holds written
-  pub same : last ≡ written ++ missing
+  pub ok : Bool
+  pub answered : AnswersLast before.line before.accepted ok last
+  pub breaks : Breaks before.to after last e
   pub is_write : e ≡ Write
 
--- a run in its middle: these lines of the input were answered, all answers written, and this line is begun
-pub record Goes (unread left held holds : Option (List ℕ)) (line : List ℕ) (ok : Bool) : Type 0 where
+-- the start of a run: no line is begun, and nothing waits
+abbrev pub start : GName → Option (List ℕ) → Going
+start writer held = record { line = []; accepted = true; to = record { writer = writer; held = held; waiting = [] } }
+
+-- a run since its start: some input was read and taken, and nothing waits
+pub record Goes (unread left : Option (List ℕ)) (before after : Going) : Type 0 where
   pub input : List ℕ
-  pub output : List ℕ
   pub consumed : Consumes unread left input
-  pub appended : Appends held holds output
-  pub taken : Takes [] true input line ok output
+  pub advances : Advances before after input
+  pub empty : after.to.waiting ≡ []

@@ -1,0 +1,14 @@
+use Rattle.gix_config_value.proofs.LineLemmas.{take_rest}
+use Rattle.gix_config_value.proofs.StepLemmas.{AnswersUpTo-start, AnswersUpTo-more, Stops-in_lines, passed_on}
+use Rattle.gix_config_value.proofs.program.Progress.answer_lines.Goals as goal
+
+pub loop-place-init : goal.loop-place-init
+loop-place-init g c = AnswersUpTo-start _ _ c.requires
+
+pub returns-in_err-accepted-clause-err : goal.returns-in_err-accepted-clause-err
+returns-in_err-accepted-clause-err g c =
+    passed_on _ _ _ c.from_residual.ensures.1 (Stops-in_lines _ _ _ _ _ _ c.loop-place.invariant c.in_err-accepted.ensures.err)
+
+pub loop-place-preserved : goal.loop-place-preserved
+loop-place-preserved g c =
+    rw (take_rest _ _) (AnswersUpTo-more _ _ _ _ _ _ _ c.loop-place.invariant c.in-Some.ensures c.in_ok-accepted.ensures.ok)
