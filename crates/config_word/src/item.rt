@@ -1,4 +1,4 @@
-//! The words of a color text: the one table of them, and the numbers that stand beside it.
+//! The words of a color text: the one table of them, by length, and the numbers beside it.
 ghost use Rattle.std.specs.Prelude.{◌≡◌, map};
 ghost use Rattle.config_text.specs.Value.{Reads};
 ghost use Rattle.config_word.specs.Item.{ItemText};
@@ -37,69 +37,73 @@ macro_rules! exact {
     };
 }
 
-/// The words by rising length.
-const WORDS: [Entry; 41] = [
-    exact!("-1", Item::Name(Name::Normal)),
-    exact!("ul", Item::Attribute(Attribute::UL)),
-    any_case!("red", Item::Name(Name::Red)),
-    exact!("dim", Item::Attribute(Attribute::DIM)),
-    any_case!("blue", Item::Name(Name::Blue)),
-    any_case!("cyan", Item::Name(Name::Cyan)),
-    exact!("bold", Item::Attribute(Attribute::BOLD)),
-    exact!("noul", Item::Attribute(Attribute::NO_UL)),
-    any_case!("black", Item::Name(Name::Black)),
-    any_case!("green", Item::Name(Name::Green)),
-    any_case!("white", Item::Name(Name::White)),
-    exact!("blink", Item::Attribute(Attribute::BLINK)),
-    any_case!("reset", Item::Attribute(Attribute::RESET)),
-    exact!("nodim", Item::Attribute(Attribute::NO_DIM)),
-    exact!("no-ul", Item::Attribute(Attribute::NO_UL)),
-    any_case!("normal", Item::Name(Name::Normal)),
-    any_case!("yellow", Item::Name(Name::Yellow)),
-    exact!("italic", Item::Attribute(Attribute::ITALIC)),
-    exact!("strike", Item::Attribute(Attribute::STRIKE)),
-    exact!("no-dim", Item::Attribute(Attribute::NO_DIM)),
-    exact!("nobold", Item::Attribute(Attribute::NO_BOLD)),
-    any_case!("default", Item::Name(Name::Default)),
-    any_case!("magenta", Item::Name(Name::Magenta)),
-    exact!("reverse", Item::Attribute(Attribute::REVERSE)),
-    exact!("no-bold", Item::Attribute(Attribute::NO_BOLD)),
-    exact!("noblink", Item::Attribute(Attribute::NO_BLINK)),
-    exact!("noitalic", Item::Attribute(Attribute::NO_ITALIC)),
-    exact!("no-blink", Item::Attribute(Attribute::NO_BLINK)),
-    exact!("nostrike", Item::Attribute(Attribute::NO_STRIKE)),
-    any_case!("brightred", Item::Name(Name::BrightRed)),
-    exact!("no-italic", Item::Attribute(Attribute::NO_ITALIC)),
-    exact!("noreverse", Item::Attribute(Attribute::NO_REVERSE)),
-    exact!("no-strike", Item::Attribute(Attribute::NO_STRIKE)),
-    any_case!("brightblue", Item::Name(Name::BrightBlue)),
-    any_case!("brightcyan", Item::Name(Name::BrightCyan)),
-    exact!("no-reverse", Item::Attribute(Attribute::NO_REVERSE)),
-    any_case!("brightblack", Item::Name(Name::BrightBlack)),
-    any_case!("brightgreen", Item::Name(Name::BrightGreen)),
-    any_case!("brightwhite", Item::Name(Name::BrightWhite)),
-    any_case!("brightyellow", Item::Name(Name::BrightYellow)),
-    any_case!("brightmagenta", Item::Name(Name::BrightMagenta)),
-];
-
-/// The words of this length.
+/// The words of this length, and what each stands for.
 #[tactic(auto, unfolding(crate::specs::Attribute::attributes, crate::specs::Name::word_names))]
 fn words_of(length: usize) -> &'static [Entry]
     ensures { map row_of result.now ≡ of_length length word_table }
 {
     match length {
-        2 => &WORDS[0..2],
-        3 => &WORDS[2..4],
-        4 => &WORDS[4..8],
-        5 => &WORDS[8..15],
-        6 => &WORDS[15..21],
-        7 => &WORDS[21..26],
-        8 => &WORDS[26..29],
-        9 => &WORDS[29..33],
-        10 => &WORDS[33..36],
-        11 => &WORDS[36..39],
-        12 => &WORDS[39..40],
-        13 => &WORDS[40..41],
+        2 => &[
+            exact!("-1", Item::Name(Name::Normal)),
+            exact!("ul", Item::Attribute(Attribute::UL)),
+        ],
+        3 => &[
+            any_case!("red", Item::Name(Name::Red)),
+            exact!("dim", Item::Attribute(Attribute::DIM)),
+        ],
+        4 => &[
+            any_case!("blue", Item::Name(Name::Blue)),
+            any_case!("cyan", Item::Name(Name::Cyan)),
+            exact!("bold", Item::Attribute(Attribute::BOLD)),
+            exact!("noul", Item::Attribute(Attribute::NO_UL)),
+        ],
+        5 => &[
+            any_case!("black", Item::Name(Name::Black)),
+            any_case!("green", Item::Name(Name::Green)),
+            any_case!("white", Item::Name(Name::White)),
+            exact!("blink", Item::Attribute(Attribute::BLINK)),
+            any_case!("reset", Item::Attribute(Attribute::RESET)),
+            exact!("nodim", Item::Attribute(Attribute::NO_DIM)),
+            exact!("no-ul", Item::Attribute(Attribute::NO_UL)),
+        ],
+        6 => &[
+            any_case!("normal", Item::Name(Name::Normal)),
+            any_case!("yellow", Item::Name(Name::Yellow)),
+            exact!("italic", Item::Attribute(Attribute::ITALIC)),
+            exact!("strike", Item::Attribute(Attribute::STRIKE)),
+            exact!("no-dim", Item::Attribute(Attribute::NO_DIM)),
+            exact!("nobold", Item::Attribute(Attribute::NO_BOLD)),
+        ],
+        7 => &[
+            any_case!("default", Item::Name(Name::Default)),
+            any_case!("magenta", Item::Name(Name::Magenta)),
+            exact!("reverse", Item::Attribute(Attribute::REVERSE)),
+            exact!("no-bold", Item::Attribute(Attribute::NO_BOLD)),
+            exact!("noblink", Item::Attribute(Attribute::NO_BLINK)),
+        ],
+        8 => &[
+            exact!("noitalic", Item::Attribute(Attribute::NO_ITALIC)),
+            exact!("no-blink", Item::Attribute(Attribute::NO_BLINK)),
+            exact!("nostrike", Item::Attribute(Attribute::NO_STRIKE)),
+        ],
+        9 => &[
+            any_case!("brightred", Item::Name(Name::BrightRed)),
+            exact!("no-italic", Item::Attribute(Attribute::NO_ITALIC)),
+            exact!("noreverse", Item::Attribute(Attribute::NO_REVERSE)),
+            exact!("no-strike", Item::Attribute(Attribute::NO_STRIKE)),
+        ],
+        10 => &[
+            any_case!("brightblue", Item::Name(Name::BrightBlue)),
+            any_case!("brightcyan", Item::Name(Name::BrightCyan)),
+            exact!("no-reverse", Item::Attribute(Attribute::NO_REVERSE)),
+        ],
+        11 => &[
+            any_case!("brightblack", Item::Name(Name::BrightBlack)),
+            any_case!("brightgreen", Item::Name(Name::BrightGreen)),
+            any_case!("brightwhite", Item::Name(Name::BrightWhite)),
+        ],
+        12 => &[any_case!("brightyellow", Item::Name(Name::BrightYellow))],
+        13 => &[any_case!("brightmagenta", Item::Name(Name::BrightMagenta))],
         _ => &[],
     }
 }
