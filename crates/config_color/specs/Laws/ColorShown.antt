@@ -17,7 +17,7 @@ use Rattle.std.proofs.lemmas.Nat.Bits.{and_pow, bit_at_or, bit_at_and, bit_at-lt
 use Rattle.config_color.specs.declared.color.Color.{Color}
 use Rattle.config_word.specs.declared.attribute.Attribute.{Attribute}
 use Rattle.config_word.specs.declared.name.Name.{Name}
-use Rattle.config_word.specs.Attribute.{AttributeRow, IsKnownBit, attributes, attribute_flags, AttributeText, attribute_words, rising_words}
+use Rattle.config_word.specs.Attribute.{AttributeRow, attributes, attribute_flags, AttributeText, attribute_words, rising_words}
 use Rattle.config_color.specs.Color.{WordsRead, Placed, ColorText, part_shown, set_shown, color_shown, Chosen, CanonicalColor, PartFits, AreKnown}
 use Rattle.config_color.specs.Laws.Color.{WordsRead-join, Placed-words, placing, same_color, color_one_value}
 use Rattle.config_text.specs.Bytes.{space}
