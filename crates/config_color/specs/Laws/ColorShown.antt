@@ -434,7 +434,10 @@ color_equal E law v w = (to, from) where
   to : IsTrue (same_parts E v w) → v ≡ w
   to h =
       let k = all_pass (option_eq E v.foreground w.foreground) (option_eq E v.background w.background) (v.attributes.0 == w.attributes.0) h in
-      same_color v w (part_same v.foreground w.foreground (assumption k)) (part_same v.background w.background (assumption k)) ((Decides-eqb v.attributes.0 w.attributes.0).0 (assumption k))
+      let front : option_eq E v.foreground w.foreground ≡ true = cc (k.0, k.1, k.2) in
+      let back : option_eq E v.background w.background ≡ true = cc (k.0, k.1, k.2) in
+      let set : v.attributes.0 == w.attributes.0 ≡ true = cc (k.0, k.1, k.2) in
+      same_color v w (part_same v.foreground w.foreground front) (part_same v.background w.background back) ((Decides-eqb v.attributes.0 w.attributes.0).0 set)
 
   from : v ≡ w → IsTrue (same_parts E v w)
   from e = rw (← e) (rw (part_equal v.foreground, part_equal v.background, (Decides-eqb v.attributes.0 v.attributes.0).1 refl) refl)
