@@ -15,12 +15,11 @@ ghost use Rattle.config_text.specs.Value.{HasText, Reads};
 ghost use Rattle.config_color.specs.Split.{IsWithoutSpace, piece};
 
 use crate::space::space_at;
-use arrayvec::ArrayString;
 use bitflags::Flags;
 use bstr::{BStr, BString};
 use config_text::errors::{Error, Fault, Returned};
 use config_text::readers::{TryRead, read_bytes, read_cow, read_owned, read_text};
-use config_text::value::Value;
+use config_text::value::{Text, Value};
 use config_word::attribute::Attribute;
 use config_word::item::{Item, word};
 use config_word::name::{Name, numbers_fit};
@@ -108,12 +107,12 @@ fn part_fits(part: Option<Name>)
 impl Color {
     /// The names as they are shown, with one space between them.
     #[tactic(auto, using(config_word::specs::Laws::Name::name_short))]
-    fn names_shown(&self) -> ArrayString<127>
+    fn names_shown(&self) -> Text
         ensures text { result.bytes ≡ names_shown self.now.foreground self.now.background }
         ensures room { length result.bytes ≤ 27 }
     {
         match (self.foreground, self.background) {
-            (None, None) => ArrayString::new(),
+            (None, None) => Text::new(),
             (Some(name), None) | (None, Some(name)) => {
                 numbers_fit(name);
                 name.shown()
@@ -141,7 +140,7 @@ impl Color {
     }
 
     /// The color as it is shown.
-    pub(crate) fn shown(&self) -> ArrayString<127>
+    pub(crate) fn shown(&self) -> Text
         ensures { result.bytes ≡ color_shown self.now }
     {
         let mut text = self.names_shown();
@@ -280,7 +279,7 @@ impl Value for Color {
         self.is_readable()
     }
 
-    fn text(&self) -> ArrayString<127> {
+    fn text(&self) -> Text {
         self.shown()
     }
 

@@ -11,13 +11,12 @@ ghost use Rattle.std.proofs.Common.{rules};
 ghost use Rattle.config_text.specs.Json.{GivesJsonText};
 
 use crate::item::{Item, word};
-use arrayvec::ArrayString;
 use bitflags::{Flag, Flags, bitflag_items};
 use bstr::BStr;
 use config_text::errors::{Error, Fault};
 use config_text::json::{JsonError, string};
 use config_text::readers::{TryRead, read_bytes};
-use config_text::value::Value;
+use config_text::value::{LONGEST_TEXT, Text, Value};
 use serde_json::Value as JsonValue;
 use std::alloc::Global;
 use std::fmt;
@@ -127,8 +126,8 @@ fn shown_words() -> &'static [Shown]
 impl Attribute {
     /// Appends the words of the known bits that are set, by rising bit, with one space between, in
     /// at most 99 bytes. Colors append their attributes by it.
-    pub fn push_to(self, text: &mut ArrayString<127>)
-        requires { length text.old.bytes + 99 ≤ 127 }
+    pub fn push_to(self, text: &mut Text)
+        requires { length text.old.bytes + 99 ≤ LONGEST_TEXT }
         ensures { text.new.bytes ≡ text.old.bytes ++ attribute_shown self.0 }
     {
         let mut is_first = true;
@@ -144,12 +143,12 @@ impl Attribute {
     }
 
     /// The set as it is shown, for `Display` and the canonical text.
-    pub fn shown(self) -> ArrayString<127>
+    pub fn shown(self) -> Text
         ensures bytes { result.bytes ≡ attribute_shown self.0 }
         ensures text { HasText AttributeText self
             → IsTextOf AttributeText CanonicalAttribute self result.bytes }
     {
-        let mut text = ArrayString::new();
+        let mut text = Text::new();
         self.push_to(&mut text);
         text
     }
@@ -243,7 +242,7 @@ impl Value for Attribute {
         self.is_constant()
     }
 
-    fn text(&self) -> ArrayString<127> {
+    fn text(&self) -> Text {
         self.shown()
     }
 

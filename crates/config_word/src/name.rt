@@ -11,12 +11,11 @@ ghost use Rattle.std.proofs.Common.{rules};
 ghost use Rattle.config_text.specs.Json.{GivesJsonText};
 
 use crate::item::{Item, word};
-use arrayvec::ArrayString;
 use bstr::BStr;
 use config_text::errors::{Error, Fault};
 use config_text::json::{JsonError, string};
 use config_text::readers::{TryRead, read_bytes};
-use config_text::value::Value;
+use config_text::value::{LONGEST_TEXT, Text, Value};
 use itoa::Buffer;
 use serde_json::Value as JsonValue;
 use std::alloc::Global;
@@ -69,8 +68,8 @@ pub enum Name {
 }
 
 /// Appends the two lower-case hexadecimal digits of a byte.
-fn push_hex(text: &mut ArrayString<127>, byte: u8)
-    requires { length text.old.bytes + 2 ≤ 127 }
+fn push_hex(text: &mut Text, byte: u8)
+    requires { length text.old.bytes + 2 ≤ LONGEST_TEXT }
     ensures { text.new.bytes ≡ text.old.bytes ++ hex_pair byte }
 {
     text.push(hex_char(byte / 16));
@@ -91,8 +90,8 @@ fn hex_char(number: u8) -> char
 
 impl Name {
     /// Appends the name as it is shown, in at most 13 bytes. Colors append their second name by it.
-    pub fn push_to(self, text: &mut ArrayString<127>)
-        requires { length text.old.bytes + 13 ≤ 127 }
+    pub fn push_to(self, text: &mut Text)
+        requires { length text.old.bytes + 13 ≤ LONGEST_TEXT }
         ensures { text.new.bytes ≡ text.old.bytes ++ name_shown self }
     {
         let word = match self {
@@ -130,12 +129,12 @@ impl Name {
     }
 
     /// The name as it is shown, for `Display`, the canonical text and colors.
-    pub fn shown(self) -> ArrayString<127>
+    pub fn shown(self) -> Text
         ensures bytes { result.bytes ≡ name_shown self }
         ensures text { IsTextOf NameText CanonicalName self result.bytes }
     {
         numbers_fit(self);
-        let mut text = ArrayString::new();
+        let mut text = Text::new();
         self.push_to(&mut text);
         text
     }
@@ -225,7 +224,7 @@ impl Value for Name {
         true
     }
 
-    fn text(&self) -> ArrayString<127> {
+    fn text(&self) -> Text {
         self.shown()
     }
 

@@ -7,21 +7,19 @@ use Rattle.gix_config_value.specs.Kinds.{kind_name, KindGrammar, KindCanonical}
 use Rattle.config_text.specs.Value.{IsAccepted, IsRefused, HasText, IsTextOf}
 use Rattle.config_text.specs.Laws.Value.{text_told}
 use Rattle.config_integer.specs.Suffix.{SuffixText, CanonicalSuffix, suffix_shown}
-use Rattle.config_integer.specs.Laws.Suffix.{suffix_decided, suffix_shown_is_text}
 use Rattle.config_integer.specs.Integer.{IntegerText, CanonicalInteger, integer_shown}
-use Rattle.config_integer.specs.Laws.Integer.{integer_decided}
-use Rattle.config_integer.specs.Laws.IntegerShown.{integer_shown_is_text}
 use Rattle.config_integer.specs.Amount.{AmountText, CanonicalAmount, amount_shown}
-use Rattle.config_integer.specs.Laws.Amount.{amount_decided, amount_shown_is_text}
 use Rattle.config_boolean.specs.Boolean.{BooleanText, CanonicalBoolean, boolean_shown}
-use Rattle.config_boolean.specs.Laws.Boolean.{boolean_decided, boolean_shown_is_text}
 use Rattle.config_word.specs.Name.{NameText, CanonicalName, name_shown}
-use Rattle.config_word.specs.Laws.Name.{name_decided, name_shown_is_text}
 use Rattle.config_word.specs.Attribute.{AttributeText, CanonicalAttribute, attribute_shown}
-use Rattle.config_word.specs.Laws.Attribute.{attribute_decided, attribute_shown_is_text}
 use Rattle.config_color.specs.Color.{ColorText, CanonicalColor, color_shown}
-use Rattle.config_color.specs.Laws.Color.{color_decided}
-use Rattle.config_color.specs.Laws.ColorShown.{color_shown_is_text}
+use Rattle.config_integer.specs.contracts.suffix.SuffixValue.TheImpl.Laws.{decided-law as suffix_decided, shown_is_text-law as suffix_shown_is_text}
+use Rattle.config_integer.specs.contracts.integer.IntegerValue.TheImpl.Laws.{decided-law as integer_decided, shown_is_text-law as integer_shown_is_text}
+use Rattle.config_integer.specs.contracts.amount.AmountValue.TheImpl.Laws.{decided-law as amount_decided, shown_is_text-law as amount_shown_is_text}
+use Rattle.config_boolean.specs.contracts.boolean.BooleanValue.TheImpl.Laws.{decided-law as boolean_decided, shown_is_text-law as boolean_shown_is_text}
+use Rattle.config_word.specs.contracts.name.NameValue.TheImpl.Laws.{decided-law as name_decided, shown_is_text-law as name_shown_is_text}
+use Rattle.config_word.specs.contracts.attribute.AttributeValue.TheImpl.Laws.{decided-law as attribute_decided, shown_is_text-law as attribute_shown_is_text}
+use Rattle.config_color.specs.contracts.color.ColorValue.TheImpl.Laws.{decided-law as color_decided, shown_is_text-law as color_shown_is_text}
 
 -- a text is the name of one of these kinds, or of none of them
 named_among : (kinds : List Kind) (head : List ℕ) → ((kind : Kind) × (kind_name kind ≡ head)) ⊎ AllByRecursion (λ kind. kind_name kind ≢ head) kinds

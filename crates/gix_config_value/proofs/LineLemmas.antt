@@ -6,7 +6,8 @@ use Rattle.std.proofs.lemmas.List.{get_or-take}
 use Rattle.bstr.specs.Find.{Passes, Nowhere, NoneBefore, is_byte}
 use Rattle.std.proofs.Math.Seq.{take-length}
 use Rattle.std.proofs.Math.ListN.{drop_of_length-le}
-use Rattle.gix_config_value.specs.Answers.{line_feed, space, IsUnbroken, line_head, line_value}
+use Rattle.config_text.specs.Bytes.{line_feed, space}
+use Rattle.gix_config_value.specs.Answers.{IsUnbroken, line_head, line_value}
 use Rattle.gix_config_value.specs.Reading.Steps.{CutsLine}
 
 false_from : (b : Bool) → ¬ (b ≡ true) → b ≡ false

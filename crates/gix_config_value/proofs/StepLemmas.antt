@@ -16,7 +16,8 @@ use Rattle.config_text.specs.Value.{IsTextOf}
 use Rattle.gix_config_value.specs.declared.program.Outcome.{Outcome}
 use Rattle.gix_config_value.specs.declared.program.Outcome.TheVariants.{Accepted, Refused, UnknownKind}
 use Rattle.arrayvec.specs.ArrayString.{ArrayString}
-use Rattle.gix_config_value.specs.Answers.{ended, line_feed, IsUnbroken, line_head, line_value, LineOutcome, outcome_text, is_accepted, Answers, IsBeginningOfAnswers, AnswersAllBut}
+use Rattle.config_text.specs.Bytes.{line_feed}
+use Rattle.gix_config_value.specs.Answers.{ended, IsUnbroken, line_head, line_value, LineOutcome, outcome_text, is_accepted, Answers, IsBeginningOfAnswers, AnswersAllBut}
 use Rattle.gix_config_value.specs.Reading.Steps.{Takes, AnswersLast, CutsLine, Sent, Sends, SendsAnswer, Breaks, Going, with_more, Advances, Stops, AnswersUpTo}
 use Rattle.gix_config_value.proofs.KindLemmas.{kind_told, kind_decided}
 use Rattle.std.proofs.KnownBytes.{Appends-nil, Appends-trans}

@@ -11,17 +11,10 @@ use Rattle.gix_config_value.specs.declared.program.RunError.TheVariants.{Read, W
 use Rattle.gix_config_value.specs.declared.program.Outcome.{Outcome}
 use Rattle.gix_config_value.specs.declared.program.Outcome.TheVariants.{Accepted, Refused, UnknownKind}
 use Rattle.gix_config_value.specs.Kinds.{kind_name, KindValue, KindGrammar, KindCanonical}
+use Rattle.config_text.specs.Bytes.{line_feed, space}
 use Rattle.config_text.specs.Value.{IsRefused, IsTextOf}
 
 -- ---- lines
-
--- LF, which ends a line
-abbrev pub line_feed : ℕ
-line_feed = 0x0A
-
--- the space between the head of a line and its value
-abbrev pub space : ℕ
-space = 0x20
 
 -- a line with the LF that ends it
 abbrev pub ended : List ℕ → List ℕ

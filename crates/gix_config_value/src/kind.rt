@@ -5,14 +5,13 @@ ghost use Rattle.gix_config_value.specs.Kinds.{kind_name, KindGrammar, KindCanon
 ghost use Rattle.config_text.specs.Value.{Normalizes, IsOnlyText, Compares};
 ghost use Rattle.gix_config_value.specs.declared.kind.Kind as kind;
 
-use arrayvec::ArrayString;
 use bstr::BStr;
 use config_boolean::boolean::Boolean;
 use config_color::color::Color;
 use config_integer::amount::Amount;
 use config_integer::integer::Integer;
 use config_integer::suffix::Suffix;
-use config_text::value::{Value, normalize_as};
+use config_text::value::{Text, normalize_as, same_as};
 use config_word::attribute::Attribute;
 use config_word::name::Name;
 
@@ -56,7 +55,7 @@ pub(crate) fn kind_by_name(name: &[u8]) -> Option<Kind>
 /// the kind's grammar gives the input no value. A canonical input is answered byte for byte. A
 /// color text in which white space stands is answered by what stands before it and what follows
 /// it: with the canonical text of their composition.
-pub fn normalize(kind: Kind, input: BStr<'_>) -> Option<ArrayString<127>>
+pub fn normalize(kind: Kind, input: BStr<'_>) -> Option<Text>
     ensures answer { Normalizes (KindGrammar kind) (KindCanonical kind)
         (bstr_bytes input.entry) result }
     ensures only { IsOnlyText (KindGrammar kind) (KindCanonical kind)
@@ -93,14 +92,4 @@ pub fn same(kind: Kind, a: BStr<'_>, b: BStr<'_>) -> Option<bool>
         Kind::Attribute => same_as::<Attribute>(a, b),
         Kind::Color => same_as::<Color>(a, b),
     }
-}
-
-/// Whether two texts of a type mean the same, or `None` where the type's grammar gives one of them
-/// no value.
-fn same_as<V: Value>(a: BStr<'_>, b: BStr<'_>) -> Option<bool>
-    ensures { Compares V.grammar V.canonical (bstr_bytes a.entry) (bstr_bytes b.entry) result }
-{
-    let left = V::read(a)?;
-    let right = V::read(b)?;
-    Some(left == right)
 }

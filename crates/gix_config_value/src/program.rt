@@ -11,6 +11,7 @@ ghost use Rattle.gix_config_value.specs.Reading.Steps.{CutsLine, sent, Sends, Se
 use crate::kind::{kind_by_name, normalize};
 use arrayvec::ArrayString;
 use bstr::{BStr, ByteSlice};
+use config_text::value::Text;
 use std::alloc::{AllocError, Global};
 use std::io::{Read, Write};
 use thiserror::Error;
@@ -34,7 +35,7 @@ pub enum RunError {
 #[derive(Clone, Copy, PartialEq, Eq, Debug)]
 pub enum Outcome {
     /// The kind's grammar gives the text a value: the canonical text of that value.
-    Accepted(ArrayString<127>),
+    Accepted(Text),
     /// The kind's grammar gives the text no value.
     Refused,
     /// What stands before the first space, or the whole line where there is none, names no kind.

@@ -1,6 +1,7 @@
 use Rattle.std.proofs.Common.{ℕ, Option, Some, None, MatchOption, List, length}
 use Rattle.bstr.specs.Find.{IsFirst, Passes, is_byte}
-use Rattle.gix_config_value.specs.Answers.{line_feed, IsUnbroken}
+use Rattle.config_text.specs.Bytes.{line_feed}
+use Rattle.gix_config_value.specs.Answers.{IsUnbroken}
 use Rattle.gix_config_value.specs.Reading.Steps.{CutsLine}
 use Rattle.gix_config_value.proofs.LineLemmas.{unbroken_nowhere, cuts_first}
 use Rattle.gix_config_value.proofs.program.first_line_feed.Goals as goal

@@ -1,5 +1,5 @@
 use Rattle.gix_config_value.proofs.LineLemmas.{position_nowhere, position_first, head_first, head_nowhere, value_first, value_nowhere}
-use Rattle.gix_config_value.specs.Answers.{space}
+use Rattle.config_text.specs.Bytes.{space}
 use Rattle.gix_config_value.proofs.program.split_line.Goals as goal
 
 pub returns-in-Some-clause-head : goal.returns-in-Some-clause-head
