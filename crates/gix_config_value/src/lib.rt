@@ -1,4 +1,29 @@
-//! The readers of Git configuration values, each proved against the grammar that `specs/` states.
+//! The readers of Git configuration values: booleans, integers with the suffixes `k`, `m` and `g`, colors, color
+//! names, attributes and paths. Each reader is proved to accept exactly the texts of its kind's written grammar.
+//!
+//! ```
+//! use gix_config_value::canonical::{Kind, normalize};
+//! use gix_config_value::{Boolean, Color, Integer};
+//!
+//! let bare = Boolean::try_from("yes");               // also on, true, 1, 0x10; no, off, false, 0 and "" are false
+//! let limit = Integer::from_bytes::<usize>(b"10m");  // Ok(10 * 1024 * 1024)
+//! let style = Color::try_from("bold brightred");     // a foreground, a background, attributes
+//! let text = normalize(Kind::Integer, "0x10k".into()); // Some("16k"), the one canonical text of that value
+//! ```
+//!
+//! This crate is the front door of a family, in which each kind of value has a crate of its own:
+//!
+//! | Here | Stands in | What it is |
+//! |---|---|---|
+//! | [`errors`], [`json`], [`settings`], [`canonical::Value`] | `config_text` | what it means for a text to be read |
+//! | [`integer`] | `config_integer` | suffixes, integers, amounts |
+//! | [`boolean`] | `config_boolean` | truth values |
+//! | [`color`]: `Name`, `Attribute`, `Item`, `word` | `config_word` | the words of colors |
+//! | [`color`]: `Color`, `space_at`; [`canonical::compose`] | `config_color` | white space, colors, composition |
+//! | [`path`] | `config_path` | paths, interpolation, the passwd text |
+//! | [`canonical::Kind`], [`canonical::normalize`], [`canonical::same`], [`program`] | here | a kind chosen at run time, lines |
+//!
+//! The grammar of a kind stands on top of its crate's `specs/`, and docs/GRAMMAR.md says it in words.
 #![tactic(auto)]
 
 mod kind;
