@@ -1,11 +1,12 @@
-//! What every reader of a kind answers to one text.
+//! What the readers of a kind answer to one text.
 
 use arrayvec::ArrayString;
 use bstr::{BStr, BString};
+use config_text::readers::TryRead;
 use gix_config_value::canonical::{Kind, Value, normalize};
 use gix_config_value::color::{Attribute, Name};
 use gix_config_value::integer::{Amount, Suffix};
-use gix_config_value::{Boolean, Color, Fault, Integer};
+use gix_config_value::{Boolean, Color, Error, Fault, Integer};
 use std::borrow::CowSlice;
 use std::fmt::Display;
 use std::process::Abort;
@@ -15,11 +16,11 @@ use std::test::Fail;
 pub const KINDS: [Kind; 7] = [
     Kind::Suffix,
     Kind::Integer,
+    Kind::Amount,
     Kind::Boolean,
     Kind::Name,
     Kind::Attribute,
     Kind::Color,
-    Kind::Amount,
 ];
 
 /// The canonical text of a text's value, or the fault with which it is refused.
@@ -34,145 +35,39 @@ pub fn refused(kind: Kind) -> Wanted {
     }
 }
 
-/// A reader that accepted was to, and its value is shown by the canonical text.
-fn is_value<V: Value + Display>(
+/// The reader on which the others stand answers what is wanted: a value that is shown by the canonical text, or the
+/// fault.
+fn is_answered<V: TryRead + Display>(
     rt: &(impl AllocGlobal + Abort),
-    reader: &str,
     input: &[u8],
-    value: V,
     wanted: Wanted,
 ) -> Result<(), Fail> {
-    let shown = value.to_string(rt.alloc())?;
+    match V::try_read(input) {
+        Ok(value) => {
+            let shown = value.to_string(rt.alloc())?;
+            assert_eq!(rt; Ok(shown.as_str()), wanted, "{}", BStr::new(input));
+        }
+        Err(fault) => assert_eq!(rt; Err(fault), wanted, "{}", BStr::new(input)),
+    }
+    Ok(())
+}
+
+/// Suffixes are refused with `()`.
+fn is_suffix(rt: &(impl AllocGlobal + Abort), input: &[u8], wanted: Wanted) -> Result<(), Fail> {
+    let shown = match Suffix::read(BStr::new(input)) {
+        Some(suffix) => Some(suffix.to_string(rt.alloc())?),
+        None => None,
+    };
     assert_eq!(rt;
-        Ok(shown.as_str()),
-        wanted,
-        "{reader} of {}",
+        shown.as_ref().map(String::as_str),
+        wanted.ok(),
+        "{}",
         BStr::new(input)
     );
     Ok(())
 }
 
-/// A reader that refused was to, with this fault, and gave the whole input.
-fn is_refusal(
-    rt: &impl Abort,
-    reader: &str,
-    input: &[u8],
-    fault: Fault,
-    given: &[u8],
-    wanted: Wanted,
-) {
-    assert_eq!(rt; Err(fault), wanted, "{reader} of {}", BStr::new(input));
-    assert_eq!(rt; given, input, "{reader} of {}", BStr::new(input));
-}
-
-/// What a reader gave is what is wanted; `$bytes` gives the bytes of a refused input.
-macro_rules! is_answer {
-    ($rt:expr, $reader:expr, $given:expr, $bytes:ident, $input:expr, $wanted:expr) => {
-        match $given {
-            Ok(value) => is_value($rt, $reader, $input, value, $wanted)?,
-            Err(error) => is_refusal($rt, $reader, $input, error.fault, error.input.$bytes(), $wanted),
-        }
-    };
-}
-
-/// The reader over a borrowed byte string.
-macro_rules! reads_bytes {
-    ($rt:expr, $type:ty, $input:expr, $wanted:expr) => {
-        is_answer!($rt, "bytes", <$type>::try_from(BStr::new($input)), as_bytes, $input, $wanted)
-    };
-}
-
-/// The readers over a borrowed text, an owned byte string and both forms of a cow.
-macro_rules! reads_others {
-    ($rt:expr, $type:ty, $input:expr, $wanted:expr) => {{
-        if let Ok(text) = str::from_utf8($input) {
-            is_answer!($rt, "text", <$type>::try_from(text), as_bytes, $input, $wanted);
-        }
-        let owned = BString::from_slice($rt.alloc(), $input)?;
-        is_answer!($rt, "owned bytes", <$type>::try_from(owned), as_bytes, $input, $wanted);
-        let owned = Vec::from_slice($rt.alloc(), $input)?;
-        for cow in [CowSlice::Borrowed($input), CowSlice::Owned(owned)] {
-            is_answer!($rt, "cow", <$type>::try_from(cow), as_slice, $input, $wanted);
-        }
-    }};
-}
-
-/// `FromStr`, which refuses with the fault alone.
-macro_rules! reads_parsed {
-    ($rt:expr, $type:ty, $input:expr, $wanted:expr) => {
-        if let Ok(text) = str::from_utf8($input) {
-            match <$type>::from_str(text) {
-                Ok(value) => is_value($rt, "parse", $input, value, $wanted)?,
-                Err(fault) => is_refusal($rt, "parse", $input, fault, $input, $wanted),
-            }
-        }
-    };
-}
-
-/// Suffixes are refused with `()`.
-fn reads_suffix(rt: &(impl AllocGlobal + Abort), input: &[u8], wanted: Wanted) -> Result<(), Fail> {
-    match Suffix::try_from(BStr::new(input)) {
-        Ok(value) => is_value(rt, "bytes", input, value, wanted)?,
-        Err(()) => is_refusal(rt, "bytes", input, Fault::Integer, input, wanted),
-    }
-    if let Ok(text) = str::from_utf8(input) {
-        match Suffix::from_str(text) {
-            Ok(value) => is_value(rt, "parse", input, value, wanted)?,
-            Err(()) => is_refusal(rt, "parse", input, Fault::Integer, input, wanted),
-        }
-    }
-    Ok(())
-}
-
-fn reads_integer(
-    rt: &(impl AllocGlobal + Abort),
-    input: &[u8],
-    wanted: Wanted,
-) -> Result<(), Fail> {
-    reads_bytes!(rt, Integer, input, wanted);
-    reads_others!(rt, Integer, input, wanted);
-    Ok(())
-}
-
-fn reads_amount(rt: &(impl AllocGlobal + Abort), input: &[u8], wanted: Wanted) -> Result<(), Fail> {
-    reads_bytes!(rt, Amount, input, wanted);
-    reads_others!(rt, Amount, input, wanted);
-    Ok(())
-}
-
-fn reads_boolean(
-    rt: &(impl AllocGlobal + Abort),
-    input: &[u8],
-    wanted: Wanted,
-) -> Result<(), Fail> {
-    reads_bytes!(rt, Boolean, input, wanted);
-    reads_others!(rt, Boolean, input, wanted);
-    Ok(())
-}
-
-fn reads_color(rt: &(impl AllocGlobal + Abort), input: &[u8], wanted: Wanted) -> Result<(), Fail> {
-    reads_bytes!(rt, Color, input, wanted);
-    reads_others!(rt, Color, input, wanted);
-    Ok(())
-}
-
-fn reads_name(rt: &(impl AllocGlobal + Abort), input: &[u8], wanted: Wanted) -> Result<(), Fail> {
-    reads_bytes!(rt, Name, input, wanted);
-    reads_parsed!(rt, Name, input, wanted);
-    Ok(())
-}
-
-fn reads_attribute(
-    rt: &(impl AllocGlobal + Abort),
-    input: &[u8],
-    wanted: Wanted,
-) -> Result<(), Fail> {
-    reads_bytes!(rt, Attribute, input, wanted);
-    reads_parsed!(rt, Attribute, input, wanted);
-    Ok(())
-}
-
-/// Every reader of the kind answers what is wanted, and so does the normalizer, to the canonical text too.
+/// The kind's reader answers what is wanted, and so does the normalizer, to the canonical text too.
 pub fn is_read(
     rt: &(impl AllocGlobal + Abort),
     kind: Kind,
@@ -195,13 +90,13 @@ pub fn is_read(
         );
     }
     match kind {
-        Kind::Suffix => reads_suffix(rt, input, wanted),
-        Kind::Integer => reads_integer(rt, input, wanted),
-        Kind::Boolean => reads_boolean(rt, input, wanted),
-        Kind::Name => reads_name(rt, input, wanted),
-        Kind::Attribute => reads_attribute(rt, input, wanted),
-        Kind::Color => reads_color(rt, input, wanted),
-        Kind::Amount => reads_amount(rt, input, wanted),
+        Kind::Suffix => is_suffix(rt, input, wanted),
+        Kind::Integer => is_answered::<Integer>(rt, input, wanted),
+        Kind::Amount => is_answered::<Amount>(rt, input, wanted),
+        Kind::Boolean => is_answered::<Boolean>(rt, input, wanted),
+        Kind::Name => is_answered::<Name>(rt, input, wanted),
+        Kind::Attribute => is_answered::<Attribute>(rt, input, wanted),
+        Kind::Color => is_answered::<Color>(rt, input, wanted),
     }
 }
 
@@ -225,6 +120,97 @@ pub fn are_refused(
 ) -> Result<(), Fail> {
     for text in texts {
         is_read(rt, kind, text, refused(kind))?;
+    }
+    Ok(())
+}
+
+/// The four readers of a type accept the one text and refuse the other.
+macro_rules! has_four_readers {
+    ($rt:expr, $type:ty, $accepted:expr, $refused:expr) => {{
+        for (text, is_accepted) in [($accepted, true), ($refused, false)] {
+            let owned = BString::from_slice($rt.alloc(), text.as_bytes())?;
+            let cow = CowSlice::Borrowed(text.as_bytes());
+            assert_eq!($rt; <$type>::try_from(text).is_ok(), is_accepted, "text {text}");
+            assert_eq!($rt; <$type>::try_from(BStr::from(text)).is_ok(), is_accepted, "bytes {text}");
+            assert_eq!($rt; <$type>::try_from(owned).is_ok(), is_accepted, "owned {text}");
+            assert_eq!($rt; <$type>::try_from(cow).is_ok(), is_accepted, "cow {text}");
+        }
+    }};
+}
+
+#[test]
+fn integers_have_four_readers(rt: HostRuntime) -> Result<(), Fail> {
+    has_four_readers!(rt, Integer, "0x10k", "08");
+    Ok(())
+}
+
+#[test]
+fn amounts_have_four_readers(rt: HostRuntime) -> Result<(), Fail> {
+    has_four_readers!(rt, Amount, "0x10k", "8589934592g");
+    Ok(())
+}
+
+#[test]
+fn booleans_have_four_readers(rt: HostRuntime) -> Result<(), Fail> {
+    has_four_readers!(rt, Boolean, "On", "tru");
+    Ok(())
+}
+
+#[test]
+fn colors_have_four_readers(rt: HostRuntime) -> Result<(), Fail> {
+    has_four_readers!(rt, Color, "bold red", "red green blue");
+    Ok(())
+}
+
+#[test]
+fn words_are_parsed(rt: HostRuntime) {
+    assert_eq!(rt; Suffix::from_str("K"), Ok(Suffix::Kibi));
+    assert_eq!(rt; Suffix::try_from(BStr::from("kk")), Err(()));
+    assert_eq!(rt; Name::from_str("-1"), Ok(Name::Normal));
+    assert_eq!(rt; Name::try_from(BStr::from("-1")).ok(), Some(Name::Normal));
+    assert_eq!(rt; Name::from_str("bright7"), Err(Fault::Color));
+    assert_eq!(rt; Attribute::from_str("no-ul"), Ok(Attribute::NO_UL));
+    assert_eq!(rt;
+        Attribute::try_from(BStr::from("RESET")).ok(),
+        Some(Attribute::RESET)
+    );
+    assert_eq!(rt; Attribute::from_str("Bold"), Err(Fault::Color));
+}
+
+#[test]
+fn refusals_lend_the_whole_input(rt: HostRuntime) {
+    let refused = Err(Error {
+        fault: Fault::Color,
+        input: BStr::from("no-red"),
+    });
+    assert_eq!(rt; Attribute::try_from(BStr::from("no-red")), refused);
+    let ill_formed = BStr::new(b"red \xff");
+    let refused = Err(Error {
+        fault: Fault::Color,
+        input: ill_formed,
+    });
+    assert_eq!(rt; Color::try_from(ill_formed), refused);
+}
+
+#[test]
+fn refusals_hand_the_whole_input_back(rt: HostRuntime) -> Result<(), Fail> {
+    let owned = BString::from_slice(rt.alloc(), b"tru")?;
+    match Boolean::try_from(owned) {
+        Ok(value) => panic!(rt; "{value}"),
+        Err(returned) => {
+            assert_eq!(rt; returned.fault, Fault::Boolean);
+            assert_eq!(rt; returned.input.as_bytes(), b"tru".as_slice());
+        }
+    }
+    let owned = Vec::from_slice(rt.alloc(), b"08")?;
+    for cow in [CowSlice::Borrowed(b"08".as_slice()), CowSlice::Owned(owned)] {
+        match Integer::try_from(cow) {
+            Ok(value) => panic!(rt; "{value}"),
+            Err(returned) => {
+                assert_eq!(rt; returned.fault, Fault::Integer);
+                assert_eq!(rt; returned.input.as_slice(), b"08".as_slice());
+            }
+        }
     }
     Ok(())
 }
