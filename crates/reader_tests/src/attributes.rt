@@ -1,6 +1,7 @@
 //! Attributes.
 
 use crate::every_reader::{are_refused, is_read};
+use crate::row::equal;
 use bstr::BStr;
 use gix_config_value::canonical::{Kind, Value};
 use gix_config_value::color::{Attribute, Item, word};
@@ -68,16 +69,13 @@ fn reads_attributes(rt: HostRuntime) -> Result<(), Fail> {
     for (text, attribute, shown) in &ACCEPTED {
         let input = text.as_bytes();
         is_read(&rt, Kind::Attribute, input, Ok(shown))?;
-        assert_eq!(rt;
+        equal(
+            &rt,
             Attribute::read(BStr::new(input)),
             Some(*attribute),
-            "{text}"
+            text,
         );
-        assert_eq!(rt;
-            word(input),
-            Some(Item::Attribute(*attribute)),
-            "word of {text}"
-        );
+        equal(&rt, word(input), Some(Item::Attribute(*attribute)), text);
     }
     are_refused(&rt, Kind::Attribute, &REFUSED)
 }

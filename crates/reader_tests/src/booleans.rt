@@ -1,6 +1,7 @@
 //! Booleans.
 
 use crate::every_reader::{are_read, are_refused};
+use crate::row::equal;
 use gix_config_value::Boolean;
 use gix_config_value::canonical::Kind;
 use std::test::Fail;
@@ -56,8 +57,8 @@ fn reads_booleans(rt: HostRuntime) -> Result<(), Fail> {
 fn tells_the_truth_value(rt: HostRuntime) -> Result<(), Fail> {
     for (text, truth) in [("true", true), ("off", false)] {
         let boolean = Boolean::try_from(text).map_err(|error| error.fault)?;
-        assert_eq!(rt; boolean.is_true(), truth, "{text}");
-        assert_eq!(rt; bool::from(boolean), truth, "{text}");
+        equal(&rt, boolean.is_true(), truth, text);
+        equal(&rt, bool::from(boolean), truth, text);
     }
     Ok(())
 }

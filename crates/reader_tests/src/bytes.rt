@@ -1,6 +1,7 @@
 //! Texts of one byte, beginnings of a text, and bytes that are no UTF-8.
 
 use crate::every_reader::{KINDS, Wanted, is_read, refused};
+use crate::row::equal;
 use bstr::BStr;
 use gix_config_value::canonical::{Kind, normalize};
 use std::test::Fail;
@@ -21,11 +22,8 @@ static ALONE: [(Kind, &[u8]); 7] = [
 fn reads_each_byte_alone(rt: HostRuntime) {
     for (kind, accepted) in &ALONE {
         for byte in 0..=255u8 {
-            assert_eq!(rt;
-                normalize(*kind, BStr::new(&[byte])).is_some(),
-                accepted.contains(&byte),
-                "{kind:?} {byte}"
-            );
+            let is_accepted = normalize(*kind, BStr::new(&[byte])).is_some();
+            equal(&rt, is_accepted, accepted.contains(&byte), (*kind, byte));
         }
     }
 }

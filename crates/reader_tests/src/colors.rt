@@ -1,6 +1,7 @@
 //! Colors.
 
 use crate::every_reader::{are_read, are_refused};
+use crate::row::equal;
 use bitflags::Flags;
 use gix_config_value::Color;
 use gix_config_value::canonical::Kind;
@@ -114,7 +115,7 @@ fn puts_each_word_in_its_place(rt: HostRuntime) -> Result<(), Fail> {
             background,
             attributes: Attribute::from_bits_retain(bits),
         };
-        assert_eq!(rt; Color::try_from(text), Ok(wanted), "{text}");
+        equal(&rt, Color::try_from(text), Ok(wanted), text);
     }
     Ok(())
 }

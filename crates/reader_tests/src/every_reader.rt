@@ -1,5 +1,6 @@
 //! What the readers of a kind answer to one text.
 
+use crate::row::equal;
 use arrayvec::ArrayString;
 use bstr::{BStr, BString};
 use config_text::readers::TryRead;
@@ -42,12 +43,13 @@ fn is_answered<V: TryRead + Display>(
     input: &[u8],
     wanted: Wanted,
 ) -> Result<(), Fail> {
+    let row = BStr::new(input);
     match V::try_read(input) {
         Ok(value) => {
             let shown = value.to_string(rt.alloc())?;
-            assert_eq!(rt; Ok(shown.as_str()), wanted, "{}", BStr::new(input));
+            equal(rt, Ok(shown.as_str()), wanted, row);
         }
-        Err(fault) => assert_eq!(rt; Err(fault), wanted, "{}", BStr::new(input)),
+        Err(fault) => equal(rt, Err(fault), wanted, row),
     }
     Ok(())
 }
@@ -58,13 +60,15 @@ fn is_suffix(rt: &(impl AllocGlobal + Abort), input: &[u8], wanted: Wanted) -> R
         Some(suffix) => Some(suffix.to_string(rt.alloc())?),
         None => None,
     };
-    assert_eq!(rt;
-        shown.as_ref().map(String::as_str),
-        wanted.ok(),
-        "{}",
-        BStr::new(input)
-    );
+    let given = shown.as_ref().map(String::as_str);
+    equal(rt, given, wanted.ok(), BStr::new(input));
     Ok(())
+}
+
+fn is_normalized(rt: &impl Abort, kind: Kind, input: BStr<'_>, wanted: Option<&str>) {
+    let text = normalize(kind, input);
+    let given = text.as_ref().map(ArrayString::as_str);
+    equal(rt, given, wanted, (kind, input));
 }
 
 /// The kind's reader answers what is wanted, and so does the normalizer, to the canonical text too.
@@ -74,20 +78,9 @@ pub fn is_read(
     input: &[u8],
     wanted: Wanted,
 ) -> Result<(), Fail> {
-    let text = normalize(kind, BStr::new(input));
-    assert_eq!(rt;
-        text.as_ref().map(ArrayString::as_str),
-        wanted.ok(),
-        "{kind:?} {}",
-        BStr::new(input)
-    );
+    is_normalized(rt, kind, BStr::new(input), wanted.ok());
     if let Ok(canonical) = wanted {
-        let again = normalize(kind, BStr::from(canonical));
-        assert_eq!(rt;
-            again.as_ref().map(ArrayString::as_str),
-            Some(canonical),
-            "{kind:?} {canonical} again"
-        );
+        is_normalized(rt, kind, BStr::from(canonical), Some(canonical));
     }
     match kind {
         Kind::Suffix => is_suffix(rt, input, wanted),
@@ -130,10 +123,11 @@ macro_rules! has_four_readers {
         for (text, is_accepted) in [($accepted, true), ($refused, false)] {
             let owned = BString::from_slice($rt.alloc(), text.as_bytes())?;
             let cow = CowSlice::Borrowed(text.as_bytes());
-            assert_eq!($rt; <$type>::try_from(text).is_ok(), is_accepted, "text {text}");
-            assert_eq!($rt; <$type>::try_from(BStr::from(text)).is_ok(), is_accepted, "bytes {text}");
-            assert_eq!($rt; <$type>::try_from(owned).is_ok(), is_accepted, "owned {text}");
-            assert_eq!($rt; <$type>::try_from(cow).is_ok(), is_accepted, "cow {text}");
+            let bytes = BStr::from(text);
+            equal(&$rt, <$type>::try_from(text).is_ok(), is_accepted, ("text", text));
+            equal(&$rt, <$type>::try_from(bytes).is_ok(), is_accepted, ("bytes", text));
+            equal(&$rt, <$type>::try_from(owned).is_ok(), is_accepted, ("owned", text));
+            equal(&$rt, <$type>::try_from(cow).is_ok(), is_accepted, ("cow", text));
         }
     }};
 }
@@ -164,17 +158,25 @@ fn colors_have_four_readers(rt: HostRuntime) -> Result<(), Fail> {
 
 #[test]
 fn words_are_parsed(rt: HostRuntime) {
-    assert_eq!(rt; Suffix::from_str("K"), Ok(Suffix::Kibi));
-    assert_eq!(rt; Suffix::try_from(BStr::from("kk")), Err(()));
-    assert_eq!(rt; Name::from_str("-1"), Ok(Name::Normal));
-    assert_eq!(rt; Name::try_from(BStr::from("-1")).ok(), Some(Name::Normal));
-    assert_eq!(rt; Name::from_str("bright7"), Err(Fault::Color));
-    assert_eq!(rt; Attribute::from_str("no-ul"), Ok(Attribute::NO_UL));
-    assert_eq!(rt;
-        Attribute::try_from(BStr::from("RESET")).ok(),
-        Some(Attribute::RESET)
+    equal(&rt, Suffix::from_str("K"), Ok(Suffix::Kibi), "K");
+    equal(&rt, Suffix::try_from(BStr::from("kk")), Err(()), "kk");
+    equal(&rt, Name::from_str("-1"), Ok(Name::Normal), "-1");
+    equal(
+        &rt,
+        Name::try_from(BStr::from("-1")),
+        Ok(Name::Normal),
+        "-1",
     );
-    assert_eq!(rt; Attribute::from_str("Bold"), Err(Fault::Color));
+    equal(&rt, Name::from_str("bright7"), Err(Fault::Color), "bright7");
+    equal(
+        &rt,
+        Attribute::from_str("no-ul"),
+        Ok(Attribute::NO_UL),
+        "no-ul",
+    );
+    let reset = Attribute::try_from(BStr::from("RESET"));
+    equal(&rt, reset, Ok(Attribute::RESET), "RESET");
+    equal(&rt, Attribute::from_str("Bold"), Err(Fault::Color), "Bold");
 }
 
 #[test]
@@ -183,34 +185,31 @@ fn refusals_lend_the_whole_input(rt: HostRuntime) {
         fault: Fault::Color,
         input: BStr::from("no-red"),
     });
-    assert_eq!(rt; Attribute::try_from(BStr::from("no-red")), refused);
+    equal(
+        &rt,
+        Attribute::try_from(BStr::from("no-red")),
+        refused,
+        "no-red",
+    );
     let ill_formed = BStr::new(b"red \xff");
     let refused = Err(Error {
         fault: Fault::Color,
         input: ill_formed,
     });
-    assert_eq!(rt; Color::try_from(ill_formed), refused);
+    equal(&rt, Color::try_from(ill_formed), refused, "ill-formed");
 }
 
 #[test]
 fn refusals_hand_the_whole_input_back(rt: HostRuntime) -> Result<(), Fail> {
     let owned = BString::from_slice(rt.alloc(), b"tru")?;
-    match Boolean::try_from(owned) {
-        Ok(value) => panic!(rt; "{value}"),
-        Err(returned) => {
-            assert_eq!(rt; returned.fault, Fault::Boolean);
-            assert_eq!(rt; returned.input.as_bytes(), b"tru".as_slice());
-        }
-    }
+    let returned = Boolean::try_from(owned).err().ok_or("accepted")?;
+    equal(&rt, returned.fault, Fault::Boolean, "tru");
+    equal(&rt, returned.input.as_bytes(), b"tru".as_slice(), "tru");
     let owned = Vec::from_slice(rt.alloc(), b"08")?;
     for cow in [CowSlice::Borrowed(b"08".as_slice()), CowSlice::Owned(owned)] {
-        match Integer::try_from(cow) {
-            Ok(value) => panic!(rt; "{value}"),
-            Err(returned) => {
-                assert_eq!(rt; returned.fault, Fault::Integer);
-                assert_eq!(rt; returned.input.as_slice(), b"08".as_slice());
-            }
-        }
+        let returned = Integer::try_from(cow).err().ok_or("accepted")?;
+        equal(&rt, returned.fault, Fault::Integer, "08");
+        equal(&rt, returned.input.as_slice(), b"08".as_slice(), "08");
     }
     Ok(())
 }

@@ -1,6 +1,7 @@
 //! Integers.
 
 use crate::every_reader::{are_read, are_refused};
+use crate::row::equal;
 use gix_config_value::Integer;
 use gix_config_value::canonical::Kind;
 use gix_config_value::integer::{Suffix, scan};
@@ -107,6 +108,6 @@ fn keeps_number_and_suffix_apart(rt: HostRuntime) {
         ("-8589934592g", -8_589_934_592, Some(Suffix::Gibi)),
     ] {
         let wanted = Some(Integer { value, suffix });
-        assert_eq!(rt; scan(text.as_bytes()), wanted, "{text}");
+        equal(&rt, scan(text.as_bytes()), wanted, text);
     }
 }

@@ -1,5 +1,7 @@
 //! Two texts: whether they mean the same, and two colors as one.
 
+use crate::row::equal;
+use arrayvec::ArrayString;
 use bstr::BStr;
 use gix_config_value::Color;
 use gix_config_value::canonical::{Kind, compose, normalize, same};
@@ -35,14 +37,8 @@ static SAME: [(Kind, &[u8], &[u8], Option<bool>); 19] = [
 #[test]
 fn tells_texts_of_one_value(rt: HostRuntime) {
     for (kind, a, b, wanted) in &SAME {
-        let answer = same(*kind, BStr::new(a), BStr::new(b));
-        assert_eq!(rt;
-            answer,
-            *wanted,
-            "{kind:?}: {} and {}",
-            BStr::new(a),
-            BStr::new(b)
-        );
+        let (a, b) = (BStr::new(a), BStr::new(b));
+        equal(&rt, same(*kind, a, b), *wanted, (*kind, a, b));
     }
 }
 
@@ -70,15 +66,14 @@ fn composes_colors(rt: HostRuntime) -> Result<(), Fail> {
         let back = Color::try_from(*second).map_err(|error| error.fault)?;
         let joined = format!(in rt.alloc(); "{first} {second}")?;
         let normal = normalize(Kind::Color, BStr::from(joined.as_str()));
-        match (compose(front, back), normal, wanted) {
-            (Some(color), Some(text), Some(wanted)) => {
-                let shown = color.to_string(rt.alloc())?;
-                assert_eq!(rt; shown.as_str(), *wanted, "{first} and {second} composed");
-                assert_eq!(rt; text.as_str(), *wanted, "{first} and {second} joined");
-            }
-            (None, None, None) => (),
-            _ => panic!(rt; "{first} and {second}"),
-        }
+        let text = normal.as_ref().map(ArrayString::as_str);
+        equal(&rt, text, *wanted, ("joined", *first, *second));
+        let shown = match compose(front, back) {
+            Some(color) => Some(color.to_string(rt.alloc())?),
+            None => None,
+        };
+        let text = shown.as_ref().map(String::as_str);
+        equal(&rt, text, *wanted, ("composed", *first, *second));
     }
     Ok(())
 }

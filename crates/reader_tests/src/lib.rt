@@ -26,6 +26,8 @@ mod names;
 #[cfg(test)]
 mod products;
 #[cfg(test)]
+mod row;
+#[cfg(test)]
 mod sets;
 #[cfg(test)]
 mod settings;

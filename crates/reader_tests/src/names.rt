@@ -1,6 +1,7 @@
 //! Color names.
 
 use crate::every_reader::{are_refused, is_read};
+use crate::row::equal;
 use bstr::BStr;
 use gix_config_value::canonical::{Kind, Value};
 use gix_config_value::color::{Item, Name, word};
@@ -96,8 +97,8 @@ fn reads_names(rt: HostRuntime) -> Result<(), Fail> {
     for (text, name, shown) in &ACCEPTED {
         let input = text.as_bytes();
         is_read(&rt, Kind::Name, input, Ok(shown))?;
-        assert_eq!(rt; Name::read(BStr::new(input)), Some(*name), "{text}");
-        assert_eq!(rt; word(input), Some(Item::Name(*name)), "word of {text}");
+        equal(&rt, Name::read(BStr::new(input)), Some(*name), text);
+        equal(&rt, word(input), Some(Item::Name(*name)), text);
     }
     are_refused(&rt, Kind::Name, &REFUSED)
 }
@@ -107,9 +108,9 @@ fn reads_each_palette_number(rt: HostRuntime) -> Result<(), Fail> {
     for number in 0..=255 {
         let text = format!(in rt.alloc(); "{number}")?;
         let name = Name::Ansi(number);
-        assert_eq!(rt; Name::from_str(text.as_str()), Ok(name), "{text}");
+        equal(&rt, Name::from_str(text.as_str()), Ok(name), number);
         let shown = name.to_string(rt.alloc())?;
-        assert_eq!(rt; shown.as_str(), text.as_str(), "{number}");
+        equal(&rt, shown.as_str(), text.as_str(), number);
     }
     Ok(())
 }

@@ -1,5 +1,6 @@
 //! Products of a number and its suffix, and their conversion to any integer type.
 
+use crate::row::equal;
 use gix_config_value::integer::scan;
 use gix_config_value::{Fault, Integer};
 use std::fmt::Debug;
@@ -16,10 +17,10 @@ where
     T::Error: Drop,
 {
     match Integer::from_bytes::<T>(input.as_bytes()) {
-        Ok(number) => assert_eq!(rt; Ok(number), wanted, "{input}"),
+        Ok(number) => equal(rt, Ok(number), wanted, input),
         Err(error) => {
-            assert_eq!(rt; Err(error.fault), wanted, "{input}");
-            assert_eq!(rt; error.input.as_bytes(), input.as_bytes(), "{input}");
+            equal(rt, Err(error.fault), wanted, input);
+            equal(rt, error.input.as_bytes(), input.as_bytes(), input);
         }
     }
 }
@@ -62,7 +63,7 @@ fn multiplies_by_the_suffix(rt: HostRuntime) -> Result<(), Fail> {
         ("-9223372036854775808k", None),
     ] {
         let integer = scan(input.as_bytes()).ok_or("refused")?;
-        assert_eq!(rt; integer.to_decimal(), wanted, "{input}");
+        equal(&rt, integer.to_decimal(), wanted, input);
     }
     Ok(())
 }

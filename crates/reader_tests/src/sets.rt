@@ -1,6 +1,7 @@
 //! The calls and operators on sets of attributes. No contract covers the operators, nor what `iter` and `iter_names`
 //! go over: `bitflag_items!` writes them.
 
+use crate::row::equal;
 use bitflags::Flags;
 use gix_config_value::color::Attribute;
 use std::test::Fail;
@@ -32,15 +33,12 @@ const KNOWN: u32 = (1 << 9) - (1 << 1) | (1 << 28) - (1 << 21);
 #[test]
 fn constants_have_their_bits(rt: HostRuntime) {
     for (constant, bit, name) in &CONSTANTS {
-        assert_eq!(rt; constant.bits(), 1 << *bit, "the bit of {name}");
-        assert_eq!(rt;
-            Attribute::from_name(name),
-            Some(*constant),
-            "the constant {name}"
-        );
+        equal(&rt, constant.bits(), 1 << *bit, name);
+        equal(&rt, Attribute::from_name(name), Some(*constant), name);
     }
-    assert_eq!(rt; Attribute::from_name("no_ul"), None);
-    assert_eq!(rt; Attribute::from_name(""), None);
+    for name in ["", "no_ul", "unknown"] {
+        equal(&rt, Attribute::from_name(name), None, name);
+    }
 }
 
 #[test]
@@ -71,7 +69,7 @@ fn answers_by_bits(rt: HostRuntime) {
             1 << 1,
         ),
     ] {
-        assert_eq!(rt; set.bits(), bits, "{call}");
+        equal(&rt, set.bits(), bits, call);
     }
     for (call, given, wanted) in [
         ("is_empty", Attribute::empty().is_empty(), true),
@@ -95,24 +93,29 @@ fn answers_by_bits(rt: HostRuntime) {
             false,
         ),
     ] {
-        assert_eq!(rt; given, wanted, "{call}");
+        equal(&rt, given, wanted, call);
     }
-    assert_eq!(rt; Attribute::from_bits(1 << 0), None);
+    equal(&rt, Attribute::from_bits(1 << 0), None, "from_bits");
     let bold_and_dim = Attribute::from_bits(1 << 1 | 1 << 2);
-    assert_eq!(rt; bold_and_dim, Some(Attribute::BOLD | Attribute::DIM));
+    equal(
+        &rt,
+        bold_and_dim,
+        Some(Attribute::BOLD | Attribute::DIM),
+        "from_bits",
+    );
 }
 
 #[test]
 fn changes_in_place(rt: HostRuntime) {
     let mut set = Attribute::BOLD;
     set.insert(Attribute::UL);
-    assert_eq!(rt; set.bits(), 1 << 1 | 1 << 4);
+    equal(&rt, set.bits(), 1 << 1 | 1 << 4, "insert");
     set.toggle(Attribute::from_bits_retain(1 << 0 | 1 << 1));
-    assert_eq!(rt; set.bits(), 1 << 0 | 1 << 4);
+    equal(&rt, set.bits(), 1 << 0 | 1 << 4, "toggle");
     set.remove(Attribute::UL);
     set.set(Attribute::DIM, true);
     set.set(Attribute::from_bits_retain(1 << 0), false);
-    assert_eq!(rt; set, Attribute::DIM);
+    equal(&rt, set, Attribute::DIM, "remove and set");
 }
 
 /// No set, one constant, several, one constant with an unknown bit, and all.
@@ -157,13 +160,13 @@ fn assigning_operators(a: Attribute, b: Attribute) -> [Operator; 4] {
 #[test]
 fn operators_are_the_calls(rt: HostRuntime) {
     for a in sets() {
-        assert_eq!(rt; !a, a.complement(), "! {a:?}");
+        equal(&rt, !a, a.complement(), ("!", a, a));
         for b in sets() {
             for (operator, given, wanted) in operators(a, b) {
-                assert_eq!(rt; given, wanted, "{a:?} {operator} {b:?}");
+                equal(&rt, given, wanted, (operator, a, b));
             }
             for (operator, given, wanted) in assigning_operators(a, b) {
-                assert_eq!(rt; given, wanted, "{a:?} {operator} {b:?}");
+                equal(&rt, given, wanted, (operator, a, b));
             }
         }
     }
@@ -178,10 +181,14 @@ fn goes_over_the_constants_that_are_set(rt: HostRuntime) -> Result<(), Fail> {
         Attribute::DIM,
         Attribute::from_bits_retain(1),
     ];
-    assert_eq!(rt; items.as_slice(), wanted.as_slice());
+    equal(&rt, items.as_slice(), wanted.as_slice(), "iter");
     let mut names = set.iter_names();
-    assert_eq!(rt; names.next(), Some(("BOLD", Attribute::BOLD)));
-    assert_eq!(rt; names.next(), Some(("DIM", Attribute::DIM)));
-    assert_eq!(rt; names.next(), None);
+    for wanted in [
+        Some(("BOLD", Attribute::BOLD)),
+        Some(("DIM", Attribute::DIM)),
+        None,
+    ] {
+        equal(&rt, names.next(), wanted, "iter_names");
+    }
     Ok(())
 }

@@ -1,6 +1,7 @@
 //! White space, and what only looks like it, as Unicode's property White_Space has it.
 
 use crate::every_reader::{is_read, refused};
+use crate::row::equal;
 use gix_config_value::canonical::Kind;
 use gix_config_value::color::space_at;
 use std::test::Fail;
@@ -69,8 +70,8 @@ fn parts_words_at_white_space(rt: HostRuntime) -> Result<(), Fail> {
         text.extend_from_slice(space)?;
         text.extend_from_slice(b"blue")?;
         is_read(&rt, Kind::Color, &text, Ok("red blue"))?;
-        assert_eq!(rt; space_at(&text, 2), 0, "before {space:?}");
-        assert_eq!(rt; space_at(&text, 3), space.len(), "at {space:?}");
+        equal(&rt, space_at(&text, 2), 0, ("before", space));
+        equal(&rt, space_at(&text, 3), space.len(), ("at", space));
     }
     Ok(())
 }
@@ -90,7 +91,7 @@ fn refuses_near_misses(rt: HostRuntime) -> Result<(), Fail> {
             text.extend_from_slice(back)?;
             is_read(&rt, Kind::Color, &text, refused(Kind::Color))?;
         }
-        assert_eq!(rt; space_at(near, 0), 0, "at {near:?}");
+        equal(&rt, space_at(near, 0), 0, near);
     }
     Ok(())
 }
@@ -100,6 +101,6 @@ fn measures_white_space_at_a_place(rt: HostRuntime) {
     // `A` and U+3000: a place within the spelling and the end are no white space
     let text = b"A\xe3\x80\x80";
     for (at, length) in [(0, 0), (1, 3), (2, 0), (3, 0), (4, 0)] {
-        assert_eq!(rt; space_at(text, at), length, "at {at}");
+        equal(&rt, space_at(text, at), length, at);
     }
 }

@@ -1,6 +1,7 @@
 //! Suffixes.
 
 use crate::every_reader::{are_read, are_refused};
+use crate::row::equal;
 use gix_config_value::canonical::Kind;
 use gix_config_value::integer::Suffix;
 use std::test::Fail;
@@ -25,6 +26,6 @@ fn reads_suffixes(rt: HostRuntime) -> Result<(), Fail> {
 #[test]
 fn tells_the_power_of_two(rt: HostRuntime) {
     for (suffix, power) in [(Suffix::Kibi, 10), (Suffix::Mebi, 20), (Suffix::Gibi, 30)] {
-        assert_eq!(rt; suffix.bitwise_offset(), power, "{suffix:?}");
+        equal(&rt, suffix.bitwise_offset(), power, suffix);
     }
 }
