@@ -3,6 +3,7 @@
 use callers::checker::check_file;
 use gix_config_value::canonical::Kind;
 use std::test::Fail;
+use testing::equal;
 
 /// A kind, a file, and what the checker prints of it, one finding a line.
 type Row = (Kind, &'static str, &'static [&'static str]);
@@ -41,10 +42,10 @@ static ROWS: [Row; 6] = [
 fn prints_findings(rt: HostRuntime) -> Result<(), Fail> {
     for (kind, file, wanted) in &ROWS {
         let findings = check_file(rt.alloc(), *kind, file.as_bytes())?;
-        assert_eq!(rt; findings.len(), wanted.len(), "findings in {file}");
+        equal(&rt, findings.len(), wanted.len(), file);
         for (finding, row) in findings.iter().zip(*wanted) {
             let shown = finding.to_string(rt.alloc())?;
-            assert_eq!(rt; shown.as_str(), *row, "in {file}");
+            equal(&rt, shown.as_str(), *row, file);
         }
     }
     Ok(())

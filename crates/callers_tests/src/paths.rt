@@ -4,6 +4,7 @@ use callers::paths::{path_at_home, path_of_service, path_of_user};
 use gix_config_value::Path;
 use gix_config_value::path::interpolate::Error;
 use std::test::Fail;
+use testing::equal;
 
 /// Only the second line has seven fields.
 const PASSWD: &str = "a:x:1:1::/h/a\na:x:1:1:g:/h/b:/sh";
@@ -15,17 +16,22 @@ fn interpolates_paths(rt: HostRuntime) -> Result<(), Fail> {
     let below_b = Path::from_text(alloc, "~b/x")?;
     let below_home = Path::from_text(alloc, "~/x")?;
     let below_www = Path::from_text(alloc, "~www/x")?;
-    assert_eq!(rt; path_of_user(alloc, &below_a, PASSWD)?.as_str(), "/h/b/x");
-    assert_eq!(rt;
-        path_of_user(alloc, &below_b, PASSWD),
-        Err(Error::UserNotFound)
-    );
-    assert_eq!(rt; path_at_home(alloc, &below_home, "/h")?.as_str(), "/h/x");
-    assert_eq!(rt;
-        path_at_home(alloc, &below_a, "/h"),
-        Err(Error::LookupMissing)
-    );
-    assert_eq!(rt; path_of_service(alloc, &below_www)?.as_str(), "/srv/www/x");
-    assert_eq!(rt; path_of_service(alloc, &below_a), Err(Error::UserNotFound));
+    for (given, wanted) in [
+        (path_of_user(alloc, &below_a, PASSWD), Ok("/h/b/x")),
+        (
+            path_of_user(alloc, &below_b, PASSWD),
+            Err(Error::UserNotFound),
+        ),
+        (path_at_home(alloc, &below_home, "/h"), Ok("/h/x")),
+        (
+            path_at_home(alloc, &below_a, "/h"),
+            Err(Error::LookupMissing),
+        ),
+        (path_of_service(alloc, &below_www), Ok("/srv/www/x")),
+        (path_of_service(alloc, &below_a), Err(Error::UserNotFound)),
+    ] {
+        let given = given.as_ref().map(String::as_str).map_err(|error| *error);
+        equal(&rt, given, wanted, wanted);
+    }
     Ok(())
 }

@@ -6,6 +6,7 @@ use gix_config_value::integer::Suffix;
 use gix_config_value::settings::{Refused, lookup};
 use gix_config_value::{Boolean, Integer};
 use std::test::Fail;
+use testing::equal;
 
 /// The file of the machine.
 const SYSTEM: &str = "pack.threads = 1\npack.windowMemory=512M\ncore.abbrev = 12\n";
@@ -20,23 +21,17 @@ const REPOSITORY: &str = "core.abbrev = 0x10\nbare =\n";
 #[test]
 fn reads_entries(rt: HostRuntime) -> Result<(), Fail> {
     let entries = read_file(rt.alloc(), USER.as_bytes())?;
-    let wanted = [
-        ("core.abbrev", "08"),
-        ("pager", "yes"),
-        ("pager.options", "-F -X=2"),
+    let wanted: [(&[u8], &[u8]); 3] = [
+        (b"core.abbrev", b"08"),
+        (b"pager", b"yes"),
+        (b"pager.options", b"-F -X=2"),
     ];
-    assert_eq!(rt; entries.len(), wanted.len());
-    for (entry, (name, text)) in entries.iter().zip(wanted) {
-        assert_eq!(rt; entry.0, name.as_bytes(), "the name {name}");
-        assert_eq!(rt; entry.1, text.as_bytes(), "the text of {name}");
-    }
-    assert!(rt; read_line(b"# no entry").is_none());
-    assert!(rt; read_file(rt.alloc(), b"")?.is_empty());
+    equal(&rt, entries.as_slice(), wanted.as_slice(), "entries");
+    equal(&rt, read_line(b"# no entry"), None, "a comment");
+    equal(&rt, read_file(rt.alloc(), b"")?.len(), 0, "no file");
     let repository = read_file(rt.alloc(), REPOSITORY.as_bytes())?;
-    assert_eq!(rt;
-        lookup(&repository, b"bare", Boolean(true)),
-        Ok(Boolean(false))
-    );
+    let bare = lookup(&repository, b"bare", Boolean(true));
+    equal(&rt, bare, Ok(Boolean(false)), "bare");
     Ok(())
 }
 
@@ -69,12 +64,12 @@ fn resolves_over_three_sources(rt: HostRuntime) -> Result<(), Fail> {
         ("bare", refuses(Source::Repository, 1, b"")),
     ] {
         let given = resolve(&system, &user, &repository, name.as_bytes(), seven);
-        assert_eq!(rt; given, wanted, "{name}");
+        equal(&rt, given, wanted, name);
     }
     // without the repository's file the user's refuses, though the machine's has a number
     let given = resolve(&system, &user, &[], b"core.abbrev", seven);
-    assert_eq!(rt; given, refuses(Source::User, 0, b"08"));
+    equal(&rt, given, refuses(Source::User, 0, b"08"), "two sources");
     let given = resolve(&system, &[], &[], b"core.abbrev", seven);
-    assert_eq!(rt; given, Ok(integer(12, None)));
+    equal(&rt, given, Ok(integer(12, None)), "one source");
     Ok(())
 }

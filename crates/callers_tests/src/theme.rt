@@ -1,7 +1,9 @@
 //! A theme: base styles with overrides, in every spelling.
 
+use arrayvec::ArrayString;
 use callers::theme::{both_spellings, layered, style};
 use std::test::Fail;
+use testing::equal;
 
 /// Base, override, and the style, or none.
 static ROWS: [(&str, &str, Option<&str>); 8] = [
@@ -24,17 +26,16 @@ fn composes_styles(rt: HostRuntime) -> Result<(), Fail> {
     for (base, over, wanted) in &ROWS {
         let (composed, joined) = both_spellings(rt.alloc(), base.as_bytes(), over.as_bytes())?;
         let alone = style(base.as_bytes(), over.as_bytes());
-        match (composed, joined, alone, layered(base, over), wanted) {
-            (Some(composed), Some(joined), Some(alone), Some(color), Some(wanted)) => {
-                let shown = color.to_string(rt.alloc())?;
-                assert_eq!(rt; composed.as_str(), *wanted, "{base} and {over} composed");
-                assert_eq!(rt; joined.as_str(), *wanted, "{base} and {over} joined");
-                assert_eq!(rt; alone.as_str(), *wanted, "{base} and {over} alone");
-                assert_eq!(rt; shown.as_str(), *wanted, "{base} and {over} layered");
-            }
-            (None, None, None, None, None) => (),
-            _ => panic!(rt; "{base} and {over}"),
+        for text in [composed, joined, alone] {
+            let given = text.as_ref().map(ArrayString::as_str);
+            equal(&rt, given, *wanted, (*base, *over));
         }
+        let shown = match layered(base, over) {
+            Some(color) => Some(color.to_string(rt.alloc())?),
+            None => None,
+        };
+        let given = shown.as_ref().map(String::as_str);
+        equal(&rt, given, *wanted, ("layered", *base, *over));
     }
     Ok(())
 }

@@ -5,6 +5,7 @@ use callers::json::size_json;
 use callers::words::{is_underlined, palette_index, with_word};
 use gix_config_value::color::Attribute;
 use serde_json::Value;
+use testing::equal;
 
 #[test]
 fn finds_palette_numbers(rt: HostRuntime) {
@@ -14,7 +15,7 @@ fn finds_palette_numbers(rt: HostRuntime) {
         ("256", None),
         ("red", None),
     ] {
-        assert_eq!(rt; palette_index(text), number, "{text}");
+        equal(&rt, palette_index(text), number, text);
     }
 }
 
@@ -27,11 +28,11 @@ fn adds_words_to_sets(rt: HostRuntime) {
         ("red", None),
     ] {
         let set = with_word(Attribute::BOLD, word.as_bytes());
-        assert_eq!(rt; set, wanted, "{word}");
+        equal(&rt, set, wanted, word);
         let underlined = set.map(is_underlined);
-        assert_eq!(rt; underlined, wanted.map(|_| word == "ul"), "{word}");
+        equal(&rt, underlined, wanted.map(|_| word == "ul"), word);
     }
-    assert!(rt; is_underlined(Attribute::all()));
+    equal(&rt, is_underlined(Attribute::all()), true, "all");
 }
 
 #[test]
@@ -43,7 +44,7 @@ fn sizes_are_numbers(rt: HostRuntime) {
         ("9223372036854775807k", None),
     ] {
         let json = size_json(rt.alloc(), text);
-        assert_eq!(rt; json.as_ref().and_then(Value::as_i64), size, "{text}");
-        assert_eq!(rt; json.is_some(), size.is_some(), "{text}");
+        equal(&rt, json.as_ref().and_then(Value::as_i64), size, text);
+        equal(&rt, json.is_some(), size.is_some(), text);
     }
 }

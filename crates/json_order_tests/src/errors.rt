@@ -11,6 +11,7 @@ use std::alloc::AllocError;
 use std::fmt::Debug;
 use std::process::Abort;
 use std::test::Fail;
+use testing::equal;
 
 const OVERFLOW: &str = "integer suffix multiplication overflows `i64`";
 
@@ -34,20 +35,23 @@ static FAULTS: [(Fault, &str); 5] = [
 #[test]
 fn errors_have_texts(rt: HostRuntime) -> Result<(), Fail> {
     for (fault, text) in FAULTS {
-        assert_eq!(rt; fault.to_string(rt.alloc())?.as_str(), text, "{fault:?}");
+        let shown = fault.to_string(rt.alloc())?;
+        equal(&rt, shown.as_str(), text, fault);
     }
     for (error, text) in [
         (JsonError::Overflow, OVERFLOW),
         (JsonError::Memory(AllocError), "no memory"),
     ] {
-        assert_eq!(rt; error.to_string(rt.alloc())?.as_str(), text, "{error:?}");
+        let shown = error.to_string(rt.alloc())?;
+        equal(&rt, shown.as_str(), text, error);
     }
     for (error, text) in [
         (RunError::Read, "cannot read"),
         (RunError::Write, "cannot write"),
         (RunError::Memory(AllocError), "no memory"),
     ] {
-        assert_eq!(rt; error.to_string(rt.alloc())?.as_str(), text, "{error:?}");
+        let shown = error.to_string(rt.alloc())?;
+        equal(&rt, shown.as_str(), text, error);
     }
     Ok(())
 }
@@ -56,7 +60,7 @@ fn errors_have_texts(rt: HostRuntime) -> Result<(), Fail> {
 fn differ<T: PartialEq + Debug>(rt: &impl Abort, values: &[T]) {
     for (i, a) in values.iter().enumerate() {
         for (j, b) in values.iter().enumerate() {
-            assert!(rt; i == j || a != b, "{a:?} and {b:?}");
+            equal(rt, a == b, i == j, (a, b));
         }
     }
 }

@@ -6,6 +6,7 @@ use gix_config_value::integer::Suffix;
 use gix_config_value::json::JsonError;
 use gix_config_value::{Boolean, Integer};
 use std::test::Fail;
+use testing::equal;
 
 /// Numbers and suffixes, and the products that they are in JSON, or `None` where they have none.
 static INTEGERS: [(i64, Option<Suffix>, Option<i64>); 8] = [
@@ -25,14 +26,10 @@ fn integers_are_numbers(rt: HostRuntime) -> Result<(), Fail> {
         let integer = Integer { value, suffix };
         match integer.to_json(rt.alloc()) {
             Ok(json) => {
-                assert_eq!(rt; json.as_i64(), product, "{integer:?}");
-                assert!(rt; json.is_number(), "{integer:?}");
+                equal(&rt, json.as_i64(), product, integer);
+                equal(&rt, json.is_number(), true, integer);
             }
-            Err(error) => assert_eq!(rt;
-                (Err(error), product),
-                (Err::<(), _>(JsonError::Overflow), None),
-                "{integer:?}"
-            ),
+            Err(error) => equal(&rt, (error, product), (JsonError::Overflow, None), integer),
         }
     }
     Ok(())
@@ -42,7 +39,7 @@ fn integers_are_numbers(rt: HostRuntime) -> Result<(), Fail> {
 fn booleans_are_truth_values(rt: HostRuntime) -> Result<(), Fail> {
     for truth in [false, true] {
         let json = Boolean(truth).to_json(rt.alloc())?;
-        assert_eq!(rt; json.as_bool(), Some(truth), "{truth}");
+        equal(&rt, json.as_bool(), Some(truth), truth);
     }
     Ok(())
 }
@@ -55,7 +52,7 @@ fn other_values_are_shown_texts(rt: HostRuntime) -> Result<(), Fail> {
         (Suffix::Gibi, "g"),
     ] {
         let json = suffix.to_json(rt.alloc())?;
-        assert_eq!(rt; json.as_str(), Some(text), "{suffix:?}");
+        equal(&rt, json.as_str(), Some(text), suffix);
     }
     for (name, text) in [
         (Name::BrightRed, "brightred"),
@@ -64,7 +61,7 @@ fn other_values_are_shown_texts(rt: HostRuntime) -> Result<(), Fail> {
         (Name::Rgb(255, 17, 187), "#ff11bb"),
     ] {
         let json = name.to_json(rt.alloc())?;
-        assert_eq!(rt; json.as_str(), Some(text), "{name:?}");
+        equal(&rt, json.as_str(), Some(text), name);
     }
     for (attributes, text) in [
         (Attribute::empty(), ""),
@@ -74,7 +71,7 @@ fn other_values_are_shown_texts(rt: HostRuntime) -> Result<(), Fail> {
         (Attribute::NO_DIM | Attribute::STRIKE, "strike nodim"),
     ] {
         let json = attributes.to_json(rt.alloc())?;
-        assert_eq!(rt; json.as_str(), Some(text), "{attributes:?}");
+        equal(&rt, json.as_str(), Some(text), attributes);
     }
     Ok(())
 }

@@ -6,6 +6,7 @@ use gix_config_value::integer::{Amount, Suffix};
 use gix_config_value::{Boolean, Integer};
 use std::hash::{BuildHasher, BuildHasherDefault, FoldHasher, Hash};
 use std::process::Abort;
+use testing::equal;
 
 fn integer(value: i64, suffix: Option<Suffix>) -> Integer {
     Integer { value, suffix }
@@ -24,11 +25,11 @@ fn rise<R: Abort, T: Ord + Hash>(rt: &R, values: &[T]) {
     let hashes = BuildHasherDefault::<FoldHasher>::default();
     for (i, a) in values.iter().enumerate() {
         for (j, b) in values.iter().enumerate() {
-            assert_eq!(rt; a.cmp(b), i.cmp(&j), "{i} and {j}");
-            assert_eq!(rt; a.partial_cmp(b), Some(i.cmp(&j)), "{i} and {j}");
-            assert_eq!(rt; a == b, i == j, "{i} and {j}");
+            equal(rt, a.cmp(b), i.cmp(&j), (i, j));
+            equal(rt, a.partial_cmp(b), Some(i.cmp(&j)), (i, j));
+            equal(rt, a == b, i == j, (i, j));
             let is_one = hashes.hash_one(a) == hashes.hash_one(b);
-            assert_eq!(rt; is_one, i == j, "hashes of {i} and {j}");
+            equal(rt, is_one, i == j, ("hashes", i, j));
         }
     }
 }
@@ -123,9 +124,9 @@ fn attributes_and_colors_rise(rt: HostRuntime) {
 
 #[test]
 fn defaults_are_empty(rt: HostRuntime) {
-    assert_eq!(rt; Boolean::default(), Boolean(false));
-    assert_eq!(rt; Integer::default(), integer(0, None));
-    assert_eq!(rt; Amount::default(), Amount(0));
-    assert_eq!(rt; Attribute::default(), Attribute::empty());
-    assert_eq!(rt; Color::default(), color(None, None, 0));
+    equal(&rt, Boolean::default(), Boolean(false), "boolean");
+    equal(&rt, Integer::default(), integer(0, None), "integer");
+    equal(&rt, Amount::default(), Amount(0), "amount");
+    equal(&rt, Attribute::default(), Attribute::empty(), "attribute");
+    equal(&rt, Color::default(), color(None, None, 0), "color");
 }

@@ -6,6 +6,7 @@ use gix_config_value::color::{Attribute, Color, Name};
 use gix_config_value::integer::{Amount, Suffix};
 use gix_config_value::{Boolean, Integer};
 use std::test::Fail;
+use testing::equal;
 
 #[test]
 fn shows_values(rt: HostRuntime) -> Result<(), Fail> {
@@ -14,14 +15,15 @@ fn shows_values(rt: HostRuntime) -> Result<(), Fail> {
         value: 16,
         suffix: Some(Suffix::Kibi),
     };
-    assert_eq!(rt; Suffix::Mebi.to_string(alloc)?.as_str(), "m");
-    assert_eq!(rt; sixteen.to_string(alloc)?.as_str(), "16k");
-    assert_eq!(rt; Amount(-5).to_string(alloc)?.as_str(), "-5");
-    assert_eq!(rt; Boolean(true).to_string(alloc)?.as_str(), "true");
-    assert_eq!(rt;
-        Name::Rgb(255, 17, 187).to_string(alloc)?.as_str(),
-        "#ff11bb"
-    );
+    for (shown, text) in [
+        (Suffix::Mebi.to_string(alloc)?, "m"),
+        (sixteen.to_string(alloc)?, "16k"),
+        (Amount(-5).to_string(alloc)?, "-5"),
+        (Boolean(true).to_string(alloc)?, "true"),
+        (Name::Rgb(255, 17, 187).to_string(alloc)?, "#ff11bb"),
+    ] {
+        equal(&rt, shown.as_str(), text, text);
+    }
     Ok(())
 }
 
@@ -49,8 +51,9 @@ static SETS: [(u32, &str, bool); 9] = [
 fn shows_any_set_of_attributes(rt: HostRuntime) -> Result<(), Fail> {
     for (bits, shown, has_text) in SETS {
         let set = Attribute::from_bits_retain(bits);
-        assert_eq!(rt; set.to_string(rt.alloc())?.as_str(), shown, "{set:?}");
-        assert_eq!(rt; set.has_text(), has_text, "{set:?}");
+        let given = set.to_string(rt.alloc())?;
+        equal(&rt, given.as_str(), shown, set);
+        equal(&rt, set.has_text(), has_text, set);
     }
     Ok(())
 }
@@ -104,8 +107,9 @@ fn shows_any_color(rt: HostRuntime) -> Result<(), Fail> {
             background,
             attributes: Attribute::from_bits_retain(bits),
         };
-        assert_eq!(rt; color.to_string(rt.alloc())?.as_str(), shown, "{color:?}");
-        assert_eq!(rt; color.has_text(), has_text, "{color:?}");
+        let given = color.to_string(rt.alloc())?;
+        equal(&rt, given.as_str(), shown, color);
+        equal(&rt, color.has_text(), has_text, color);
     }
     Ok(())
 }

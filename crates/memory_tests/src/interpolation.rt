@@ -7,6 +7,7 @@ use gix_config_value::path::interpolate::{Context, Error, Place};
 use std::alloc::{AllocError, Global};
 use std::process::Abort;
 use std::test::Fail;
+use testing::equal;
 
 /// A value, the one directory that stands for all, whether there is a lookup, and what the value gives.
 type Row = (
@@ -83,13 +84,8 @@ fn interpolated<'p>(alloc: Global, path: &'p Path, row: &Row) -> Result<String, 
 }
 
 fn is_answer(rt: &impl Abort, given: &Result<String, Error<'_>>, row: &Row) {
-    let value = BStr::new(row.0);
-    match (given, row.3) {
-        (Ok(given), Ok(text)) => assert_eq!(rt; given.as_str(), text, "{value}"),
-        (Err(given), Err(error)) => assert_eq!(rt; *given, error, "{value}"),
-        (Ok(given), Err(error)) => panic!(rt; "{value}: {given} in place of {error}"),
-        (Err(given), Ok(text)) => panic!(rt; "{value}: {given} in place of {text}"),
-    }
+    let given = given.as_ref().map(String::as_str).map_err(|error| *error);
+    equal(rt, given, row.3, BStr::new(row.0));
 }
 
 /// The answer needs one request for memory where its text is not empty, and none elsewhere.
@@ -101,12 +97,12 @@ fn is_answered_by_one_request(rt: &(impl AllocGlobal + Abort), row: &Row) -> Res
     let mut spare = spares(alloc, &[size])?;
     let hoard = starved(rt)?;
     if size > 0 {
-        let refused = interpolated(alloc, &path, row);
-        assert_eq!(rt;
+        let refused = interpolated(alloc, &path, row).err();
+        equal(
+            rt,
             refused,
-            Err(Error::Memory(AllocError)),
-            "{}",
-            BStr::new(row.0)
+            Some(Error::Memory(AllocError)),
+            BStr::new(row.0),
         );
         spare.clear();
     }
@@ -114,7 +110,7 @@ fn is_answered_by_one_request(rt: &(impl AllocGlobal + Abort), row: &Row) -> Res
     is_starved(rt);
     is_answer(rt, &given, row);
     drop(hoard);
-    assert_eq!(rt; path.as_bytes(), row.0);
+    equal(rt, path.as_bytes(), row.0, BStr::new(row.0));
     is_answer(rt, &interpolated(alloc, &path, row), row);
     Ok(())
 }

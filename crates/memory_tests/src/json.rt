@@ -10,6 +10,7 @@ use serde_json::Value;
 use std::alloc::{AllocError, Global};
 use std::process::Abort;
 use std::test::Fail;
+use testing::equal;
 
 /// A value whose JSON value is a text.
 #[derive(Clone, Copy)]
@@ -28,10 +29,8 @@ fn json_of(alloc: Global, shown: Shown) -> Result<Value, JsonError> {
 }
 
 fn is_text(rt: &impl Abort, given: &Result<Value, JsonError>, text: &str) {
-    match given {
-        Ok(value) => assert_eq!(rt; value.as_str(), Some(text)),
-        Err(error) => panic!(rt; "{error} in place of {text}"),
-    }
+    let given = given.as_ref().map(Value::as_str).map_err(|error| *error);
+    equal(rt, given, Ok(Some(text)), text);
 }
 
 /// The text needs one request for memory where it is not empty, and else none.
@@ -45,8 +44,8 @@ fn is_shown_by_one_request(
     let mut spare = spares(alloc, &[text.len()])?;
     let hoard = starved(rt)?;
     if !text.is_empty() {
-        let refused = json_of(alloc, shown);
-        assert_eq!(rt; refused, Err(JsonError::Memory(AllocError)), "{text}");
+        let refused = json_of(alloc, shown).err();
+        equal(rt, refused, Some(JsonError::Memory(AllocError)), text);
         spare.clear();
     }
     let given = json_of(alloc, shown);
@@ -94,9 +93,14 @@ fn counts_without_memory(rt: HostRuntime) -> Result<(), Fail> {
         let number = sixteen.to_json(alloc);
         let refused = past.to_json(alloc);
         drop(hoard);
-        assert_eq!(rt; truth, Ok(Value::from(true)), "starved: {starve}");
-        assert_eq!(rt; number, Ok(Value::from(16_384i64)), "starved: {starve}");
-        assert_eq!(rt; refused, Err(JsonError::Overflow), "starved: {starve}");
+        equal(&rt, truth?.as_bool(), Some(true), ("starved", starve));
+        equal(&rt, number?.as_i64(), Some(16_384), ("starved", starve));
+        equal(
+            &rt,
+            refused.err(),
+            Some(JsonError::Overflow),
+            ("starved", starve),
+        );
     }
     Ok(())
 }

@@ -7,6 +7,7 @@ use std::alloc::{AllocError, Global};
 use std::borrow::CowSlice;
 use std::process::Abort;
 use std::test::Fail;
+use testing::equal;
 
 /// A text, and the flag and the bytes of its path.
 type Row = (&'static str, bool, &'static str);
@@ -42,8 +43,8 @@ fn made(alloc: Global, way: Way, text: &str, path: &Path) -> Result<Path, AllocE
 }
 
 fn is_path(rt: &impl Abort, path: &Path, row: &Row) {
-    assert_eq!(rt; path.is_optional, row.1, "the flag of {}", row.0);
-    assert_eq!(rt; path.as_bytes(), row.2.as_bytes(), "the bytes of {}", row.0);
+    equal(rt, path.is_optional, row.1, row.0);
+    equal(rt, path.as_bytes(), row.2.as_bytes(), row.0);
 }
 
 /// The path is made, by one request for memory, exactly where that is not refused.
@@ -61,17 +62,14 @@ fn is_made_by_one_request(
     };
     let mut spare = spares(alloc, &[size])?;
     let hoard = starved(rt)?;
-    let refused = made(alloc, way, row.0, &path);
-    assert_eq!(rt; refused, Err(AllocError), "{way:?} of {}", row.0);
+    let refused = made(alloc, way, row.0, &path).err();
+    equal(rt, refused, Some(AllocError), (way, row.0));
     is_path(rt, &path, row);
     spare.clear();
-    match made(alloc, way, row.0, &path) {
-        Ok(again) => {
-            is_starved(rt);
-            is_path(rt, &again, row);
-        }
-        Err(_) => panic!(rt; "{way:?} of {} asks for more than its bytes", row.0),
-    }
+    // asks for no more than its bytes
+    let again = made(alloc, way, row.0, &path)?;
+    is_starved(rt);
+    is_path(rt, &again, row);
     drop(hoard);
     is_path(rt, &path, row);
     is_path(rt, &made(alloc, way, row.0, &path)?, row);

@@ -1,12 +1,12 @@
 //! Runs of the program in which the growth of a line is refused.
 
 use crate::spares::{spares_for_growths, starved};
-use faulty::six_lines::{self, ANSWERS};
-use faulty::{Reader, Turn, Writer};
 use gix_config_value::program::{RunError, run};
 use std::alloc::AllocError;
 use std::process::Abort;
 use std::test::Fail;
+use testing::six_lines::{self, ANSWERS};
+use testing::{Reader, Turn, Writer, equal};
 
 const REFUSED: Result<bool, RunError> = Err(RunError::Memory(AllocError));
 
@@ -34,7 +34,7 @@ fn refused_after(
     let alloc = rt.alloc();
     let mut writer = Writer::new(alloc, 1000, usize::MAX)?;
     let outcome = run(alloc, &mut Reader::new(input, piece), &mut writer);
-    assert_eq!(rt; outcome, Ok(false), "pieces of {piece}");
+    equal(rt, outcome, Ok(false), ("ample", piece));
     writer.held.clear();
     let mut blocks = spares_for_growths(alloc, sizes)?;
     let hoard = starved(rt)?;
@@ -44,11 +44,11 @@ fn refused_after(
     drop(hoard);
     let written = whole_answers(&writer.held, answers);
     if outcome == Ok(false) {
-        assert_eq!(rt; written, Some(answers.len()), "pieces of {piece}");
+        equal(rt, written, Some(answers.len()), ("all", piece));
         return Ok(None);
     }
-    assert_eq!(rt; outcome, REFUSED, "pieces of {piece}");
-    assert!(rt; written.is_some(), "no whole answers at pieces of {piece}");
+    equal(rt, outcome, REFUSED, ("refused", piece));
+    equal(rt, written.is_some(), true, ("whole answers", piece));
     Ok(Some(input.len().saturating_sub(reader.rest.len())))
 }
 
@@ -69,15 +69,12 @@ fn is_refused_in_turn(
     for count in 0..growths {
         let sizes = SIZES.get(..count).ok_or("too many growths")?;
         let further = refused_after(rt, input, piece, sizes, answers)?;
-        assert!(rt;
-            further > Some(gone),
-            "{count} growths at pieces of {piece}"
-        );
+        equal(rt, further > Some(gone), true, (count, piece));
         gone = further.unwrap_or(gone);
     }
     let sizes = SIZES.get(..growths).ok_or("too many growths")?;
     let further = refused_after(rt, input, piece, sizes, answers)?;
-    assert_eq!(rt; further, None, "{growths} growths at pieces of {piece}");
+    equal(rt, further, None, (growths, piece));
     Ok(())
 }
 
@@ -110,18 +107,23 @@ fn writes_what_waits_before_it_fails(rt: HostRuntime) -> Result<(), Fail> {
     let mut failing = Writer::new(alloc, 1000, usize::MAX)?;
     failing.otherwise = Some((1, Turn::Fails));
     let outcome = run(alloc, &mut Reader::new(&input, 20), &mut writer);
-    assert_eq!(rt; outcome, Ok(false));
+    equal(&rt, outcome, Ok(false), "ample");
     writer.held.clear();
     let hoard = starved(&rt)?;
     // the first read ends within the fourth line
     let outcome = run(alloc, &mut Reader::new(&input, 20), &mut writer);
     let other = run(alloc, &mut Reader::new(&input, 20), &mut failing);
     drop(hoard);
-    assert_eq!(rt; outcome, REFUSED);
-    assert_eq!(rt; whole_answers(&writer.held, &ANSWERS), Some(3));
+    equal(&rt, outcome, REFUSED, "starved");
+    equal(
+        &rt,
+        whole_answers(&writer.held, &ANSWERS),
+        Some(3),
+        "starved",
+    );
     // where that write fails too, the error says so
-    assert_eq!(rt; other, Err(RunError::Write));
-    assert!(rt; failing.held.is_empty());
+    equal(&rt, other, Err(RunError::Write), "failing");
+    equal(&rt, failing.held.len(), 0, "failing");
     Ok(())
 }
 
@@ -136,9 +138,9 @@ fn needs_no_memory_for_whole_lines(rt: HostRuntime) -> Result<(), Fail> {
         let hoard = if starve { Some(starved(&rt)?) } else { None };
         let outcome = run(alloc, &mut Reader::new(&input, usize::MAX), &mut writer);
         drop(hoard);
-        assert_eq!(rt; outcome, Ok(false), "starved: {starve}");
+        equal(&rt, outcome, Ok(false), ("starved", starve));
         let written = whole_answers(&writer.held, &ANSWERS);
-        assert_eq!(rt; written, Some(ANSWERS.len()), "starved: {starve}");
+        equal(&rt, written, Some(ANSWERS.len()), ("starved", starve));
     }
     Ok(())
 }

@@ -1,8 +1,8 @@
 //! Blocks that are given back to a starved process, one for each request that is to succeed.
 
-use faulty::Hoard;
 use std::alloc::{AllocError, Global};
 use std::process::Abort;
+use testing::{Hoard, equal};
 
 /// So many blocks of each size, in the order of the sizes.
 pub fn spares(alloc: Global, sizes: &[usize]) -> Result<Vec<Vec<u8>>, AllocError> {
@@ -29,15 +29,13 @@ pub fn spares_for_growths(alloc: Global, sizes: &[usize]) -> Result<Vec<Vec<u8>>
 /// All memory but the blocks that are held already.
 pub fn starved(rt: &(impl AllocGlobal + Abort)) -> Result<Hoard, AllocError> {
     let hoard = Hoard::new(rt.alloc())?;
-    assert!(rt; hoard.is_whole(), "memory is left");
+    equal(rt, hoard.is_whole(), true, "memory is left");
     is_starved(rt);
     Ok(hoard)
 }
 
 /// The next request for memory is refused, for one byte too.
 pub fn is_starved(rt: &(impl AllocGlobal + Abort)) {
-    assert!(rt;
-        Vec::<u8>::with_capacity(rt.alloc(), 1).is_err(),
-        "memory is left"
-    );
+    let is_refused = Vec::<u8>::with_capacity(rt.alloc(), 1).is_err();
+    equal(rt, is_refused, true, "memory is left");
 }

@@ -3,6 +3,7 @@
 use gix_config_value::path::interpolate::{Class, Error, Place};
 use std::alloc::AllocError;
 use std::test::Fail;
+use testing::equal;
 
 /// An error, its class and its text.
 type Row = (Error<'static>, Class, &'static str);
@@ -39,18 +40,18 @@ static PLACES: [(Place, &str); 5] = [
 #[test]
 fn errors_have_classes_and_texts(rt: HostRuntime) -> Result<(), Fail> {
     for (error, class, text) in &ERRORS {
-        assert_eq!(rt; error.class(), *class, "{text}");
+        equal(&rt, error.class(), *class, *text);
         let shown = error.to_string(rt.alloc())?;
-        assert_eq!(rt; shown.as_str(), *text, "{error:?}");
+        equal(&rt, shown.as_str(), *text, *error);
     }
     for (place, text) in PLACES {
         let error = Error::IllFormed {
             place,
             input: b"\xff",
         };
-        assert_eq!(rt; error.class(), Class::Validation, "{text}");
+        equal(&rt, error.class(), Class::Validation, place);
         let shown = error.to_string(rt.alloc())?;
-        assert_eq!(rt; shown.as_str(), text, "{place:?}");
+        equal(&rt, shown.as_str(), text, place);
     }
     Ok(())
 }

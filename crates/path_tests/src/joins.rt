@@ -6,6 +6,7 @@ use gix_config_value::path::interpolate::{Context, Error, Place};
 use std::alloc::{AllocError, Global};
 use std::cell::Cell;
 use std::test::Fail;
+use testing::equal;
 
 fn path_of(alloc: Global, front: &[u8], back: &[u8]) -> Result<Path, AllocError> {
     let mut value = Vec::from_slice(alloc, front)?;
@@ -48,10 +49,8 @@ fn joins_each_directory_and_rest(rt: HostRuntime) -> Result<(), Fail> {
                     home_for_user: Some(|_name: &str| Some(*dir)),
                 },
             );
-            match given {
-                Ok(path) => assert_eq!(rt; path.as_str(), *joined, "{front}{rest} in {dir}"),
-                Err(error) => panic!(rt; "{front}{rest} in {dir}: {error}"),
-            }
+            let given = given.as_ref().map(String::as_str).map_err(Error::class);
+            equal(&rt, given, Ok(*joined), (front, *rest, *dir));
         }
     }
     Ok(())
@@ -92,9 +91,9 @@ fn lends_ill_formed_bytes(rt: HostRuntime) -> Result<(), Fail> {
                     }),
                 },
             );
-            let wanted = Err(Error::IllFormed { place, input });
-            assert_eq!(rt; given, wanted, "{place} {input:?}");
-            assert_eq!(rt; calls.get(), count, "calls at {place} {input:?}");
+            let wanted = Error::IllFormed { place, input };
+            equal(&rt, given.err(), Some(wanted), (place, input));
+            equal(&rt, calls.get(), count, ("calls", place, input));
         }
     }
     Ok(())

@@ -7,6 +7,7 @@ use std::collections::hash_map::DefaultHasher;
 use std::hash::{Hash, Hasher};
 use std::process::Abort;
 use std::test::Fail;
+use testing::equal;
 
 /// A text, whether it is marked as optional, and what is kept of it.
 type Row = (&'static str, bool, &'static str);
@@ -29,13 +30,9 @@ static ROWS: [Row; 9] = [
 
 fn is_path(rt: &impl Abort, path: &Path, row: &Row) {
     let (text, is_optional, kept) = *row;
-    assert_eq!(rt; path.is_optional, is_optional, "the flag of {text}");
-    assert_eq!(rt; path.as_bytes(), kept.as_bytes(), "the bytes of {text}");
-    assert_eq!(rt;
-        path.as_bstr(),
-        BStr::from(kept),
-        "the byte string of {text}"
-    );
+    equal(rt, path.is_optional, is_optional, text);
+    equal(rt, path.as_bytes(), kept.as_bytes(), text);
+    equal(rt, path.as_bstr(), BStr::from(kept), text);
 }
 
 #[test]
@@ -75,15 +72,12 @@ fn compares_bytes_and_then_flags(rt: HostRuntime) -> Result<(), Fail> {
     ];
     for (i, a) in paths.iter().enumerate() {
         for (j, b) in paths.iter().enumerate() {
-            assert_eq!(rt; a.cmp(b), i.cmp(&j), "{i} and {j}");
-            assert_eq!(rt; a.partial_cmp(b), Some(i.cmp(&j)), "{i} and {j}");
-            assert_eq!(rt; a == b, i == j, "{i} and {j}");
+            equal(&rt, a.cmp(b), i.cmp(&j), (i, j));
+            equal(&rt, a.partial_cmp(b), Some(i.cmp(&j)), (i, j));
+            equal(&rt, a == b, i == j, (i, j));
             let other = b.clone(alloc)?;
-            assert_eq!(rt;
-                hash_of(a) == hash_of(&other),
-                i == j,
-                "hashes of {i} and {j}"
-            );
+            let is_one = hash_of(a) == hash_of(&other);
+            equal(&rt, is_one, i == j, ("hashes", i, j));
         }
     }
     Ok(())

@@ -2,6 +2,7 @@
 
 use gix_config_value::path::interpolate::home_for_user;
 use std::test::Fail;
+use testing::equal;
 
 /// Only the second line has seven fields.
 const TWO_LINES: &str = "a:x:1:1::/h/a\na:x:1:1:g:/h/b:/sh";
@@ -27,7 +28,7 @@ static ROWS: [(&str, &str, Option<&str>); 15] = [
 #[test]
 fn finds_the_home(rt: HostRuntime) {
     for (passwd, name, home) in &ROWS {
-        assert_eq!(rt; home_for_user(passwd, name), *home, "{name} in {passwd}");
+        equal(&rt, home_for_user(passwd, name), *home, (*name, *passwd));
     }
 }
 
@@ -37,8 +38,13 @@ fn finds_the_home_in_a_long_text(rt: HostRuntime) -> Result<(), Fail> {
     for _ in 0..100_000 {
         passwd.push_str("a:x:1:1::/h/short\nb:x:1:1:g:/h/b:/sh:long\n")?;
     }
-    assert_eq!(rt; home_for_user(&passwd, "a"), None);
+    equal(&rt, home_for_user(&passwd, "a"), None, "no line");
     passwd.push_str("a:x:1:1:g:/h/a:/sh")?;
-    assert_eq!(rt; home_for_user(&passwd, "a"), Some("/h/a"));
+    equal(
+        &rt,
+        home_for_user(&passwd, "a"),
+        Some("/h/a"),
+        "the last line",
+    );
     Ok(())
 }

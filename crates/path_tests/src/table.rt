@@ -6,6 +6,7 @@ use gix_config_value::path::interpolate::{Context, Error, Place, absent};
 use std::cell::Cell;
 use std::process::Abort;
 use std::test::Fail;
+use testing::equal;
 
 /// A user and the home directory that the lookup answers.
 type User = (&'static str, &'static str);
@@ -160,9 +161,14 @@ fn home_of(users: &[User], name: &str) -> Option<&'static str> {
     Some(*home)
 }
 
+fn is_answer(rt: &impl Abort, given: &Result<String, Error<'_>>, row: &Row) {
+    let given = given.as_ref().map(String::as_str).map_err(|error| *error);
+    equal(rt, given, row.1, BStr::new(row.0));
+}
+
 /// The row's value gives its answer, after as many calls of the lookup as the row says, and the path is as it was.
 fn is_given(rt: &(impl AllocGlobal + Abort), group: &Group, row: &Row) -> Result<(), Fail> {
-    let (value, wanted, count) = *row;
+    let (value, _, count) = *row;
     let path = Path {
         value: BString::from_slice(rt.alloc(), value)?,
         is_optional: true,
@@ -182,15 +188,10 @@ fn is_given(rt: &(impl AllocGlobal + Abort), group: &Group, row: &Row) -> Result
         },
     );
     let value = BStr::new(value);
-    match (&given, wanted) {
-        (Ok(given), Ok(text)) => assert_eq!(rt; given.as_str(), text, "{value}"),
-        (Err(given), Err(error)) => assert_eq!(rt; *given, error, "{value}"),
-        (Ok(given), Err(error)) => panic!(rt; "{value}: {given} in place of {error}"),
-        (Err(given), Ok(text)) => panic!(rt; "{value}: {given} in place of {text}"),
-    }
-    assert_eq!(rt; calls.get(), count, "calls at {value}");
-    assert_eq!(rt; path.as_bstr(), value, "the bytes of {value}");
-    assert!(rt; path.is_optional, "the flag of {value}");
+    is_answer(rt, &given, row);
+    equal(rt, calls.get(), count, ("calls", value));
+    equal(rt, path.as_bstr(), value, value);
+    equal(rt, path.is_optional, true, value);
     Ok(())
 }
 
@@ -214,11 +215,13 @@ fn has_nothing_by_default(rt: HostRuntime) -> Result<(), Fail> {
         home_for_user: absent(|_name: &str| None),
         ..Context::default()
     };
-    assert_eq!(rt;
-        prefix.interpolate(alloc, nothing),
-        Err(Error::InstallDirMissing)
-    );
-    assert_eq!(rt; home.interpolate(alloc, nothing), Err(Error::HomeMissing));
-    assert_eq!(rt; bob.interpolate(alloc, nothing), Err(Error::LookupMissing));
+    for (path, error) in [
+        (&prefix, Error::InstallDirMissing),
+        (&home, Error::HomeMissing),
+        (&bob, Error::LookupMissing),
+    ] {
+        let refused = path.interpolate(alloc, nothing).err();
+        equal(&rt, refused, Some(error), path.as_bstr());
+    }
     Ok(())
 }

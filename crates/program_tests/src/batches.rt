@@ -1,17 +1,17 @@
 //! Inputs that fill the buffers of a run, one with a line in it, and one with none.
 
 use crate::outcome::is_outcome;
-use faulty::{Reader, Writer};
 use gix_config_value::program::run;
 use std::io::Cursor;
 use std::test::Fail;
+use testing::{Reader, Writer, equal};
 
 #[test]
 fn answers_no_line(rt: HostRuntime) -> Result<(), Fail> {
     let mut writer = Writer::new(rt.alloc(), 0, 1)?;
     let outcome = run(rt.alloc(), &mut Reader::new(b"", 1), &mut writer);
     is_outcome(&rt, outcome, Ok(true), 1, 0);
-    assert_eq!(rt; (writer.calls, writer.flushes), (0, 1));
+    equal(&rt, (writer.calls, writer.flushes), (0, 1), "calls");
     Ok(())
 }
 
@@ -24,7 +24,7 @@ fn answers_one_line(rt: HostRuntime) -> Result<(), Fail> {
         &mut output,
     );
     is_outcome(&rt, outcome, Ok(true), 1, 0);
-    assert_eq!(rt; output.as_slice(), "ok 16k\n".as_bytes());
+    equal(&rt, output.as_slice(), b"ok 16k\n".as_slice(), "output");
     Ok(())
 }
 
@@ -46,17 +46,9 @@ fn answers_wait_for_each_other(rt: HostRuntime) -> Result<(), Fail> {
     let mut writer = Writer::new(alloc, answers.len(), usize::MAX)?;
     let outcome = run(alloc, &mut Cursor::new(input.as_slice()), &mut writer);
     is_outcome(&rt, outcome, Ok(true), usize::MAX, 0);
-    assert!(rt;
-        writer.held == answers,
-        "{} bytes of answers",
-        writer.held.len()
-    );
-    assert!(rt;
-        writer.calls <= MOST_WRITES,
-        "{} calls of write",
-        writer.calls
-    );
-    assert_eq!(rt; writer.flushes, 1);
+    equal(&rt, writer.held == answers, true, writer.held.len());
+    equal(&rt, writer.calls <= MOST_WRITES, true, writer.calls);
+    equal(&rt, writer.flushes, 1, "flushes");
     Ok(())
 }
 
@@ -79,7 +71,7 @@ fn answers_lines_longer_than_a_read(rt: HostRuntime) -> Result<(), Fail> {
         let mut output = Vec::new(alloc);
         let outcome = run(alloc, &mut Reader::new(&input, piece), &mut output);
         is_outcome(&rt, outcome, Ok(true), piece, 0);
-        assert_eq!(rt; output.as_slice(), ANSWERS.as_bytes(), "pieces of {piece}");
+        equal(&rt, output.as_slice(), ANSWERS.as_bytes(), piece);
     }
     Ok(())
 }

@@ -3,6 +3,7 @@
 use gix_config_value::program::{RunError, status};
 use std::alloc::AllocError;
 use std::process::Abort;
+use testing::equal;
 
 /// The run ended as expected, with the status of that: with pieces of so many bytes, and something done at this call.
 pub fn is_outcome(
@@ -17,8 +18,8 @@ pub fn is_outcome(
         Ok(false) => 1,
         Err(_) => 2,
     };
-    assert_eq!(rt; outcome, expected, "pieces of {piece}, call {call}");
-    assert_eq!(rt; status(&outcome), exit, "pieces of {piece}, call {call}");
+    equal(rt, outcome, expected, (piece, call));
+    equal(rt, status(&outcome), exit, (piece, call));
 }
 
 #[test]
@@ -28,6 +29,6 @@ fn errors_end_with_status_two(rt: HostRuntime) {
         RunError::Write,
         RunError::Memory(AllocError),
     ] {
-        assert_eq!(rt; status(&Err(error)), 2, "{error:?}");
+        equal(&rt, status(&Err(error)), 2, error);
     }
 }

@@ -1,10 +1,10 @@
 //! A reader that gives its bytes in pieces, and fails at each of its calls in turn.
 
 use crate::outcome::is_outcome;
-use faulty::{Reader, six_lines};
 use gix_config_value::program::{RunError, run};
 use std::io::ErrorKind;
 use std::test::Fail;
+use testing::{Reader, equal, six_lines};
 
 const PIECES: [usize; 6] = [1, 2, 3, 7, 20, 1000];
 
@@ -18,10 +18,10 @@ fn reads_in_pieces(rt: HostRuntime) -> Result<(), Fail> {
         let mut output = Vec::new(alloc);
         let outcome = run(alloc, &mut reader, &mut output);
         is_outcome(&rt, outcome, Ok(false), piece, 0);
-        assert_eq!(rt; output, answers, "pieces of {piece}");
+        equal(&rt, output.as_slice(), answers.as_slice(), piece);
         // a call for each piece, and one more that meets the end
         let pieces = input.len().div_ceil(piece) as u64;
-        assert_eq!(rt; reader.calls, pieces + 1, "pieces of {piece}");
+        equal(&rt, reader.calls, pieces + 1, piece);
     }
     Ok(())
 }
@@ -44,8 +44,8 @@ fn fails_where_a_read_fails(rt: HostRuntime) -> Result<(), Fail> {
                 is_outcome(&rt, outcome, Err(RunError::Read), piece, call);
                 let gone = input.len().saturating_sub(reader.rest.len());
                 let wanted = six_lines::answers_within(alloc, gone)?;
-                assert_eq!(rt; output, wanted, "pieces of {piece}, call {call}");
-                assert_eq!(rt; reader.calls, call, "pieces of {piece}, call {call}");
+                equal(&rt, output.as_slice(), wanted.as_slice(), (piece, call));
+                equal(&rt, reader.calls, call, (piece, call));
             }
         }
     }

@@ -2,10 +2,10 @@
 //! flush fails.
 
 use crate::outcome::is_outcome;
-use faulty::{Reader, Turn, Writer, six_lines};
 use gix_config_value::program::{RunError, run};
 use std::process::Abort;
 use std::test::Fail;
+use testing::{Reader, Turn, Writer, equal, six_lines};
 
 /// The run fails where the call of this number does otherwise, after a beginning of the answers, and writes no more.
 fn fails_at(
@@ -22,19 +22,9 @@ fn fails_at(
     writer.otherwise = Some((call, turn));
     let outcome = run(alloc, &mut Reader::new(&input, read), &mut writer);
     is_outcome(rt, outcome, Err(RunError::Write), piece, call);
-    assert!(rt;
-        answers.starts_with(&writer.held),
-        "pieces of {piece}, call {call}"
-    );
-    assert!(rt;
-        writer.held.len() < answers.len(),
-        "pieces of {piece}, call {call}"
-    );
-    assert_eq!(rt;
-        (writer.calls, writer.flushes),
-        (call, 0),
-        "pieces of {piece}"
-    );
+    let is_beginning = answers.starts_with(&writer.held) && writer.held.len() < answers.len();
+    equal(rt, is_beginning, true, (piece, call));
+    equal(rt, (writer.calls, writer.flushes), (call, 0), (piece, call));
     Ok(())
 }
 
@@ -48,7 +38,12 @@ fn fails_where_a_write_fails(rt: HostRuntime) -> Result<(), Fail> {
             let mut writer = Writer::new(alloc, answers.len(), piece)?;
             let outcome = run(alloc, &mut Reader::new(&input, read), &mut writer);
             is_outcome(&rt, outcome, Ok(false), piece, 0);
-            assert_eq!(rt; writer.held, answers, "reads of {read}, writes of {piece}");
+            equal(
+                &rt,
+                writer.held.as_slice(),
+                answers.as_slice(),
+                (read, piece),
+            );
             for before in 0..writer.calls {
                 fails_at(&rt, read, piece, before + 1, Turn::Fails)?;
                 fails_at(&rt, read, piece, before + 1, Turn::TakesNone)?;
@@ -68,8 +63,8 @@ fn fails_where_the_flush_fails(rt: HostRuntime) -> Result<(), Fail> {
         writer.flush_fails = true;
         let outcome = run(alloc, &mut Reader::new(&input, piece), &mut writer);
         is_outcome(&rt, outcome, Err(RunError::Write), piece, 0);
-        assert_eq!(rt; writer.held, answers, "pieces of {piece}");
-        assert_eq!(rt; writer.flushes, 1, "pieces of {piece}");
+        equal(&rt, writer.held.as_slice(), answers.as_slice(), piece);
+        equal(&rt, writer.flushes, 1, piece);
     }
     let mut writer = Writer::new(alloc, 0, 1)?;
     writer.flush_fails = true;

@@ -1,11 +1,11 @@
 //! Attributes.
 
 use crate::every_reader::{are_refused, is_read};
-use crate::row::equal;
 use bstr::BStr;
 use gix_config_value::canonical::{Kind, Value};
 use gix_config_value::color::{Attribute, Item, word};
 use std::test::Fail;
+use testing::equal;
 
 /// A text, the attribute that it is read as, and how that is shown.
 type Row = (&'static str, Attribute, &'static str);

@@ -1,10 +1,10 @@
 //! Booleans.
 
 use crate::every_reader::{are_read, are_refused};
-use crate::row::equal;
 use gix_config_value::Boolean;
 use gix_config_value::canonical::Kind;
 use std::test::Fail;
+use testing::equal;
 
 static ACCEPTED: [(&[u8], &str); 22] = [
     (b"", "false"),

@@ -1,10 +1,10 @@
 //! Texts of one byte, beginnings of a text, and bytes that are no UTF-8.
 
 use crate::every_reader::{KINDS, Wanted, is_read, refused};
-use crate::row::equal;
 use bstr::BStr;
 use gix_config_value::canonical::{Kind, normalize};
 use std::test::Fail;
+use testing::equal;
 
 /// The bytes that each kind accepts alone: six letters, ten digits, no attribute, and ten digits with the six white
 /// spaces of ASCII.

@@ -1,12 +1,12 @@
 //! Colors.
 
 use crate::every_reader::{are_read, are_refused};
-use crate::row::equal;
 use bitflags::Flags;
 use gix_config_value::Color;
 use gix_config_value::canonical::Kind;
 use gix_config_value::color::{Attribute, Name};
 use std::test::Fail;
+use testing::equal;
 
 /// The longest canonical text: 127 bytes.
 const LONGEST: &str =

@@ -1,6 +1,5 @@
 //! What the readers of a kind answer to one text.
 
-use crate::row::equal;
 use arrayvec::ArrayString;
 use bstr::{BStr, BString};
 use config_text::readers::TryRead;
@@ -13,6 +12,7 @@ use std::fmt::Display;
 use std::process::Abort;
 use std::str::FromStr;
 use std::test::Fail;
+use testing::equal;
 
 pub const KINDS: [Kind; 7] = [
     Kind::Suffix,

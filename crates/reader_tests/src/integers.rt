@@ -1,11 +1,11 @@
 //! Integers.
 
 use crate::every_reader::{are_read, are_refused};
-use crate::row::equal;
 use gix_config_value::Integer;
 use gix_config_value::canonical::Kind;
 use gix_config_value::integer::{Suffix, scan};
 use std::test::Fail;
+use testing::equal;
 
 static ACCEPTED: [(&[u8], &str); 36] = [
     (b"0x10k", "16k"),

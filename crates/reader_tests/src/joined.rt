@@ -1,11 +1,11 @@
 //! Two texts: whether they mean the same, and two colors as one.
 
-use crate::row::equal;
 use arrayvec::ArrayString;
 use bstr::BStr;
 use gix_config_value::Color;
 use gix_config_value::canonical::{Kind, compose, normalize, same};
 use std::test::Fail;
+use testing::equal;
 
 static SAME: [(Kind, &[u8], &[u8], Option<bool>); 19] = [
     (Kind::Integer, b"0x10", b"020", Some(true)),

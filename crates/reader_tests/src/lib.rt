@@ -26,8 +26,6 @@ mod names;
 #[cfg(test)]
 mod products;
 #[cfg(test)]
-mod row;
-#[cfg(test)]
 mod sets;
 #[cfg(test)]
 mod settings;

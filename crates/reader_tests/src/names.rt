@@ -1,12 +1,12 @@
 //! Color names.
 
 use crate::every_reader::{are_refused, is_read};
-use crate::row::equal;
 use bstr::BStr;
 use gix_config_value::canonical::{Kind, Value};
 use gix_config_value::color::{Item, Name, word};
 use std::str::FromStr;
 use std::test::Fail;
+use testing::equal;
 
 /// A text, the name that it is read as, and how that name is shown.
 type Row = (&'static str, Name, &'static str);

@@ -1,11 +1,11 @@
 //! Products of a number and its suffix, and their conversion to any integer type.
 
-use crate::row::equal;
 use gix_config_value::integer::scan;
 use gix_config_value::{Fault, Integer};
 use std::fmt::Debug;
 use std::process::Abort;
 use std::test::Fail;
+use testing::equal;
 
 /// The number, or the fault with the whole input.
 fn converts<T: TryFrom<i64> + Copy + PartialEq + Debug>(

@@ -1,10 +1,10 @@
 //! The calls and operators on sets of attributes. No contract covers the operators, nor what `iter` and `iter_names`
 //! go over: `bitflag_items!` writes them.
 
-use crate::row::equal;
 use bitflags::Flags;
 use gix_config_value::color::Attribute;
 use std::test::Fail;
+use testing::equal;
 
 /// A constant, its bit and its name.
 type Row = (Attribute, u32, &'static str);

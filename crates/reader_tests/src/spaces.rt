@@ -1,10 +1,10 @@
 //! White space, and what only looks like it, as Unicode's property White_Space has it.
 
 use crate::every_reader::{is_read, refused};
-use crate::row::equal;
 use gix_config_value::canonical::Kind;
 use gix_config_value::color::space_at;
 use std::test::Fail;
+use testing::equal;
 
 /// The spellings of the 25 code points of white space.
 static SPACES: [&[u8]; 25] = [

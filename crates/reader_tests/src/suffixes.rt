@@ -1,10 +1,10 @@
 //! Suffixes.
 
 use crate::every_reader::{are_read, are_refused};
-use crate::row::equal;
 use gix_config_value::canonical::Kind;
 use gix_config_value::integer::Suffix;
 use std::test::Fail;
+use testing::equal;
 
 static ACCEPTED: [(&[u8], &str); 6] = [
     (b"k", "k"),

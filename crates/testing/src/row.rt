@@ -1,4 +1,4 @@
-//! What a row of a table asserts, written once: each assertion that formats its own message is proved anew.
+//! What a row of a table asserts, written once: each assertion that formats a message of its own is proved anew.
 
 use std::fmt::Debug;
 use std::process::Abort;
