@@ -42,10 +42,10 @@ static ROWS: [Row; 6] = [
 fn prints_findings(rt: HostRuntime) -> Result<(), Fail> {
     for (kind, file, wanted) in &ROWS {
         let findings = check_file(rt.alloc(), *kind, file.as_bytes())?;
-        equal(&rt, findings.len(), wanted.len(), file);
+        equal(findings.len(), wanted.len(), file)?;
         for (finding, row) in findings.iter().zip(*wanted) {
             let shown = finding.to_string(rt.alloc())?;
-            equal(&rt, shown.as_str(), *row, file);
+            equal(shown.as_str(), *row, file)?;
         }
     }
     Ok(())

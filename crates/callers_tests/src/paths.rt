@@ -31,7 +31,7 @@ fn interpolates_paths(rt: HostRuntime) -> Result<(), Fail> {
         (path_of_service(alloc, &below_a), Err(Error::UserNotFound)),
     ] {
         let given = given.as_ref().map(String::as_str).map_err(|error| *error);
-        equal(&rt, given, wanted, wanted);
+        equal(given, wanted, wanted)?;
     }
     Ok(())
 }

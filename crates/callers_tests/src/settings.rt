@@ -26,13 +26,12 @@ fn reads_entries(rt: HostRuntime) -> Result<(), Fail> {
         (b"pager", b"yes"),
         (b"pager.options", b"-F -X=2"),
     ];
-    equal(&rt, entries.as_slice(), wanted.as_slice(), "entries");
-    equal(&rt, read_line(b"# no entry"), None, "a comment");
-    equal(&rt, read_file(rt.alloc(), b"")?.len(), 0, "no file");
+    equal(entries.as_slice(), wanted.as_slice(), "entries")?;
+    equal(read_line(b"# no entry"), None, "a comment")?;
+    equal(read_file(rt.alloc(), b"")?.len(), 0, "no file")?;
     let repository = read_file(rt.alloc(), REPOSITORY.as_bytes())?;
     let bare = lookup(&repository, b"bare", Boolean(true));
-    equal(&rt, bare, Ok(Boolean(false)), "bare");
-    Ok(())
+    equal(bare, Ok(Boolean(false)), "bare")
 }
 
 fn integer(value: i64, suffix: Option<Suffix>) -> Integer {
@@ -64,12 +63,11 @@ fn resolves_over_three_sources(rt: HostRuntime) -> Result<(), Fail> {
         ("bare", refuses(Source::Repository, 1, b"")),
     ] {
         let given = resolve(&system, &user, &repository, name.as_bytes(), seven);
-        equal(&rt, given, wanted, name);
+        equal(given, wanted, name)?;
     }
     // without the repository's file the user's refuses, though the machine's has a number
     let given = resolve(&system, &user, &[], b"core.abbrev", seven);
-    equal(&rt, given, refuses(Source::User, 0, b"08"), "two sources");
+    equal(given, refuses(Source::User, 0, b"08"), "two sources")?;
     let given = resolve(&system, &[], &[], b"core.abbrev", seven);
-    equal(&rt, given, Ok(integer(12, None)), "one source");
-    Ok(())
+    equal(given, Ok(integer(12, None)), "one source")
 }

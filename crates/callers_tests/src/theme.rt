@@ -28,14 +28,14 @@ fn composes_styles(rt: HostRuntime) -> Result<(), Fail> {
         let alone = style(base.as_bytes(), over.as_bytes());
         for text in [composed, joined, alone] {
             let given = text.as_ref().map(ArrayString::as_str);
-            equal(&rt, given, *wanted, (*base, *over));
+            equal(given, *wanted, (*base, *over))?;
         }
         let shown = match layered(base, over) {
             Some(color) => Some(color.to_string(rt.alloc())?),
             None => None,
         };
         let given = shown.as_ref().map(String::as_str);
-        equal(&rt, given, *wanted, ("layered", *base, *over));
+        equal(given, *wanted, ("layered", *base, *over))?;
     }
     Ok(())
 }

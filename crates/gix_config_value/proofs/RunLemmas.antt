@@ -21,11 +21,6 @@ AnswersLast-of (b ∷ bs) ok accepts outcome some is accepted = (outcome, is, re
 pub some_line : (line : List ℕ) (n : ℕ) → length line ≡ n → (n == 0) ≡ false → line ≢ []
 some_line line n counted some none = let e : (n == 0) ≡ true = ap (λ k. k == 0) (sym counted ∙ ap length none) in cc
 
--- no line is begun, and what waits is written
-pub EndsAnswered-none : (a : Going) (b : Sent) → a.line ≡ [] → Sends a.to b [] → b.waiting ≡ [] → EndsAnswered a b a.accepted
-EndsAnswered-none a b none s empty =
-    record { last = []; answered = subst (λ l. AnswersLast l a.accepted a.accepted []) (sym none) (refl, refl); sends = s; empty = empty }
-
 -- an error before the last line's answer
 pub EndsEarly-first : (a : Going) (b : Sent) (e : RunError) → Breaks a.to b [] e → e ≡ Write → EndsEarly a b e
 EndsEarly-first a b e k is_write = let last = last_any a.line a.accepted in record {

@@ -93,11 +93,6 @@ Takes-trans line p line' q line'' ok ok' ok'' first second t u = record {
 
 -- ---- every line has an outcome, and every input answers
 
-pub accepts_line : (line head value : List ℕ) (s : ArrayString) (kind : Kind) → head ≡ line_head line → value ≡ line_value line → kind_name kind ≡ head
-    → ((v : KindValue kind) × KindGrammar kind value v × IsTextOf (KindGrammar kind) (KindCanonical kind) v s.bytes) → LineOutcome line (Accepted s)
-accepts_line line head value s kind at_head at_value named text =
-    (kind, named ∙ at_head, (text.0, subst (λ t. KindGrammar kind t text.0) at_value text.1, text.2))
-
 pub line_decided : (line : List ℕ) → (outcome : Outcome) × LineOutcome line outcome
 line_decided line = elim (kind_told (line_head line)) [
   | inr none ↦ (UnknownKind, none)
@@ -206,10 +201,6 @@ pub Sends-write : (a b : Sent) (held : Option (List ℕ)) (n : ℕ) → Sends a 
     → Sends a (record { writer = b.writer; held = held; waiting = drop n b.waiting }) []
 Sends-write a b held n s h = Sends-trans a b _ [] [] s
     (record { same_writer = refl; written = take n b.waiting; appended = h; in_order = append-nil b.waiting ∙ sym (take-append-drop n b.waiting) })
-
--- bytes are put behind what waits
-pub Sends-put : (a b : Sent) (waiting bytes : List ℕ) → Sends a b [] → waiting ≡ b.waiting ++ bytes → Sends a (record b { waiting = waiting }) bytes
-Sends-put a b waiting bytes s put = Sends-trans a b _ [] bytes s (record { same_writer = refl; written = []; appended = Appends-nil b.held; in_order = sym put })
 
 -- all is written
 pub Sends-all : (a b : Sent) (bytes : List ℕ) → a.waiting ≡ [] → b.waiting ≡ [] → Sends a b bytes → Appends a.held b.held bytes

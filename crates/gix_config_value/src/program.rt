@@ -75,6 +75,9 @@ const LONGEST_ANSWER: usize = 131;
 /// The room for answers that wait.
 const ROOM: usize = 8192;
 
+/// The most bytes that one read takes.
+const READ: usize = 65536;
+
 /// What stands before the first space of a line, and what follows it. Without a space these are
 /// the whole line and nothing.
 fn split_line(line: &[u8]) -> (&[u8], &[u8])
@@ -325,7 +328,7 @@ pub fn run<R: Read, W: Write>(
     ensures fails { IfErr result (Fails (R.remaining reader.old) (R.remaining reader.new)
         (W.contents writer.old) (W.contents writer.new)) }
 {
-    let mut buffer = [0u8; 65536];
+    let mut buffer = [0u8; READ];
     let mut progress = Progress {
         line: Vec::new(alloc),
         all_accepted: true,

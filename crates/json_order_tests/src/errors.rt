@@ -9,7 +9,6 @@ use gix_config_value::path::interpolate::{Class, Place};
 use gix_config_value::program::RunError;
 use std::alloc::AllocError;
 use std::fmt::Debug;
-use std::process::Abort;
 use std::test::Fail;
 use testing::equal;
 
@@ -36,14 +35,14 @@ static FAULTS: [(Fault, &str); 5] = [
 fn errors_have_texts(rt: HostRuntime) -> Result<(), Fail> {
     for (fault, text) in FAULTS {
         let shown = fault.to_string(rt.alloc())?;
-        equal(&rt, shown.as_str(), text, fault);
+        equal(shown.as_str(), text, fault)?;
     }
     for (error, text) in [
         (JsonError::Overflow, OVERFLOW),
         (JsonError::Memory(AllocError), "no memory"),
     ] {
         let shown = error.to_string(rt.alloc())?;
-        equal(&rt, shown.as_str(), text, error);
+        equal(shown.as_str(), text, error)?;
     }
     for (error, text) in [
         (RunError::Read, "cannot read"),
@@ -51,71 +50,58 @@ fn errors_have_texts(rt: HostRuntime) -> Result<(), Fail> {
         (RunError::Memory(AllocError), "no memory"),
     ] {
         let shown = error.to_string(rt.alloc())?;
-        equal(&rt, shown.as_str(), text, error);
+        equal(shown.as_str(), text, error)?;
     }
     Ok(())
 }
 
 /// Each value is unequal to each other one.
-fn differ<T: PartialEq + Debug>(rt: &impl Abort, values: &[T]) {
+fn differ<T: PartialEq + Debug>(values: &[T]) -> Result<(), Fail> {
     for (i, a) in values.iter().enumerate() {
         for (j, b) in values.iter().enumerate() {
-            equal(rt, a == b, i == j, (a, b));
+            equal(a == b, i == j, (a, b))?;
         }
     }
+    Ok(())
 }
 
 #[test]
-fn different_values_are_unequal(rt: HostRuntime) {
-    differ(
-        &rt,
-        &[
-            Fault::Boolean,
-            Fault::Integer,
-            Fault::Overflow,
-            Fault::OutOfRange,
-            Fault::Color,
-        ],
-    );
-    differ(
-        &rt,
-        &[
-            Kind::Suffix,
-            Kind::Integer,
-            Kind::Boolean,
-            Kind::Name,
-            Kind::Attribute,
-            Kind::Color,
-            Kind::Amount,
-        ],
-    );
-    differ(&rt, &[Class::NotFound, Class::Validation, Class::Memory]);
-    differ(
-        &rt,
-        &[
-            Place::PastPrefix,
-            Place::PastHome,
-            Place::Username,
-            Place::PastUser,
-            Place::Whole,
-        ],
-    );
-    differ(
-        &rt,
-        &[
-            Item::Name(Name::Red),
-            Item::Name(Name::Ansi(1)),
-            Item::Attribute(Attribute::BOLD),
-            Item::Attribute(Attribute::DIM),
-        ],
-    );
-    differ(
-        &rt,
-        &[
-            RunError::Read,
-            RunError::Write,
-            RunError::Memory(AllocError),
-        ],
-    );
-    differ(&rt, &[JsonError::Overflow, JsonError::Memory(AllocError)]);
+fn different_values_are_unequal() -> Result<(), Fail> {
+    differ(&[
+        Fault::Boolean,
+        Fault::Integer,
+        Fault::Overflow,
+        Fault::OutOfRange,
+        Fault::Color,
+    ])?;
+    differ(&[
+        Kind::Suffix,
+        Kind::Integer,
+        Kind::Boolean,
+        Kind::Name,
+        Kind::Attribute,
+        Kind::Color,
+        Kind::Amount,
+    ])?;
+    differ(&[Class::NotFound, Class::Validation, Class::Memory])?;
+    differ(&[
+        Place::PastPrefix,
+        Place::PastHome,
+        Place::Username,
+        Place::PastUser,
+        Place::Whole,
+    ])?;
+    differ(&[
+        Item::Name(Name::Red),
+        Item::Name(Name::Ansi(1)),
+        Item::Attribute(Attribute::BOLD),
+        Item::Attribute(Attribute::DIM),
+    ])?;
+    differ(&[
+        RunError::Read,
+        RunError::Write,
+        RunError::Memory(AllocError),
+    ])?;
+    differ(&[JsonError::Overflow, JsonError::Memory(AllocError)])?;
+    Ok(())
 }

@@ -26,10 +26,10 @@ fn integers_are_numbers(rt: HostRuntime) -> Result<(), Fail> {
         let integer = Integer { value, suffix };
         match integer.to_json(rt.alloc()) {
             Ok(json) => {
-                equal(&rt, json.as_i64(), product, integer);
-                equal(&rt, json.is_number(), true, integer);
+                equal(json.as_i64(), product, integer)?;
+                equal(json.is_number(), true, integer)?;
             }
-            Err(error) => equal(&rt, (error, product), (JsonError::Overflow, None), integer),
+            Err(error) => equal((error, product), (JsonError::Overflow, None), integer)?,
         }
     }
     Ok(())
@@ -39,7 +39,7 @@ fn integers_are_numbers(rt: HostRuntime) -> Result<(), Fail> {
 fn booleans_are_truth_values(rt: HostRuntime) -> Result<(), Fail> {
     for truth in [false, true] {
         let json = Boolean(truth).to_json(rt.alloc())?;
-        equal(&rt, json.as_bool(), Some(truth), truth);
+        equal(json.as_bool(), Some(truth), truth)?;
     }
     Ok(())
 }
@@ -52,7 +52,7 @@ fn other_values_are_shown_texts(rt: HostRuntime) -> Result<(), Fail> {
         (Suffix::Gibi, "g"),
     ] {
         let json = suffix.to_json(rt.alloc())?;
-        equal(&rt, json.as_str(), Some(text), suffix);
+        equal(json.as_str(), Some(text), suffix)?;
     }
     for (name, text) in [
         (Name::BrightRed, "brightred"),
@@ -61,7 +61,7 @@ fn other_values_are_shown_texts(rt: HostRuntime) -> Result<(), Fail> {
         (Name::Rgb(255, 17, 187), "#ff11bb"),
     ] {
         let json = name.to_json(rt.alloc())?;
-        equal(&rt, json.as_str(), Some(text), name);
+        equal(json.as_str(), Some(text), name)?;
     }
     for (attributes, text) in [
         (Attribute::empty(), ""),
@@ -71,7 +71,7 @@ fn other_values_are_shown_texts(rt: HostRuntime) -> Result<(), Fail> {
         (Attribute::NO_DIM | Attribute::STRIKE, "strike nodim"),
     ] {
         let json = attributes.to_json(rt.alloc())?;
-        equal(&rt, json.as_str(), Some(text), attributes);
+        equal(json.as_str(), Some(text), attributes)?;
     }
     Ok(())
 }

@@ -22,7 +22,7 @@ fn shows_values(rt: HostRuntime) -> Result<(), Fail> {
         (Boolean(true).to_string(alloc)?, "true"),
         (Name::Rgb(255, 17, 187).to_string(alloc)?, "#ff11bb"),
     ] {
-        equal(&rt, shown.as_str(), text, text);
+        equal(shown.as_str(), text, text)?;
     }
     Ok(())
 }
@@ -52,8 +52,8 @@ fn shows_any_set_of_attributes(rt: HostRuntime) -> Result<(), Fail> {
     for (bits, shown, has_text) in SETS {
         let set = Attribute::from_bits_retain(bits);
         let given = set.to_string(rt.alloc())?;
-        equal(&rt, given.as_str(), shown, set);
-        equal(&rt, set.has_text(), has_text, set);
+        equal(given.as_str(), shown, set)?;
+        equal(set.has_text(), has_text, set)?;
     }
     Ok(())
 }
@@ -108,8 +108,8 @@ fn shows_any_color(rt: HostRuntime) -> Result<(), Fail> {
             attributes: Attribute::from_bits_retain(bits),
         };
         let given = color.to_string(rt.alloc())?;
-        equal(&rt, given.as_str(), shown, color);
-        equal(&rt, color.has_text(), has_text, color);
+        equal(given.as_str(), shown, color)?;
+        equal(color.has_text(), has_text, color)?;
     }
     Ok(())
 }

@@ -5,7 +5,6 @@ use bstr::BStr;
 use gix_config_value::Path;
 use gix_config_value::path::interpolate::{Context, Error, Place};
 use std::alloc::{AllocError, Global};
-use std::process::Abort;
 use std::test::Fail;
 use testing::equal;
 
@@ -83,42 +82,36 @@ fn interpolated<'p>(alloc: Global, path: &'p Path, row: &Row) -> Result<String, 
     )
 }
 
-fn is_answer(rt: &impl Abort, given: &Result<String, Error<'_>>, row: &Row) {
+fn is_answer(given: &Result<String, Error<'_>>, row: &Row) -> Result<(), Fail> {
     let given = given.as_ref().map(String::as_str).map_err(|error| *error);
-    equal(rt, given, row.3, BStr::new(row.0));
+    equal(given, row.3, BStr::new(row.0))
 }
 
 /// The answer needs one request for memory where its text is not empty, and none elsewhere.
-fn is_answered_by_one_request(rt: &(impl AllocGlobal + Abort), row: &Row) -> Result<(), Fail> {
-    let alloc = rt.alloc();
+fn is_answered_by_one_request(alloc: Global, row: &Row) -> Result<(), Fail> {
     let path = Path::from_bstr(alloc, BStr::new(row.0))?;
-    is_answer(rt, &interpolated(alloc, &path, row), row);
+    is_answer(&interpolated(alloc, &path, row), row)?;
     let size = row.3.map_or(0, str::len);
     let mut spare = spares(alloc, &[size])?;
-    let hoard = starved(rt)?;
+    let hoard = starved(alloc)?;
     if size > 0 {
         let refused = interpolated(alloc, &path, row).err();
-        equal(
-            rt,
-            refused,
-            Some(Error::Memory(AllocError)),
-            BStr::new(row.0),
-        );
+        equal(refused, Some(Error::Memory(AllocError)), BStr::new(row.0))?;
         spare.clear();
     }
     let given = interpolated(alloc, &path, row);
-    is_starved(rt);
-    is_answer(rt, &given, row);
+    is_starved(alloc)?;
+    is_answer(&given, row)?;
     drop(hoard);
-    equal(rt, path.as_bytes(), row.0, BStr::new(row.0));
-    is_answer(rt, &interpolated(alloc, &path, row), row);
+    equal(path.as_bytes(), row.0, BStr::new(row.0))?;
+    is_answer(&interpolated(alloc, &path, row), row)?;
     Ok(())
 }
 
 #[test]
 fn interpolates_by_one_request(rt: HostRuntime) -> Result<(), Fail> {
     for row in &ROWS {
-        is_answered_by_one_request(&rt, row)?;
+        is_answered_by_one_request(rt.alloc(), row)?;
     }
     Ok(())
 }

@@ -8,7 +8,6 @@ use gix_config_value::json::JsonError;
 use gix_config_value::{Boolean, Integer};
 use serde_json::Value;
 use std::alloc::{AllocError, Global};
-use std::process::Abort;
 use std::test::Fail;
 use testing::equal;
 
@@ -28,31 +27,26 @@ fn json_of(alloc: Global, shown: Shown) -> Result<Value, JsonError> {
     }
 }
 
-fn is_text(rt: &impl Abort, given: &Result<Value, JsonError>, text: &str) {
+fn is_text(given: &Result<Value, JsonError>, text: &str) -> Result<(), Fail> {
     let given = given.as_ref().map(Value::as_str).map_err(|error| *error);
-    equal(rt, given, Ok(Some(text)), text);
+    equal(given, Ok(Some(text)), text)
 }
 
 /// The text needs one request for memory where it is not empty, and else none.
-fn is_shown_by_one_request(
-    rt: &(impl AllocGlobal + Abort),
-    shown: Shown,
-    text: &str,
-) -> Result<(), Fail> {
-    let alloc = rt.alloc();
-    is_text(rt, &json_of(alloc, shown), text);
+fn is_shown_by_one_request(alloc: Global, shown: Shown, text: &str) -> Result<(), Fail> {
+    is_text(&json_of(alloc, shown), text)?;
     let mut spare = spares(alloc, &[text.len()])?;
-    let hoard = starved(rt)?;
+    let hoard = starved(alloc)?;
     if !text.is_empty() {
         let refused = json_of(alloc, shown).err();
-        equal(rt, refused, Some(JsonError::Memory(AllocError)), text);
+        equal(refused, Some(JsonError::Memory(AllocError)), text)?;
         spare.clear();
     }
     let given = json_of(alloc, shown);
-    is_starved(rt);
-    is_text(rt, &given, text);
+    is_starved(alloc)?;
+    is_text(&given, text)?;
     drop(hoard);
-    is_text(rt, &json_of(alloc, shown), text);
+    is_text(&json_of(alloc, shown), text)?;
     Ok(())
 }
 
@@ -71,7 +65,7 @@ fn shows_texts_by_one_request(rt: HostRuntime) -> Result<(), Fail> {
         (Shown::Attribute(Attribute::empty()), ""),
         (Shown::Attribute(Attribute::from_bits_retain(1 << 0)), ""),
     ] {
-        is_shown_by_one_request(&rt, shown, text)?;
+        is_shown_by_one_request(rt.alloc(), shown, text)?;
     }
     Ok(())
 }
@@ -88,19 +82,22 @@ fn counts_without_memory(rt: HostRuntime) -> Result<(), Fail> {
         suffix: Some(Suffix::Kibi),
     };
     for starve in [false, true] {
-        let hoard = if starve { Some(starved(&rt)?) } else { None };
+        let hoard = if starve {
+            Some(starved(rt.alloc())?)
+        } else {
+            None
+        };
         let truth = Boolean(true).to_json(alloc);
         let number = sixteen.to_json(alloc);
         let refused = past.to_json(alloc);
         drop(hoard);
-        equal(&rt, truth?.as_bool(), Some(true), ("starved", starve));
-        equal(&rt, number?.as_i64(), Some(16_384), ("starved", starve));
+        equal(truth?.as_bool(), Some(true), ("starved", starve))?;
+        equal(number?.as_i64(), Some(16_384), ("starved", starve))?;
         equal(
-            &rt,
             refused.err(),
             Some(JsonError::Overflow),
             ("starved", starve),
-        );
+        )?;
     }
     Ok(())
 }

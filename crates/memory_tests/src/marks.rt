@@ -5,7 +5,6 @@ use bstr::{BStr, BString};
 use gix_config_value::Path;
 use std::alloc::{AllocError, Global};
 use std::borrow::CowSlice;
-use std::process::Abort;
 use std::test::Fail;
 use testing::equal;
 
@@ -42,37 +41,32 @@ fn made(alloc: Global, way: Way, text: &str, path: &Path) -> Result<Path, AllocE
     }
 }
 
-fn is_path(rt: &impl Abort, path: &Path, row: &Row) {
-    equal(rt, path.is_optional, row.1, row.0);
-    equal(rt, path.as_bytes(), row.2.as_bytes(), row.0);
+fn is_path(path: &Path, row: &Row) -> Result<(), Fail> {
+    equal(path.is_optional, row.1, row.0)?;
+    equal(path.as_bytes(), row.2.as_bytes(), row.0)
 }
 
 /// The path is made, by one request for memory, exactly where that is not refused.
-fn is_made_by_one_request(
-    rt: &(impl AllocGlobal + Abort),
-    way: Way,
-    row: &Row,
-) -> Result<(), Fail> {
-    let alloc = rt.alloc();
+fn is_made_by_one_request(alloc: Global, way: Way, row: &Row) -> Result<(), Fail> {
     let path = Path::from_text(alloc, row.0)?;
-    is_path(rt, &made(alloc, way, row.0, &path)?, row);
+    is_path(&made(alloc, way, row.0, &path)?, row)?;
     let size = match way {
         Way::Clone => row.2.len(),
         _ => row.0.len(),
     };
     let mut spare = spares(alloc, &[size])?;
-    let hoard = starved(rt)?;
+    let hoard = starved(alloc)?;
     let refused = made(alloc, way, row.0, &path).err();
-    equal(rt, refused, Some(AllocError), (way, row.0));
-    is_path(rt, &path, row);
+    equal(refused, Some(AllocError), (way, row.0))?;
+    is_path(&path, row)?;
     spare.clear();
     // asks for no more than its bytes
     let again = made(alloc, way, row.0, &path)?;
-    is_starved(rt);
-    is_path(rt, &again, row);
+    is_starved(alloc)?;
+    is_path(&again, row)?;
     drop(hoard);
-    is_path(rt, &path, row);
-    is_path(rt, &made(alloc, way, row.0, &path)?, row);
+    is_path(&path, row)?;
+    is_path(&made(alloc, way, row.0, &path)?, row)?;
     Ok(())
 }
 
@@ -80,7 +74,7 @@ fn is_made_by_one_request(
 fn makes_paths_by_one_request(rt: HostRuntime) -> Result<(), Fail> {
     for row in &ROWS {
         for way in WAYS {
-            is_made_by_one_request(&rt, way, row)?;
+            is_made_by_one_request(rt.alloc(), way, row)?;
         }
     }
     Ok(())
@@ -94,12 +88,16 @@ fn makes_paths_of_owned_bytes_by_none(rt: HostRuntime) -> Result<(), Fail> {
         for starve in [false, true] {
             let text = BString::from_slice(alloc, bytes)?;
             let cow = CowSlice::Owned(Vec::from_slice(alloc, bytes)?);
-            let hoard = if starve { Some(starved(&rt)?) } else { None };
+            let hoard = if starve {
+                Some(starved(rt.alloc())?)
+            } else {
+                None
+            };
             let from_text = Path::from(text);
             let from_cow = Path::from_cow(alloc, cow);
             drop(hoard);
-            is_path(&rt, &from_text, row);
-            is_path(&rt, &from_cow?, row);
+            is_path(&from_text, row)?;
+            is_path(&from_cow?, row)?;
         }
     }
     Ok(())

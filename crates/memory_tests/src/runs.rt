@@ -2,8 +2,7 @@
 
 use crate::spares::{spares_for_growths, starved};
 use gix_config_value::program::{RunError, run};
-use std::alloc::AllocError;
-use std::process::Abort;
+use std::alloc::{AllocError, Global};
 use std::test::Fail;
 use testing::six_lines::{self, ANSWERS};
 use testing::{Reader, Turn, Writer, equal};
@@ -25,30 +24,29 @@ fn whole_answers(output: &[u8], answers: &[&str]) -> Option<usize> {
 /// A run in a process that is starved but for blocks of these sizes: all answers, or want of memory after some first
 /// ones. Says how many bytes were read when memory was refused, if it was.
 fn refused_after(
-    rt: &(impl AllocGlobal + Abort),
+    alloc: Global,
     input: &[u8],
     piece: usize,
     sizes: &[usize],
     answers: &[&str],
 ) -> Result<Option<usize>, Fail> {
-    let alloc = rt.alloc();
     let mut writer = Writer::new(alloc, 1000, usize::MAX)?;
     let outcome = run(alloc, &mut Reader::new(input, piece), &mut writer);
-    equal(rt, outcome, Ok(false), ("ample", piece));
+    equal(outcome, Ok(false), ("ample", piece))?;
     writer.held.clear();
     let mut blocks = spares_for_growths(alloc, sizes)?;
-    let hoard = starved(rt)?;
+    let hoard = starved(alloc)?;
     blocks.clear();
     let mut reader = Reader::new(input, piece);
     let outcome = run(alloc, &mut reader, &mut writer);
     drop(hoard);
     let written = whole_answers(&writer.held, answers);
     if outcome == Ok(false) {
-        equal(rt, written, Some(answers.len()), ("all", piece));
+        equal(written, Some(answers.len()), ("all", piece))?;
         return Ok(None);
     }
-    equal(rt, outcome, REFUSED, ("refused", piece));
-    equal(rt, written.is_some(), true, ("whole answers", piece));
+    equal(outcome, REFUSED, ("refused", piece))?;
+    equal(written.is_some(), true, ("whole answers", piece))?;
     Ok(Some(input.len().saturating_sub(reader.rest.len())))
 }
 
@@ -59,7 +57,7 @@ static SIZES: [usize; 13] = [
 
 /// The run is refused at each of so many growths in turn, each time after it read further, and then no more.
 fn is_refused_in_turn(
-    rt: &(impl AllocGlobal + Abort),
+    alloc: Global,
     input: &[u8],
     piece: usize,
     growths: usize,
@@ -68,14 +66,13 @@ fn is_refused_in_turn(
     let mut gone = 0;
     for count in 0..growths {
         let sizes = SIZES.get(..count).ok_or("too many growths")?;
-        let further = refused_after(rt, input, piece, sizes, answers)?;
-        equal(rt, further > Some(gone), true, (count, piece));
+        let further = refused_after(alloc, input, piece, sizes, answers)?;
+        equal(further > Some(gone), true, (count, piece))?;
         gone = further.unwrap_or(gone);
     }
     let sizes = SIZES.get(..growths).ok_or("too many growths")?;
-    let further = refused_after(rt, input, piece, sizes, answers)?;
-    equal(rt, further, None, (growths, piece));
-    Ok(())
+    let further = refused_after(alloc, input, piece, sizes, answers)?;
+    equal(further, None, (growths, piece))
 }
 
 #[test]
@@ -83,7 +80,7 @@ fn refuses_each_growth_of_six_lines(rt: HostRuntime) -> Result<(), Fail> {
     let input = six_lines::input(rt.alloc())?;
     // at 1000 bytes only the last line, which has no LF, crosses the end of a read
     for piece in [1, 3, 20, 1000] {
-        is_refused_in_turn(&rt, &input, piece, 1, &ANSWERS)?;
+        is_refused_in_turn(rt.alloc(), &input, piece, 1, &ANSWERS)?;
     }
     Ok(())
 }
@@ -96,7 +93,7 @@ fn refuses_each_growth_of_a_long_line(rt: HostRuntime) -> Result<(), Fail> {
     }
     input.extend_from_slice(b"7\nInteger 5")?;
     let answers = ["ok false\n", "ok -7\n", "unknown kind\n"];
-    is_refused_in_turn(&rt, &input, 10, SIZES.len(), &answers)
+    is_refused_in_turn(rt.alloc(), &input, 10, SIZES.len(), &answers)
 }
 
 #[test]
@@ -107,24 +104,18 @@ fn writes_what_waits_before_it_fails(rt: HostRuntime) -> Result<(), Fail> {
     let mut failing = Writer::new(alloc, 1000, usize::MAX)?;
     failing.otherwise = Some((1, Turn::Fails));
     let outcome = run(alloc, &mut Reader::new(&input, 20), &mut writer);
-    equal(&rt, outcome, Ok(false), "ample");
+    equal(outcome, Ok(false), "ample")?;
     writer.held.clear();
-    let hoard = starved(&rt)?;
+    let hoard = starved(rt.alloc())?;
     // the first read ends within the fourth line
     let outcome = run(alloc, &mut Reader::new(&input, 20), &mut writer);
     let other = run(alloc, &mut Reader::new(&input, 20), &mut failing);
     drop(hoard);
-    equal(&rt, outcome, REFUSED, "starved");
-    equal(
-        &rt,
-        whole_answers(&writer.held, &ANSWERS),
-        Some(3),
-        "starved",
-    );
+    equal(outcome, REFUSED, "starved")?;
+    equal(whole_answers(&writer.held, &ANSWERS), Some(3), "starved")?;
     // where that write fails too, the error says so
-    equal(&rt, other, Err(RunError::Write), "failing");
-    equal(&rt, failing.held.len(), 0, "failing");
-    Ok(())
+    equal(other, Err(RunError::Write), "failing")?;
+    equal(failing.held.len(), 0, "failing")
 }
 
 #[test]
@@ -135,12 +126,16 @@ fn needs_no_memory_for_whole_lines(rt: HostRuntime) -> Result<(), Fail> {
     let mut writer = Writer::new(alloc, 1000, usize::MAX)?;
     for starve in [false, true] {
         writer.held.clear();
-        let hoard = if starve { Some(starved(&rt)?) } else { None };
+        let hoard = if starve {
+            Some(starved(rt.alloc())?)
+        } else {
+            None
+        };
         let outcome = run(alloc, &mut Reader::new(&input, usize::MAX), &mut writer);
         drop(hoard);
-        equal(&rt, outcome, Ok(false), ("starved", starve));
+        equal(outcome, Ok(false), ("starved", starve))?;
         let written = whole_answers(&writer.held, &ANSWERS);
-        equal(&rt, written, Some(ANSWERS.len()), ("starved", starve));
+        equal(written, Some(ANSWERS.len()), ("starved", starve))?;
     }
     Ok(())
 }

@@ -1,7 +1,7 @@
 //! Blocks that are given back to a starved process, one for each request that is to succeed.
 
 use std::alloc::{AllocError, Global};
-use std::process::Abort;
+use std::test::Fail;
 use testing::{Hoard, equal};
 
 /// So many blocks of each size, in the order of the sizes.
@@ -27,15 +27,15 @@ pub fn spares_for_growths(alloc: Global, sizes: &[usize]) -> Result<Vec<Vec<u8>>
 }
 
 /// All memory but the blocks that are held already.
-pub fn starved(rt: &(impl AllocGlobal + Abort)) -> Result<Hoard, AllocError> {
-    let hoard = Hoard::new(rt.alloc())?;
-    equal(rt, hoard.is_whole(), true, "memory is left");
-    is_starved(rt);
+pub fn starved(alloc: Global) -> Result<Hoard, Fail> {
+    let hoard = Hoard::new(alloc)?;
+    equal(hoard.is_whole(), true, "memory is left")?;
+    is_starved(alloc)?;
     Ok(hoard)
 }
 
 /// The next request for memory is refused, for one byte too.
-pub fn is_starved(rt: &(impl AllocGlobal + Abort)) {
-    let is_refused = Vec::<u8>::with_capacity(rt.alloc(), 1).is_err();
-    equal(rt, is_refused, true, "memory is left");
+pub fn is_starved(alloc: Global) -> Result<(), Fail> {
+    let is_refused = Vec::<u8>::with_capacity(alloc, 1).is_err();
+    equal(is_refused, true, "memory is left")
 }

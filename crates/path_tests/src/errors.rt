@@ -40,18 +40,18 @@ static PLACES: [(Place, &str); 5] = [
 #[test]
 fn errors_have_classes_and_texts(rt: HostRuntime) -> Result<(), Fail> {
     for (error, class, text) in &ERRORS {
-        equal(&rt, error.class(), *class, *text);
+        equal(error.class(), *class, *text)?;
         let shown = error.to_string(rt.alloc())?;
-        equal(&rt, shown.as_str(), *text, *error);
+        equal(shown.as_str(), *text, *error)?;
     }
     for (place, text) in PLACES {
         let error = Error::IllFormed {
             place,
             input: b"\xff",
         };
-        equal(&rt, error.class(), Class::Validation, place);
+        equal(error.class(), Class::Validation, place)?;
         let shown = error.to_string(rt.alloc())?;
-        equal(&rt, shown.as_str(), text, place);
+        equal(shown.as_str(), text, place)?;
     }
     Ok(())
 }

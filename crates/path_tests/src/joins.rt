@@ -50,7 +50,7 @@ fn joins_each_directory_and_rest(rt: HostRuntime) -> Result<(), Fail> {
                 },
             );
             let given = given.as_ref().map(String::as_str).map_err(Error::class);
-            equal(&rt, given, Ok(*joined), (front, *rest, *dir));
+            equal(given, Ok(*joined), (front, *rest, *dir))?;
         }
     }
     Ok(())
@@ -92,8 +92,8 @@ fn lends_ill_formed_bytes(rt: HostRuntime) -> Result<(), Fail> {
                 },
             );
             let wanted = Error::IllFormed { place, input };
-            equal(&rt, given.err(), Some(wanted), (place, input));
-            equal(&rt, calls.get(), count, ("calls", place, input));
+            equal(given.err(), Some(wanted), (place, input))?;
+            equal(calls.get(), count, ("calls", place, input))?;
         }
     }
     Ok(())

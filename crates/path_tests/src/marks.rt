@@ -5,7 +5,6 @@ use gix_config_value::Path;
 use std::borrow::CowSlice;
 use std::collections::hash_map::DefaultHasher;
 use std::hash::{Hash, Hasher};
-use std::process::Abort;
 use std::test::Fail;
 use testing::equal;
 
@@ -28,11 +27,11 @@ static ROWS: [Row; 9] = [
     ("", false, ""),
 ];
 
-fn is_path(rt: &impl Abort, path: &Path, row: &Row) {
+fn is_path(path: &Path, row: &Row) -> Result<(), Fail> {
     let (text, is_optional, kept) = *row;
-    equal(rt, path.is_optional, is_optional, text);
-    equal(rt, path.as_bytes(), kept.as_bytes(), text);
-    equal(rt, path.as_bstr(), BStr::from(kept), text);
+    equal(path.is_optional, is_optional, text)?;
+    equal(path.as_bytes(), kept.as_bytes(), text)?;
+    equal(path.as_bstr(), BStr::from(kept), text)
 }
 
 #[test]
@@ -49,8 +48,8 @@ fn reads_the_mark(rt: HostRuntime) -> Result<(), Fail> {
             Path::from_cow(alloc, CowSlice::Owned(owned))?,
         ];
         for path in &paths {
-            is_path(&rt, path, row);
-            is_path(&rt, &path.clone(alloc)?, row);
+            is_path(path, row)?;
+            is_path(&path.clone(alloc)?, row)?;
         }
     }
     Ok(())
@@ -72,12 +71,12 @@ fn compares_bytes_and_then_flags(rt: HostRuntime) -> Result<(), Fail> {
     ];
     for (i, a) in paths.iter().enumerate() {
         for (j, b) in paths.iter().enumerate() {
-            equal(&rt, a.cmp(b), i.cmp(&j), (i, j));
-            equal(&rt, a.partial_cmp(b), Some(i.cmp(&j)), (i, j));
-            equal(&rt, a == b, i == j, (i, j));
+            equal(a.cmp(b), i.cmp(&j), (i, j))?;
+            equal(a.partial_cmp(b), Some(i.cmp(&j)), (i, j))?;
+            equal(a == b, i == j, (i, j))?;
             let other = b.clone(alloc)?;
             let is_one = hash_of(a) == hash_of(&other);
-            equal(&rt, is_one, i == j, ("hashes", i, j));
+            equal(is_one, i == j, ("hashes", i, j))?;
         }
     }
     Ok(())

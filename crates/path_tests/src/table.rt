@@ -3,8 +3,8 @@
 use bstr::{BStr, BString};
 use gix_config_value::Path;
 use gix_config_value::path::interpolate::{Context, Error, Place, absent};
+use std::alloc::Global;
 use std::cell::Cell;
-use std::process::Abort;
 use std::test::Fail;
 use testing::equal;
 
@@ -161,16 +161,16 @@ fn home_of(users: &[User], name: &str) -> Option<&'static str> {
     Some(*home)
 }
 
-fn is_answer(rt: &impl Abort, given: &Result<String, Error<'_>>, row: &Row) {
+fn is_answer(given: &Result<String, Error<'_>>, row: &Row) -> Result<(), Fail> {
     let given = given.as_ref().map(String::as_str).map_err(|error| *error);
-    equal(rt, given, row.1, BStr::new(row.0));
+    equal(given, row.1, BStr::new(row.0))
 }
 
 /// The row's value gives its answer, after as many calls of the lookup as the row says, and the path is as it was.
-fn is_given(rt: &(impl AllocGlobal + Abort), group: &Group, row: &Row) -> Result<(), Fail> {
+fn is_given(alloc: Global, group: &Group, row: &Row) -> Result<(), Fail> {
     let (value, _, count) = *row;
     let path = Path {
-        value: BString::from_slice(rt.alloc(), value)?,
+        value: BString::from_slice(alloc, value)?,
         is_optional: true,
     };
     let calls = Cell::new(0u32);
@@ -180,7 +180,7 @@ fn is_given(rt: &(impl AllocGlobal + Abort), group: &Group, row: &Row) -> Result
         home_of(users, name)
     };
     let given = path.interpolate(
-        rt.alloc(),
+        alloc,
         Context {
             git_install_dir: group.install,
             home_dir: group.home,
@@ -188,18 +188,17 @@ fn is_given(rt: &(impl AllocGlobal + Abort), group: &Group, row: &Row) -> Result
         },
     );
     let value = BStr::new(value);
-    is_answer(rt, &given, row);
-    equal(rt, calls.get(), count, ("calls", value));
-    equal(rt, path.as_bstr(), value, value);
-    equal(rt, path.is_optional, true, value);
-    Ok(())
+    is_answer(&given, row)?;
+    equal(calls.get(), count, ("calls", value))?;
+    equal(path.as_bstr(), value, value)?;
+    equal(path.is_optional, true, value)
 }
 
 #[test]
 fn gives_each_row(rt: HostRuntime) -> Result<(), Fail> {
     for group in &TABLE {
         for row in group.rows {
-            is_given(&rt, group, row)?;
+            is_given(rt.alloc(), group, row)?;
         }
     }
     Ok(())
@@ -221,7 +220,7 @@ fn has_nothing_by_default(rt: HostRuntime) -> Result<(), Fail> {
         (&bob, Error::LookupMissing),
     ] {
         let refused = path.interpolate(alloc, nothing).err();
-        equal(&rt, refused, Some(error), path.as_bstr());
+        equal(refused, Some(error), path.as_bstr())?;
     }
     Ok(())
 }

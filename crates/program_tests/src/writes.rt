@@ -3,29 +3,21 @@
 
 use crate::outcome::is_outcome;
 use gix_config_value::program::{RunError, run};
-use std::process::Abort;
+use std::alloc::Global;
 use std::test::Fail;
 use testing::{Reader, Turn, Writer, equal, six_lines};
 
 /// The run fails where the call of this number does otherwise, after a beginning of the answers, and writes no more.
-fn fails_at(
-    rt: &(impl AllocGlobal + Abort),
-    read: usize,
-    piece: usize,
-    call: u64,
-    turn: Turn,
-) -> Result<(), Fail> {
-    let alloc = rt.alloc();
+fn fails_at(alloc: Global, read: usize, piece: usize, call: u64, turn: Turn) -> Result<(), Fail> {
     let input = six_lines::input(alloc)?;
     let answers = six_lines::answers(alloc)?;
     let mut writer = Writer::new(alloc, answers.len(), piece)?;
     writer.otherwise = Some((call, turn));
     let outcome = run(alloc, &mut Reader::new(&input, read), &mut writer);
-    is_outcome(rt, outcome, Err(RunError::Write), piece, call);
+    is_outcome(outcome, Err(RunError::Write), piece, call)?;
     let is_beginning = answers.starts_with(&writer.held) && writer.held.len() < answers.len();
-    equal(rt, is_beginning, true, (piece, call));
-    equal(rt, (writer.calls, writer.flushes), (call, 0), (piece, call));
-    Ok(())
+    equal(is_beginning, true, (piece, call))?;
+    equal((writer.calls, writer.flushes), (call, 0), (piece, call))
 }
 
 #[test]
@@ -37,16 +29,11 @@ fn fails_where_a_write_fails(rt: HostRuntime) -> Result<(), Fail> {
         for piece in [1, 2, 5, 1000] {
             let mut writer = Writer::new(alloc, answers.len(), piece)?;
             let outcome = run(alloc, &mut Reader::new(&input, read), &mut writer);
-            is_outcome(&rt, outcome, Ok(false), piece, 0);
-            equal(
-                &rt,
-                writer.held.as_slice(),
-                answers.as_slice(),
-                (read, piece),
-            );
+            is_outcome(outcome, Ok(false), piece, 0)?;
+            equal(writer.held.as_slice(), answers.as_slice(), (read, piece))?;
             for before in 0..writer.calls {
-                fails_at(&rt, read, piece, before + 1, Turn::Fails)?;
-                fails_at(&rt, read, piece, before + 1, Turn::TakesNone)?;
+                fails_at(rt.alloc(), read, piece, before + 1, Turn::Fails)?;
+                fails_at(rt.alloc(), read, piece, before + 1, Turn::TakesNone)?;
             }
         }
     }
@@ -62,13 +49,13 @@ fn fails_where_the_flush_fails(rt: HostRuntime) -> Result<(), Fail> {
         let mut writer = Writer::new(alloc, answers.len(), piece)?;
         writer.flush_fails = true;
         let outcome = run(alloc, &mut Reader::new(&input, piece), &mut writer);
-        is_outcome(&rt, outcome, Err(RunError::Write), piece, 0);
-        equal(&rt, writer.held.as_slice(), answers.as_slice(), piece);
-        equal(&rt, writer.flushes, 1, piece);
+        is_outcome(outcome, Err(RunError::Write), piece, 0)?;
+        equal(writer.held.as_slice(), answers.as_slice(), piece)?;
+        equal(writer.flushes, 1, piece)?;
     }
     let mut writer = Writer::new(alloc, 0, 1)?;
     writer.flush_fails = true;
     let outcome = run(alloc, &mut Reader::new(b"", 1), &mut writer);
-    is_outcome(&rt, outcome, Err(RunError::Write), 1, 0);
+    is_outcome(outcome, Err(RunError::Write), 1, 0)?;
     Ok(())
 }

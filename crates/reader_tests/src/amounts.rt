@@ -29,7 +29,7 @@ static ROWS: [(&[u8], Wanted); 18] = [
 #[test]
 fn reads_amounts(rt: HostRuntime) -> Result<(), Fail> {
     for (text, wanted) in &ROWS {
-        is_read(&rt, Kind::Amount, text, *wanted)?;
+        is_read(rt.alloc(), Kind::Amount, text, *wanted)?;
     }
     Ok(())
 }

@@ -68,14 +68,9 @@ static REFUSED: [&[u8]; 23] = [
 fn reads_attributes(rt: HostRuntime) -> Result<(), Fail> {
     for (text, attribute, shown) in &ACCEPTED {
         let input = text.as_bytes();
-        is_read(&rt, Kind::Attribute, input, Ok(shown))?;
-        equal(
-            &rt,
-            Attribute::read(BStr::new(input)),
-            Some(*attribute),
-            text,
-        );
-        equal(&rt, word(input), Some(Item::Attribute(*attribute)), text);
+        is_read(rt.alloc(), Kind::Attribute, input, Ok(shown))?;
+        equal(Attribute::read(BStr::new(input)), Some(*attribute), text)?;
+        equal(word(input), Some(Item::Attribute(*attribute)), text)?;
     }
-    are_refused(&rt, Kind::Attribute, &REFUSED)
+    are_refused(rt.alloc(), Kind::Attribute, &REFUSED)
 }

@@ -49,16 +49,16 @@ static REFUSED: [&[u8]; 13] = [
 
 #[test]
 fn reads_booleans(rt: HostRuntime) -> Result<(), Fail> {
-    are_read(&rt, Kind::Boolean, &ACCEPTED)?;
-    are_refused(&rt, Kind::Boolean, &REFUSED)
+    are_read(rt.alloc(), Kind::Boolean, &ACCEPTED)?;
+    are_refused(rt.alloc(), Kind::Boolean, &REFUSED)
 }
 
 #[test]
-fn tells_the_truth_value(rt: HostRuntime) -> Result<(), Fail> {
+fn tells_the_truth_value() -> Result<(), Fail> {
     for (text, truth) in [("true", true), ("off", false)] {
         let boolean = Boolean::try_from(text).map_err(|error| error.fault)?;
-        equal(&rt, boolean.is_true(), truth, text);
-        equal(&rt, bool::from(boolean), truth, text);
+        equal(boolean.is_true(), truth, text)?;
+        equal(bool::from(boolean), truth, text)?;
     }
     Ok(())
 }

@@ -19,13 +19,14 @@ static ALONE: [(Kind, &[u8]); 7] = [
 ];
 
 #[test]
-fn reads_each_byte_alone(rt: HostRuntime) {
+fn reads_each_byte_alone() -> Result<(), Fail> {
     for (kind, accepted) in &ALONE {
         for byte in 0..=255u8 {
             let is_accepted = normalize(*kind, BStr::new(&[byte])).is_some();
-            equal(&rt, is_accepted, accepted.contains(&byte), (*kind, byte));
+            equal(is_accepted, accepted.contains(&byte), (*kind, byte))?;
         }
     }
+    Ok(())
 }
 
 /// U+00A0, `RED`, U+3000 and `#F1b`.
@@ -44,7 +45,7 @@ fn wanted_of(count: usize) -> Wanted {
 #[test]
 fn reads_each_beginning(rt: HostRuntime) -> Result<(), Fail> {
     for count in 0..=TWELVE.len() {
-        is_read(&rt, Kind::Color, &TWELVE[..count], wanted_of(count))?;
+        is_read(rt.alloc(), Kind::Color, &TWELVE[..count], wanted_of(count))?;
     }
     Ok(())
 }
@@ -76,13 +77,13 @@ fn refuses_ill_formed_bytes(rt: HostRuntime) -> Result<(), Fail> {
     for kind in KINDS {
         let text = accepted_text(kind);
         for bytes in ILL_FORMED {
-            is_read(&rt, kind, bytes, refused(kind))?;
+            is_read(rt.alloc(), kind, bytes, refused(kind))?;
             let mut behind = Vec::from_slice(alloc, text)?;
             behind.extend_from_slice(bytes)?;
-            is_read(&rt, kind, &behind, refused(kind))?;
+            is_read(rt.alloc(), kind, &behind, refused(kind))?;
             let mut before = Vec::from_slice(alloc, bytes)?;
             before.extend_from_slice(text)?;
-            is_read(&rt, kind, &before, refused(kind))?;
+            is_read(rt.alloc(), kind, &before, refused(kind))?;
         }
     }
     Ok(())

@@ -92,12 +92,12 @@ static REFUSED: [&[u8]; 29] = [
 
 #[test]
 fn reads_colors(rt: HostRuntime) -> Result<(), Fail> {
-    are_read(&rt, Kind::Color, &ACCEPTED)?;
-    are_refused(&rt, Kind::Color, &REFUSED)
+    are_read(rt.alloc(), Kind::Color, &ACCEPTED)?;
+    are_refused(rt.alloc(), Kind::Color, &REFUSED)
 }
 
 #[test]
-fn puts_each_word_in_its_place(rt: HostRuntime) -> Result<(), Fail> {
+fn puts_each_word_in_its_place() -> Result<(), Fail> {
     let bold_and_ul = 1 << 1 | 1 << 4;
     for (text, foreground, background, bits) in [
         ("", None, None, 0),
@@ -115,7 +115,7 @@ fn puts_each_word_in_its_place(rt: HostRuntime) -> Result<(), Fail> {
             background,
             attributes: Attribute::from_bits_retain(bits),
         };
-        equal(&rt, Color::try_from(text), Ok(wanted), text);
+        equal(Color::try_from(text), Ok(wanted), text)?;
     }
     Ok(())
 }

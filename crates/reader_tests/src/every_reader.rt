@@ -7,9 +7,9 @@ use gix_config_value::canonical::{Kind, Value, normalize};
 use gix_config_value::color::{Attribute, Name};
 use gix_config_value::integer::{Amount, Suffix};
 use gix_config_value::{Boolean, Color, Error, Fault, Integer};
+use std::alloc::Global;
 use std::borrow::CowSlice;
 use std::fmt::Display;
-use std::process::Abort;
 use std::str::FromStr;
 use std::test::Fail;
 use testing::equal;
@@ -39,80 +39,66 @@ pub fn refused(kind: Kind) -> Wanted {
 /// The reader on which the others stand answers what is wanted: a value that is shown by the canonical text, or the
 /// fault.
 fn is_answered<V: TryRead + Display>(
-    rt: &(impl AllocGlobal + Abort),
+    alloc: Global,
     input: &[u8],
     wanted: Wanted,
 ) -> Result<(), Fail> {
     let row = BStr::new(input);
     match V::try_read(input) {
         Ok(value) => {
-            let shown = value.to_string(rt.alloc())?;
-            equal(rt, Ok(shown.as_str()), wanted, row);
+            let shown = value.to_string(alloc)?;
+            equal(Ok(shown.as_str()), wanted, row)?;
         }
-        Err(fault) => equal(rt, Err(fault), wanted, row),
+        Err(fault) => equal(Err(fault), wanted, row)?,
     }
     Ok(())
 }
 
 /// Suffixes are refused with `()`.
-fn is_suffix(rt: &(impl AllocGlobal + Abort), input: &[u8], wanted: Wanted) -> Result<(), Fail> {
+fn is_suffix(alloc: Global, input: &[u8], wanted: Wanted) -> Result<(), Fail> {
     let shown = match Suffix::read(BStr::new(input)) {
-        Some(suffix) => Some(suffix.to_string(rt.alloc())?),
+        Some(suffix) => Some(suffix.to_string(alloc)?),
         None => None,
     };
     let given = shown.as_ref().map(String::as_str);
-    equal(rt, given, wanted.ok(), BStr::new(input));
-    Ok(())
+    equal(given, wanted.ok(), BStr::new(input))
 }
 
-fn is_normalized(rt: &impl Abort, kind: Kind, input: BStr<'_>, wanted: Option<&str>) {
+fn is_normalized(kind: Kind, input: BStr<'_>, wanted: Option<&str>) -> Result<(), Fail> {
     let text = normalize(kind, input);
     let given = text.as_ref().map(ArrayString::as_str);
-    equal(rt, given, wanted, (kind, input));
+    equal(given, wanted, (kind, input))
 }
 
 /// The kind's reader answers what is wanted, and so does the normalizer, to the canonical text too.
-pub fn is_read(
-    rt: &(impl AllocGlobal + Abort),
-    kind: Kind,
-    input: &[u8],
-    wanted: Wanted,
-) -> Result<(), Fail> {
-    is_normalized(rt, kind, BStr::new(input), wanted.ok());
+pub fn is_read(alloc: Global, kind: Kind, input: &[u8], wanted: Wanted) -> Result<(), Fail> {
+    is_normalized(kind, BStr::new(input), wanted.ok())?;
     if let Ok(canonical) = wanted {
-        is_normalized(rt, kind, BStr::from(canonical), Some(canonical));
+        is_normalized(kind, BStr::from(canonical), Some(canonical))?;
     }
     match kind {
-        Kind::Suffix => is_suffix(rt, input, wanted),
-        Kind::Integer => is_answered::<Integer>(rt, input, wanted),
-        Kind::Amount => is_answered::<Amount>(rt, input, wanted),
-        Kind::Boolean => is_answered::<Boolean>(rt, input, wanted),
-        Kind::Name => is_answered::<Name>(rt, input, wanted),
-        Kind::Attribute => is_answered::<Attribute>(rt, input, wanted),
-        Kind::Color => is_answered::<Color>(rt, input, wanted),
+        Kind::Suffix => is_suffix(alloc, input, wanted),
+        Kind::Integer => is_answered::<Integer>(alloc, input, wanted),
+        Kind::Amount => is_answered::<Amount>(alloc, input, wanted),
+        Kind::Boolean => is_answered::<Boolean>(alloc, input, wanted),
+        Kind::Name => is_answered::<Name>(alloc, input, wanted),
+        Kind::Attribute => is_answered::<Attribute>(alloc, input, wanted),
+        Kind::Color => is_answered::<Color>(alloc, input, wanted),
     }
 }
 
 /// Each text of the kind is read as its canonical text says.
-pub fn are_read(
-    rt: &(impl AllocGlobal + Abort),
-    kind: Kind,
-    rows: &[(&[u8], &'static str)],
-) -> Result<(), Fail> {
+pub fn are_read(alloc: Global, kind: Kind, rows: &[(&[u8], &'static str)]) -> Result<(), Fail> {
     for (text, canonical) in rows {
-        is_read(rt, kind, text, Ok(canonical))?;
+        is_read(alloc, kind, text, Ok(canonical))?;
     }
     Ok(())
 }
 
 /// Each text is refused as no text of the kind.
-pub fn are_refused(
-    rt: &(impl AllocGlobal + Abort),
-    kind: Kind,
-    texts: &[&[u8]],
-) -> Result<(), Fail> {
+pub fn are_refused(alloc: Global, kind: Kind, texts: &[&[u8]]) -> Result<(), Fail> {
     for text in texts {
-        is_read(rt, kind, text, refused(kind))?;
+        is_read(alloc, kind, text, refused(kind))?;
     }
     Ok(())
 }
@@ -124,10 +110,10 @@ macro_rules! has_four_readers {
             let owned = BString::from_slice($rt.alloc(), text.as_bytes())?;
             let cow = CowSlice::Borrowed(text.as_bytes());
             let bytes = BStr::from(text);
-            equal(&$rt, <$type>::try_from(text).is_ok(), is_accepted, ("text", text));
-            equal(&$rt, <$type>::try_from(bytes).is_ok(), is_accepted, ("bytes", text));
-            equal(&$rt, <$type>::try_from(owned).is_ok(), is_accepted, ("owned", text));
-            equal(&$rt, <$type>::try_from(cow).is_ok(), is_accepted, ("cow", text));
+            equal(<$type>::try_from(text).is_ok(), is_accepted, ("text", text))?;
+            equal(<$type>::try_from(bytes).is_ok(), is_accepted, ("bytes", text))?;
+            equal(<$type>::try_from(owned).is_ok(), is_accepted, ("owned", text))?;
+            equal(<$type>::try_from(cow).is_ok(), is_accepted, ("cow", text))?;
         }
     }};
 }
@@ -157,59 +143,44 @@ fn colors_have_four_readers(rt: HostRuntime) -> Result<(), Fail> {
 }
 
 #[test]
-fn words_are_parsed(rt: HostRuntime) {
-    equal(&rt, Suffix::from_str("K"), Ok(Suffix::Kibi), "K");
-    equal(&rt, Suffix::try_from(BStr::from("kk")), Err(()), "kk");
-    equal(&rt, Name::from_str("-1"), Ok(Name::Normal), "-1");
-    equal(
-        &rt,
-        Name::try_from(BStr::from("-1")),
-        Ok(Name::Normal),
-        "-1",
-    );
-    equal(&rt, Name::from_str("bright7"), Err(Fault::Color), "bright7");
-    equal(
-        &rt,
-        Attribute::from_str("no-ul"),
-        Ok(Attribute::NO_UL),
-        "no-ul",
-    );
+fn words_are_parsed() -> Result<(), Fail> {
+    equal(Suffix::from_str("K"), Ok(Suffix::Kibi), "K")?;
+    equal(Suffix::try_from(BStr::from("kk")), Err(()), "kk")?;
+    equal(Name::from_str("-1"), Ok(Name::Normal), "-1")?;
+    equal(Name::try_from(BStr::from("-1")), Ok(Name::Normal), "-1")?;
+    equal(Name::from_str("bright7"), Err(Fault::Color), "bright7")?;
+    equal(Attribute::from_str("no-ul"), Ok(Attribute::NO_UL), "no-ul")?;
     let reset = Attribute::try_from(BStr::from("RESET"));
-    equal(&rt, reset, Ok(Attribute::RESET), "RESET");
-    equal(&rt, Attribute::from_str("Bold"), Err(Fault::Color), "Bold");
+    equal(reset, Ok(Attribute::RESET), "RESET")?;
+    equal(Attribute::from_str("Bold"), Err(Fault::Color), "Bold")
 }
 
 #[test]
-fn refusals_lend_the_whole_input(rt: HostRuntime) {
+fn refusals_lend_the_whole_input() -> Result<(), Fail> {
     let refused = Err(Error {
         fault: Fault::Color,
         input: BStr::from("no-red"),
     });
-    equal(
-        &rt,
-        Attribute::try_from(BStr::from("no-red")),
-        refused,
-        "no-red",
-    );
+    equal(Attribute::try_from(BStr::from("no-red")), refused, "no-red")?;
     let ill_formed = BStr::new(b"red \xff");
     let refused = Err(Error {
         fault: Fault::Color,
         input: ill_formed,
     });
-    equal(&rt, Color::try_from(ill_formed), refused, "ill-formed");
+    equal(Color::try_from(ill_formed), refused, "ill-formed")
 }
 
 #[test]
 fn refusals_hand_the_whole_input_back(rt: HostRuntime) -> Result<(), Fail> {
     let owned = BString::from_slice(rt.alloc(), b"tru")?;
     let returned = Boolean::try_from(owned).err().ok_or("accepted")?;
-    equal(&rt, returned.fault, Fault::Boolean, "tru");
-    equal(&rt, returned.input.as_bytes(), b"tru".as_slice(), "tru");
+    equal(returned.fault, Fault::Boolean, "tru")?;
+    equal(returned.input.as_bytes(), b"tru".as_slice(), "tru")?;
     let owned = Vec::from_slice(rt.alloc(), b"08")?;
     for cow in [CowSlice::Borrowed(b"08".as_slice()), CowSlice::Owned(owned)] {
         let returned = Integer::try_from(cow).err().ok_or("accepted")?;
-        equal(&rt, returned.fault, Fault::Integer, "08");
-        equal(&rt, returned.input.as_slice(), b"08".as_slice(), "08");
+        equal(returned.fault, Fault::Integer, "08")?;
+        equal(returned.input.as_slice(), b"08".as_slice(), "08")?;
     }
     Ok(())
 }

@@ -95,12 +95,12 @@ static REFUSED: [&[u8]; 39] = [
 
 #[test]
 fn reads_integers(rt: HostRuntime) -> Result<(), Fail> {
-    are_read(&rt, Kind::Integer, &ACCEPTED)?;
-    are_refused(&rt, Kind::Integer, &REFUSED)
+    are_read(rt.alloc(), Kind::Integer, &ACCEPTED)?;
+    are_refused(rt.alloc(), Kind::Integer, &REFUSED)
 }
 
 #[test]
-fn keeps_number_and_suffix_apart(rt: HostRuntime) {
+fn keeps_number_and_suffix_apart() -> Result<(), Fail> {
     for (text, value, suffix) in [
         ("-0K", 0, Some(Suffix::Kibi)),
         ("0x10", 16, None),
@@ -108,6 +108,7 @@ fn keeps_number_and_suffix_apart(rt: HostRuntime) {
         ("-8589934592g", -8_589_934_592, Some(Suffix::Gibi)),
     ] {
         let wanted = Some(Integer { value, suffix });
-        equal(&rt, scan(text.as_bytes()), wanted, text);
+        equal(scan(text.as_bytes()), wanted, text)?;
     }
+    Ok(())
 }

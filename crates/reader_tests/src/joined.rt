@@ -35,11 +35,12 @@ static SAME: [(Kind, &[u8], &[u8], Option<bool>); 19] = [
 ];
 
 #[test]
-fn tells_texts_of_one_value(rt: HostRuntime) {
+fn tells_texts_of_one_value() -> Result<(), Fail> {
     for (kind, a, b, wanted) in &SAME {
         let (a, b) = (BStr::new(a), BStr::new(b));
-        equal(&rt, same(*kind, a, b), *wanted, (*kind, a, b));
+        equal(same(*kind, a, b), *wanted, (*kind, a, b))?;
     }
+    Ok(())
 }
 
 /// Two color texts, and the canonical text of both together, or none where they have more than two names.
@@ -67,13 +68,13 @@ fn composes_colors(rt: HostRuntime) -> Result<(), Fail> {
         let joined = format!(in rt.alloc(); "{first} {second}")?;
         let normal = normalize(Kind::Color, BStr::from(joined.as_str()));
         let text = normal.as_ref().map(ArrayString::as_str);
-        equal(&rt, text, *wanted, ("joined", *first, *second));
+        equal(text, *wanted, ("joined", *first, *second))?;
         let shown = match compose(front, back) {
             Some(color) => Some(color.to_string(rt.alloc())?),
             None => None,
         };
         let text = shown.as_ref().map(String::as_str);
-        equal(&rt, text, *wanted, ("composed", *first, *second));
+        equal(text, *wanted, ("composed", *first, *second))?;
     }
     Ok(())
 }

@@ -73,7 +73,7 @@ fn text_of(alloc: Global, row: &Row) -> Result<Vec<u8>, AllocError> {
 fn reads_long_texts(rt: HostRuntime) -> Result<(), Fail> {
     for row in &ROWS {
         let text = text_of(rt.alloc(), row)?;
-        is_read(&rt, row.kind, &text, row.wanted)?;
+        is_read(rt.alloc(), row.kind, &text, row.wanted)?;
     }
     Ok(())
 }

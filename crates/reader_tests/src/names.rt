@@ -96,11 +96,11 @@ static REFUSED: [&[u8]; 36] = [
 fn reads_names(rt: HostRuntime) -> Result<(), Fail> {
     for (text, name, shown) in &ACCEPTED {
         let input = text.as_bytes();
-        is_read(&rt, Kind::Name, input, Ok(shown))?;
-        equal(&rt, Name::read(BStr::new(input)), Some(*name), text);
-        equal(&rt, word(input), Some(Item::Name(*name)), text);
+        is_read(rt.alloc(), Kind::Name, input, Ok(shown))?;
+        equal(Name::read(BStr::new(input)), Some(*name), text)?;
+        equal(word(input), Some(Item::Name(*name)), text)?;
     }
-    are_refused(&rt, Kind::Name, &REFUSED)
+    are_refused(rt.alloc(), Kind::Name, &REFUSED)
 }
 
 #[test]
@@ -108,9 +108,9 @@ fn reads_each_palette_number(rt: HostRuntime) -> Result<(), Fail> {
     for number in 0..=255 {
         let text = format!(in rt.alloc(); "{number}")?;
         let name = Name::Ansi(number);
-        equal(&rt, Name::from_str(text.as_str()), Ok(name), number);
+        equal(Name::from_str(text.as_str()), Ok(name), number)?;
         let shown = name.to_string(rt.alloc())?;
-        equal(&rt, shown.as_str(), text.as_str(), number);
+        equal(shown.as_str(), text.as_str(), number)?;
     }
     Ok(())
 }

@@ -3,52 +3,52 @@
 use gix_config_value::integer::scan;
 use gix_config_value::{Fault, Integer};
 use std::fmt::Debug;
-use std::process::Abort;
 use std::test::Fail;
 use testing::equal;
 
 /// The number, or the fault with the whole input.
 fn converts<T: TryFrom<i64> + Copy + PartialEq + Debug>(
-    rt: &impl Abort,
     input: &str,
     wanted: Result<T, Fault>,
-)
+) -> Result<(), Fail>
 where
     T::Error: Drop,
 {
     match Integer::from_bytes::<T>(input.as_bytes()) {
-        Ok(number) => equal(rt, Ok(number), wanted, input),
+        Ok(number) => equal(Ok(number), wanted, input)?,
         Err(error) => {
-            equal(rt, Err(error.fault), wanted, input);
-            equal(rt, error.input.as_bytes(), input.as_bytes(), input);
+            equal(Err(error.fault), wanted, input)?;
+            equal(error.input.as_bytes(), input.as_bytes(), input)?;
         }
     }
+    Ok(())
 }
 
 #[test]
-fn converts_products(rt: HostRuntime) {
-    converts::<usize>(&rt, "10m", Ok(10_485_760));
-    converts::<i64>(&rt, "-2k", Ok(-2048));
-    converts::<u8>(&rt, "256", Err(Fault::OutOfRange));
-    converts::<u64>(&rt, "-1", Err(Fault::OutOfRange));
-    converts::<u8>(&rt, "2x", Err(Fault::Integer));
-    converts::<i64>(&rt, "9007199254740991k", Ok(9_223_372_036_854_774_784));
-    converts::<i64>(&rt, "9007199254740992k", Err(Fault::Overflow));
-    converts::<u8>(&rt, "9007199254740992k", Err(Fault::Overflow));
-    converts::<i64>(&rt, "-9007199254740992k", Ok(i64::MIN));
-    converts::<i64>(&rt, "8796093022207m", Ok(9_223_372_036_853_727_232));
-    converts::<u8>(&rt, "255", Ok(255));
-    converts::<i128>(&rt, "9007199254740992k", Err(Fault::Overflow));
-    converts::<i64>(&rt, "9223372036854775807k", Err(Fault::Overflow));
-    converts::<i8>(&rt, "-0x80", Ok(-128));
-    converts::<i8>(&rt, "128", Err(Fault::OutOfRange));
-    converts::<u16>(&rt, "64k", Err(Fault::OutOfRange));
-    converts::<u32>(&rt, "3g", Ok(3_221_225_472));
-    converts::<u64>(&rt, "", Err(Fault::Integer));
+fn converts_products() -> Result<(), Fail> {
+    converts::<usize>("10m", Ok(10_485_760))?;
+    converts::<i64>("-2k", Ok(-2048))?;
+    converts::<u8>("256", Err(Fault::OutOfRange))?;
+    converts::<u64>("-1", Err(Fault::OutOfRange))?;
+    converts::<u8>("2x", Err(Fault::Integer))?;
+    converts::<i64>("9007199254740991k", Ok(9_223_372_036_854_774_784))?;
+    converts::<i64>("9007199254740992k", Err(Fault::Overflow))?;
+    converts::<u8>("9007199254740992k", Err(Fault::Overflow))?;
+    converts::<i64>("-9007199254740992k", Ok(i64::MIN))?;
+    converts::<i64>("8796093022207m", Ok(9_223_372_036_853_727_232))?;
+    converts::<u8>("255", Ok(255))?;
+    converts::<i128>("9007199254740992k", Err(Fault::Overflow))?;
+    converts::<i64>("9223372036854775807k", Err(Fault::Overflow))?;
+    converts::<i8>("-0x80", Ok(-128))?;
+    converts::<i8>("128", Err(Fault::OutOfRange))?;
+    converts::<u16>("64k", Err(Fault::OutOfRange))?;
+    converts::<u32>("3g", Ok(3_221_225_472))?;
+    converts::<u64>("", Err(Fault::Integer))?;
+    Ok(())
 }
 
 #[test]
-fn multiplies_by_the_suffix(rt: HostRuntime) -> Result<(), Fail> {
+fn multiplies_by_the_suffix() -> Result<(), Fail> {
     for (input, wanted) in [
         ("16k", Some(16_384)),
         ("9223372036854775807k", None),
@@ -63,7 +63,7 @@ fn multiplies_by_the_suffix(rt: HostRuntime) -> Result<(), Fail> {
         ("-9223372036854775808k", None),
     ] {
         let integer = scan(input.as_bytes()).ok_or("refused")?;
-        equal(&rt, integer.to_decimal(), wanted, input);
+        equal(integer.to_decimal(), wanted, input)?;
     }
     Ok(())
 }

@@ -8,8 +8,8 @@ use gix_config_value::settings::{Refused, lookup};
 use gix_config_value::{Boolean, Color, Integer};
 use std::alloc::{AllocError, Global};
 use std::fmt::Debug;
-use std::process::Abort;
 use std::test::Fail;
+use testing::equal;
 
 /// A name and its text.
 type Entry = (&'static [u8], &'static [u8]);
@@ -28,30 +28,21 @@ fn canonical_texts<V: Value>(alloc: Global, entries: &[Entry]) -> Result<Vec<Vec
 
 /// The entries answer what is wanted for the name, and so they do with canonical texts.
 fn answers<V: Value + Debug>(
-    rt: &(impl AllocGlobal + Abort),
+    alloc: Global,
     entries: &[Entry],
     name: &[u8],
     default: V,
     wanted: Result<V, Refused<'static>>,
-) -> Result<(), AllocError> {
-    assert_eq!(rt;
-        lookup(entries, name, default),
-        wanted,
-        "{}",
-        BStr::new(name)
-    );
-    let texts = canonical_texts::<V>(rt.alloc(), entries)?;
-    let mut replaced: Vec<(&[u8], &[u8])> = Vec::new(rt.alloc());
+) -> Result<(), Fail> {
+    let is_answer = lookup(entries, name, default) == wanted;
+    equal(is_answer, true, BStr::new(name))?;
+    let texts = canonical_texts::<V>(alloc, entries)?;
+    let mut replaced: Vec<(&[u8], &[u8])> = Vec::new(alloc);
     for (entry, text) in entries.iter().zip(&texts) {
         replaced.push((entry.0, text.as_slice()))?;
     }
-    assert_eq!(rt;
-        lookup(&replaced, name, default),
-        wanted,
-        "{} replaced",
-        BStr::new(name)
-    );
-    Ok(())
+    let is_answer = lookup(&replaced, name, default) == wanted;
+    equal(is_answer, true, ("replaced", BStr::new(name)))
 }
 
 /// The refusal of the entry at this place.
@@ -99,7 +90,7 @@ fn looks_up_integers(rt: HostRuntime) -> Result<(), Fail> {
         (&[(b"\xff", b"1"), (b"\xfe", b"2")], b"\xff", Ok(plain(1))),
     ];
     for (entries, name, wanted) in rows {
-        answers(&rt, entries, name, plain(7), wanted)?;
+        answers(rt.alloc(), entries, name, plain(7), wanted)?;
     }
     Ok(())
 }
@@ -107,24 +98,42 @@ fn looks_up_integers(rt: HostRuntime) -> Result<(), Fail> {
 #[test]
 fn looks_up_values_of_each_type(rt: HostRuntime) -> Result<(), Fail> {
     let sizes: [Entry; 2] = [(b"c.x", b"1k"), (b"d", b"5")];
-    answers(&rt, &sizes, b"c.x", Amount(0), Ok(Amount(1024)))?;
+    answers(rt.alloc(), &sizes, b"c.x", Amount(0), Ok(Amount(1024)))?;
     let past: [Entry; 2] = [(b"c.x", b"1k"), (b"c.x", b"8589934592g")];
-    answers::<Amount>(&rt, &past, b"c.x", Amount(0), refuses(1, b"8589934592g"))?;
-    answers(&rt, &[], b"c.x", Boolean(true), Ok(Boolean(true)))?;
+    answers::<Amount>(
+        rt.alloc(),
+        &past,
+        b"c.x",
+        Amount(0),
+        refuses(1, b"8589934592g"),
+    )?;
+    answers(rt.alloc(), &[], b"c.x", Boolean(true), Ok(Boolean(true)))?;
     let empty: [Entry; 1] = [(b"c.x", b"")];
-    answers(&rt, &empty, b"c.x", Boolean(true), Ok(Boolean(false)))?;
+    answers(
+        rt.alloc(),
+        &empty,
+        b"c.x",
+        Boolean(true),
+        Ok(Boolean(false)),
+    )?;
     let units: [Entry; 1] = [(b"unit", b"M")];
-    answers(&rt, &units, b"unit", Suffix::Gibi, Ok(Suffix::Mebi))?;
+    answers(rt.alloc(), &units, b"unit", Suffix::Gibi, Ok(Suffix::Mebi))?;
     let names: [Entry; 1] = [(b"n", b"-1")];
-    answers(&rt, &names, b"n", Name::Black, Ok(Name::Normal))?;
+    answers(rt.alloc(), &names, b"n", Name::Black, Ok(Name::Normal))?;
     let words: [Entry; 1] = [(b"a", b"no-ul")];
-    answers(&rt, &words, b"a", Attribute::BOLD, Ok(Attribute::NO_UL))?;
+    answers(
+        rt.alloc(),
+        &words,
+        b"a",
+        Attribute::BOLD,
+        Ok(Attribute::NO_UL),
+    )?;
     let colors: [Entry; 2] = [(b"u", b"red"), (b"u", b"ul  red")];
     let underlined = Color {
         foreground: Some(Name::Red),
         background: None,
         attributes: Attribute::UL,
     };
-    answers(&rt, &colors, b"u", Color::default(), Ok(underlined))?;
+    answers(rt.alloc(), &colors, b"u", Color::default(), Ok(underlined))?;
     Ok(())
 }

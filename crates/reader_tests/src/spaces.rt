@@ -69,9 +69,9 @@ fn parts_words_at_white_space(rt: HostRuntime) -> Result<(), Fail> {
         let mut text = Vec::from_slice(rt.alloc(), b"red")?;
         text.extend_from_slice(space)?;
         text.extend_from_slice(b"blue")?;
-        is_read(&rt, Kind::Color, &text, Ok("red blue"))?;
-        equal(&rt, space_at(&text, 2), 0, ("before", space));
-        equal(&rt, space_at(&text, 3), space.len(), ("at", space));
+        is_read(rt.alloc(), Kind::Color, &text, Ok("red blue"))?;
+        equal(space_at(&text, 2), 0, ("before", space))?;
+        equal(space_at(&text, 3), space.len(), ("at", space))?;
     }
     Ok(())
 }
@@ -89,18 +89,19 @@ fn refuses_near_misses(rt: HostRuntime) -> Result<(), Fail> {
             let mut text = Vec::from_slice(rt.alloc(), front)?;
             text.extend_from_slice(near)?;
             text.extend_from_slice(back)?;
-            is_read(&rt, Kind::Color, &text, refused(Kind::Color))?;
+            is_read(rt.alloc(), Kind::Color, &text, refused(Kind::Color))?;
         }
-        equal(&rt, space_at(near, 0), 0, near);
+        equal(space_at(near, 0), 0, near)?;
     }
     Ok(())
 }
 
 #[test]
-fn measures_white_space_at_a_place(rt: HostRuntime) {
+fn measures_white_space_at_a_place() -> Result<(), Fail> {
     // `A` and U+3000: a place within the spelling and the end are no white space
     let text = b"A\xe3\x80\x80";
     for (at, length) in [(0, 0), (1, 3), (2, 0), (3, 0), (4, 0)] {
-        equal(&rt, space_at(text, at), length, at);
+        equal(space_at(text, at), length, at)?;
     }
+    Ok(())
 }

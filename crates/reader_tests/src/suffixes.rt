@@ -19,13 +19,14 @@ static REFUSED: [&[u8]; 8] = [b"", b"kk", b"k\r", b" k", b"1k", b"t", b"kb", b"b
 
 #[test]
 fn reads_suffixes(rt: HostRuntime) -> Result<(), Fail> {
-    are_read(&rt, Kind::Suffix, &ACCEPTED)?;
-    are_refused(&rt, Kind::Suffix, &REFUSED)
+    are_read(rt.alloc(), Kind::Suffix, &ACCEPTED)?;
+    are_refused(rt.alloc(), Kind::Suffix, &REFUSED)
 }
 
 #[test]
-fn tells_the_power_of_two(rt: HostRuntime) {
+fn tells_the_power_of_two() -> Result<(), Fail> {
     for (suffix, power) in [(Suffix::Kibi, 10), (Suffix::Mebi, 20), (Suffix::Gibi, 30)] {
-        equal(&rt, suffix.bitwise_offset(), power, suffix);
+        equal(suffix.bitwise_offset(), power, suffix)?;
     }
+    Ok(())
 }

@@ -1,13 +1,16 @@
-//! What a row of a table asserts, written once: each assertion that formats a message of its own is proved anew.
+//! What a row of a table asserts, written once: an assertion that formats a message of its own is proved anew each time.
 
 use std::fmt::Debug;
-use std::process::Abort;
+use std::test::Fail;
 
-/// What was given is what was wanted, or the test stops with both and their row.
-pub fn equal<T, R>(rt: &impl Abort, given: T, wanted: T, row: R)
+/// What was given is what was wanted, or the failure shows both and their row.
+pub fn equal<T, R>(given: T, wanted: T, row: R) -> Result<(), Fail>
 where
     T: Copy + PartialEq + Debug,
     R: Copy + Debug,
 {
-    assert_eq!(rt; given, wanted, "{row:?}");
+    if given == wanted {
+        return Ok(());
+    }
+    Err(Fail::new(format_args!("{row:?}: {given:?} in place of {wanted:?}")))
 }
