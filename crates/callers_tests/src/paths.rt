@@ -16,22 +16,36 @@ fn interpolates_paths(rt: HostRuntime) -> Result<(), Fail> {
     let below_b = Path::from_text(alloc, "~b/x")?;
     let below_home = Path::from_text(alloc, "~/x")?;
     let below_www = Path::from_text(alloc, "~www/x")?;
-    for (given, wanted) in [
-        (path_of_user(alloc, &below_a, PASSWD), Ok("/h/b/x")),
+    for (call, given, wanted) in [
         (
+            "the user a",
+            path_of_user(alloc, &below_a, PASSWD),
+            Ok("/h/b/x"),
+        ),
+        (
+            "the user b",
             path_of_user(alloc, &below_b, PASSWD),
             Err(Error::UserNotFound),
         ),
-        (path_at_home(alloc, &below_home, "/h"), Ok("/h/x")),
+        ("home", path_at_home(alloc, &below_home, "/h"), Ok("/h/x")),
         (
+            "no lookup",
             path_at_home(alloc, &below_a, "/h"),
             Err(Error::LookupMissing),
         ),
-        (path_of_service(alloc, &below_www), Ok("/srv/www/x")),
-        (path_of_service(alloc, &below_a), Err(Error::UserNotFound)),
+        (
+            "the service",
+            path_of_service(alloc, &below_www),
+            Ok("/srv/www/x"),
+        ),
+        (
+            "no service",
+            path_of_service(alloc, &below_a),
+            Err(Error::UserNotFound),
+        ),
     ] {
         let given = given.as_ref().map(String::as_str).map_err(|error| *error);
-        equal(given, wanted, wanted)?;
+        equal(given, wanted, call)?;
     }
     Ok(())
 }

@@ -34,6 +34,7 @@ fn reads_entries(rt: HostRuntime) -> Result<(), Fail> {
     equal(bare, Ok(Boolean(false)), "bare")
 }
 
+/// An integer of these parts.
 fn integer(value: i64, suffix: Option<Suffix>) -> Integer {
     Integer { value, suffix }
 }

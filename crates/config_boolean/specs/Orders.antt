@@ -1,4 +1,4 @@
--- Orders of the value types.
+-- The order of booleans.
 use Rattle.std.specs.Ordering.{bool_cmp, on}
 use Rattle.std.specs.declared.cmp.Ordering.{Ordering}
 use Rattle.config_boolean.specs.declared.boolean.Boolean.{Boolean}

@@ -1,4 +1,4 @@
--- Orders of the value types.
+-- The order of colors.
 use Rattle.std.specs.Option.{option_cmp}
 use Rattle.std.specs.Ordering.{then_cmp, on}
 use Rattle.std.specs.declared.cmp.Ordering.{Ordering}

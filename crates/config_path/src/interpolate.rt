@@ -59,10 +59,10 @@ pub enum Error<'p> {
     /// The value begins with `%(prefix)/` and the context has no install directory.
     #[error("git install dir is missing")]
     InstallDirMissing,
-    /// The value begins with `~` or `~/` and the context has no home directory.
+    /// The value is `~` or begins with `~/` and the context has no home directory.
     #[error("home dir is missing")]
     HomeMissing,
-    /// The value begins with a user's name and the context has no lookup.
+    /// The value begins with `~` and a user's name, and the context has no lookup.
     #[error("home for user lookup is missing")]
     LookupMissing,
     /// The lookup knows no user of the name.

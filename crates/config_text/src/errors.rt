@@ -32,7 +32,8 @@ pub struct Error<'a> {
     pub input: BStr<'a>,
 }
 
-/// A refusal of an owned text: the fault, and the input as it was handed in.
+/// A refusal of a text that is handed back, since it is or may be owned: the fault, and the input as
+/// it was handed in.
 #[derive(PartialEq, Eq, Debug, Drop)]
 pub struct Returned<V> {
     /// Why the text is refused.

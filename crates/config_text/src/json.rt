@@ -16,7 +16,8 @@ pub enum JsonError {
     Memory(AllocError),
 }
 
-/// The text as a JSON string. Asks for memory once, and not for the empty text.
+/// The text as a JSON string. Asks for memory once, and not for the empty text. `JsonError::Memory`
+/// where that is refused.
 pub fn string(alloc: Global, text: &str) -> Result<Value, JsonError>
     ensures { GivesJsonText text.now result }
 {

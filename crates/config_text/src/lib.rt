@@ -6,6 +6,7 @@
 //! - [`readers`]: the readers of a type over borrowed and owned inputs, written once.
 //! - [`json`]: why a value has no JSON value, and texts as JSON.
 //! - [`settings`]: a setting by name, of a list of entries.
+//! - [`laws`]: what holds of settings.
 //!
 //! This crate knows no kind of value. Its definitions are on top of `specs/`; `specs/Laws/` holds lemmas.
 #![tactic(auto)]

@@ -34,6 +34,7 @@ pub trait Value: Copy + Eq {
         ensures { IsTrue result ↔ (HasText grammar self.now) };
 
     /// The one canonical text that reads to this value: its displayed text, of at most 127 bytes.
+    /// Some text must read to the value, as `has_text` tells.
     fn text(&self) -> Text
         requires { HasText grammar self.now }
         ensures text { IsTextOf grammar canonical self.now result.bytes }

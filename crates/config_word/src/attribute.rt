@@ -125,7 +125,7 @@ fn shown_words() -> &'static [Shown]
 
 impl Attribute {
     /// Appends the words of the known bits that are set, by rising bit, with one space between, in
-    /// at most 99 bytes. Colors append their attributes by it.
+    /// at most 99 bytes, for which there must be room. Colors append their attributes by it.
     pub fn push_to(self, text: &mut Text)
         requires { length text.old.bytes + 99 ≤ LONGEST_TEXT }
         ensures { text.new.bytes ≡ text.old.bytes ++ attribute_shown self.0 }

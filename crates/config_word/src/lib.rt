@@ -1,8 +1,8 @@
 //! The words of a color text: names of colors, and attributes such as bold.
 //!
 //! - [`name::Name`] is a color's name, and [`attribute::Attribute`] a set of attributes. Each is
-//!   read by `TryFrom` and `FromStr`, shown by `Display`, and has one canonical text
-//!   ([`Value`](config_text::value::Value)).
+//!   read by `TryFrom` and `FromStr`, shown by `Display`, and has one canonical text where some text
+//!   reads to it ([`Value`](config_text::value::Value)).
 //! - [`item::word`] reads one word as whichever of the two it is. The words and the constants that
 //!   they stand for are one table.
 //! - [`laws`] has what holds of both: each law is the contract of a function that does nothing.

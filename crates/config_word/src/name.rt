@@ -89,7 +89,8 @@ fn hex_char(number: u8) -> char
 }
 
 impl Name {
-    /// Appends the name as it is shown, in at most 13 bytes. Colors append their second name by it.
+    /// Appends the name as it is shown, in at most 13 bytes, for which there must be room. Colors
+    /// append their names by it.
     pub fn push_to(self, text: &mut Text)
         requires { length text.old.bytes + 13 ≤ LONGEST_TEXT }
         ensures { text.new.bytes ≡ text.old.bytes ++ name_shown self }

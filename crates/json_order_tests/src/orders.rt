@@ -8,10 +8,12 @@ use std::hash::{BuildHasher, BuildHasherDefault, FoldHasher, Hash};
 use std::test::Fail;
 use testing::equal;
 
+/// An integer of these parts.
 fn integer(value: i64, suffix: Option<Suffix>) -> Integer {
     Integer { value, suffix }
 }
 
+/// A color of these parts.
 fn color(foreground: Option<Name>, background: Option<Name>, bits: u32) -> Color {
     Color {
         foreground,

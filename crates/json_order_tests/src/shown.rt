@@ -15,14 +15,14 @@ fn shows_values(rt: HostRuntime) -> Result<(), Fail> {
         value: 16,
         suffix: Some(Suffix::Kibi),
     };
-    for (shown, text) in [
-        (Suffix::Mebi.to_string(alloc)?, "m"),
-        (sixteen.to_string(alloc)?, "16k"),
-        (Amount(-5).to_string(alloc)?, "-5"),
-        (Boolean(true).to_string(alloc)?, "true"),
-        (Name::Rgb(255, 17, 187).to_string(alloc)?, "#ff11bb"),
+    for (kind, shown, text) in [
+        ("suffix", Suffix::Mebi.to_string(alloc)?, "m"),
+        ("integer", sixteen.to_string(alloc)?, "16k"),
+        ("amount", Amount(-5).to_string(alloc)?, "-5"),
+        ("boolean", Boolean(true).to_string(alloc)?, "true"),
+        ("name", Name::Rgb(255, 17, 187).to_string(alloc)?, "#ff11bb"),
     ] {
-        equal(shown.as_str(), text, text)?;
+        equal(shown.as_str(), text, kind)?;
     }
     Ok(())
 }

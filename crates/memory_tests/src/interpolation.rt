@@ -69,6 +69,7 @@ static ROWS: [Row; 29] = [
     (b"x\xff", Some("/h"), true, ill_formed!(Whole, b"x\xff")),
 ];
 
+/// What the path gives with the row's directory and lookup.
 fn interpolated<'p>(alloc: Global, path: &'p Path, row: &Row) -> Result<String, Error<'p>> {
     let dir = row.1;
     let lookup = |name: &str| if name == "bob" { dir } else { None };
@@ -82,6 +83,7 @@ fn interpolated<'p>(alloc: Global, path: &'p Path, row: &Row) -> Result<String, 
     )
 }
 
+/// The answer is that of the row.
 fn is_answer(given: &Result<String, Error<'_>>, row: &Row) -> Result<(), Fail> {
     let given = given.as_ref().map(String::as_str).map_err(|error| *error);
     equal(given, row.3, BStr::new(row.0))

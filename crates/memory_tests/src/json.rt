@@ -19,6 +19,7 @@ enum Shown {
     Attribute(Attribute),
 }
 
+/// The JSON value of what is shown.
 fn json_of(alloc: Global, shown: Shown) -> Result<Value, JsonError> {
     match shown {
         Shown::Suffix(suffix) => suffix.to_json(alloc),
@@ -27,6 +28,7 @@ fn json_of(alloc: Global, shown: Shown) -> Result<Value, JsonError> {
     }
 }
 
+/// The JSON value is this text.
 fn is_text(given: &Result<Value, JsonError>, text: &str) -> Result<(), Fail> {
     let given = given.as_ref().map(Value::as_str).map_err(|error| *error);
     equal(given, Ok(Some(text)), text)
@@ -52,14 +54,14 @@ fn is_shown_by_one_request(alloc: Global, shown: Shown, text: &str) -> Result<()
 
 #[test]
 fn shows_texts_by_one_request(rt: HostRuntime) -> Result<(), Fail> {
-    let five = Attribute::BOLD | Attribute::UL | Attribute::STRIKE | Attribute::NO_DIM;
+    let four = Attribute::BOLD | Attribute::UL | Attribute::STRIKE | Attribute::NO_DIM;
     for (shown, text) in [
         (Shown::Suffix(Suffix::Mebi), "m"),
         (Shown::Name(Name::Ansi(5)), "5"),
         (Shown::Name(Name::BrightMagenta), "brightmagenta"),
         (Shown::Name(Name::Rgb(255, 17, 187)), "#ff11bb"),
         (
-            Shown::Attribute(five | Attribute::NO_REVERSE),
+            Shown::Attribute(four | Attribute::NO_REVERSE),
             "bold ul strike nodim noreverse",
         ),
         (Shown::Attribute(Attribute::empty()), ""),
@@ -82,11 +84,7 @@ fn counts_without_memory(rt: HostRuntime) -> Result<(), Fail> {
         suffix: Some(Suffix::Kibi),
     };
     for starve in [false, true] {
-        let hoard = if starve {
-            Some(starved(rt.alloc())?)
-        } else {
-            None
-        };
+        let hoard = if starve { Some(starved(alloc)?) } else { None };
         let truth = Boolean(true).to_json(alloc);
         let number = sixteen.to_json(alloc);
         let refused = past.to_json(alloc);

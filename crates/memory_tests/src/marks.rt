@@ -22,7 +22,7 @@ static ROWS: [Row; 3] = [
 ];
 
 /// A constructor or `clone`.
-#[derive(Clone, Copy, PartialEq, Eq, Debug)]
+#[derive(Clone, Copy, Debug)]
 enum Way {
     Text,
     Bytes,
@@ -32,6 +32,7 @@ enum Way {
 
 const WAYS: [Way; 4] = [Way::Text, Way::Bytes, Way::Cow, Way::Clone];
 
+/// The path that the way gives: of the text, or the clone of the path.
 fn made(alloc: Global, way: Way, text: &str, path: &Path) -> Result<Path, AllocError> {
     match way {
         Way::Text => Path::from_text(alloc, text),
@@ -41,6 +42,7 @@ fn made(alloc: Global, way: Way, text: &str, path: &Path) -> Result<Path, AllocE
     }
 }
 
+/// The path has the flag and the bytes of the row.
 fn is_path(path: &Path, row: &Row) -> Result<(), Fail> {
     equal(path.is_optional, row.1, row.0)?;
     equal(path.as_bytes(), row.2.as_bytes(), row.0)
@@ -88,11 +90,7 @@ fn makes_paths_of_owned_bytes_by_none(rt: HostRuntime) -> Result<(), Fail> {
         for starve in [false, true] {
             let text = BString::from_slice(alloc, bytes)?;
             let cow = CowSlice::Owned(Vec::from_slice(alloc, bytes)?);
-            let hoard = if starve {
-                Some(starved(rt.alloc())?)
-            } else {
-                None
-            };
+            let hoard = if starve { Some(starved(alloc)?) } else { None };
             let from_text = Path::from(text);
             let from_cow = Path::from_cow(alloc, cow);
             drop(hoard);

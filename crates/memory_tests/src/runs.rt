@@ -106,7 +106,7 @@ fn writes_what_waits_before_it_fails(rt: HostRuntime) -> Result<(), Fail> {
     let outcome = run(alloc, &mut Reader::new(&input, 20), &mut writer);
     equal(outcome, Ok(false), "ample")?;
     writer.held.clear();
-    let hoard = starved(rt.alloc())?;
+    let hoard = starved(alloc)?;
     // the first read ends within the fourth line
     let outcome = run(alloc, &mut Reader::new(&input, 20), &mut writer);
     let other = run(alloc, &mut Reader::new(&input, 20), &mut failing);
@@ -126,11 +126,7 @@ fn needs_no_memory_for_whole_lines(rt: HostRuntime) -> Result<(), Fail> {
     let mut writer = Writer::new(alloc, 1000, usize::MAX)?;
     for starve in [false, true] {
         writer.held.clear();
-        let hoard = if starve {
-            Some(starved(rt.alloc())?)
-        } else {
-            None
-        };
+        let hoard = if starve { Some(starved(alloc)?) } else { None };
         let outcome = run(alloc, &mut Reader::new(&input, usize::MAX), &mut writer);
         drop(hoard);
         equal(outcome, Ok(false), ("starved", starve))?;

@@ -4,7 +4,7 @@ use std::alloc::{AllocError, Global};
 use std::test::Fail;
 use testing::{Hoard, equal};
 
-/// So many blocks of each size, in the order of the sizes.
+/// A block of each size, in the order of the sizes.
 pub fn spares(alloc: Global, sizes: &[usize]) -> Result<Vec<Vec<u8>>, AllocError> {
     let mut blocks = Vec::with_capacity(alloc, sizes.len())?;
     for size in sizes {

@@ -8,6 +8,7 @@ use std::cell::Cell;
 use std::test::Fail;
 use testing::equal;
 
+/// The path of both, one behind the other, as they stand.
 fn path_of(alloc: Global, front: &[u8], back: &[u8]) -> Result<Path, AllocError> {
     let mut value = Vec::from_slice(alloc, front)?;
     value.extend_from_slice(back)?;

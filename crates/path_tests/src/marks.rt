@@ -27,6 +27,7 @@ static ROWS: [Row; 9] = [
     ("", false, ""),
 ];
 
+/// The path has the flag and the bytes of the row.
 fn is_path(path: &Path, row: &Row) -> Result<(), Fail> {
     let (text, is_optional, kept) = *row;
     equal(path.is_optional, is_optional, text)?;
@@ -55,6 +56,7 @@ fn reads_the_mark(rt: HostRuntime) -> Result<(), Fail> {
     Ok(())
 }
 
+/// What the path is hashed to.
 fn hash_of(path: &Path) -> u64 {
     let mut state = DefaultHasher::new();
     path.hash(&mut state);

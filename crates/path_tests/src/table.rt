@@ -161,6 +161,7 @@ fn home_of(users: &[User], name: &str) -> Option<&'static str> {
     Some(*home)
 }
 
+/// The answer is that of the row.
 fn is_answer(given: &Result<String, Error<'_>>, row: &Row) -> Result<(), Fail> {
     let given = given.as_ref().map(String::as_str).map_err(|error| *error);
     equal(given, row.1, BStr::new(row.0))

@@ -10,7 +10,7 @@ use testing::{Reader, Writer, equal};
 fn answers_no_line(rt: HostRuntime) -> Result<(), Fail> {
     let mut writer = Writer::new(rt.alloc(), 0, 1)?;
     let outcome = run(rt.alloc(), &mut Reader::new(b"", 1), &mut writer);
-    is_outcome(outcome, Ok(true), 1, 0)?;
+    is_outcome(outcome, Ok(true), "no line")?;
     equal((writer.calls, writer.flushes), (0, 1), "calls")
 }
 
@@ -22,7 +22,7 @@ fn answers_one_line(rt: HostRuntime) -> Result<(), Fail> {
         &mut Reader::new(b"integer 0x10k\n", 1),
         &mut output,
     );
-    is_outcome(outcome, Ok(true), 1, 0)?;
+    is_outcome(outcome, Ok(true), "one line")?;
     equal(output.as_slice(), b"ok 16k\n".as_slice(), "output")
 }
 
@@ -43,7 +43,7 @@ fn answers_wait_for_each_other(rt: HostRuntime) -> Result<(), Fail> {
     }
     let mut writer = Writer::new(alloc, answers.len(), usize::MAX)?;
     let outcome = run(alloc, &mut Cursor::new(input.as_slice()), &mut writer);
-    is_outcome(outcome, Ok(true), usize::MAX, 0)?;
+    is_outcome(outcome, Ok(true), "many lines")?;
     equal(writer.held == answers, true, writer.held.len())?;
     equal(writer.calls <= MOST_WRITES, true, writer.calls)?;
     equal(writer.flushes, 1, "flushes")
@@ -67,7 +67,7 @@ fn answers_lines_longer_than_a_read(rt: HostRuntime) -> Result<(), Fail> {
     for piece in [4096, 65_535, 65_536, usize::MAX] {
         let mut output = Vec::new(alloc);
         let outcome = run(alloc, &mut Reader::new(&input, piece), &mut output);
-        is_outcome(outcome, Ok(true), piece, 0)?;
+        is_outcome(outcome, Ok(true), piece)?;
         equal(output.as_slice(), ANSWERS.as_bytes(), piece)?;
     }
     Ok(())

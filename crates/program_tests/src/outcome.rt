@@ -2,23 +2,23 @@
 
 use gix_config_value::program::{RunError, status};
 use std::alloc::AllocError;
+use std::fmt::Debug;
 use std::test::Fail;
 use testing::equal;
 
-/// The run ended as expected, with the status of that: with pieces of so many bytes, and something done at this call.
-pub fn is_outcome(
+/// The run of the row ended as expected, with the status of that.
+pub fn is_outcome<R: Copy + Debug>(
     outcome: Result<bool, RunError>,
     expected: Result<bool, RunError>,
-    piece: usize,
-    call: u64,
+    row: R,
 ) -> Result<(), Fail> {
     let exit = match expected {
         Ok(true) => 0,
         Ok(false) => 1,
         Err(_) => 2,
     };
-    equal(outcome, expected, (piece, call))?;
-    equal(status(&outcome), exit, (piece, call))
+    equal(outcome, expected, row)?;
+    equal(status(&outcome), exit, row)
 }
 
 #[test]

@@ -17,7 +17,7 @@ fn reads_in_pieces(rt: HostRuntime) -> Result<(), Fail> {
         let mut reader = Reader::new(&input, piece);
         let mut output = Vec::new(alloc);
         let outcome = run(alloc, &mut reader, &mut output);
-        is_outcome(outcome, Ok(false), piece, 0)?;
+        is_outcome(outcome, Ok(false), piece)?;
         equal(output.as_slice(), answers.as_slice(), piece)?;
         // a call for each piece, and one more that meets the end
         let pieces = input.len().div_ceil(piece) as u64;
@@ -41,11 +41,12 @@ fn fails_where_a_read_fails(rt: HostRuntime) -> Result<(), Fail> {
                 let mut reader = Reader::failing(&input, piece, call, kind);
                 let mut output = Vec::new(alloc);
                 let outcome = run(alloc, &mut reader, &mut output);
-                is_outcome(outcome, Err(RunError::Read), piece, call)?;
+                let row = (piece, kind, call);
+                is_outcome(outcome, Err(RunError::Read), row)?;
                 let gone = input.len().saturating_sub(reader.rest.len());
                 let wanted = six_lines::answers_within(alloc, gone)?;
-                equal(output.as_slice(), wanted.as_slice(), (piece, call))?;
-                equal(reader.calls, call, (piece, call))?;
+                equal(output.as_slice(), wanted.as_slice(), row)?;
+                equal(reader.calls, call, row)?;
             }
         }
     }

@@ -14,10 +14,11 @@ fn fails_at(alloc: Global, read: usize, piece: usize, call: u64, turn: Turn) -> 
     let mut writer = Writer::new(alloc, answers.len(), piece)?;
     writer.otherwise = Some((call, turn));
     let outcome = run(alloc, &mut Reader::new(&input, read), &mut writer);
-    is_outcome(outcome, Err(RunError::Write), piece, call)?;
+    let row = (read, piece, call, turn);
+    is_outcome(outcome, Err(RunError::Write), row)?;
     let is_beginning = answers.starts_with(&writer.held) && writer.held.len() < answers.len();
-    equal(is_beginning, true, (piece, call))?;
-    equal((writer.calls, writer.flushes), (call, 0), (piece, call))
+    equal(is_beginning, true, row)?;
+    equal((writer.calls, writer.flushes), (call, 0), row)
 }
 
 #[test]
@@ -29,11 +30,11 @@ fn fails_where_a_write_fails(rt: HostRuntime) -> Result<(), Fail> {
         for piece in [1, 2, 5, 1000] {
             let mut writer = Writer::new(alloc, answers.len(), piece)?;
             let outcome = run(alloc, &mut Reader::new(&input, read), &mut writer);
-            is_outcome(outcome, Ok(false), piece, 0)?;
+            is_outcome(outcome, Ok(false), (read, piece))?;
             equal(writer.held.as_slice(), answers.as_slice(), (read, piece))?;
             for before in 0..writer.calls {
-                fails_at(rt.alloc(), read, piece, before + 1, Turn::Fails)?;
-                fails_at(rt.alloc(), read, piece, before + 1, Turn::TakesNone)?;
+                fails_at(alloc, read, piece, before + 1, Turn::Fails)?;
+                fails_at(alloc, read, piece, before + 1, Turn::TakesNone)?;
             }
         }
     }
@@ -49,13 +50,12 @@ fn fails_where_the_flush_fails(rt: HostRuntime) -> Result<(), Fail> {
         let mut writer = Writer::new(alloc, answers.len(), piece)?;
         writer.flush_fails = true;
         let outcome = run(alloc, &mut Reader::new(&input, piece), &mut writer);
-        is_outcome(outcome, Err(RunError::Write), piece, 0)?;
+        is_outcome(outcome, Err(RunError::Write), piece)?;
         equal(writer.held.as_slice(), answers.as_slice(), piece)?;
         equal(writer.flushes, 1, piece)?;
     }
     let mut writer = Writer::new(alloc, 0, 1)?;
     writer.flush_fails = true;
     let outcome = run(alloc, &mut Reader::new(b"", 1), &mut writer);
-    is_outcome(outcome, Err(RunError::Write), 1, 0)?;
-    Ok(())
+    is_outcome(outcome, Err(RunError::Write), "no line")
 }

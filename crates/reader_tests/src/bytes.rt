@@ -77,13 +77,13 @@ fn refuses_ill_formed_bytes(rt: HostRuntime) -> Result<(), Fail> {
     for kind in KINDS {
         let text = accepted_text(kind);
         for bytes in ILL_FORMED {
-            is_read(rt.alloc(), kind, bytes, refused(kind))?;
+            is_read(alloc, kind, bytes, refused(kind))?;
             let mut behind = Vec::from_slice(alloc, text)?;
             behind.extend_from_slice(bytes)?;
-            is_read(rt.alloc(), kind, &behind, refused(kind))?;
+            is_read(alloc, kind, &behind, refused(kind))?;
             let mut before = Vec::from_slice(alloc, bytes)?;
             before.extend_from_slice(text)?;
-            is_read(rt.alloc(), kind, &before, refused(kind))?;
+            is_read(alloc, kind, &before, refused(kind))?;
         }
     }
     Ok(())

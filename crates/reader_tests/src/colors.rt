@@ -12,7 +12,7 @@ use testing::equal;
 const LONGEST: &str =
     "brightmagenta brightmagenta bold dim italic ul blink reverse strike reset nodim nobold noitalic noul noblink noreverse nostrike";
 
-static ACCEPTED: [(&[u8], &str); 35] = [
+static ACCEPTED: [(&[u8], &str); 34] = [
     (b"", ""),
     (b" ", ""),
     (b"\t\n\x0b\x0c\r ", ""),
@@ -28,7 +28,6 @@ static ACCEPTED: [(&[u8], &str); 35] = [
     (b"red blue ul bold bold", "red blue bold ul"),
     (b"italic black strike cyan", "black cyan italic strike"),
     (b"red green", "red green"),
-    (b"red blue", "red blue"),
     (b"blue red", "blue red"),
     (b"blue", "blue"),
     (b"white", "white"),
@@ -57,7 +56,7 @@ static ACCEPTED: [(&[u8], &str); 35] = [
     ),
 ];
 
-static REFUSED: [&[u8]; 29] = [
+static REFUSED: [&[u8]; 22] = [
     b"red green blue",
     b"red green ul blue",
     b"red red red",
@@ -68,26 +67,19 @@ static REFUSED: [&[u8]; 29] = [
     b"bright red",
     b"redblue",
     b"red,blue",
-    b"red\0blue",
     b"bold ul x",
+    b"red\xe3\x80\x80u",
     b"bold  noreset",
     b"no bold",
     b"BOLD",
     b"Bold",
     b"Bold red",
-    b"red\xe2\x80\x8bblue",
-    b"red\xc2\xa1blue",
-    b"red\xe1\x9a\x81blue",
-    b"red\xe2\x80\xa7blue",
     // spellings of white space cut off, and bytes that no spelling begins with
-    b"\xc2",
     b"\xa0",
     b"\xe2\x80",
     b"red \xe2\x80",
     b"red\xe2\xc2\xa0",
-    b"red\xe3\x80\x80u",
     b"\x80 red",
-    b"red \xff",
 ];
 
 #[test]

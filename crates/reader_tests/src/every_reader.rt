@@ -14,6 +14,7 @@ use std::str::FromStr;
 use std::test::Fail;
 use testing::equal;
 
+/// The seven kinds.
 pub const KINDS: [Kind; 7] = [
     Kind::Suffix,
     Kind::Integer,
@@ -27,7 +28,8 @@ pub const KINDS: [Kind; 7] = [
 /// The canonical text of a text's value, or the fault with which it is refused.
 pub type Wanted = Result<&'static str, Fault>;
 
-/// The refusal of a text of which no beginning is a value. Suffixes are refused with `()`, for which any fault stands.
+/// The refusal of a text that is none of the kind; for amounts, no integer text. Suffixes are refused with `()`, for
+/// which any fault stands.
 pub fn refused(kind: Kind) -> Wanted {
     match kind {
         Kind::Suffix | Kind::Integer | Kind::Amount => Err(Fault::Integer),
@@ -54,7 +56,7 @@ fn is_answered<V: TryRead + Display>(
     Ok(())
 }
 
-/// Suffixes are refused with `()`.
+/// The same of suffixes, which are refused with `()`.
 fn is_suffix(alloc: Global, input: &[u8], wanted: Wanted) -> Result<(), Fail> {
     let shown = match Suffix::read(BStr::new(input)) {
         Some(suffix) => Some(suffix.to_string(alloc)?),
@@ -64,6 +66,7 @@ fn is_suffix(alloc: Global, input: &[u8], wanted: Wanted) -> Result<(), Fail> {
     equal(given, wanted.ok(), BStr::new(input))
 }
 
+/// The normalizer answers what is wanted.
 fn is_normalized(kind: Kind, input: BStr<'_>, wanted: Option<&str>) -> Result<(), Fail> {
     let text = normalize(kind, input);
     let given = text.as_ref().map(ArrayString::as_str);

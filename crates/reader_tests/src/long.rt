@@ -1,4 +1,4 @@
-//! Texts of 100,000 bytes and more: no reader needs a stack, or a time, that grows faster than its text.
+//! Long texts, of 100,000 repeated parts and of 5,000: no reader needs a stack, or a time, that grows faster than its text.
 
 use crate::every_reader::{Wanted, is_read};
 use gix_config_value::Fault;
@@ -60,6 +60,7 @@ static ROWS: [Row; 14] = [
     row!(Color, b"", b"ul ", 100_000, b"\xff", Err(Fault::Color)),
 ];
 
+/// The text of a row.
 fn text_of(alloc: Global, row: &Row) -> Result<Vec<u8>, AllocError> {
     let mut text = Vec::from_slice(alloc, row.front)?;
     for _ in 0..row.times {

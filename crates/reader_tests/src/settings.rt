@@ -7,7 +7,6 @@ use gix_config_value::integer::{Amount, Suffix};
 use gix_config_value::settings::{Refused, lookup};
 use gix_config_value::{Boolean, Color, Integer};
 use std::alloc::{AllocError, Global};
-use std::fmt::Debug;
 use std::test::Fail;
 use testing::equal;
 
@@ -27,22 +26,23 @@ fn canonical_texts<V: Value>(alloc: Global, entries: &[Entry]) -> Result<Vec<Vec
 }
 
 /// The entries answer what is wanted for the name, and so they do with canonical texts.
-fn answers<V: Value + Debug>(
+fn answers<V: Value>(
     alloc: Global,
     entries: &[Entry],
     name: &[u8],
     default: V,
     wanted: Result<V, Refused<'static>>,
 ) -> Result<(), Fail> {
+    let row = BStr::new(name);
     let is_answer = lookup(entries, name, default) == wanted;
-    equal(is_answer, true, BStr::new(name))?;
+    equal(is_answer, true, row)?;
     let texts = canonical_texts::<V>(alloc, entries)?;
     let mut replaced: Vec<(&[u8], &[u8])> = Vec::new(alloc);
     for (entry, text) in entries.iter().zip(&texts) {
         replaced.push((entry.0, text.as_slice()))?;
     }
     let is_answer = lookup(&replaced, name, default) == wanted;
-    equal(is_answer, true, ("replaced", BStr::new(name)))
+    equal(is_answer, true, ("replaced", row))
 }
 
 /// The refusal of the entry at this place.
@@ -50,6 +50,7 @@ fn refuses<V>(index: usize, input: &'static [u8]) -> Result<V, Refused<'static>>
     Err(Refused { index, input })
 }
 
+/// A number without a suffix.
 fn plain(value: i64) -> Integer {
     Integer {
         value,
@@ -57,6 +58,7 @@ fn plain(value: i64) -> Integer {
     }
 }
 
+/// A number of kibi.
 fn kibi(value: i64) -> Integer {
     Integer {
         value,

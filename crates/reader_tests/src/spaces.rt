@@ -35,7 +35,7 @@ static SPACES: [&[u8]; 25] = [
     b"\xe3\x80\x80",
 ];
 
-/// U+001C to U+001F, U+180E, U+200B, U+FEFF, neighbors of white space, and spellings cut off.
+/// U+001C to U+001F, U+180E, U+200B, U+FEFF, neighbors of white space, NUL, and spellings cut off.
 static NEAR_MISSES: [&[u8]; 24] = [
     b"\x1c",
     b"\x1d",

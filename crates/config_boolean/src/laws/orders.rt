@@ -1,4 +1,4 @@
-//! What `==`, `cmp`, `partial_cmp` and hashes answer for the value types, and what their defaults are.
+//! What `==`, `cmp`, `partial_cmp` and hashes answer for booleans, and what the default is.
 ghost use Rattle.std.specs.Prelude.{◌≡◌, false};
 ghost use Rattle.config_text.specs.Orders.{HasOrder};
 ghost use Rattle.config_boolean.specs.declared.boolean.Boolean.{Boolean};
