@@ -72,6 +72,18 @@ fn answers_by_bits() -> Result<(), Fail> {
     ] {
         equal(set.bits(), bits, call)?;
     }
+    equal(Attribute::from_bits(1 << 0), None, "from_bits")?;
+    let bold_and_dim = Some(Attribute::BOLD | Attribute::DIM);
+    equal(
+        Attribute::from_bits(1 << 1 | 1 << 2),
+        bold_and_dim,
+        "from_bits",
+    )
+}
+
+#[test]
+fn tells_what_a_set_holds() -> Result<(), Fail> {
+    let unknown = Attribute::from_bits_retain(1 << 0);
     for (call, given, wanted) in [
         ("is_empty", Attribute::empty().is_empty(), true),
         ("is_empty", unknown.is_empty(), false),
@@ -96,13 +108,7 @@ fn answers_by_bits() -> Result<(), Fail> {
     ] {
         equal(given, wanted, call)?;
     }
-    equal(Attribute::from_bits(1 << 0), None, "from_bits")?;
-    let bold_and_dim = Attribute::from_bits(1 << 1 | 1 << 2);
-    equal(
-        bold_and_dim,
-        Some(Attribute::BOLD | Attribute::DIM),
-        "from_bits",
-    )
+    Ok(())
 }
 
 #[test]

@@ -9,7 +9,7 @@ use std::hash::Hash;
 
 /// False stands before true, and is the default; equal booleans hash equally.
 pub fn boolean_order()
-    ensures order { HasOrder (λ a b. a ≡ b) boolean_order
+    ensures order { HasOrder (◌≡◌) boolean_order
         ⟦<Boolean as PartialEq>⟧.eq ⟦<Boolean as Ord>⟧.cmp ⟦<Boolean as PartialOrd>⟧.partial_cmp
         ⟦<Boolean as Hash>⟧.hash_input }
     ensures default { (v : Boolean) → ⟦<Boolean as Default>⟧.is_default v → v.0 ≡ false }

@@ -13,7 +13,7 @@ use std::hash::Hash;
 
 /// Suffixes are ordered by their factors, and equal ones hash equally.
 pub fn suffix_order()
-    ensures { HasOrder (λ a b. a ≡ b) suffix_order
+    ensures { HasOrder (◌≡◌) suffix_order
         ⟦<Suffix as PartialEq>⟧.eq ⟦<Suffix as Ord>⟧.cmp ⟦<Suffix as PartialOrd>⟧.partial_cmp
         ⟦<Suffix as Hash>⟧.hash_input }
 {}
@@ -21,7 +21,7 @@ pub fn suffix_order()
 /// Integers are ordered by their numbers and then by their suffixes, none first, and equal ones hash equally; the
 /// default is 0 without a suffix.
 pub fn integer_order()
-    ensures order { HasOrder (λ a b. a ≡ b) integer_order
+    ensures order { HasOrder (◌≡◌) integer_order
         ⟦<Integer as PartialEq>⟧.eq ⟦<Integer as Ord>⟧.cmp ⟦<Integer as PartialOrd>⟧.partial_cmp
         ⟦<Integer as Hash>⟧.hash_input }
     ensures default { (v : Integer) → ⟦<Integer as Default>⟧.is_default v
@@ -30,7 +30,7 @@ pub fn integer_order()
 
 /// Amounts are ordered by their numbers, and equal ones hash equally; the default is 0.
 pub fn amount_order()
-    ensures order { HasOrder (λ a b. a ≡ b) amount_order
+    ensures order { HasOrder (◌≡◌) amount_order
         ⟦<Amount as PartialEq>⟧.eq ⟦<Amount as Ord>⟧.cmp ⟦<Amount as PartialOrd>⟧.partial_cmp
         ⟦<Amount as Hash>⟧.hash_input }
     ensures default { (v : Amount) → ⟦<Amount as Default>⟧.is_default v → v.0 ≡ pos 0 }
