@@ -1,3 +1,4 @@
 //! Laws over the definitions, each the contract of a function that does nothing.
 
 pub mod orders;
+pub mod texts;

@@ -1,5 +1,5 @@
 -- The composition of two colors, and what it says of joined texts and of texts that mean the same.
-use Rattle.std.specs.Prelude.{◌≡◌, ℕ, ◌<◌, ◌↔◌, List, ◌++◌, length, Option, None, Some, Bool, IsTrue, MatchOption}
+use Rattle.std.specs.Prelude.{◌≡◌, ℕ, ◌<◌, ◌↔◌, List, ◌∷◌, ◌++◌, length, Option, None, Some, Bool, IsTrue, MatchOption}
 use Rattle.std.specs.Option.{option_to_list}
 use Rattle.std.specs.Int.RustNames.{bit_or}
 use Rattle.arrayvec.specs.ArrayString.{ArrayString}
@@ -7,7 +7,8 @@ use Rattle.config_color.specs.declared.color.Color.{Color}
 use Rattle.config_word.specs.declared.name.Name.{Name}
 use Rattle.config_color.specs.Color.{WordsRead, Placed, ColorText, CanonicalColor}
 use Rattle.config_color.specs.Space.{Space}
-use Rattle.config_text.specs.Value.{HasText, IsTextOf}
+use Rattle.config_text.specs.Value.{IsAccepted, HasText, IsTextOf}
+use Rattle.config_word.specs.Attribute.{AttributeText}
 use Rattle.config_color.specs.Split.{words}
 
 -- a color's names: its foreground, then its background, those that there are
@@ -40,6 +41,14 @@ Joins t result =
 -- the words of both texts have the same names in the same order, and attributes of the same bits
 abbrev pub SameWords : List ℕ → List ℕ → Type 0
 SameWords a b = (names : List Name) × (bits : ℕ) × WordsRead (words a) names bits × WordsRead (words b) names bits
+
+-- two lists of words that differ in one whole attribute word, which stands at another place of the second list, or at
+-- one more place of it
+pub data Moves (ws vs : List (List ℕ)) : Type 0 where
+  moved : (w : List ℕ) (front back ahead behind : List (List ℕ)) → IsAccepted AttributeText w
+      → ws ≡ front ++ w ∷ back → vs ≡ ahead ++ w ∷ behind → front ++ back ≡ ahead ++ behind → Moves ws vs
+  repeated : (w : List ℕ) (front back ahead behind : List (List ℕ)) → IsAccepted AttributeText w
+      → ws ≡ front ++ w ∷ back → vs ≡ ahead ++ w ∷ behind → ws ≡ ahead ++ behind → Moves ws vs
 
 -- the answer to whether two texts mean the same, by their words
 abbrev pub ComparesWords : List ℕ → List ℕ → Option Bool → Type 0

@@ -127,3 +127,10 @@ abbrev pub class_of : Error → Class
 class_of (IllFormed place input) = class.Validation
 class_of (Memory e) = class.Memory
 class_of _ = class.NotFound
+
+-- the same refusal: ill-formed bytes at one place are compared byte by byte
+abbrev pub IsSameError : Error → Error → Type 0
+IsSameError (IllFormed place bytes) (IllFormed at input) = (place ≡ at) × (bytes.now ≡ input.now)
+IsSameError (IllFormed place bytes) f = ⊥
+IsSameError e (IllFormed place bytes) = ⊥
+IsSameError e f = e ≡ f

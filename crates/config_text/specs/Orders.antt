@@ -1,4 +1,4 @@
--- What the comparisons and the hash of a type promise, all in one order.
+-- What the comparisons, the hash and the clones of a type promise.
 use Rattle.std.specs.Prelude.{◌≡◌, ◌↔◌, Bool, IsTrue, Option, Some}
 use Rattle.std.specs.Cmp.{IsTotalOrder}
 use Rattle.std.specs.Ordering.{is_eq}
@@ -14,3 +14,12 @@ pub record HasOrder {V H : Type 0} (same : V → V → Type 0) (order : V → V 
   pub total : IsTotalOrder cmp
   pub agrees : (v w : V) → eq v w ≡ is_eq (cmp v w)
   pub hashes : (v w : V) → IsTrue (eq v w) → hash_input v ≡ hash_input w
+
+-- `==` answers exactly whether two values are the same
+abbrev pub Equates : {V : Type 0} → (V → V → Type 0) → (V → V → Bool) → Type 0
+Equates {V} same eq = (v w : V) → (IsTrue (eq v w)) ↔ (same v w)
+
+-- a clone is the value that it is made from, and making it never fails
+pub record IsCopied {V : Type 0} (is_clone : V → V → Type 0) (is_infallible : V → Type 0) : Type 0 where
+  pub same : (v w : V) → is_clone v w → w ≡ v
+  pub always : (v : V) → is_infallible v

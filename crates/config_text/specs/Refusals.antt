@@ -2,7 +2,7 @@
 -- grammar gives the input's bytes, or, where it gives none, a refusal that holds a fault and the whole input.
 --
 -- A refusal of a kind says which texts are refused with which faults.
-use Rattle.std.specs.Prelude.{◌≡◌, ℕ, List, Result, Ok, Err}
+use Rattle.std.specs.Prelude.{◌≡◌, ℕ, List, Bool, IsTrue, Result, Ok, Err}
 use Rattle.bstr.specs.declared.bstr.BStr.{BStr}
 use Rattle.bstr.specs.BStr.{bstr_bytes}
 use Rattle.config_text.specs.declared.errors.Error.{Error}
@@ -34,3 +34,11 @@ ReadsText grammar refusal t r = ReadsOr grammar (λ e. refusal t e.fault × (bst
 -- over an owned input with these bytes: a refusal hands it back
 abbrev pub ReadsOwned : {V I : Type 0} → (List ℕ → V → Type 0) → (List ℕ → Fault → Type 0) → List ℕ → I → Result V (Returned I) → Type 0
 ReadsOwned grammar refusal t s r = ReadsOr grammar (λ e. refusal t e.fault × (e.input ≡ s)) t r
+
+-- one fault, and inputs of the same bytes
+abbrev pub IsSameError : Error → Error → Type 0
+IsSameError e f = (e.fault ≡ f.fault) × (bstr_bytes e.input ≡ bstr_bytes f.input)
+
+-- one fault, and inputs that this equality takes for equal
+abbrev pub IsSameReturned : {I : Type 0} → (I → I → Bool) → Returned I → Returned I → Type 0
+IsSameReturned eq e f = (e.fault ≡ f.fault) × IsTrue (eq e.input f.input)

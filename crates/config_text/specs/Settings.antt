@@ -3,6 +3,7 @@ use Rattle.std.specs.Prelude.{◌≡◌, ℕ, ◌<◌, ◌↔◌, List, Some, ma
 use Rattle.std.specs.List.{slice_get}
 use Rattle.config_text.specs.Value.{IsRefused}
 use denote.Ref.{Bor}
+use Rattle.config_text.specs.declared.settings.Refused.{Refused}
 
 -- the names and texts of borrowed entries
 abbrev pub entry_texts : List (Bor (List ℕ) × Bor (List ℕ)) → List (List ℕ × List ℕ)
@@ -46,3 +47,7 @@ pub record OneAnswer {V : Type 0} (grammar : List ℕ → V → Type 0) (es : Li
   pub value : (n : List ℕ) (default v w : V) → Finds grammar es n default v → Finds grammar es n default w → v ≡ w
   pub refusal : (n : List ℕ) (i j : ℕ) (t u : List ℕ) → Refuses grammar es n i t → Refuses grammar es n j u → (i ≡ j) × (t ≡ u)
   pub apart : (n : List ℕ) (default v : V) (i : ℕ) (t : List ℕ) → Finds grammar es n default v → ¬ (Refuses grammar es n i t)
+
+-- one index, and texts of the same bytes
+abbrev pub IsSameRefused : Refused → Refused → Type 0
+IsSameRefused r s = (r.index ≡ s.index) × (r.input.now ≡ s.input.now)

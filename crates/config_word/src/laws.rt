@@ -1,4 +1,6 @@
 //! Laws over the definitions, each the contract of a function that does nothing.
 
 pub mod attributes;
+pub mod equality;
 pub mod orders;
+pub mod texts;

@@ -2,7 +2,7 @@
 --
 -- The input is cut into lines at LF. Each line has one outcome, and the output is what the outcomes are shown as,
 -- in order.
-use Rattle.std.specs.Prelude.{◌≡◌, ◌≢◌, ℕ, ◌==◌, List, [], ◌∷◌, ◌++◌, flat_map, Bool, true, false, codes, Option, Result, Ok, Err}
+use Rattle.std.specs.Prelude.{◌≡◌, ◌≢◌, ⊤, ℕ, ◌==◌, List, [], ◌∷◌, ◌++◌, flat_map, Bool, true, false, codes, Option, Result, Ok, Err}
 use Rattle.std.specs.List.{AllByRecursion, AllZip, list_all, before_first, after_first}
 use Rattle.std.specs.Io.KnownBytes.{Consumes, Appends, IsAtEnd}
 use Rattle.gix_config_value.specs.declared.kind.Kind.{Kind}
@@ -64,6 +64,13 @@ abbrev pub is_accepted : Outcome → Bool
 is_accepted (Accepted s) = true
 is_accepted Refused = false
 is_accepted UnknownKind = false
+
+-- the same outcome: accepted ones have texts of the same bytes
+abbrev pub IsSameOutcome : Outcome → Outcome → Type 0
+IsSameOutcome (Accepted s) (Accepted t) = s.bytes ≡ t.bytes
+IsSameOutcome Refused Refused = ⊤
+IsSameOutcome UnknownKind UnknownKind = ⊤
+IsSameOutcome _ _ = ⊥
 
 -- ---- the answers to an input
 

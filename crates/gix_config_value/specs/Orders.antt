@@ -1,4 +1,5 @@
 -- The orders of the value types, each of which stands beside its type.
+pub use Rattle.config_text.specs.Orders.{HasOrder, Equates, IsCopied}
 pub use Rattle.config_integer.specs.Orders.{suffix_order, integer_order, amount_order}
 pub use Rattle.config_boolean.specs.Orders.{boolean_order}
 pub use Rattle.config_word.specs.Orders.{attribute_order, name_order}

@@ -26,6 +26,7 @@
 //! The grammar of a kind stands on top of its crate's `specs/`, and docs/GRAMMAR.md says it in words.
 #![tactic(auto)]
 
+mod equality;
 mod kind;
 pub mod program;
 
@@ -73,12 +74,27 @@ pub mod laws {
     pub use config_text::laws::settings;
     pub use config_word::laws::attributes;
 
-    /// What `==`, `cmp`, `partial_cmp` and hashes answer for the value types, and what their
-    /// defaults are.
+    /// What `==` and `clone` answer for the types that have no order: kinds, faults, refusals, errors.
+    pub mod equality {
+        pub use crate::equality::{kinds, outcomes, run_errors};
+        pub use config_path::laws::equality::{classes, contexts, path_errors, places};
+        pub use config_text::laws::equality::{errors, faults, json_errors, refused, returned};
+        pub use config_word::laws::equality::items;
+    }
+
+    /// What `==`, `cmp`, `partial_cmp`, hashes and `clone` answer for the value types, and what
+    /// their defaults are.
     pub mod orders {
         pub use config_boolean::laws::orders::boolean_order;
         pub use config_color::laws::orders::color_order;
         pub use config_integer::laws::orders::{amount_order, integer_order, suffix_order};
         pub use config_word::laws::orders::{attribute_order, name_order};
+    }
+
+    /// Which values have a text, and that reading the text that a value is shown as gives it back.
+    pub mod texts {
+        pub use config_boolean::laws::texts::boolean_text;
+        pub use config_integer::laws::texts::{amount_text, integer_text, suffix_text};
+        pub use config_word::laws::texts::{name_text, one_item};
     }
 }

@@ -62,7 +62,7 @@ WordsRead-split (w ∷ xs) ys names bits (inr (a, more, t, e, r)) =
 one_name : (w : List ℕ) (n m : Name) → NameText w n → NameText w m → n ≡ m
 one_name w n m p q = let e = item_one_value w (items.Name n) (items.Name m) p q in cc
 
-one_attribute : (w : List ℕ) (a b : Attribute) → AttributeText w a → AttributeText w b → a ≡ b
+pub one_attribute : (w : List ℕ) (a b : Attribute) → AttributeText w a → AttributeText w b → a ≡ b
 one_attribute w a b p q = let e = item_one_value w (items.Attribute a) (items.Attribute b) p q in cc
 
 -- words have one reading

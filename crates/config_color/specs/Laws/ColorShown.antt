@@ -22,7 +22,7 @@ use Rattle.config_color.specs.Color.{WordsRead, Placed, ColorText, part_shown, s
 use Rattle.config_color.specs.Laws.Color.{WordsRead-join, Placed-words, placing, same_color, color_one_value}
 use Rattle.config_text.specs.Bytes.{space}
 use Rattle.config_color.specs.Laws.Composition.{background_beside, some_none}
-use Rattle.config_word.specs.Name.{NameText, CanonicalName, name_shown}
+use Rattle.config_word.specs.Name.{NameFits, NameText, CanonicalName, name_shown}
 use Rattle.config_word.specs.Laws.Name.{name_canonical_reads, name_one_text, name_short, name_fits, name_shown_is_text, name_has_text}
 use Rattle.config_text.specs.OneOf.{OneOf}
 use Rattle.config_text.specs.Laws.OneOf.{all-one}
@@ -396,6 +396,18 @@ color_shown_is_text c (t, h) =
     (subst (λ (ns : List Name). AllByRecursion (HasText NameText) ns) (sym (Placed-words h.names c.foreground c.background h.placed)) (names_have_text (words t) h.names c.attributes.0 h.read))
     (WordsRead-known (words t) h.names c.attributes.0 h.read)
     (background_beside t c h)
+
+-- a color that was read has numbers that fit
+pub parts_fit : (t : List ℕ) (c : Color) → ColorText t c → PartFits c.foreground × PartFits c.background
+parts_fit t c h = fit h.names c.foreground c.background (names_have_text (words t) h.names c.attributes.0 h.read) h.placed where
+  fits : (n : Name) → HasText NameText n → NameFits n
+  fits n (t, p) = name_fits t n p
+
+  fit : (ns : List Name) (f b : Option Name) → AllByRecursion (HasText NameText) ns → Placed ns f b → PartFits f × PartFits b
+  fit [] f b h p = rw (p.0, p.1) (tt, tt)
+  fit (n ∷ []) f b h p = rw (p.0, p.1) (fits n h.0, tt)
+  fit (n ∷ m ∷ []) f b h p = rw (p.0, p.1) (fits n h.0, fits m h.1.0)
+  fit (n ∷ m ∷ o ∷ ns) f b h p = absurd p
 
 -- which colors have a text: those whose set bits are known, with a background only beside a foreground
 pub color_has_text : (c : Color) → PartFits c.foreground → PartFits c.background

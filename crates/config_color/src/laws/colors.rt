@@ -2,7 +2,7 @@
 ghost use Rattle.std.specs.Prelude.{◌≡◌, ◌≤◌, ◌↔◌, ◌++◌, ℕ, List, length, None};
 ghost use Rattle.config_color.specs.declared.color.Color.{Color};
 ghost use Rattle.config_color.specs.Color.{ColorText, PartFits, AreKnown};
-ghost use Rattle.config_color.specs.Composition.{Joined};
+ghost use Rattle.config_color.specs.Composition.{Joined, Moves};
 ghost use Rattle.config_color.specs.Space.{Space};
 ghost use Rattle.config_text.specs.Value.{HasText};
 ghost use Rattle.config_color.specs.Split.{piece, words};
@@ -13,6 +13,12 @@ pub fn known_and_beside()
     ensures { (c : Color) → PartFits c.foreground → PartFits c.background
         → (HasText ColorText c)
         ↔ (AreKnown c.attributes.0 × (c.foreground ≡ None → c.background ≡ None)) }
+{}
+
+/// The numbers of a color that was read are bytes.
+pub fn numbers_fit()
+    ensures { (text : List ℕ) (c : Color) → ColorText text c
+        → PartFits c.foreground × PartFits c.background }
 {}
 
 /// A text in which no white space stands is its own one word, or has no word where it is empty.
@@ -43,4 +49,11 @@ pub fn joined_words()
 pub fn joined_colors()
     ensures { (front space back : List ℕ) (c : Color) → Space space
         → (ColorText (front ++ space ++ back) c) ↔ (Joined front back c) }
+{}
+
+/// Texts whose words are the same but for one whole attribute word, which stands at another place or
+/// once more, have the same color, or none.
+pub fn moved_words()
+    ensures { (t u : List ℕ) (c : Color) → Moves (words t) (words u)
+        → (ColorText t c) ↔ (ColorText u c) }
 {}

@@ -1,6 +1,6 @@
-//! What `==`, `cmp`, `partial_cmp` and hashes answer for colors, and what the default is.
+//! What `==`, `cmp`, `partial_cmp`, hashes and `clone` answer for colors, and what the default is.
 ghost use Rattle.std.specs.Prelude.{◌≡◌, None};
-ghost use Rattle.config_text.specs.Orders.{HasOrder};
+ghost use Rattle.config_text.specs.Orders.{HasOrder, IsCopied};
 ghost use Rattle.config_color.specs.declared.color.Color.{Color};
 ghost use Rattle.config_color.specs.Orders.{color_order};
 
@@ -13,6 +13,8 @@ use std::hash::Hash;
 pub fn color_order()
     ensures order { HasOrder (◌≡◌) color_order ⟦<Color as PartialEq>⟧.eq ⟦<Color as Ord>⟧.cmp
         ⟦<Color as PartialOrd>⟧.partial_cmp ⟦<Color as Hash>⟧.hash_input }
+    ensures clones { IsCopied ⟦<Color as Clone>⟧.is_clone
+        ⟦<Color as Clone>⟧.is_infallible }
     ensures default { (c : Color) → ⟦<Color as Default>⟧.is_default c
         → (c.foreground ≡ None) × (c.background ≡ None) × (c.attributes.0 ≡ 0) }
 {

@@ -1,6 +1,6 @@
-//! What `==`, `cmp`, `partial_cmp` and hashes answer for the value types, and what their defaults are.
+//! What `==`, `cmp`, `partial_cmp`, hashes and `clone` answer for the value types, and what their defaults are.
 ghost use Rattle.std.specs.Prelude.{◌≡◌, None, pos};
-ghost use Rattle.config_text.specs.Orders.{HasOrder};
+ghost use Rattle.config_text.specs.Orders.{HasOrder, IsCopied};
 ghost use Rattle.config_integer.specs.declared.integer.Integer.{Integer};
 ghost use Rattle.config_integer.specs.declared.amount.Amount.{Amount};
 ghost use Rattle.config_integer.specs.declared.suffix.Suffix.{Suffix};
@@ -13,9 +13,11 @@ use std::hash::Hash;
 
 /// Suffixes are ordered by their factors, and equal ones hash equally.
 pub fn suffix_order()
-    ensures { HasOrder (◌≡◌) suffix_order
+    ensures order { HasOrder (◌≡◌) suffix_order
         ⟦<Suffix as PartialEq>⟧.eq ⟦<Suffix as Ord>⟧.cmp ⟦<Suffix as PartialOrd>⟧.partial_cmp
         ⟦<Suffix as Hash>⟧.hash_input }
+    ensures clones { IsCopied ⟦<Suffix as Clone>⟧.is_clone
+        ⟦<Suffix as Clone>⟧.is_infallible }
 {}
 
 /// Integers are ordered by their numbers and then by their suffixes, none first, and equal ones hash equally; the
@@ -24,6 +26,8 @@ pub fn integer_order()
     ensures order { HasOrder (◌≡◌) integer_order
         ⟦<Integer as PartialEq>⟧.eq ⟦<Integer as Ord>⟧.cmp ⟦<Integer as PartialOrd>⟧.partial_cmp
         ⟦<Integer as Hash>⟧.hash_input }
+    ensures clones { IsCopied ⟦<Integer as Clone>⟧.is_clone
+        ⟦<Integer as Clone>⟧.is_infallible }
     ensures default { (v : Integer) → ⟦<Integer as Default>⟧.is_default v
         → (v.value ≡ pos 0) × (v.suffix ≡ None) }
 {}
@@ -33,5 +37,7 @@ pub fn amount_order()
     ensures order { HasOrder (◌≡◌) amount_order
         ⟦<Amount as PartialEq>⟧.eq ⟦<Amount as Ord>⟧.cmp ⟦<Amount as PartialOrd>⟧.partial_cmp
         ⟦<Amount as Hash>⟧.hash_input }
+    ensures clones { IsCopied ⟦<Amount as Clone>⟧.is_clone
+        ⟦<Amount as Clone>⟧.is_infallible }
     ensures default { (v : Amount) → ⟦<Amount as Default>⟧.is_default v → v.0 ≡ pos 0 }
 {}

@@ -1,7 +1,7 @@
-//! What `==`, `cmp`, `partial_cmp` and hashes answer for names and sets of attributes, and what the
-//! default is.
+//! What `==`, `cmp`, `partial_cmp`, hashes and `clone` answer for names and sets of attributes, and what
+//! the default is.
 ghost use Rattle.std.specs.Prelude.{◌≡◌};
-ghost use Rattle.config_text.specs.Orders.{HasOrder};
+ghost use Rattle.config_text.specs.Orders.{HasOrder, IsCopied};
 ghost use Rattle.config_word.specs.declared.attribute.Attribute.{Attribute};
 ghost use Rattle.config_word.specs.Orders.{attribute_order, name_order};
 
@@ -15,13 +15,17 @@ pub fn attribute_order()
     ensures order { HasOrder (◌≡◌) attribute_order
         ⟦<Attribute as PartialEq>⟧.eq ⟦<Attribute as Ord>⟧.cmp
         ⟦<Attribute as PartialOrd>⟧.partial_cmp ⟦<Attribute as Hash>⟧.hash_input }
+    ensures clones { IsCopied ⟦<Attribute as Clone>⟧.is_clone
+        ⟦<Attribute as Clone>⟧.is_infallible }
     ensures default { (a : Attribute) → ⟦<Attribute as Default>⟧.is_default a → a.0 ≡ 0 }
 {}
 
 /// Names are ordered by their places, the words before palette numbers and these before red, green
 /// and blue, and then by their numbers; equal names hash equally.
 pub fn name_order()
-    ensures { HasOrder (◌≡◌) name_order
+    ensures order { HasOrder (◌≡◌) name_order
         ⟦<Name as PartialEq>⟧.eq ⟦<Name as Ord>⟧.cmp
         ⟦<Name as PartialOrd>⟧.partial_cmp ⟦<Name as Hash>⟧.hash_input }
+    ensures clones { IsCopied ⟦<Name as Clone>⟧.is_clone
+        ⟦<Name as Clone>⟧.is_infallible }
 {}

@@ -9,8 +9,8 @@ pub returns-clause-order : goal.returns-clause-order
 returns-clause-order c =
     record {
       equal = equal_is_same-law;
-      ordered = color_same _ c.name_order.ensures.ordered;
-      partial = λ v w. matches_partial_cmp-law v w ∙ ap Some (color_same _ c.name_order.ensures.ordered v w);
+      ordered = color_same _ c.name_order.ensures.order.ordered;
+      partial = λ v w. matches_partial_cmp-law v w ∙ ap Some (color_same _ c.name_order.ensures.order.ordered v w);
       total = total-law;
       agrees = matches_eq-law;
       hashes = respects_eq-law;

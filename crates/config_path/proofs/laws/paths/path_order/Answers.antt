@@ -3,8 +3,8 @@ use Rattle.config_path.specs.contracts.path.PathHash.TheImpl.Laws.{respects_eq-l
 use Rattle.config_path.specs.contracts.path.PathOrd.TheImpl.Laws.{matches_eq-law, matches_partial_cmp-law, total-law}
 use Rattle.config_path.proofs.laws.paths.path_order.Goals as goal
 
-pub returns : goal.returns
-returns c =
+pub returns-clause-order : goal.returns-clause-order
+returns-clause-order c =
     record {
       equal = search rules;
       ordered = search rules;

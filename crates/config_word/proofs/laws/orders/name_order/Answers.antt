@@ -5,8 +5,8 @@ use Rattle.config_word.specs.contracts.name.NameValue.TheImpl.Laws.{equal_is_sam
 use Rattle.config_word.proofs.NameOrder.{name_same}
 use Rattle.config_word.proofs.laws.orders.name_order.Goals as goal
 
-pub returns : goal.returns
-returns c = record {
+pub returns-clause-order : goal.returns-clause-order
+returns-clause-order c = record {
   equal = equal_is_same-law;
   ordered = name_same;
   partial = λ m n. matches_partial_cmp-law m n ∙ ap Some (name_same m n);

@@ -1,0 +1,26 @@
+//! Which values have a text: what each is shown as is its canonical text, and reading that gives it back.
+ghost use Rattle.config_text.specs.Value.{IsTextOf};
+ghost use Rattle.config_text.specs.Numerals.{IsInI64};
+ghost use Rattle.config_integer.specs.declared.integer.Integer.{Integer};
+ghost use Rattle.config_integer.specs.declared.amount.Amount.{Amount};
+ghost use Rattle.config_integer.specs.declared.suffix.Suffix.{Suffix};
+ghost use Rattle.config_integer.specs.Suffix.{SuffixText, CanonicalSuffix, suffix_shown};
+ghost use Rattle.config_integer.specs.Integer.{IntegerText, CanonicalInteger, integer_shown};
+ghost use Rattle.config_integer.specs.Amount.{AmountText, CanonicalAmount, amount_shown};
+
+/// Every suffix has a text: the one that it is shown as.
+#[tactic(auto, using(crate::specs::Laws::Suffix::suffix_shown_is_text, crate::specs::Laws::Suffix::suffix_has_text))]
+pub fn suffix_text()
+    ensures { (s : Suffix) → IsTextOf SuffixText CanonicalSuffix s (suffix_shown s) }
+{}
+
+/// Every integer has a text: the one that it is shown as.
+pub fn integer_text()
+    ensures { (v : Integer) → IsInI64 v.value
+        → IsTextOf IntegerText CanonicalInteger v (integer_shown v) }
+{}
+
+/// Every amount has a text: the one that it is shown as.
+pub fn amount_text()
+    ensures { (v : Amount) → IsInI64 v.0 → IsTextOf AmountText CanonicalAmount v (amount_shown v) }
+{}

@@ -1,0 +1,39 @@
+//! What `==` and `clone` answer for places, classes and refusals of paths, and `clone` for contexts.
+ghost use Rattle.std.specs.Prelude.{◌≡◌};
+ghost use Rattle.config_text.specs.Orders.{Equates, IsCopied};
+ghost use Rattle.config_path.specs.declared.interpolate.Class.{Class};
+ghost use Rattle.config_path.specs.declared.interpolate.Context.{Context};
+ghost use Rattle.config_path.specs.declared.interpolate.Error.{Error};
+ghost use Rattle.config_path.specs.declared.interpolate.Place.{Place};
+ghost use Rattle.config_path.specs.Interpolation.{IsSameError};
+
+use crate::interpolate::{Class, Context, Error, Place};
+
+/// Places are equal exactly where they are the same.
+pub fn places()
+    ensures equality { Equates (◌≡◌) ⟦<Place as PartialEq>⟧.eq }
+    ensures clones { IsCopied ⟦<Place as Clone>⟧.is_clone
+        ⟦<Place as Clone>⟧.is_infallible }
+{}
+
+/// Classes are equal exactly where they are the same.
+pub fn classes()
+    ensures equality { Equates (◌≡◌) ⟦<Class as PartialEq>⟧.eq }
+    ensures clones { IsCopied ⟦<Class as Clone>⟧.is_clone
+        ⟦<Class as Clone>⟧.is_infallible }
+{}
+
+/// Refusals of paths are equal exactly where they are the same, ill-formed bytes by their place and
+/// what they are.
+pub fn path_errors()
+    ensures equality { Equates IsSameError ⟦<Error<'static> as PartialEq>⟧.eq }
+    ensures clones { IsCopied ⟦<Error<'static> as Clone>⟧.is_clone
+        ⟦<Error<'static> as Clone>⟧.is_infallible }
+{}
+
+/// A clone of a context is that context, and never fails, where both hold of clones of its lookup.
+pub fn contexts<F: Clone>()
+    ensures { IsCopied F.is_clone F.is_infallible
+        → IsCopied ⟦<Context<'static, F> as Clone>⟧.is_clone
+        ⟦<Context<'static, F> as Clone>⟧.is_infallible }
+{}

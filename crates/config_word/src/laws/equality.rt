@@ -1,0 +1,13 @@
+//! What `==` and `clone` answer for items.
+ghost use Rattle.std.specs.Prelude.{◌≡◌};
+ghost use Rattle.config_text.specs.Orders.{Equates, IsCopied};
+ghost use Rattle.config_word.specs.declared.item.Item.{Item};
+
+use crate::item::Item;
+
+/// Items are equal exactly where they are the same.
+pub fn items()
+    ensures equality { Equates (◌≡◌) ⟦<Item as PartialEq>⟧.eq }
+    ensures clones { IsCopied ⟦<Item as Clone>⟧.is_clone
+        ⟦<Item as Clone>⟧.is_infallible }
+{}

@@ -1,0 +1,21 @@
+//! Which names have a text, and what a word stands for.
+ghost use Rattle.std.specs.Prelude.{◌≡◌, ℕ, List};
+ghost use Rattle.config_text.specs.Value.{IsTextOf};
+ghost use Rattle.config_word.specs.declared.attribute.Attribute.{Attribute};
+ghost use Rattle.config_word.specs.declared.item.Item.{Item};
+ghost use Rattle.config_word.specs.declared.name.Name.{Name};
+ghost use Rattle.config_word.specs.Attribute.{AttributeText};
+ghost use Rattle.config_word.specs.Item.{ItemText};
+ghost use Rattle.config_word.specs.Name.{NameText, CanonicalName, NameFits, name_shown};
+
+/// Every name has a text: the one that it is shown as, which is canonical and read as that name.
+pub fn name_text()
+    ensures shown { (n : Name) → NameFits n → IsTextOf NameText CanonicalName n (name_shown n) }
+    ensures fits { (t : List ℕ) (n : Name) → NameText t n → NameFits n }
+{}
+
+/// A word stands for one item, and no text is both a name and an attribute.
+pub fn one_item()
+    ensures one { (t : List ℕ) (i j : Item) → ItemText t i → ItemText t j → i ≡ j }
+    ensures apart { (t : List ℕ) (n : Name) (a : Attribute) → NameText t n → ¬ (AttributeText t a) }
+{}
