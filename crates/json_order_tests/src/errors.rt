@@ -1,16 +1,17 @@
 //! The texts of errors, which no contract says, and that different values are unequal: an equality that always holds
 //! would let every other test pass.
 
-use gix_config_value::Fault;
+use bstr::{BStr, BString};
+use gix_config_value::{Error, Fault, Returned};
 use gix_config_value::canonical::Kind;
 use gix_config_value::color::{Attribute, Item, Name};
 use gix_config_value::json::JsonError;
 use gix_config_value::path::interpolate::{Class, Place};
-use gix_config_value::program::RunError;
+use gix_config_value::program::{RunError, answer};
+use gix_config_value::settings::Refused;
 use std::alloc::AllocError;
-use std::fmt::Debug;
 use std::test::Fail;
-use testing::equal;
+use testing::{differ, equal};
 
 const OVERFLOW: &str = "integer suffix multiplication overflows `i64`";
 
@@ -55,16 +56,6 @@ fn errors_have_texts(rt: HostRuntime) -> Result<(), Fail> {
     Ok(())
 }
 
-/// Each value is unequal to each other one.
-fn differ<T: PartialEq + Debug>(values: &[T]) -> Result<(), Fail> {
-    for (i, a) in values.iter().enumerate() {
-        for (j, b) in values.iter().enumerate() {
-            equal(a == b, i == j, (a, b))?;
-        }
-    }
-    Ok(())
-}
-
 #[test]
 fn different_values_are_unequal() -> Result<(), Fail> {
     differ(&[
@@ -103,5 +94,49 @@ fn different_values_are_unequal() -> Result<(), Fail> {
         RunError::Memory(AllocError),
     ])?;
     differ(&[JsonError::Overflow, JsonError::Memory(AllocError)])?;
+    differ(&[
+        answer(b"name red"),
+        answer(b"name blue"),
+        answer(b"name x"),
+        answer(b"colour red"),
+    ])?;
+    Ok(())
+}
+
+/// A refusal of this text.
+fn refusal(fault: Fault, input: &str) -> Error<'_> {
+    Error {
+        fault,
+        input: BStr::from(input),
+    }
+}
+
+/// A refusal that hands a text back.
+fn returned(rt: &HostRuntime, fault: Fault, input: &str) -> Result<Returned<BString>, AllocError> {
+    Ok(Returned {
+        fault,
+        input: BString::from_slice(rt.alloc(), input.as_bytes())?,
+    })
+}
+
+#[test]
+fn different_refusals_are_unequal(rt: HostRuntime) -> Result<(), Fail> {
+    differ(&[
+        refusal(Fault::Color, "reds"),
+        refusal(Fault::Integer, "reds"),
+        refusal(Fault::Color, "red"),
+        refusal(Fault::Color, "redt"),
+        refusal(Fault::Color, ""),
+    ])?;
+    differ(&[
+        returned(&rt, Fault::Color, "reds")?,
+        returned(&rt, Fault::Integer, "reds")?,
+        returned(&rt, Fault::Color, "redt")?,
+    ])?;
+    differ(&[
+        Refused { index: 0, input: b"reds".as_slice() },
+        Refused { index: 1, input: b"reds".as_slice() },
+        Refused { index: 0, input: b"redt".as_slice() },
+    ])?;
     Ok(())
 }

@@ -3,7 +3,7 @@
 use gix_config_value::path::interpolate::{Class, Error, Place};
 use std::alloc::AllocError;
 use std::test::Fail;
-use testing::equal;
+use testing::{differ, equal};
 
 /// An error, its class and its text.
 type Row = (Error<'static>, Class, &'static str);
@@ -54,4 +54,24 @@ fn errors_have_classes_and_texts(rt: HostRuntime) -> Result<(), Fail> {
         equal(shown.as_str(), text, place)?;
     }
     Ok(())
+}
+
+/// A refusal of these bytes at this place.
+fn ill_formed(place: Place, input: &[u8]) -> Error<'_> {
+    Error::IllFormed { place, input }
+}
+
+#[test]
+fn different_errors_are_unequal() -> Result<(), Fail> {
+    differ(&[
+        Error::PathMissing,
+        Error::InstallDirMissing,
+        Error::HomeMissing,
+        Error::LookupMissing,
+        Error::UserNotFound,
+        Error::Memory(AllocError),
+        ill_formed(Place::Whole, b"\xff"),
+        ill_formed(Place::Whole, b"\xfe"),
+        ill_formed(Place::PastHome, b"\xff"),
+    ])
 }

@@ -10,5 +10,5 @@ mod writer;
 
 pub use hoard::Hoard;
 pub use reader::Reader;
-pub use row::equal;
+pub use row::{differ, equal};
 pub use writer::{Turn, Writer};

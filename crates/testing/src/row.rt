@@ -14,3 +14,13 @@ where
     }
     Err(Fail::new(format_args!("{row:?}: {given:?} in place of {wanted:?}")))
 }
+
+/// Each value is equal to itself and unequal to each other one.
+pub fn differ<T: PartialEq + Debug>(values: &[T]) -> Result<(), Fail> {
+    for (i, a) in values.iter().enumerate() {
+        for (j, b) in values.iter().enumerate() {
+            equal(a == b, i == j, (a, b))?;
+        }
+    }
+    Ok(())
+}
