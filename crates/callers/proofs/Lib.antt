@@ -2,4 +2,4 @@ pub mod Places
 pub mod Joined
 pub mod CheckerLemmas
 pub mod ThemeLemmas
-pub mod Answered
+pub mod PathRows

@@ -1,12 +1,12 @@
 -- Colors that are joined: by composition, and by one text.
-use Rattle.std.proofs.Common.{◌≡◌, ℕ, List, [], ◌∷◌, ◌++◌, ◌↔◌, Option, None, Some, option_map, inl, inr, refl, sym, ap, subst, ◌∙◌}
+use Rattle.std.proofs.Common.{◌≡◌, ℕ, List, [], ◌∷◌, ◌++◌, ◌↔◌, Option, None, Some, option_map, MatchOption, inl, inr, refl, sym, ap, subst, ◌∙◌}
 use Rattle.arrayvec.specs.ArrayString.{ArrayString}
 use Rattle.config_color.specs.declared.color.Color.{Color}
 use Rattle.gix_config_value.specs.Color.{ColorText, CanonicalColor}
-use Rattle.config_color.specs.Laws.Color.{color_one_value}
-use Rattle.gix_config_value.specs.Composition.{Joined, Composition}
+use Rattle.config_color.specs.contracts.color.ColorValue.TheImpl.Laws.{one_value-law}
+use Rattle.gix_config_value.specs.Composition.{Joined, Composition, Composes}
 use Rattle.gix_config_value.specs.Space.{Space, spellings}
-use Rattle.gix_config_value.specs.Value.{IsRefused, Normalizes, IsOnlyText}
+use Rattle.gix_config_value.specs.Value.{IsRefused, Reads, Normalizes, IsOnlyText}
 use Rattle.callers.specs.Theme.{IsStyleOf}
 
 one_space : Space (32 ∷ [])
@@ -38,8 +38,8 @@ spellings_at base over t u composed joined law is same put answer only =
 -- a text that reads to one color has no composition but with that one
 composed_only : (base over : List ℕ) (a b c : Color) → ColorText base a → ColorText over b → Joined base over c → Composition a b c
 composed_only base over a b c first second joined =
-    let same_a : joined.0 ≡ a = color_one_value base joined.0 a joined.2 first in
-    let same_b : joined.1 ≡ b = color_one_value over joined.1 b joined.3 second in
+    let same_a : joined.0 ≡ a = one_value-law base joined.0 a joined.2 first in
+    let same_b : joined.1 ≡ b = one_value-law over joined.1 b joined.3 second in
     subst (λ x. Composition x b c) same_a (subst (λ y. Composition joined.0 y c) same_b joined.4)
 
 -- no color is joined where one of both texts has none, or the colors have no composition
@@ -53,3 +53,15 @@ pub no_composition : (base over t u : List ℕ) (a b : Color) → t ≡ base →
     → ((c : Color) → ¬ (Composition a b c)) → (c : Color) → ¬ (Joined base over c)
 no_composition base over t u a b first second reads also none c joined =
     none c (composed_only base over a b c (subst (λ x. ColorText x a) first reads) (subst (λ x. ColorText x b) second also) joined)
+
+-- what is joined is what the text of both, with a space between, reads to
+pub joined_reads : (base over : List ℕ) (r : Option Color)
+    → ((front space back : List ℕ) (c : Color) → Space space → (ColorText (front ++ space ++ back) c) ↔ (Joined front back c))
+    → MatchOption r ((c : Color) → ¬ (Joined base over c)) (λ c. Joined base over c) → Reads ColorText (base ++ 32 ∷ [] ++ over) r
+joined_reads base over None law none = λ c reads. none c ((law base (32 ∷ []) over c one_space).0 reads)
+joined_reads base over (Some c) law joined = (law base (32 ∷ []) over c one_space).1 joined
+
+pub composed_joins : (base over : List ℕ) (a b : Color) (r : Option Color) → ColorText base a → ColorText over b → Composes a b r
+    → MatchOption r ((c : Color) → ¬ (Joined base over c)) (λ c. Joined base over c)
+composed_joins base over a b None first second composes = λ c joined. composes.1 c (composed_only base over a b c first second joined)
+composed_joins base over a b (Some c) first second composes = (a, b, first, second, composes.0)

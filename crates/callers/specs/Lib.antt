@@ -3,3 +3,4 @@ pub mod Entries
 pub mod Precedence
 pub mod Checker
 pub mod Theme
+pub mod Paths

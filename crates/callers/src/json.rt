@@ -1,5 +1,5 @@
 //! Sizes as JSON numbers.
-ghost use Rattle.std.specs.Prelude.{◌≡◌, ℤ, IfSome};
+ghost use Rattle.std.specs.Prelude.{◌≡◌, ℤ, MatchOption};
 ghost use Rattle.serde_json.specs.Data.{number};
 ghost use Rattle.serde_json.specs.Find.{of_integer};
 ghost use Rattle.serde_json.specs.View.{view};
@@ -11,7 +11,8 @@ use std::alloc::Global;
 
 /// The size that the text writes, as a JSON number, or `None` where it writes none that lies in `i64`.
 pub fn size_json(alloc: Global, text: &str) -> Option<Value>
-    ensures { IfSome result (λ v. (z : ℤ) × ProductInRange text.now z × (view v ≡ number (of_integer z))) }
+    ensures { MatchOption result ((z : ℤ) → ¬ (ProductInRange text.now z))
+        (λ v. (z : ℤ) × ProductInRange text.now z × (view v ≡ number (of_integer z))) }
 {
     let Ok(size) = Integer::try_from(text) else {
         return None;

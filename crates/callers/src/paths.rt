@@ -1,11 +1,9 @@
 //! Paths interpolated without a lookup of users, with one over a passwd text, and with a function.
-ghost use Rattle.std.specs.Prelude.{◌≡◌, ◌++◌, ℕ, List, codes, Option, None, Some, Err, IsUtf8, option_copied, if◌then◌else◌};
-ghost use Rattle.std.specs.Str.{bytes_eq};
+ghost use Rattle.std.specs.Prelude.{◌≡◌, None, Some, option_copied};
 ghost use Rattle.bstr.specs.Owned.{bstring_bytes};
-ghost use Rattle.gix_config_value.specs.Interpolation.{HasForm, GivesText, join};
-ghost use Rattle.gix_config_value.specs.Interpolation.Form.{below_user};
+ghost use Rattle.gix_config_value.specs.Interpolation.{Form, HasForm};
 ghost use Rattle.gix_config_value.specs.Passwd.{home_in};
-ghost use Rattle.config_path.specs.declared.interpolate.Error.TheVariants.{LookupMissing, UserNotFound};
+ghost use Rattle.callers.specs.Paths.{PathTable, service_dir};
 
 use gix_config_value::Path;
 use gix_config_value::path::interpolate::{Context, Error, absent, home_for_user};
@@ -13,8 +11,8 @@ use std::alloc::Global;
 
 /// The path, where `~` is this home directory and no user is looked up.
 pub fn path_at_home<'p>(alloc: Global, path: &'p Path, home: &str) -> Result<String, Error<'p>>
-    ensures below_home { (rest : List ℕ) → bstring_bytes path.now.value ≡ codes "~/" ++ rest → IsUtf8 rest → GivesText (join home.now rest) result }
-    ensures no_users { (name : List ℕ) (rest : Option (List ℕ)) → HasForm (bstring_bytes path.now.value) (below_user name rest) → result ≡ Err LookupMissing }
+    ensures { (form : Form) → HasForm (bstring_bytes path.now.value) form
+        → PathTable None (Some home.now) None (bstring_bytes path.now.value) form result }
 {
     path.interpolate(
         alloc,
@@ -28,8 +26,8 @@ pub fn path_at_home<'p>(alloc: Global, path: &'p Path, home: &str) -> Result<Str
 
 /// The path, where `~user` is the home directory that the passwd text has for that user.
 pub fn path_of_user<'p>(alloc: Global, path: &'p Path, passwd: &str) -> Result<String, Error<'p>>
-    ensures known { (name rest dir : List ℕ) → HasForm (bstring_bytes path.now.value) (below_user name (Some rest)) → IsUtf8 name → IsUtf8 rest → home_in passwd.now name ≡ Some dir → GivesText (join dir rest) result }
-    ensures unknown { (name : List ℕ) (rest : Option (List ℕ)) → HasForm (bstring_bytes path.now.value) (below_user name rest) → IsUtf8 name → home_in passwd.now name ≡ None → result ≡ Err UserNotFound }
+    ensures { (form : Form) → HasForm (bstring_bytes path.now.value) form
+        → PathTable None None (Some (home_in passwd.now)) (bstring_bytes path.now.value) form result }
 {
     path.interpolate(
         alloc,
@@ -43,7 +41,7 @@ pub fn path_of_user<'p>(alloc: Global, path: &'p Path, passwd: &str) -> Result<S
 
 /// The directory of the one service that this machine has.
 fn service_home(name: &str) -> Option<&'static str>
-    ensures { option_copied result ≡ (if bytes_eq name.now (codes "www") then Some (codes "/srv/www") else None) }
+    ensures { option_copied result ≡ service_dir name.now }
 {
     if name == "www" {
         Some("/srv/www")
@@ -54,7 +52,8 @@ fn service_home(name: &str) -> Option<&'static str>
 
 /// The path, where `~www` is the directory of the service.
 pub fn path_of_service<'p>(alloc: Global, path: &'p Path) -> Result<String, Error<'p>>
-    ensures { (rest : List ℕ) → bstring_bytes path.now.value ≡ codes "~www/" ++ rest → IsUtf8 rest → GivesText (join (codes "/srv/www") rest) result }
+    ensures { (form : Form) → HasForm (bstring_bytes path.now.value) form
+        → PathTable None None (Some service_dir) (bstring_bytes path.now.value) form result }
 {
     path.interpolate(
         alloc,

@@ -53,6 +53,7 @@ pub fn both_spellings(
 pub fn layered(base: &str, over: &str) -> Option<Color>
     ensures { Reads ColorText (base.now ++ 32 ∷ [] ++ over.now) result }
 {
+    joined_colors();
     match (Color::try_from(base), Color::try_from(over)) {
         (Ok(base), Ok(over)) => compose(base, over),
         _ => None,

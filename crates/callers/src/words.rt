@@ -1,7 +1,8 @@
 //! Names and attributes, one word at a time.
-ghost use Rattle.std.specs.Prelude.{◌≡◌, ◌==◌, ◌↔◌, IfSome, IsTrue, bit_and, bit_or};
+ghost use Rattle.std.specs.Prelude.{◌≡◌, ◌==◌, ℕ, List, MatchOption, bit_and, bit_or};
 ghost use Rattle.config_word.specs.declared.name.Name.TheVariants as names;
 ghost use Rattle.config_word.specs.declared.item.Item.TheVariants as items;
+ghost use Rattle.gix_config_value.specs.Attribute.{AttributeText};
 ghost use Rattle.gix_config_value.specs.Name.{NameText};
 ghost use Rattle.gix_config_value.specs.Item.{ItemText};
 
@@ -11,10 +12,14 @@ use std::str::FromStr;
 
 /// The number in the palette that a text names, if it names one.
 pub fn palette_index(text: &str) -> Option<u8>
-    ensures { IfSome result (λ n. NameText text.now (names.Ansi n)) }
+    ensures { MatchOption result ((k : ℕ) → ¬ (NameText text.now (names.Ansi k)))
+        (λ n. NameText text.now (names.Ansi n)) }
 {
-    match Name::from_str(text) {
-        Ok(Name::Ansi(number)) => Some(number),
+    let Ok(name) = Name::from_str(text) else {
+        return None;
+    };
+    match name {
+        Name::Ansi(number) => Some(number),
         _ => None,
     }
 }
@@ -26,12 +31,20 @@ pub fn is_underlined(set: Attribute) -> bool
     set.contains(Attribute::UL)
 }
 
+/// A word stands for one item, and no text is both a name and an attribute.
+fn one_item()
+    ensures one { (t : List ℕ) (i j : Item) → ItemText t i → ItemText t j → i ≡ j }
+    ensures apart { (t : List ℕ) (n : Name) (a : Attribute) → NameText t n → ¬ (AttributeText t a) }
+{}
+
 /// A set, and the attribute that the word names, if it names one.
 pub fn with_word(set: Attribute, text: &[u8]) -> Option<Attribute>
-    ensures { IfSome result (λ a. (b : Attribute) × ItemText text.now (items.Attribute b) × (a.0 ≡ bit_or set.0 b.0)) }
+    ensures { MatchOption result ((b : Attribute) → ¬ (ItemText text.now (items.Attribute b)))
+        (λ a. (b : Attribute) × ItemText text.now (items.Attribute b) × (a.0 ≡ bit_or set.0 b.0)) }
 {
-    match word(text) {
-        Some(Item::Attribute(attribute)) => Some(set.union(attribute)),
-        _ => None,
+    one_item();
+    match word(text)? {
+        Item::Attribute(attribute) => Some(set.union(attribute)),
+        Item::Name(_) => None,
     }
 }

@@ -11,10 +11,16 @@ use testing::equal;
 #[test]
 fn finds_palette_numbers() -> Result<(), Fail> {
     for (text, number) in [
+        ("0", Some(0)),
         ("+005", Some(5)),
         ("255", Some(255)),
         ("256", None),
         ("red", None),
+        ("-1", None),
+        ("#123", None),
+        ("ul", None),
+        ("5 ", None),
+        ("", None),
     ] {
         equal(palette_index(text), number, text)?;
     }
@@ -27,7 +33,12 @@ fn adds_words_to_sets() -> Result<(), Fail> {
         ("ul", Some(Attribute::BOLD | Attribute::UL)),
         ("bold", Some(Attribute::BOLD)),
         ("no-bold", Some(Attribute::BOLD | Attribute::NO_BOLD)),
+        ("RESET", Some(Attribute::BOLD | Attribute::RESET)),
         ("red", None),
+        ("1", None),
+        ("UL", None),
+        ("ul bold", None),
+        ("", None),
     ] {
         let set = with_word(Attribute::BOLD, word.as_bytes());
         equal(set, wanted, word)?;
@@ -42,7 +53,13 @@ fn sizes_are_numbers(rt: HostRuntime) -> Result<(), Fail> {
     for (text, size) in [
         ("0x10k", Some(16_384)),
         ("-1g", Some(-1_073_741_824)),
+        ("9223372036854775807", Some(i64::MAX)),
+        ("-8796093022208m", Some(i64::MIN)),
+        ("8796093022208m", None),
+        ("9223372036854775808", None),
         ("16 k", None),
+        ("k", None),
+        ("", None),
         ("9223372036854775807k", None),
     ] {
         let json = size_json(rt.alloc(), text);

@@ -1,9 +1,12 @@
-use Rattle.std.proofs.Common.{Some}
-use Rattle.gix_config_value.specs.Interpolation.Form.{below_home, below_user}
+use Rattle.std.proofs.Common.{None, Some}
+use Rattle.bstr.specs.Owned.{bstring_bytes}
+use Rattle.gix_config_value.specs.Interpolation.Form.{empty, below_prefix, below_home, below_user, other}
+use Rattle.callers.proofs.PathRows.{all_rows}
 use Rattle.callers.proofs.paths.path_at_home.Goals as goal
 
-pub returns-clause-below_home : goal.returns-clause-below_home
-returns-clause-below_home c = λ rest e u. (c.interpolate.ensures.at_form (below_home (Some rest)) e).0 u
-
-pub returns-clause-no_users : goal.returns-clause-no_users
-returns-clause-no_users c = λ name rest h. rw c.absent.ensures at (c.interpolate.ensures.at_form (below_user name rest) h)
+pub returns : goal.returns
+returns c =
+    let at = c.interpolate.ensures.at_form in
+    all_rows None (Some c.args.home.now) None (bstring_bytes c.args.path.now.value) c.interpolate.result
+    (at empty) (λ rest. at (below_prefix rest)) (λ rest. at (below_home rest))
+    (λ name rest h. rw c.absent.ensures at (c.interpolate.ensures.at_form (below_user name rest) h)) (at other)
