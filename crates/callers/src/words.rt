@@ -43,7 +43,8 @@ pub fn with_word(set: Attribute, text: &[u8]) -> Option<Attribute>
         (λ a. (b : Attribute) × ItemText text.now (items.Attribute b) × (a.0 ≡ bit_or set.0 b.0)) }
 {
     one_item();
-    match word(text)? {
+    let item = word(text)?;
+    match item {
         Item::Attribute(attribute) => Some(set.union(attribute)),
         Item::Name(_) => None,
     }
