@@ -1,0 +1,72 @@
+#!/usr/bin/env python3
+"""The exit status of the built program: python3 statuses.py PROGRAM. It is 0 where each line has a value, 1 where some line
+has none, and 2 where the input cannot be read or the output cannot be written. The last line is 'N passed, M failed'."""
+import os
+import pathlib
+import subprocess
+import sys
+
+FULL = pathlib.Path("/dev/full")
+# a line, or nothing, is answered where it can be, and the status is that of the answers
+ANSWERED = [
+    ("no line", b"", b"", 0),
+    ("a line with a value", b"integer 0x10k\n", b"ok 16k\n", 0),
+    ("two lines with values", b"boolean yes\ninteger 1", b"ok true\nok 1\n", 0),
+    ("a line without a value", b"integer 08\n", b"refused\n", 1),
+    ("a line of no kind", b"number 1\n", b"unknown kind\n", 1),
+    ("a value behind a refusal", b"integer 08\ninteger 1\n", b"refused\nok 1\n", 1),
+]
+# each line has a value, or has none: what is not written decides alone
+UNWRITTEN = [b"integer 1\n", b"integer 08\n"]
+
+
+def status(program, given, output):
+    return subprocess.run([program], input=given, stdout=output, check=False).returncode
+
+
+def closed_pipe():
+    """The end for writing of a pipe that nothing reads."""
+    reader, writer = os.pipe()
+    os.close(reader)
+    return writer
+
+
+def rows(program):
+    """What was tried, what it gave, and what it has to give."""
+    for name, given, answers, wanted in ANSWERED:
+        run = subprocess.run([program], input=given, stdout=subprocess.PIPE, check=False)
+        yield name, (run.returncode, run.stdout), (wanted, answers)
+    shell = ["sh", "-c", 'exec "$0" <&-', program]
+    yield "a closed input", subprocess.run(shell, check=False).returncode, 2
+    folder = os.open(".", os.O_RDONLY)
+    yield "a directory as input", subprocess.run([program], stdin=folder, check=False).returncode, 2
+    os.close(folder)
+    for given in UNWRITTEN:
+        shell = ["sh", "-c", 'exec "$0" >&-', program]
+        run = subprocess.run(shell, input=given, check=False)
+        yield f"a closed output, {given!r}", run.returncode, 2
+        writer = closed_pipe()
+        yield f"a pipe that nothing reads, {given!r}", status(program, given, writer), 2
+        os.close(writer)
+        if FULL.exists():
+            with FULL.open("wb") as full:
+                yield f"a full device, {given!r}", status(program, given, full), 2
+        else:
+            print(f"a full device, {given!r}: skipped, since there is no {FULL}")
+
+
+def main():
+    program = os.path.abspath(sys.argv[1])
+    passed = failed = 0
+    for name, given, wanted in rows(program):
+        if given == wanted:
+            passed += 1
+        else:
+            failed += 1
+            print(f"{name}: wanted {wanted!r}, got {given!r}")
+    print(f"{passed} passed, {failed} failed")
+    return 1 if failed else 0
+
+
+if __name__ == "__main__":
+    sys.exit(main())
