@@ -1,13 +1,13 @@
 //! Names and attributes, one word at a time.
-ghost use Rattle.std.specs.Prelude.{◌≡◌, ◌==◌, ℕ, List, MatchOption, bit_and, bit_or};
+ghost use Rattle.std.specs.Prelude.{◌≡◌, ◌==◌, ℕ, MatchOption, bit_and, bit_or};
 ghost use Rattle.config_word.specs.declared.name.Name.TheVariants as names;
 ghost use Rattle.config_word.specs.declared.item.Item.TheVariants as items;
-ghost use Rattle.gix_config_value.specs.Attribute.{AttributeText};
 ghost use Rattle.gix_config_value.specs.Name.{NameText};
 ghost use Rattle.gix_config_value.specs.Item.{ItemText};
 
 use bitflags::Flags;
 use gix_config_value::color::{Attribute, Item, Name, word};
+use gix_config_value::laws::texts::one_item;
 use std::str::FromStr;
 
 /// The number in the palette that a text names, if it names one.
@@ -30,12 +30,6 @@ pub fn is_underlined(set: Attribute) -> bool
 {
     set.contains(Attribute::UL)
 }
-
-/// A word stands for one item, and no text is both a name and an attribute.
-fn one_item()
-    ensures one { (t : List ℕ) (i j : Item) → ItemText t i → ItemText t j → i ≡ j }
-    ensures apart { (t : List ℕ) (n : Name) (a : Attribute) → NameText t n → ¬ (AttributeText t a) }
-{}
 
 /// A set, and the attribute that the word names, if it names one.
 pub fn with_word(set: Attribute, text: &[u8]) -> Option<Attribute>
