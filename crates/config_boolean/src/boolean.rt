@@ -169,10 +169,8 @@ impl Value for Boolean {
         true
     }
 
-    fn text(&self) -> Text {
-        let mut text = Text::new();
+    fn write_to(&self, text: &mut Text) {
         text.push_str(self.shown());
-        text
     }
 
     ghost one_value = { boolean_one_value };

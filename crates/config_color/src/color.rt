@@ -1,5 +1,5 @@
 //! Colors: what text is drawn with, read from a text and shown as one.
-ghost use Rattle.std.specs.Prelude.{◌↔◌, IsTrue, ◌≡◌, ◌+◌, ◌<◌, ◌≤◌, Some, length, slice_range};
+ghost use Rattle.std.specs.Prelude.{◌↔◌, IsTrue, ◌≡◌, ◌+◌, ◌<◌, ◌≤◌, [], Some, length, slice_range};
 ghost use Rattle.std.specs.Cow.{cow_slice_items};
 ghost use Rattle.bstr.specs.BStr.{bstr_bytes};
 ghost use Rattle.bstr.specs.Owned.{bstring_bytes};
@@ -12,7 +12,7 @@ ghost use Rattle.std.proofs.Common.{rules};
 ghost use Rattle.config_text.specs.Refusals.{Always, ReadsBytes, ReadsText, ReadsOwned};
 ghost use Rattle.config_color.specs.Space.{Space};
 ghost use Rattle.config_text.specs.Value.{HasText, Reads};
-ghost use Rattle.config_color.specs.Split.{IsWithoutSpace, piece};
+ghost use Rattle.config_color.specs.Split.{IsWithoutSpace, piece, words};
 
 use crate::space::space_at;
 use bitflags::Flags;
@@ -53,6 +53,7 @@ impl Default for Color {
 impl Color {
     /// This color with one more name: as its foreground, or else as its background. `None` where it
     /// has both.
+    #[inline(always)]
     fn with_name(self, name: Name) -> Option<Color>
         ensures { result
             ≡ next_name self.foreground self.background self.attributes.0 name }
@@ -71,6 +72,7 @@ impl Color {
     }
 
     /// This color with one more item.
+    #[inline(always)]
     fn with_item(self, item: Item) -> Option<Color>
         ensures { result ≡ with_item self item }
     {
@@ -85,6 +87,7 @@ impl Color {
 
     /// This color with the item that a word stands for, or as it is where the word is empty. `None`
     /// where the word stands for nothing, or for a third name.
+    #[inline(always)]
     fn with_word(self, text: &[u8]) -> Option<Color>
         ensures { result ≡ read_from self (piece text.now) }
     {
@@ -105,25 +108,25 @@ fn part_fits(part: Option<Name>)
 }
 
 impl Color {
-    /// The names as they are shown, with one space between them.
+    /// Writes the names as they are shown, with one space between them, into a text that is empty.
     #[tactic(auto, using(config_word::specs::Laws::Name::name_short))]
-    fn names_shown(&self) -> Text
-        ensures text { result.bytes ≡ names_shown self.now.foreground self.now.background }
-        ensures room { length result.bytes ≤ 27 }
+    fn show_names(&self, text: &mut Text)
+        requires { text.old.bytes ≡ [] }
+        ensures names { text.new.bytes ≡ names_shown self.now.foreground self.now.background }
+        ensures room { length text.new.bytes ≤ 27 }
     {
         match (self.foreground, self.background) {
-            (None, None) => Text::new(),
+            (None, None) => (),
             (Some(name), None) | (None, Some(name)) => {
                 numbers_fit(name);
-                name.shown()
+                name.push_to(text);
             }
             (Some(first), Some(second)) => {
                 numbers_fit(first);
                 numbers_fit(second);
-                let mut text = first.shown();
+                first.push_to(text);
                 text.push_str(" ");
-                second.push_to(&mut text);
-                text
+                second.push_to(text);
             }
         }
     }
@@ -139,19 +142,19 @@ impl Color {
             && (self.background.is_none() || self.foreground.is_some())
     }
 
-    /// The color as it is shown.
-    pub(crate) fn shown(&self) -> Text
-        ensures { result.bytes ≡ color_shown self.now }
+    /// Writes the color as it is shown into a text that is empty.
+    pub(crate) fn show(&self, text: &mut Text)
+        requires { text.old.bytes ≡ [] }
+        ensures { text.new.bytes ≡ color_shown self.now }
     {
-        let mut text = self.names_shown();
+        self.show_names(text);
         if self.attributes.is_empty() {
-            return text;
+            return;
         }
         if self.foreground.is_some() || self.background.is_some() {
             text.push_str(" ");
         }
-        self.attributes.push_to(&mut text);
-        text
+        self.attributes.push_to(text);
     }
 }
 
@@ -165,6 +168,7 @@ struct FirstWord {
 }
 
 /// The first word of a text.
+#[inline(always)]
 fn first_word(text: &[u8]) -> FirstWord
     ensures clear { IsWithoutSpace text.now result.length }
     ensures within { result.length + result.space ≤ length text.now }
@@ -184,12 +188,26 @@ fn first_word(text: &[u8]) -> FirstWord
     }
 }
 
+/// What follows the spaces at the front of a text.
+#[inline(always)]
+fn past_spaces(text: &[u8]) -> &[u8]
+    ensures same { words result.now ≡ words text.now }
+    ensures shorter { length result.now ≤ length text.now }
+{
+    let mut rest = text;
+    while let [b' ', behind @ ..] = rest {
+        rest = behind;
+    }
+    rest
+}
+
 /// The color of a text, or `None` where it has none. The text is walked once, from its front.
+#[inline(always)]
 fn color_of(input: &[u8]) -> Option<Color>
     ensures { Reads ColorText input.now result }
 {
     let mut color = Color::default();
-    let mut rest = input;
+    let mut rest = past_spaces(input);
     loop {
         let first = first_word(rest);
         let (text, behind) = rest.split_at(first.length);
@@ -197,7 +215,7 @@ fn color_of(input: &[u8]) -> Option<Color>
         if first.space == 0 {
             return Some(color);
         }
-        rest = &behind[first.space..];
+        rest = past_spaces(&behind[first.space..]);
     }
 }
 
@@ -260,7 +278,9 @@ impl fmt::Display for Color {
     ghost output = { λ c. Some (color_shown c) };
 
     fn fmt<W: fmt::Write>(&self, f: &mut fmt::Formatter<W>) -> fmt::Result {
-        f.write_str(self.shown().as_str())
+        let mut text = Text::new();
+        self.show(&mut text);
+        f.write_str(text.as_str())
     }
 }
 
@@ -279,8 +299,8 @@ impl Value for Color {
         self.is_readable()
     }
 
-    fn text(&self) -> Text {
-        self.shown()
+    fn write_to(&self, text: &mut Text) {
+        self.show(text);
     }
 
     ghost one_value = { color_one_value };

@@ -45,6 +45,7 @@ fn space_length(bytes: &[u8]) -> usize
     ensures some { 0 < result → Space (slice_range bytes.now 0 result) }
 {
     match bytes {
+        [first, ..] if *first > b' ' && *first < 0xc2 => 0,
         [first, ..] if is_narrow(*first) => 1,
         [first, second, ..] if is_double(*first, *second) => 2,
         [first, second, third, ..] if is_triple(*first, *second, *third) => 3,

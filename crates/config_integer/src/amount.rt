@@ -86,22 +86,11 @@ impl<'a> TryFrom<CowSlice<'a, u8>> for Amount {
     }
 }
 
-impl Amount {
-    /// The number in decimal.
-    fn shown(&self) -> Text
-        ensures { result.bytes ≡ amount_shown self.now }
-    {
-        let mut text = Text::new();
-        text.push_str(Buffer::new().format(self.0));
-        text
-    }
-}
-
 impl fmt::Display for Amount {
     ghost output = { λ v. Some (amount_shown v) };
 
     fn fmt<W: fmt::Write>(&self, f: &mut fmt::Formatter<W>) -> fmt::Result {
-        f.write_str(self.shown().as_str())
+        f.write_str(Buffer::new().format(self.0))
     }
 }
 
@@ -122,8 +111,8 @@ impl Value for Amount {
         true
     }
 
-    fn text(&self) -> Text {
-        self.shown()
+    fn write_to(&self, text: &mut Text) {
+        text.push_str(Buffer::new().format(self.0));
     }
 
     ghost one_value = { amount_one_value };

@@ -1,5 +1,5 @@
 //! Integers and their suffixes.
-ghost use Rattle.std.specs.Prelude.{◌≡◌, ℤ, Option, Some, None, SomeIff, IfOk, IfErr, Ok, Err};
+ghost use Rattle.std.specs.Prelude.{◌≡◌, ℤ, [], Option, Some, None, SomeIff, IfOk, IfErr, Ok, Err};
 ghost use Rattle.bstr.specs.BStr.{bstr_bytes};
 ghost use Rattle.bstr.specs.Owned.{bstring_bytes};
 ghost use Rattle.std.specs.Cow.{cow_slice_items};
@@ -49,28 +49,22 @@ pub fn scan(input: &[u8]) -> Option<Integer>
 fn signed(input: &[u8]) -> Option<Integer>
     ensures { result ≡ integer_of input.now }
 {
-    match input {
-        [b'-', text @ ..] => negative(text),
-        [b'+', text @ ..] => positive(text),
-        _ => positive(input),
-    }
-}
-
-/// The integer that a text without its `-` writes.
-fn negative(text: &[u8]) -> Option<Integer>
-    ensures { result ≡ option_map negative_integer (unsigned_of 9223372036854775808 text.now) }
-{
-    let (number, suffix) = magnitude::unsigned(text, i64::MIN.unsigned_abs())?;
-    let value = 0_i64.checked_sub_unsigned(number)?;
-    Some(Integer { value, suffix })
-}
-
-/// The integer that a text without a sign writes.
-fn positive(text: &[u8]) -> Option<Integer>
-    ensures { result ≡ option_map plain_integer (unsigned_of 9223372036854775807 text.now) }
-{
-    let (number, suffix) = magnitude::unsigned(text, i64::MAX.unsigned_abs())?;
-    let value = 0_i64.checked_add_unsigned(number)?;
+    let (is_negative, text) = match input {
+        [b'-', text @ ..] => (true, text),
+        [b'+', text @ ..] => (false, text),
+        _ => (false, input),
+    };
+    let limit = if is_negative {
+        i64::MIN.unsigned_abs()
+    } else {
+        i64::MAX.unsigned_abs()
+    };
+    let (number, suffix) = magnitude::unsigned(text, limit)?;
+    let value = if is_negative {
+        0_i64.checked_sub_unsigned(number)?
+    } else {
+        0_i64.checked_add_unsigned(number)?
+    };
     Some(Integer { value, suffix })
 }
 
@@ -165,7 +159,9 @@ impl fmt::Display for Integer {
     ghost output = { λ v. Some (integer_shown v) };
 
     fn fmt<W: fmt::Write>(&self, f: &mut fmt::Formatter<W>) -> fmt::Result {
-        f.write_str(self.shown().as_str())
+        let mut text = Text::new();
+        self.show(&mut text);
+        f.write_str(text.as_str())
     }
 }
 
@@ -201,16 +197,15 @@ impl Integer {
         }
     }
 
-    /// The number in decimal, and the letter of its suffix.
-    fn shown(&self) -> Text
-        ensures { result.bytes ≡ integer_shown self.now }
+    /// Writes the number in decimal, and the letter of its suffix, into a text that is empty.
+    fn show(&self, text: &mut Text)
+        requires { text.old.bytes ≡ [] }
+        ensures { text.new.bytes ≡ integer_shown self.now }
     {
-        let mut text = Text::new();
         text.push_str(Buffer::new().format(self.value));
         if let Some(suffix) = self.suffix {
             text.push_str(suffix.letter());
         }
-        text
     }
 }
 
@@ -231,8 +226,8 @@ impl Value for Integer {
         true
     }
 
-    fn text(&self) -> Text {
-        self.shown()
+    fn write_to(&self, text: &mut Text) {
+        self.show(text);
     }
 
     ghost one_value = { integer_one_value };

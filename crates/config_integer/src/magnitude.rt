@@ -1,30 +1,78 @@
 //! The magnitude of an integer, and the suffix behind it, read in one pass over the bytes.
-ghost use Rattle.std.specs.Prelude.{◌≡◌, ◌≤◌, Some, None, IfSome};
+ghost use Rattle.std.specs.Prelude.{◌≡◌, ◌≤◌, ◌<◌, ◌+◌, ◌*◌, Some, None, IfSome, SomeIff};
+ghost use Rattle.std.specs.Char.{digit_value};
 ghost use Rattle.config_integer.specs.Reading.Integer.{counted, base_of, digits_of, unsigned_of};
 
 use crate::suffix::{Suffix, suffix_of};
 
+/// What each byte is worth as a hexadecimal digit, and 16 where it is none.
+#[rattlefmt::skip]
+const DIGITS: [u8; 256] = [
+    16, 16, 16, 16, 16, 16, 16, 16, 16, 16, 16, 16, 16, 16, 16, 16,
+    16, 16, 16, 16, 16, 16, 16, 16, 16, 16, 16, 16, 16, 16, 16, 16,
+    16, 16, 16, 16, 16, 16, 16, 16, 16, 16, 16, 16, 16, 16, 16, 16,
+    0, 1, 2, 3, 4, 5, 6, 7, 8, 9, 16, 16, 16, 16, 16, 16,
+    16, 10, 11, 12, 13, 14, 15, 16, 16, 16, 16, 16, 16, 16, 16, 16,
+    16, 16, 16, 16, 16, 16, 16, 16, 16, 16, 16, 16, 16, 16, 16, 16,
+    16, 10, 11, 12, 13, 14, 15, 16, 16, 16, 16, 16, 16, 16, 16, 16,
+    16, 16, 16, 16, 16, 16, 16, 16, 16, 16, 16, 16, 16, 16, 16, 16,
+    16, 16, 16, 16, 16, 16, 16, 16, 16, 16, 16, 16, 16, 16, 16, 16,
+    16, 16, 16, 16, 16, 16, 16, 16, 16, 16, 16, 16, 16, 16, 16, 16,
+    16, 16, 16, 16, 16, 16, 16, 16, 16, 16, 16, 16, 16, 16, 16, 16,
+    16, 16, 16, 16, 16, 16, 16, 16, 16, 16, 16, 16, 16, 16, 16, 16,
+    16, 16, 16, 16, 16, 16, 16, 16, 16, 16, 16, 16, 16, 16, 16, 16,
+    16, 16, 16, 16, 16, 16, 16, 16, 16, 16, 16, 16, 16, 16, 16, 16,
+    16, 16, 16, 16, 16, 16, 16, 16, 16, 16, 16, 16, 16, 16, 16, 16,
+    16, 16, 16, 16, 16, 16, 16, 16, 16, 16, 16, 16, 16, 16, 16, 16,
+];
+
+/// The value of a hexadecimal digit, and 16 for any other byte.
+#[inline(always)]
+fn digit_of(byte: u8) -> u64
+    ensures digit { result < 16 → digit_value byte ≡ result }
+    ensures other { ¬ (result < 16) → ¬ (digit_value byte < 16) }
+{
+    u64::from(DIGITS[usize::from(byte)])
+}
+
+/// The value of a digit of the base.
+#[inline(always)]
+fn digit_in(byte: u8, base: u64) -> Option<u64>
+    requires { base ≤ 16 }
+    ensures { SomeIff result (digit_value byte < base) (digit_value byte) }
+{
+    let digit = digit_of(byte);
+    if digit < base { Some(digit) } else { None }
+}
+
+/// Below this number one more digit neither overflows nor reaches a limit.
+const UNCHECKED: u64 = 0x0800_0000_0000_0000;
+
 /// The number that one digit or more write in the base, where it is at most `limit`, and the suffix behind them.
-fn counted(text: &[u8], base: u32, limit: u64) -> Option<(u64, Option<Suffix>)>
+#[inline(always)]
+fn counted(text: &[u8], base: u64, limit: u64) -> Option<(u64, Option<Suffix>)>
     requires low { 2 ≤ base }
     requires high { base ≤ 16 }
+    requires wide { 9223372036854775807 ≤ limit }
     ensures answer { result ≡ counted base limit text.now }
     ensures small { IfSome result (λ r. r.0 ≤ limit) }
 {
     let mut number: u64 = 0;
     for (at, byte) in text.iter().enumerate() {
-        let Some(digit) = char::from(*byte).to_digit(base) else {
+        let Some(digit) = digit_in(*byte, base) else {
             if at == 0 {
                 return None;
             }
             let suffix = suffix_of(&text[at..])?;
             return Some((number, Some(suffix)));
         };
-        number = number
-            .checked_mul(u64::from(base))?
-            .checked_add(u64::from(digit))?;
-        if number > limit {
-            return None;
+        if number < UNCHECKED {
+            number = number * base + digit;
+        } else {
+            number = number.checked_mul(base)?.checked_add(digit)?;
+            if number > limit {
+                return None;
+            }
         }
     }
     if text.is_empty() {
@@ -35,7 +83,8 @@ fn counted(text: &[u8], base: u32, limit: u64) -> Option<(u64, Option<Suffix>)>
 }
 
 /// The base that the first bytes name, and the text from its first digit on.
-fn based(text: &[u8]) -> (u32, &[u8])
+#[inline(always)]
+fn based(text: &[u8]) -> (u64, &[u8])
     ensures base { result.0 ≡ base_of text.now }
     ensures digits { result.1.now ≡ digits_of text.now }
 {
@@ -47,8 +96,11 @@ fn based(text: &[u8]) -> (u32, &[u8])
     }
 }
 
-/// The magnitude of a text without a sign, where it is at most `limit`, and its suffix.
+/// The magnitude of a text without a sign, where it is at most `limit`, and its suffix. The limit is
+/// that of `i64` on either side.
+#[inline(always)]
 pub(crate) fn unsigned(text: &[u8], limit: u64) -> Option<(u64, Option<Suffix>)>
+    requires { 9223372036854775807 ≤ limit }
     ensures answer { result ≡ unsigned_of limit text.now }
     ensures small { IfSome result (λ r. r.0 ≤ limit) }
 {

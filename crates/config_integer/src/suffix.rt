@@ -130,10 +130,8 @@ impl Value for Suffix {
         true
     }
 
-    fn text(&self) -> Text {
-        let mut text = Text::new();
+    fn write_to(&self, text: &mut Text) {
         text.push_str(self.letter());
-        text
     }
 
     ghost one_value = { suffix_one_value };

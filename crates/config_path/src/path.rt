@@ -65,7 +65,16 @@ impl Path {
     pub fn from_bstr(alloc: Global, value: BStr<'_>) -> Result<Path, AllocError>
         ensures { IfOk result (IsPathOf (bstr_bytes value.entry)) }
     {
-        Ok(Path::from(BString::from_slice(alloc, value)?))
+        match past(value.as_bytes(), MARK) {
+            Some(rest) => Ok(Path {
+                value: BString::from_slice(alloc, rest)?,
+                is_optional: true,
+            }),
+            None => Ok(Path {
+                value: BString::from_slice(alloc, value)?,
+                is_optional: false,
+            }),
+        }
     }
 
     /// The path of bytes that are borrowed or owned. One leading `:(optional)` is cut off, as by

@@ -2,7 +2,7 @@
 --
 -- A grammar relates texts to the values that it gives them. A canonical grammar is a set of texts,
 -- written without reference to how values are shown.
-use Rattle.std.specs.Prelude.{◌≡◌, ℕ, ◌≤◌, ◌↔◌, ◌⊎◌, List, length, Option, None, Some, Bool, IsTrue}
+use Rattle.std.specs.Prelude.{◌≡◌, ℕ, ◌≤◌, ◌↔◌, ◌⊎◌, List, [], length, Option, None, Some, Bool, true, false, IsTrue}
 use Rattle.arrayvec.specs.ArrayString.{ArrayString}
 
 -- the grammar gives the text no value
@@ -33,6 +33,11 @@ pub record IsTextOf {V : Type 0} (grammar : List ℕ → V → Type 0) (canonica
 abbrev pub Normalizes : {V : Type 0} → (List ℕ → V → Type 0) → (List ℕ → Type 0) → List ℕ → Option ArrayString → Type 0
 Normalizes grammar canonical t None = IsRefused grammar t
 Normalizes {V} grammar canonical t (Some s) = (v : V) × grammar t v × IsTextOf grammar canonical v s.bytes
+
+-- the same, where the text is written into a text of the caller's, and that is left empty where the input has no value
+abbrev pub Fills : {V : Type 0} → (List ℕ → V → Type 0) → (List ℕ → Type 0) → List ℕ → List ℕ → Bool → Type 0
+Fills grammar canonical t written false = IsRefused grammar t × (written ≡ [])
+Fills {V} grammar canonical t written true = (v : V) × grammar t v × IsTextOf grammar canonical v written
 
 -- no other canonical text reads to the value of the input
 abbrev pub IsOnlyText : {V : Type 0} → (List ℕ → V → Type 0) → (List ℕ → Type 0) → List ℕ → Option ArrayString → Type 0

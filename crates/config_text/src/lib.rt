@@ -4,6 +4,7 @@
 //!   value, and the laws that make the two fit; the normalizer and the comparison, written once over it.
 //! - [`errors`]: why a text is refused, and the input that is given back with it.
 //! - [`readers`]: the readers of a type over borrowed and owned inputs, written once.
+//! - [`words`]: a text compared with a word.
 //! - [`json`]: why a value has no JSON value, and texts as JSON.
 //! - [`settings`]: a setting by name, of a list of entries.
 //! - [`laws`]: what holds of settings.
@@ -17,3 +18,4 @@ pub mod laws;
 pub mod readers;
 pub mod settings;
 pub mod value;
+pub mod words;

@@ -1,7 +1,7 @@
 //! What it means for a text to be read as a value, and for a value to have one canonical text.
-ghost use Rattle.std.specs.Prelude.{◌≡◌, ℕ, ◌≤◌, ◌↔◌, ◌⊎◌, List, length, IfSome, IsSomeAnd, IsTrue};
+ghost use Rattle.std.specs.Prelude.{◌≡◌, ℕ, ◌≤◌, ◌↔◌, ◌⊎◌, List, [], length, IfSome, IsSomeAnd, IsTrue};
 ghost use Rattle.bstr.specs.BStr.{bstr_bytes};
-ghost use Rattle.config_text.specs.Value.{IsRefused, IsAccepted, HasText, Reads, IsTextOf, Normalizes, IsOnlyText, Compares};
+ghost use Rattle.config_text.specs.Value.{IsRefused, IsAccepted, HasText, Reads, IsTextOf, Normalizes, Fills, IsOnlyText, Compares};
 
 use arrayvec::ArrayString;
 use bstr::BStr;
@@ -33,12 +33,24 @@ pub trait Value: Copy + Eq {
     fn has_text(&self) -> bool
         ensures { IsTrue result ↔ (HasText grammar self.now) };
 
+    /// Writes the one canonical text that reads to this value into a text that is empty. Some text
+    /// must read to the value, as `has_text` tells.
+    fn write_to(&self, text: &mut Text)
+        requires value { HasText grammar self.now }
+        requires empty { text.old.bytes ≡ [] }
+        ensures { text.new.bytes ≡ displayed self.now };
+
     /// The one canonical text that reads to this value: its displayed text, of at most 127 bytes.
     /// Some text must read to the value, as `has_text` tells.
     fn text(&self) -> Text
         requires { HasText grammar self.now }
         ensures text { IsTextOf grammar canonical self.now result.bytes }
-        ensures shown { result.bytes ≡ displayed self.now };
+        ensures shown { result.bytes ≡ displayed self.now }
+    {
+        let mut text = Text::new();
+        self.write_to(&mut text);
+        text
+    }
 
     // What a kind owes, beside its three calls.
 
@@ -73,6 +85,21 @@ pub fn normalize_as<V: Value>(input: BStr<'_>) -> Option<Text>
     match V::read(input) {
         Some(value) => Some(value.text()),
         None => None,
+    }
+}
+
+/// Puts the canonical text that reads to the value of the input in place of what the text holds, and answers whether
+/// the input has a value. Where it has none the text is left empty.
+pub fn normalize_into_as<V: Value>(input: BStr<'_>, text: &mut Text) -> bool
+    ensures { Fills V.grammar V.canonical (bstr_bytes input.entry) text.new.bytes result }
+{
+    text.clear();
+    match V::read(input) {
+        Some(value) => {
+            value.write_to(text);
+            true
+        }
+        None => false,
     }
 }
 

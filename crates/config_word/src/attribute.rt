@@ -6,7 +6,7 @@ ghost use Rattle.config_word.specs.Attribute.{AttributeText, CanonicalAttribute,
 ghost use Rattle.config_word.specs.Laws.Attribute.{attribute_canonical_reads, attribute_decided, attribute_one_text, attribute_one_value, attribute_shown_is_text};
 ghost use Rattle.config_word.specs.Reading.Attribute.{shown_row, shown_rows};
 ghost use Rattle.config_text.specs.Refusals.{Always, ReadsBytes, ReadsFault};
-ghost use Rattle.config_text.specs.Value.{HasText, IsTextOf, Reads};
+ghost use Rattle.config_text.specs.Value.{HasText, Reads};
 ghost use Rattle.std.proofs.Common.{rules};
 ghost use Rattle.config_text.specs.Json.{GivesJsonText};
 
@@ -142,11 +142,9 @@ impl Attribute {
         }
     }
 
-    /// The set as it is shown, for `Display` and the canonical text.
-    pub fn shown(self) -> Text
-        ensures bytes { result.bytes ≡ attribute_shown self.0 }
-        ensures text { HasText AttributeText self
-            → IsTextOf AttributeText CanonicalAttribute self result.bytes }
+    /// The set as it is shown.
+    fn shown(self) -> Text
+        ensures { result.bytes ≡ attribute_shown self.0 }
     {
         let mut text = Text::new();
         self.push_to(&mut text);
@@ -242,8 +240,8 @@ impl Value for Attribute {
         self.is_constant()
     }
 
-    fn text(&self) -> Text {
-        self.shown()
+    fn write_to(&self, text: &mut Text) {
+        self.push_to(text);
     }
 
     ghost one_value = { attribute_one_value };

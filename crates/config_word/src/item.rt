@@ -1,11 +1,13 @@
-//! The words of a color text: the one table of them, by length, and the numbers beside it.
-ghost use Rattle.std.specs.Prelude.{◌≡◌, map};
+//! The words of a color text, and the numbers beside them.
+ghost use Rattle.std.specs.Prelude.{◌≡◌, ◌<◌, SomeIff, length};
+ghost use Rattle.std.specs.Char.{digit_value};
 ghost use Rattle.config_text.specs.Value.{Reads};
 ghost use Rattle.config_word.specs.Item.{ItemText};
-ghost use Rattle.config_word.specs.Reading.Item.{fits, found, hex_pair_of, item_of, of_length, palette_of, rgb_of, row_of, word_table};
+ghost use Rattle.config_word.specs.Reading.Item.{found, hex_pair_of, item_of, of_length, palette_of, rgb_of, word_table};
 
 use crate::attribute::Attribute;
 use crate::name::Name;
+use config_text::words::{is, is_in_any_case};
 
 /// What a word of a color text stands for.
 #[derive(Clone, Copy, PartialEq, Eq, Debug)]
@@ -16,129 +18,249 @@ pub enum Item {
     Attribute(Attribute),
 }
 
-/// A word that is read, and what it stands for.
-#[derive(Clone, Copy)]
-struct Entry {
-    text: &'static str,
-    /// Whether `A` to `Z` count as `a` to `z`.
-    any_case: bool,
-    item: Item,
-}
-
-macro_rules! any_case {
-    ($text:expr, $item:expr) => {
-        Entry { text: $text, any_case: true, item: $item }
-    };
-}
-
-macro_rules! exact {
-    ($text:expr, $item:expr) => {
-        Entry { text: $text, any_case: false, item: $item }
-    };
-}
-
-/// The words of this length, and what each stands for.
+/// What a word of two bytes stands for.
+#[inline(always)]
 #[tactic(auto, unfolding(crate::specs::Attribute::attributes, crate::specs::Name::word_names))]
-fn words_of(length: usize) -> &'static [Entry]
-    ensures { map row_of result.now ≡ of_length length word_table }
+fn of_two(text: &[u8]) -> Option<Item>
+    ensures { result ≡ found (of_length 2 word_table) text.now }
 {
-    match length {
-        2 => &[
-            exact!("-1", Item::Name(Name::Normal)),
-            exact!("ul", Item::Attribute(Attribute::UL)),
-        ],
-        3 => &[
-            any_case!("red", Item::Name(Name::Red)),
-            exact!("dim", Item::Attribute(Attribute::DIM)),
-        ],
-        4 => &[
-            any_case!("blue", Item::Name(Name::Blue)),
-            any_case!("cyan", Item::Name(Name::Cyan)),
-            exact!("bold", Item::Attribute(Attribute::BOLD)),
-            exact!("noul", Item::Attribute(Attribute::NO_UL)),
-        ],
-        5 => &[
-            any_case!("black", Item::Name(Name::Black)),
-            any_case!("green", Item::Name(Name::Green)),
-            any_case!("white", Item::Name(Name::White)),
-            exact!("blink", Item::Attribute(Attribute::BLINK)),
-            any_case!("reset", Item::Attribute(Attribute::RESET)),
-            exact!("nodim", Item::Attribute(Attribute::NO_DIM)),
-            exact!("no-ul", Item::Attribute(Attribute::NO_UL)),
-        ],
-        6 => &[
-            any_case!("normal", Item::Name(Name::Normal)),
-            any_case!("yellow", Item::Name(Name::Yellow)),
-            exact!("italic", Item::Attribute(Attribute::ITALIC)),
-            exact!("strike", Item::Attribute(Attribute::STRIKE)),
-            exact!("no-dim", Item::Attribute(Attribute::NO_DIM)),
-            exact!("nobold", Item::Attribute(Attribute::NO_BOLD)),
-        ],
-        7 => &[
-            any_case!("default", Item::Name(Name::Default)),
-            any_case!("magenta", Item::Name(Name::Magenta)),
-            exact!("reverse", Item::Attribute(Attribute::REVERSE)),
-            exact!("no-bold", Item::Attribute(Attribute::NO_BOLD)),
-            exact!("noblink", Item::Attribute(Attribute::NO_BLINK)),
-        ],
-        8 => &[
-            exact!("noitalic", Item::Attribute(Attribute::NO_ITALIC)),
-            exact!("no-blink", Item::Attribute(Attribute::NO_BLINK)),
-            exact!("nostrike", Item::Attribute(Attribute::NO_STRIKE)),
-        ],
-        9 => &[
-            any_case!("brightred", Item::Name(Name::BrightRed)),
-            exact!("no-italic", Item::Attribute(Attribute::NO_ITALIC)),
-            exact!("noreverse", Item::Attribute(Attribute::NO_REVERSE)),
-            exact!("no-strike", Item::Attribute(Attribute::NO_STRIKE)),
-        ],
-        10 => &[
-            any_case!("brightblue", Item::Name(Name::BrightBlue)),
-            any_case!("brightcyan", Item::Name(Name::BrightCyan)),
-            exact!("no-reverse", Item::Attribute(Attribute::NO_REVERSE)),
-        ],
-        11 => &[
-            any_case!("brightblack", Item::Name(Name::BrightBlack)),
-            any_case!("brightgreen", Item::Name(Name::BrightGreen)),
-            any_case!("brightwhite", Item::Name(Name::BrightWhite)),
-        ],
-        12 => &[any_case!("brightyellow", Item::Name(Name::BrightYellow))],
-        13 => &[any_case!("brightmagenta", Item::Name(Name::BrightMagenta))],
-        _ => &[],
+    if is(text, b"-1") {
+        Some(Item::Name(Name::Normal))
+    } else if is(text, b"ul") {
+        Some(Item::Attribute(Attribute::UL))
+    } else {
+        None
     }
 }
 
-impl Entry {
-    /// Whether the text is this word.
-    fn fits(&self, text: &[u8]) -> bool
-        ensures { result ≡ fits (row_of self.now) text.now }
-    {
-        let word = self.text.as_bytes();
-        if self.any_case {
-            text.eq_ignore_ascii_case(word)
-        } else {
-            text == word
-        }
+/// What a word of three bytes stands for.
+#[inline(always)]
+#[tactic(auto, unfolding(crate::specs::Attribute::attributes, crate::specs::Name::word_names))]
+fn of_three(text: &[u8]) -> Option<Item>
+    ensures { result ≡ found (of_length 3 word_table) text.now }
+{
+    if is_in_any_case(text, b"red") {
+        Some(Item::Name(Name::Red))
+    } else if is(text, b"dim") {
+        Some(Item::Attribute(Attribute::DIM))
+    } else {
+        None
     }
 }
 
-/// What the text stands for among these words.
-fn find(words: &[Entry], text: &[u8]) -> Option<Item>
-    ensures { result ≡ found (map row_of words.now) text.now }
+/// What a word of four bytes stands for.
+#[inline(always)]
+#[tactic(auto, unfolding(crate::specs::Attribute::attributes, crate::specs::Name::word_names))]
+fn of_four(text: &[u8]) -> Option<Item>
+    ensures { result ≡ found (of_length 4 word_table) text.now }
 {
-    for word in words {
-        if word.fits(text) {
-            return Some(word.item);
-        }
+    if is_in_any_case(text, b"blue") {
+        Some(Item::Name(Name::Blue))
+    } else if is_in_any_case(text, b"cyan") {
+        Some(Item::Name(Name::Cyan))
+    } else if is(text, b"bold") {
+        Some(Item::Attribute(Attribute::BOLD))
+    } else if is(text, b"noul") {
+        Some(Item::Attribute(Attribute::NO_UL))
+    } else {
+        None
     }
-    None
+}
+
+/// What a word of five bytes stands for.
+#[inline(always)]
+#[tactic(auto, unfolding(crate::specs::Attribute::attributes, crate::specs::Name::word_names))]
+fn of_five(text: &[u8]) -> Option<Item>
+    ensures { result ≡ found (of_length 5 word_table) text.now }
+{
+    if is_in_any_case(text, b"black") {
+        Some(Item::Name(Name::Black))
+    } else if is_in_any_case(text, b"green") {
+        Some(Item::Name(Name::Green))
+    } else if is_in_any_case(text, b"white") {
+        Some(Item::Name(Name::White))
+    } else if is(text, b"blink") {
+        Some(Item::Attribute(Attribute::BLINK))
+    } else if is_in_any_case(text, b"reset") {
+        Some(Item::Attribute(Attribute::RESET))
+    } else if is(text, b"nodim") {
+        Some(Item::Attribute(Attribute::NO_DIM))
+    } else if is(text, b"no-ul") {
+        Some(Item::Attribute(Attribute::NO_UL))
+    } else {
+        None
+    }
+}
+
+/// What a word of six bytes stands for.
+#[inline(always)]
+#[tactic(auto, unfolding(crate::specs::Attribute::attributes, crate::specs::Name::word_names))]
+fn of_six(text: &[u8]) -> Option<Item>
+    ensures { result ≡ found (of_length 6 word_table) text.now }
+{
+    if is_in_any_case(text, b"normal") {
+        Some(Item::Name(Name::Normal))
+    } else if is_in_any_case(text, b"yellow") {
+        Some(Item::Name(Name::Yellow))
+    } else if is(text, b"italic") {
+        Some(Item::Attribute(Attribute::ITALIC))
+    } else if is(text, b"strike") {
+        Some(Item::Attribute(Attribute::STRIKE))
+    } else if is(text, b"no-dim") {
+        Some(Item::Attribute(Attribute::NO_DIM))
+    } else if is(text, b"nobold") {
+        Some(Item::Attribute(Attribute::NO_BOLD))
+    } else {
+        None
+    }
+}
+
+/// What a word of seven bytes stands for.
+#[inline(always)]
+#[tactic(auto, unfolding(crate::specs::Attribute::attributes, crate::specs::Name::word_names))]
+fn of_seven(text: &[u8]) -> Option<Item>
+    ensures { result ≡ found (of_length 7 word_table) text.now }
+{
+    if is_in_any_case(text, b"default") {
+        Some(Item::Name(Name::Default))
+    } else if is_in_any_case(text, b"magenta") {
+        Some(Item::Name(Name::Magenta))
+    } else if is(text, b"reverse") {
+        Some(Item::Attribute(Attribute::REVERSE))
+    } else if is(text, b"no-bold") {
+        Some(Item::Attribute(Attribute::NO_BOLD))
+    } else if is(text, b"noblink") {
+        Some(Item::Attribute(Attribute::NO_BLINK))
+    } else {
+        None
+    }
+}
+
+/// What a word of eight bytes stands for.
+#[inline(always)]
+#[tactic(auto, unfolding(crate::specs::Attribute::attributes, crate::specs::Name::word_names))]
+fn of_eight(text: &[u8]) -> Option<Item>
+    ensures { result ≡ found (of_length 8 word_table) text.now }
+{
+    if is(text, b"noitalic") {
+        Some(Item::Attribute(Attribute::NO_ITALIC))
+    } else if is(text, b"no-blink") {
+        Some(Item::Attribute(Attribute::NO_BLINK))
+    } else if is(text, b"nostrike") {
+        Some(Item::Attribute(Attribute::NO_STRIKE))
+    } else {
+        None
+    }
+}
+
+/// What a word of nine bytes stands for.
+#[inline(always)]
+#[tactic(auto, unfolding(crate::specs::Attribute::attributes, crate::specs::Name::word_names))]
+fn of_nine(text: &[u8]) -> Option<Item>
+    ensures { result ≡ found (of_length 9 word_table) text.now }
+{
+    if is_in_any_case(text, b"brightred") {
+        Some(Item::Name(Name::BrightRed))
+    } else if is(text, b"no-italic") {
+        Some(Item::Attribute(Attribute::NO_ITALIC))
+    } else if is(text, b"noreverse") {
+        Some(Item::Attribute(Attribute::NO_REVERSE))
+    } else if is(text, b"no-strike") {
+        Some(Item::Attribute(Attribute::NO_STRIKE))
+    } else {
+        None
+    }
+}
+
+/// What a word of ten bytes stands for.
+#[inline(always)]
+#[tactic(auto, unfolding(crate::specs::Attribute::attributes, crate::specs::Name::word_names))]
+fn of_ten(text: &[u8]) -> Option<Item>
+    ensures { result ≡ found (of_length 10 word_table) text.now }
+{
+    if is_in_any_case(text, b"brightblue") {
+        Some(Item::Name(Name::BrightBlue))
+    } else if is_in_any_case(text, b"brightcyan") {
+        Some(Item::Name(Name::BrightCyan))
+    } else if is(text, b"no-reverse") {
+        Some(Item::Attribute(Attribute::NO_REVERSE))
+    } else {
+        None
+    }
+}
+
+/// What a word of eleven bytes stands for.
+#[inline(always)]
+#[tactic(auto, unfolding(crate::specs::Attribute::attributes, crate::specs::Name::word_names))]
+fn of_eleven(text: &[u8]) -> Option<Item>
+    ensures { result ≡ found (of_length 11 word_table) text.now }
+{
+    if is_in_any_case(text, b"brightblack") {
+        Some(Item::Name(Name::BrightBlack))
+    } else if is_in_any_case(text, b"brightgreen") {
+        Some(Item::Name(Name::BrightGreen))
+    } else if is_in_any_case(text, b"brightwhite") {
+        Some(Item::Name(Name::BrightWhite))
+    } else {
+        None
+    }
+}
+
+/// What a word of twelve bytes stands for.
+#[inline(always)]
+#[tactic(auto, unfolding(crate::specs::Attribute::attributes, crate::specs::Name::word_names))]
+fn of_twelve(text: &[u8]) -> Option<Item>
+    ensures { result ≡ found (of_length 12 word_table) text.now }
+{
+    if is_in_any_case(text, b"brightyellow") {
+        Some(Item::Name(Name::BrightYellow))
+    } else {
+        None
+    }
+}
+
+/// What a word of thirteen bytes stands for.
+#[inline(always)]
+#[tactic(auto, unfolding(crate::specs::Attribute::attributes, crate::specs::Name::word_names))]
+fn of_thirteen(text: &[u8]) -> Option<Item>
+    ensures { result ≡ found (of_length 13 word_table) text.now }
+{
+    if is_in_any_case(text, b"brightmagenta") {
+        Some(Item::Name(Name::BrightMagenta))
+    } else {
+        None
+    }
+}
+
+/// What the text stands for among the words of its length.
+#[inline(always)]
+#[tactic(auto, unfolding(crate::specs::Attribute::attributes, crate::specs::Name::word_names))]
+fn of_its_length(text: &[u8]) -> Option<Item>
+    ensures { result ≡ found (of_length (length text.now) word_table) text.now }
+{
+    match text.len() {
+        2 => of_two(text),
+        3 => of_three(text),
+        4 => of_four(text),
+        5 => of_five(text),
+        6 => of_six(text),
+        7 => of_seven(text),
+        8 => of_eight(text),
+        9 => of_nine(text),
+        10 => of_ten(text),
+        11 => of_eleven(text),
+        12 => of_twelve(text),
+        13 => of_thirteen(text),
+        _ => None,
+    }
 }
 
 /// What the text stands for among all words.
+#[inline(always)]
 fn known_word(text: &[u8]) -> Option<Item>
     ensures { result ≡ found word_table text.now }
 {
-    find(words_of(text.len()), text)
+    of_its_length(text)
 }
 
 /// The number of decimal digits, where there is one digit or more and the number is at most 255.
@@ -158,13 +280,25 @@ fn palette_number(digits: &[u8]) -> Option<u8>
     Some(number)
 }
 
+/// The value of a hexadecimal digit.
+#[inline(always)]
+fn hex_value(digit: u8) -> Option<u8>
+    ensures { SomeIff result (digit_value digit < 16) (digit_value digit) }
+{
+    match digit {
+        b'0'..=b'9' => Some(digit - b'0'),
+        b'a'..=b'f' => Some(digit - b'a' + 10),
+        b'A'..=b'F' => Some(digit - b'A' + 10),
+        _ => None,
+    }
+}
+
 /// The number that two hexadecimal digits write.
+#[inline(always)]
 fn hex_pair(high: u8, low: u8) -> Option<u8>
     ensures { result ≡ hex_pair_of high low }
 {
-    let high = char::from(high).to_digit(16)?;
-    let low = char::from(low).to_digit(16)?;
-    Some((16 * high + low) as u8)
+    Some(16 * hex_value(high)? + hex_value(low)?)
 }
 
 /// The color of six hexadecimal digits, or of three, each of which then stands twice.
@@ -183,6 +317,7 @@ fn rgb(digits: &[u8]) -> Option<Name>
 }
 
 /// What the input stands for, told by its first byte before any word is compared.
+#[inline(always)]
 fn read_item(input: &[u8]) -> Option<Item>
     ensures { result ≡ item_of input.now }
 {
@@ -198,6 +333,7 @@ fn read_item(input: &[u8]) -> Option<Item>
 
 /// The name or the attribute that the input is a text of, or `None` where it is neither's. No text
 /// is both.
+#[inline(always)]
 pub fn word(input: &[u8]) -> Option<Item>
     ensures { Reads ItemText input.now result }
 {

@@ -1,12 +1,12 @@
 //! The names of colors.
-ghost use Rattle.std.specs.Prelude.{◌≡◌, ◌+◌, ◌<◌, ◌≤◌, ◌++◌, length, Some};
+ghost use Rattle.std.specs.Prelude.{◌≡◌, ◌+◌, ◌<◌, ◌≤◌, ◌∷◌, [], ◌++◌, length, Some};
 ghost use Rattle.std.specs.Char.{digit_char};
 ghost use Rattle.bstr.specs.BStr.{bstr_bytes};
 ghost use Rattle.config_text.specs.declared.errors.Fault.TheVariants as faults;
 ghost use Rattle.config_word.specs.Name.{NameText, CanonicalName, NameFits, hex_pair, name_shown};
 ghost use Rattle.config_word.specs.Laws.Name.{name_canonical_reads, name_decided, name_one_text, name_one_value, name_shown_is_text};
 ghost use Rattle.config_text.specs.Refusals.{Always, ReadsBytes, ReadsFault};
-ghost use Rattle.config_text.specs.Value.{IsTextOf, Reads};
+ghost use Rattle.config_text.specs.Value.{Reads};
 ghost use Rattle.std.proofs.Common.{rules};
 ghost use Rattle.config_text.specs.Json.{GivesJsonText};
 
@@ -72,19 +72,32 @@ fn push_hex(text: &mut Text, byte: u8)
     requires { length text.old.bytes + 2 ≤ LONGEST_TEXT }
     ensures { text.new.bytes ≡ text.old.bytes ++ hex_pair byte }
 {
-    text.push(hex_char(byte / 16));
-    text.push(hex_char(byte % 16));
+    text.push_str(hex_digit(byte / 16));
+    text.push_str(hex_digit(byte % 16));
 }
 
 /// The lower-case hexadecimal digit of a number below 16.
-fn hex_char(number: u8) -> char
+fn hex_digit(number: u8) -> &'static str
     requires { number < 16 }
-    ensures { result ≡ digit_char number }
+    ensures { result.now ≡ digit_char number ∷ [] }
 {
-    if number < 10 {
-        (b'0' + number) as char
-    } else {
-        (b'a' + (number - 10)) as char
+    match number {
+        0 => "0",
+        1 => "1",
+        2 => "2",
+        3 => "3",
+        4 => "4",
+        5 => "5",
+        6 => "6",
+        7 => "7",
+        8 => "8",
+        9 => "9",
+        10 => "a",
+        11 => "b",
+        12 => "c",
+        13 => "d",
+        14 => "e",
+        _ => "f",
     }
 }
 
@@ -129,12 +142,10 @@ impl Name {
         text.push_str(word);
     }
 
-    /// The name as it is shown, for `Display`, the canonical text and colors.
-    pub fn shown(self) -> Text
-        ensures bytes { result.bytes ≡ name_shown self }
-        ensures text { IsTextOf NameText CanonicalName self result.bytes }
+    /// The name as it is shown.
+    fn shown(self) -> Text
+        ensures { result.bytes ≡ name_shown self }
     {
-        numbers_fit(self);
         let mut text = Text::new();
         self.push_to(&mut text);
         text
@@ -225,8 +236,8 @@ impl Value for Name {
         true
     }
 
-    fn text(&self) -> Text {
-        self.shown()
+    fn write_to(&self, text: &mut Text) {
+        self.push_to(text);
     }
 
     ghost one_value = { name_one_value };

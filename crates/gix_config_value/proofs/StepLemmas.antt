@@ -8,14 +8,10 @@ use Rattle.std.proofs.lemmas.List.Folds.{list_all-append}
 use Rattle.std.proofs.lemmas.Grind.{flat_map-append}
 use Rattle.std.proofs.lemmas.List.{nil_from_length}
 use Rattle.std.proofs.lemmas.Bool.Decides.{eqb_tells}
-use Rattle.gix_config_value.specs.declared.kind.Kind.{Kind}
 use Rattle.gix_config_value.specs.declared.program.RunError.{RunError}
 use Rattle.gix_config_value.specs.declared.program.RunError.TheVariants.{Write}
-use Rattle.gix_config_value.specs.Kinds.{kind_name, KindValue, KindGrammar, KindCanonical}
-use Rattle.config_text.specs.Value.{IsTextOf}
 use Rattle.gix_config_value.specs.declared.program.Outcome.{Outcome}
 use Rattle.gix_config_value.specs.declared.program.Outcome.TheVariants.{Accepted, Refused, UnknownKind}
-use Rattle.arrayvec.specs.ArrayString.{ArrayString}
 use Rattle.config_text.specs.Bytes.{line_feed}
 use Rattle.gix_config_value.specs.Answers.{ended, IsUnbroken, line_head, line_value, LineOutcome, outcome_text, is_accepted, Answers, IsBeginningOfAnswers, AnswersAllBut}
 use Rattle.gix_config_value.specs.Reading.Steps.{Takes, AnswersLast, CutsLine, Sent, Sends, SendsAnswer, Breaks, Going, with_more, Advances, Stops, AnswersUpTo}

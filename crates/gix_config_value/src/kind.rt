@@ -2,7 +2,7 @@
 ghost use Rattle.std.specs.Prelude.{◌≡◌, ◌≢◌, MatchOption, IsSomeAnd};
 ghost use Rattle.bstr.specs.BStr.{bstr_bytes};
 ghost use Rattle.gix_config_value.specs.Kinds.{kind_name, KindGrammar, KindCanonical, KindJoins, KindComparesWords};
-ghost use Rattle.config_text.specs.Value.{Normalizes, IsOnlyText, Compares};
+ghost use Rattle.config_text.specs.Value.{Normalizes, Fills, IsOnlyText, Compares};
 ghost use Rattle.gix_config_value.specs.declared.kind.Kind as kind;
 
 use bstr::BStr;
@@ -11,7 +11,7 @@ use config_color::color::Color;
 use config_integer::amount::Amount;
 use config_integer::integer::Integer;
 use config_integer::suffix::Suffix;
-use config_text::value::{Text, normalize_as, same_as};
+use config_text::value::{Text, normalize_as, normalize_into_as, same_as};
 use config_word::attribute::Attribute;
 use config_word::name::Name;
 
@@ -72,6 +72,23 @@ pub fn normalize(kind: Kind, input: BStr<'_>) -> Option<Text>
         Kind::Name => normalize_as::<Name>(input),
         Kind::Attribute => normalize_as::<Attribute>(input),
         Kind::Color => normalize_as::<Color>(input),
+    }
+}
+
+/// Puts the canonical text of this kind that reads to the value of the input in place of what the
+/// text holds, and answers whether the kind's grammar gives the input a value. Where it gives none
+/// the text is left empty. It answers as `normalize` does, and hands no text from call to call.
+pub fn normalize_into(kind: Kind, input: BStr<'_>, text: &mut Text) -> bool
+    ensures { Fills (KindGrammar kind) (KindCanonical kind) (bstr_bytes input.entry) text.new.bytes result }
+{
+    match kind {
+        Kind::Suffix => normalize_into_as::<Suffix>(input, text),
+        Kind::Integer => normalize_into_as::<Integer>(input, text),
+        Kind::Amount => normalize_into_as::<Amount>(input, text),
+        Kind::Boolean => normalize_into_as::<Boolean>(input, text),
+        Kind::Name => normalize_into_as::<Name>(input, text),
+        Kind::Attribute => normalize_into_as::<Attribute>(input, text),
+        Kind::Color => normalize_into_as::<Color>(input, text),
     }
 }
 

@@ -40,9 +40,9 @@ pub use config_text::{errors, json, settings};
 
 /// One canonical text for each value.
 pub mod canonical {
-    pub use crate::kind::{Kind, normalize, same};
+    pub use crate::kind::{Kind, normalize, normalize_into, same};
     pub use config_color::composition::compose;
-    pub use config_text::value::{Value, normalize_as};
+    pub use config_text::value::{Text, Value, normalize_as, normalize_into_as};
 }
 
 /// Integers, their suffixes, and amounts.

@@ -5,10 +5,10 @@
 //! end of a read is gathered.
 ghost use Rattle.std.specs.Prelude.{◌≡◌, ℕ, List, ◌+◌, ◌≤◌, ◌<◌, [], ◌++◌, length, take, drop, vec_len, MatchOption, OnOk, IfOk, IfErr, Option};
 ghost use Rattle.bstr.specs.BStr.{bstr_bytes};
-ghost use Rattle.gix_config_value.specs.Answers.{ended, line_head, line_value, IsUnbroken, LineOutcome, outcome_text, is_accepted, Completes, Fails, status_of};
-ghost use Rattle.gix_config_value.specs.Reading.Steps.{CutsLine, sent, Sends, SendsAnswer, Breaks, going, with_more, Advances, Stops, AnswersUpTo, EndsAnswered, EndsEarly};
+ghost use Rattle.gix_config_value.specs.Answers.{ended, line_head, line_value, IsUnbroken, LineOutcome, Completes, Fails, status_of};
+ghost use Rattle.gix_config_value.specs.Reading.Steps.{CutsLine, PutsAnswer, sent, Sends, SendsAnswer, Breaks, going, with_more, Advances, Stops, AnswersUpTo, EndsAnswered, EndsEarly};
 
-use crate::kind::{kind_by_name, normalize};
+use crate::kind::{kind_by_name, normalize, normalize_into};
 use arrayvec::ArrayString;
 use bstr::{BStr, ByteSlice};
 use config_text::value::Text;
@@ -40,33 +40,6 @@ pub enum Outcome {
     Refused,
     /// What stands before the first space, or the whole line where there is none, names no kind.
     UnknownKind,
-}
-
-impl Outcome {
-    ghost use Rattle.gix_config_value.specs.Answers.{outcome_text, is_accepted};
-
-    /// Puts the line that says this outcome behind a text.
-    fn push_to(&self, text: &mut ArrayString<ROOM>)
-        requires { length text.old.bytes + LONGEST_ANSWER ≤ ROOM }
-        ensures { text.new.bytes ≡ text.old.bytes ++ outcome_text self.now }
-    {
-        match self {
-            Outcome::Accepted(canonical) => {
-                text.push_str("ok ");
-                text.push_str(canonical.as_str());
-                text.push_str("\n");
-            }
-            Outcome::Refused => text.push_str("refused\n"),
-            Outcome::UnknownKind => text.push_str("unknown kind\n"),
-        }
-    }
-
-    /// Whether the line has a value.
-    fn is_accepted(&self) -> bool
-        ensures { result ≡ is_accepted self.now }
-    {
-        matches!(self, Outcome::Accepted(_))
-    }
 }
 
 /// The longest answer: `ok `, a canonical text of 127 bytes, and LF.
@@ -105,6 +78,28 @@ pub fn answer(line: &[u8]) -> Outcome
         Some(canonical) => Outcome::Accepted(canonical),
         None => Outcome::Refused,
     }
+}
+
+/// Puts the line that answers a line behind what waits, and says whether the line was accepted. The
+/// canonical text goes there from where it is written, by way of no `Outcome`.
+fn push_answer(line: &[u8], waiting: &mut ArrayString<ROOM>) -> bool
+    requires { length waiting.old.bytes + LONGEST_ANSWER ≤ ROOM }
+    ensures { PutsAnswer line.now waiting.old.bytes waiting.new.bytes result }
+{
+    let (head, value) = split_line(line);
+    let Some(kind) = kind_by_name(head) else {
+        waiting.push_str("unknown kind\n");
+        return false;
+    };
+    let mut text = Text::new();
+    if !normalize_into(kind, BStr::new(value), &mut text) {
+        waiting.push_str("refused\n");
+        return false;
+    }
+    waiting.push_str("ok ");
+    waiting.push_str(text.as_str());
+    waiting.push_str("\n");
+    true
 }
 
 /// The place of the first LF.
@@ -165,9 +160,7 @@ impl<'w, W: Write> Output<'w, W> {
         ensures write { IfErr result (λ e. e ≡ RunError.Write) }
     {
         self.make_room()?;
-        let outcome = answer(line);
-        outcome.push_to(&mut self.waiting);
-        Ok(outcome.is_accepted())
+        Ok(push_answer(line, &mut self.waiting))
     }
 
     /// Writes out what waits, and flushes.

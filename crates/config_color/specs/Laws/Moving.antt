@@ -1,5 +1,5 @@
 -- Attribute words add their bits wherever they stand, and once more adds nothing.
-use Rattle.std.proofs.Common.{◌≡◌, ℕ, List, [], ◌∷◌, ◌++◌, ◌↔◌, ◌⊎◌, inl, inr, refl, sym, ap, subst, ◌∙◌, arith}
+use Rattle.std.proofs.Common.{◌≡◌, ℕ, List, [], ◌∷◌, ◌++◌, ◌↔◌, inl, inr, refl, sym, ap, subst, ◌∙◌, arith}
 use Rattle.std.specs.Int.RustNames.{bit_or}
 use Rattle.std.proofs.lemmas.Nat.Bits.{bit_at_or, same_from_bits}
 use Rattle.config_word.specs.declared.attribute.Attribute.{Attribute}

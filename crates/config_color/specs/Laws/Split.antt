@@ -1,6 +1,6 @@
 -- The laws of `Split`: the two sentences of the definition of words, the words of a text that is joined of two by white
 -- space, and the first word of a text that is walked from its front.
-use Rattle.std.proofs.Common.{◌≡◌, ℕ, zero, suc, ◌+◌, ◌-◌, ◌<◌, ◌≤◌, ◌==◌, ◌⊎◌, inl, inr, Bool, true, false, List, [], ◌∷◌, ◌++◌, length, take, drop, slice_range, Option, Some, None, refl, sym, ap, ◌∙◌, append_assoc, length-append, arith}
+use Rattle.std.proofs.Common.{◌≡◌, ℕ, zero, suc, ◌+◌, ◌-◌, ◌<◌, ◌≤◌, ◌==◌, ◌⊎◌, inl, inr, Bool, true, false, List, [], ◌∷◌, ◌++◌, length, get_or, take, drop, slice_range, Option, Some, None, refl, sym, ap, ◌∙◌, append_assoc, length-append, arith}
 use Rattle.std.specs.Bool.{Decides}
 use Rattle.std.specs.List.{AllByRecursion}
 use Rattle.std.specs.Option.{option_or}
@@ -151,6 +151,14 @@ words_joined_within (suc n) before space rest l s =
 -- the words of two texts joined by a spelling are those of the one, then those of the other
 pub words_joined : (before space rest : List ℕ) → Space space → words (before ++ (space ++ rest)) ≡ words before ++ words rest
 words_joined before space rest s = words_joined_within (length rest) before space rest (omega arith) s
+
+-- what follows a space at the front of a text has the words of the text
+pub words_past_space : (t : List ℕ) → 1 ≤ length t → get_or t 0 0 ≡ 32 → words (take (length t - 1) (drop 1 t)) ≡ words t
+unfolding words
+words_past_space [] l e = absurd (omega arith)
+words_past_space (c ∷ cs) l e =
+    ap words (take_all (length (c ∷ cs) - 1) cs (omega arith))
+    ∙ (sym (words_joined [] (32 ∷ []) cs space_byte) ∙ ap (λ b. words (b ∷ cs)) (sym e))
 
 -- where no spelling stands at the first n places, nothing is cut in front of them
 uncut : (n : ℕ) (text : List ℕ) → IsWithoutSpace text n → last_cut (take n text) ≡ None

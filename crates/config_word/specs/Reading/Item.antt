@@ -4,7 +4,6 @@ use Rattle.std.specs.Prelude.{ℕ, ◌+◌, ◌-◌, ◌*◌, ◌^◌, Bool, tru
 use Rattle.std.specs.Char.{digit_value, is_ascii_digit, to_ascii_lowercase}
 use Rattle.config_word.specs.declared.name.Name.{Name}
 use Rattle.config_word.specs.declared.name.Name.TheVariants as names
-use Rattle.config_word.specs.declared.item.Entry.{Entry}
 use Rattle.config_word.specs.declared.item.Item.{Item}
 use Rattle.config_word.specs.declared.item.Item.TheVariants as items
 use Rattle.config_word.specs.Attribute.{AttributeRow, attributes}
@@ -25,10 +24,6 @@ attribute_item bit = items.Attribute (record { 0 = 2 ^ bit })
 -- the spellings of a constant, of which only `reset` is read in either case
 abbrev pub attribute_rows : AttributeRow → List WordRow
 attribute_rows row = map (λ w. (w, row.1 == 8, attribute_item row.1)) (row.2 ∷ row.3)
-
--- a row of the code's table
-abbrev pub row_of : Entry → WordRow
-row_of e = (e.text.now, e.any_case, e.item)
 
 -- the 41 words
 abbrev pub word_table : List WordRow

@@ -55,6 +55,13 @@ pub record Sends (before after : Sent) (bytes : List ℕ) : Type 0 where
   pub appended : Appends before.held after.held written
   pub in_order : before.waiting ++ bytes ≡ written ++ after.waiting
 
+-- the answer to a line was put behind what waits
+pub record PutsAnswer (line before after : List ℕ) (ok : Bool) : Type 0 where
+  pub outcome : Outcome
+  pub is : LineOutcome line outcome
+  pub puts : after ≡ before ++ outcome_text outcome
+  pub accepts : ok ≡ is_accepted outcome
+
 -- the answer to a line was sent
 pub record SendsAnswer (line : List ℕ) (before after : Sent) (ok : Bool) : Type 0 where
   pub outcome : Outcome

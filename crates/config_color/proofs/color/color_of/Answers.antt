@@ -30,4 +30,5 @@ loop-color-preserved c =
     let h = walk_goes_on c.args.input.now c.loop-color.rest.now c.loop-color.color c.in_ok-color.color first.result.length first.result.space c.loop-color.invariant
     first.ensures.clear first.ensures.within first.ensures.parted c.if-first-eq0.false (sym piece_read ∙ c.in_ok-color.was) in
     let e = ap (λ t. drop c.first_word-first.result.space t) c.split_at.ensures.back in
-    h ∙ ap (λ t. read_from c.in_ok-color.color (words t)) (sym (take_rest c.split_at.result.1.now c.first_word-first.result.space ∙ (e ∙ drop-drop c.first_word-first.result.space c.first_word-first.result.length c.loop-color.rest.now)))
+    h ∙ (ap (λ t. read_from c.in_ok-color.color (words t)) (sym (take_rest c.split_at.result.1.now c.first_word-first.result.space ∙ (e ∙ drop-drop c.first_word-first.result.space c.first_word-first.result.length c.loop-color.rest.now)))
+    ∙ ap (read_from c.in_ok-color.color) (sym c.past_spaces-rest-in-loop-color.ensures.same))

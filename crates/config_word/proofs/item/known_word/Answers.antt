@@ -4,4 +4,4 @@ use Rattle.config_word.specs.Laws.Item.{found-of_length}
 use Rattle.config_word.proofs.item.known_word.Goals as goal
 
 pub returns : goal.returns
-returns c = c.find.ensures ∙ rw c.words_of.ensures (found-of_length word_table c.args.text.now)
+returns c = c.of_its_length.ensures ∙ found-of_length word_table c.args.text.now

@@ -1,0 +1,37 @@
+//! A text compared with a word of known length, byte by byte from its front. The length is that of an array, so a
+//! compiler can write each comparison out.
+ghost use Rattle.std.specs.Prelude.{◌≡◌, bytes_eq, map};
+ghost use Rattle.std.specs.Char.{to_ascii_lowercase};
+
+/// Whether the text is this word.
+#[inline(always)]
+pub fn is<const N: usize>(text: &[u8], word: &[u8; N]) -> bool
+    ensures { result ≡ bytes_eq text.now word.now }
+{
+    if text.len() != N {
+        return false;
+    }
+    for at in 0..N {
+        if text[at] != word[at] {
+            return false;
+        }
+    }
+    true
+}
+
+/// Whether the text is this word, in any case of its letters.
+#[inline(always)]
+pub fn is_in_any_case<const N: usize>(text: &[u8], word: &[u8; N]) -> bool
+    ensures { result ≡ bytes_eq (map to_ascii_lowercase text.now) (map to_ascii_lowercase word.now) }
+{
+    if text.len() != N {
+        return false;
+    }
+    for at in 0..N {
+        let (lower, upper) = (word[at].to_ascii_lowercase(), word[at].to_ascii_uppercase());
+        if text[at] != lower && text[at] != upper {
+            return false;
+        }
+    }
+    true
+}
