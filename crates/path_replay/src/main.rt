@@ -2,8 +2,6 @@
 //! its answer. Prints each difference, and then how many calls gave their answer and how many did not.
 #![tactic(auto)]
 
-mod call;
-
 use anyhow::Context;
 
 fn main(rt: HostRuntime) -> anyhow::Result<()> {
@@ -11,9 +9,9 @@ fn main(rt: HostRuntime) -> anyhow::Result<()> {
     let mut failed = 0u64;
     for line in rt.lines(rt.alloc()) {
         let line = line?;
-        let call = call::parse(line.as_str()).context("too few fields")?;
+        let call = path_calls::parse(line.as_str()).context("too few fields")?;
         let answer = call.answer(rt.alloc())?;
-        if answer.as_str() == call.expected {
+        if answer.as_str() == call.known {
             passed = passed.saturating_add(1);
         } else {
             failed = failed.saturating_add(1);

@@ -1,11 +1,13 @@
-//! One call of `Path::interpolate`, as a line writes it.
+//! Calls of `Path::interpolate` as lines write them, and what the library answers to them, as a line writes it.
+#![tactic(auto)]
+
 use bstr::BString;
 use gix_config_value::Path;
 use gix_config_value::path::interpolate::{Context, Error, Place};
 use std::alloc::Global;
 use std::cell::Cell;
 
-/// A call and its answer. Every text is written as hexadecimal digits.
+/// A call. Every text is written as hexadecimal digits.
 #[derive(Clone, Copy)]
 pub struct Call<'a> {
     /// The value with its mark.
@@ -16,11 +18,11 @@ pub struct Call<'a> {
     home_dir: &'a str,
     /// What the lookup knows, as `user=directory` between commas, or `-` where there is no lookup.
     lookup: &'a str,
-    /// The flag, the value behind the mark, how often the lookup was called, and the text or the error.
-    pub expected: &'a str,
+    /// What stands behind the call: the answer that is known to be right, or nothing.
+    pub known: &'a str,
 }
 
-/// The fields of a line, between tabs.
+/// The call of a line, whose fields stand between tabs; `None` where there are fewer than four.
 pub fn parse(line: &str) -> Option<Call<'_>> {
     let mut fields = line.splitn(5, '\t');
     Some(Call {
@@ -28,7 +30,7 @@ pub fn parse(line: &str) -> Option<Call<'_>> {
         git_install_dir: fields.next()?,
         home_dir: fields.next()?,
         lookup: fields.next()?,
-        expected: fields.next()?,
+        known: fields.next().unwrap_or(""),
     })
 }
 
@@ -108,7 +110,9 @@ fn outcome(alloc: Global, given: Result<String, Error<'_>>) -> anyhow::Result<St
 }
 
 impl Call<'_> {
-    /// What the call gives: the flag, the value, how often the lookup was called, and the text or the error.
+    /// What the call gives: the flag, the value behind the mark, how often the lookup was called, and the text or the
+    /// error, between tabs. An error where digits are wrong, where those of a directory or of a user are no UTF-8, and
+    /// where memory is refused.
     pub fn answer(&self, alloc: Global) -> anyhow::Result<String> {
         let path = Path::from(BString::new(hex::decode(alloc, self.value)?));
         let git_install_dir = directory(alloc, self.git_install_dir)?;
