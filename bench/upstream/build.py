@@ -1,0 +1,90 @@
+"""Builds the Rust crate's side: python3 build.py. Prints the folder that holds the program `upstream` and the static
+library `libupstream.a`, or `skipped: ` and why the crate is not there.
+
+Cargo takes the published crate. Where no network reaches it, the environment variable GIX_CONFIG_VALUE_SOURCE names a
+folder with its sources, or one whose folders hold them and what they depend on. CARGO_TARGET_DIR is kept to, if set.
+"""
+import os
+import pathlib
+import re
+import subprocess
+import sys
+
+HERE = pathlib.Path(__file__).resolve().parent
+SOURCE = "GIX_CONFIG_VALUE_SOURCE"
+PACKAGE = "gix-config-value"
+
+
+class Missing(Exception):
+    """The crate cannot be had here."""
+
+
+class Broken(Exception):
+    """The crate is there, and what stands on it is not built."""
+
+
+def is_the_crate(folder):
+    manifest = folder / "Cargo.toml"
+    text = manifest.read_text(encoding="utf-8") if manifest.is_file() else ""
+    return re.search(rf'^name *= *"{PACKAGE}"', text, re.MULTILINE) is not None
+
+
+def override():
+    """What tells Cargo of the sources that the environment names."""
+    named = os.environ.get(SOURCE)
+    if not named:
+        return []
+    folder = pathlib.Path(named).resolve()
+    for place in [folder, *sorted(folder.glob("*/"))]:
+        if is_the_crate(place):
+            return ["--config", f"patch.crates-io.{PACKAGE}.path='{place}'"]
+    raise Broken(f"{SOURCE} names a folder without the crate {PACKAGE}: {named}")
+
+
+def cargo(*arguments):
+    """Runs Cargo in this folder. None where it succeeds, else what it says."""
+    try:
+        run = subprocess.run(["cargo", *arguments], cwd=HERE, stdout=subprocess.DEVNULL, stderr=subprocess.PIPE, check=False)
+    except OSError as error:
+        raise Missing(f"no Cargo: {error}") from None
+    said = run.stderr.decode(errors="replace").strip()
+    return None if run.returncode == 0 else said
+
+
+def last_line(said):
+    return said.splitlines()[-1].strip() if said else "it says nothing"
+
+
+def fetch(settings):
+    """Gets what the project depends on, from what is here already or else from the registry."""
+    if cargo("fetch", "--offline", *settings) is None:
+        return
+    said = cargo("fetch", "--config", "net.retry=0", *settings)
+    if said is not None:
+        raise Missing(f"Cargo does not reach the crate ({last_line(said)}), and {SOURCE} names no folder that serves")
+
+
+def build():
+    """The folder of what was built."""
+    settings = override()
+    fetch(settings)
+    said = cargo("build", "--release", "--offline", *settings)
+    if said is not None:
+        raise Broken(said)
+    target = os.environ.get("CARGO_TARGET_DIR")
+    return (HERE / target if target else HERE / "target") / "release"
+
+
+def main():
+    try:
+        print(build())
+    except Missing as missing:
+        print(f"skipped: {missing}")
+    except Broken as broken:
+        print(broken)
+        return 1
+    return 0
+
+
+if __name__ == "__main__":
+    sys.exit(main())

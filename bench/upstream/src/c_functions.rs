@@ -1,0 +1,215 @@
+//! The functions that `up.h` declares.
+
+use crate::Bytes;
+use gix_config_value::color::{Attribute, Name};
+use gix_config_value::path::interpolate::Context;
+use gix_config_value::{Boolean, Color, Integer, Path};
+use std::fmt::{self, Write};
+use std::os::unix::ffi::OsStrExt;
+use std::path::PathBuf;
+
+/// The bytes that a caller has room for where a text is written.
+const ROOM: usize = 128;
+
+/// As `up_integer` in the header.
+#[repr(C)]
+pub struct CInteger {
+    number: i64,
+    suffix: u8,
+}
+
+/// As `up_name` in the header.
+#[derive(Clone, Copy)]
+#[repr(C)]
+pub struct CName {
+    form: u8,
+    numbers: [u8; 3],
+}
+
+/// As `up_color` in the header.
+#[derive(Clone, Copy)]
+#[repr(C)]
+pub struct CColor {
+    foreground: CName,
+    background: CName,
+    bits: u32,
+}
+
+const PALETTE: u8 = 18;
+const RGB: u8 = 19;
+const NO_NAME: CName = CName {
+    form: 255,
+    numbers: [0; 3],
+};
+
+/// The words of color names in the crate's order, which is that of their numbers in the header.
+macro_rules! words {
+    ($($word:ident $form:literal)*) => {
+        impl From<Name> for CName {
+            fn from(name: Name) -> Self {
+                let (form, numbers) = match name {
+                    $(Name::$word => ($form, [0; 3]),)*
+                    Name::Ansi(number) => (PALETTE, [number, 0, 0]),
+                    Name::Rgb(red, green, blue) => (RGB, [red, green, blue]),
+                };
+                CName { form, numbers }
+            }
+        }
+
+        impl From<CName> for Option<Name> {
+            fn from(name: CName) -> Self {
+                let [first, second, third] = name.numbers;
+                match name.form {
+                    $($form => Some(Name::$word),)*
+                    PALETTE => Some(Name::Ansi(first)),
+                    RGB => Some(Name::Rgb(first, second, third)),
+                    _ => None,
+                }
+            }
+        }
+    };
+}
+words! {
+    Normal 0 Default 1
+    Black 2 BrightBlack 3 Red 4 BrightRed 5 Green 6 BrightGreen 7 Yellow 8 BrightYellow 9
+    Blue 10 BrightBlue 11 Magenta 12 BrightMagenta 13 Cyan 14 BrightCyan 15 White 16 BrightWhite 17
+}
+
+impl From<Integer> for CInteger {
+    fn from(integer: Integer) -> Self {
+        // the offsets of the suffixes are 10, 20 and 30
+        let suffix = integer.suffix.map_or(0, |suffix| suffix.bitwise_offset() / 10);
+        CInteger {
+            number: integer.value,
+            suffix: suffix as u8,
+        }
+    }
+}
+
+impl From<Color> for CColor {
+    fn from(color: Color) -> Self {
+        CColor {
+            foreground: color.foreground.map_or(NO_NAME, CName::from),
+            background: color.background.map_or(NO_NAME, CName::from),
+            bits: color.attributes.bits(),
+        }
+    }
+}
+
+impl From<CColor> for Color {
+    fn from(color: CColor) -> Self {
+        Color {
+            foreground: color.foreground.into(),
+            background: color.background.into(),
+            attributes: Attribute::from_bits_retain(color.bits),
+        }
+    }
+}
+
+/// The text that a caller hands in.
+///
+/// # Safety
+///
+/// `text` points at `length` bytes, which nobody writes while the result lives.
+unsafe fn handed<'a>(text: *const u8, length: usize) -> &'a Bytes {
+    // SAFETY: as above
+    unsafe { std::slice::from_raw_parts(text, length) }.into()
+}
+
+/// Writes a value where the caller wants it, and answers 1; without a value, 0.
+///
+/// # Safety
+///
+/// `place` may be written.
+unsafe fn handed_out<V>(value: Option<V>, place: *mut V) -> u32 {
+    let Some(value) = value else { return 0 };
+    // SAFETY: as above
+    unsafe { place.write(value) };
+    1
+}
+
+/// Text in the room of a caller.
+struct Room<'a> {
+    bytes: &'a mut [u8],
+    length: usize,
+}
+
+impl Write for Room<'_> {
+    fn write_str(&mut self, text: &str) -> fmt::Result {
+        let end = self.length + text.len();
+        let room = self.bytes.get_mut(self.length..end).ok_or(fmt::Error)?;
+        room.copy_from_slice(text.as_bytes());
+        self.length = end;
+        Ok(())
+    }
+}
+
+#[unsafe(no_mangle)]
+pub unsafe extern "C" fn up_integer_read(text: *const u8, length: usize, value: *mut CInteger) -> u32 {
+    // SAFETY: what the header asks of the caller; so below
+    unsafe { handed_out(Integer::try_from(handed(text, length)).ok().map(CInteger::from), value) }
+}
+
+#[unsafe(no_mangle)]
+pub unsafe extern "C" fn up_amount_read(text: *const u8, length: usize, value: *mut i64) -> u32 {
+    unsafe { handed_out(Integer::from_bytes::<i64>(handed(text, length)).ok(), value) }
+}
+
+#[unsafe(no_mangle)]
+pub unsafe extern "C" fn up_boolean_read(text: *const u8, length: usize, value: *mut u8) -> u32 {
+    let boolean = unsafe { Boolean::try_from(handed(text, length)) };
+    unsafe { handed_out(boolean.ok().map(|boolean| u8::from(boolean.0)), value) }
+}
+
+#[unsafe(no_mangle)]
+pub unsafe extern "C" fn up_name_read(text: *const u8, length: usize, value: *mut CName) -> u32 {
+    unsafe { handed_out(Name::try_from(handed(text, length)).ok().map(CName::from), value) }
+}
+
+#[unsafe(no_mangle)]
+pub unsafe extern "C" fn up_attribute_read(text: *const u8, length: usize, value: *mut u32) -> u32 {
+    let attribute = unsafe { Attribute::try_from(handed(text, length)) };
+    unsafe { handed_out(attribute.ok().map(|attribute| attribute.bits()), value) }
+}
+
+#[unsafe(no_mangle)]
+pub unsafe extern "C" fn up_color_read(text: *const u8, length: usize, value: *mut CColor) -> u32 {
+    unsafe { handed_out(Color::try_from(handed(text, length)).ok().map(CColor::from), value) }
+}
+
+#[unsafe(no_mangle)]
+pub unsafe extern "C" fn up_color_show(value: *const CColor, text: *mut u8) -> usize {
+    let color = Color::from(unsafe { *value });
+    let mut room = Room {
+        bytes: unsafe { std::slice::from_raw_parts_mut(text, ROOM) },
+        length: 0,
+    };
+    match write!(room, "{color}") {
+        Ok(()) => room.length,
+        Err(fmt::Error) => usize::MAX,
+    }
+}
+
+/// The lookup of `up_interpolate`.
+fn alice_at_home(name: &str) -> Option<PathBuf> {
+    (name == "alice").then(|| PathBuf::from("/home/alice"))
+}
+
+#[unsafe(no_mangle)]
+pub unsafe extern "C" fn up_interpolate(text: *const u8, length: usize, path: *mut u8) -> usize {
+    let value = Path::from(unsafe { handed(text, length) });
+    let interpolated = value.interpolate(Context {
+        git_install_dir: Some("/usr/lib/git".as_ref()),
+        home_dir: Some("/home/bob".as_ref()),
+        home_for_user: Some(alice_at_home),
+    });
+    let Ok(interpolated) = interpolated else {
+        return usize::MAX;
+    };
+    let bytes = interpolated.as_os_str().as_bytes();
+    if bytes.len() > ROOM {
+        return usize::MAX;
+    }
+    unsafe { path.copy_from_nonoverlapping(bytes.as_ptr(), bytes.len()) };
+    bytes.len()
+}
