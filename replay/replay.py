@@ -1,4 +1,6 @@
-"""Replays upstream's answers: python3 replay.py PROGRAM. Prints the first differences, and last 'N passed, M failed'."""
+"""Replays upstream's answers: python3 replay.py PROGRAM [FOLDER]. Prints the first differences, and last 'N passed,
+M failed'. FOLDER, in place of this one, is one that make.py wrote.
+"""
 import pathlib
 import subprocess
 import sys
@@ -8,10 +10,11 @@ SHOWN = 20
 
 
 def main():
-    lines = (HERE / "lines.txt").read_bytes()
+    folder = pathlib.Path(sys.argv[2]) if len(sys.argv) > 2 else HERE
+    lines = (folder / "lines.txt").read_bytes()
     # only LF ends a line: a value may hold any other byte
     inputs = lines.split(b"\n")[:-1]
-    wanted = (HERE / "answers.txt").read_bytes().split(b"\n")[:-1]
+    wanted = (folder / "answers.txt").read_bytes().split(b"\n")[:-1]
     if len(inputs) != len(wanted):
         sys.exit(f"{len(inputs)} lines and {len(wanted)} answers")
     run = subprocess.run([sys.argv[1]], input=lines, stdout=subprocess.PIPE, check=False)
