@@ -1,14 +1,14 @@
 """Calls of path interpolation, in the lines that the program path_answers reads: value, install directory, home
 directory and what the lookup knows, between tabs and in hexadecimal digits. `crates/path_calls` says more.
 """
-PIECES = [b"~", b"~/", b"/", b"//", b"~a", b"~bob/", "~é".encode(), b"~.", b"%(prefix)/", b"%(prefix)", b"%(PREFIX)/", b"x",
-          b"x/y", b"..", b":(optional)", b":(Optional)", b" ", b"\n", b"\0", b"C:\\x", "ü".encode(), b"\xff", b"\xc3",
+PREFIX = b"%(prefix)/"
+MARK = b":(optional)"
+PIECES = [b"~", b"~/", b"/", b"//", b"~a", b"~bob/", "~é".encode(), b"~.", PREFIX, b"%(prefix)", b"%(PREFIX)/", b"x",
+          b"x/y", b"..", MARK, b":(Optional)", b" ", b"\n", b"\0", b"C:\\x", "ü".encode(), b"\xff", b"\xc3",
           b"\xe2\x82", b"\xf4\x90\x80\x80", b"\xed\xa0\x80"]
 DIRECTORIES = [None, b"", b"/", b"/h", b"/h/", b"/h//", b".", b"rel"]
 LOOKUPS = [None, {}, {b"a": b"/h/a", b"bob": b"/h/bob"}, {b"a": b"", b"~": b"/t"}, {b"a": b"/", b"": b"/empty"},
            {b"a": b"/h/", b"aa": b"rel", b".": b"/d", "é".encode(): b"/e"}]
-PREFIX = b"%(prefix)/"
-MARK = b":(optional)"
 
 
 def digits(text):

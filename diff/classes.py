@@ -1,10 +1,12 @@
 """The classes of differences between Git and this library. docs/DIFFERENCES.md has a row for each, with its reason.
 
-A class is decided by a rule over a question and its two answers; no two rules hold of one. It is expected in the versions
-that it names: where they run it has to be seen, in others it must not be.
+A class is decided by a rule over a question and its two answers; no two rules hold of one. It is expected in the
+versions that it names: where they run it has to be seen, in others it must not be.
 """
 import collections
 import re
+
+from calls import MARK, PREFIX, is_utf8
 
 # what is asked: the kind of the question, its text, and for a path the home directory, if there is one
 Question = collections.namedtuple("Question", "kind text home", defaults=[None])
@@ -22,13 +24,11 @@ NOT_SET = "not set"
 NUMBERS = ("int", "bool", "bool-or-int")
 SMALL_NUMBERS = ("bool", "bool-or-int")
 HOME = b"/home/u"
-MARK = b":(optional)"
-PREFIX = b"%(prefix)/"
 SPACE = re.compile(rb"[\t\n\v\f\r ]+")
 NUMBER = re.compile(rb"([+-]?)(?:0[xX]([0-9a-fA-F]+)|0[bB]([01]+)|(0[0-7]*)|([1-9][0-9]*))([kKmMgG]?)")
 BINARY = re.compile(rb"[+-]?0[bB]")
 # white space of Unicode at which Git does not cut a color text
-FOREIGN = re.compile(rb"[\v\f]|\xc2\x85|\xc2\xa0|\xe1\x9a\x80|\xe2\x80[\x80-\x8a\xa8\xa9\xaf]|\xe2\x81\x9f|\xe3\x80\x80")
+FOREIGN = re.compile(rb"[\v\f]|\xc2[\x85\xa0]|\xe1\x9a\x80|\xe2\x80[\x80-\x8a\xa8\xa9\xaf]|\xe2\x81\x9f|\xe3\x80\x80")
 WORD = rb"(?<![^\t\n\v\f\r ])%s(?![^\t\n\v\f\r ])"
 THREE_DIGITS = re.compile(WORD % rb"#([0-9a-fA-F])([0-9a-fA-F])([0-9a-fA-F])")
 MINUS_ZERO = re.compile(WORD % rb"-0+(1?)")
@@ -121,23 +121,15 @@ def plain_color(text):
 
 # paths
 
-def is_utf8(text):
-    try:
-        text.decode()
-    except UnicodeDecodeError:
-        return False
-    return True
-
-
 def directory_and_rest(case):
-    """The directory that a `~` or a `~user` stands for, and what is behind its slash; None where there is no such thing."""
+    """The directory that a `~` or a `~user` stands for, and what is behind its slash; None where there is none."""
     name, slash, rest = case.question.text.partition(b"/")
     directory = case.question.home if name == b"~" else case.user
     return (directory, rest) if slash and name.startswith(b"~") and directory is not None else None
 
 
 def is_expanded_by_git(case):
-    """Git put the rest behind a directory and a slash; it takes a rest with a slash for itself only behind the prefix."""
+    """Git put the rest behind a directory and a slash; behind the prefix alone it takes an absolute rest for itself."""
     text = case.question.text
     if text.startswith(PREFIX):
         rest = text[len(PREFIX):]

@@ -2,16 +2,17 @@
 
 python3 upstream.py PROGRAM PATHS_PROGRAM [--seed N] [--lines N] [--calls N]
 
-PROGRAM is config_value and PATHS_PROGRAM is path_answers; bench/upstream answers the same lines by the crate. The lines are
-those that fuzz/fuzz.py makes, and before them the texts in which the classes of diff/classes.py are shown; every answer is
-compared: `ok` with its text, `refused`, `unknown kind`. The calls of interpolation are drawn by diff/calls.py.
+PROGRAM is config_value and PATHS_PROGRAM is path_answers; bench/upstream answers the same lines by the crate. The lines
+are those that fuzz/fuzz.py makes, at least N, and before them some in order: the texts in which the classes of
+diff/classes.py are shown, all words and what is near to them, and numbers at the edges. Every answer is compared: `ok`
+with its text, `refused`, `unknown kind`. The calls of interpolation are drawn by diff/calls.py.
 
-No line differs by rule. Of the calls, those with a path that is no UTF-8 do: it is refused here, and the crate keeps it on
-Unix. They are held to that rule, and counted.
+No line differs by rule. Of the calls, those with a path that is no UTF-8 do: it is refused here, and the crate keeps it
+on Unix. They are held to that rule, and counted.
 
-The run is the same for the same seed and numbers. The first difference is shrunk: to the first text of at most two bytes
-that differs, or else until no part of it can be taken out or be one space or zero. The last line is 'N passed, M failed', counted in batches; where
-the crate cannot be had it says `skipped` and why, and nothing has passed.
+The run is the same for the same seed and numbers. The first difference is shrunk: to the first text of at most two
+bytes that differs, or else until no part of it can be taken out or be one space or zero. The last line is 'N passed, M
+failed', counted in batches; where the crate cannot be had it says `skipped` and why, and nothing has passed.
 """
 import argparse
 import itertools
@@ -26,6 +27,7 @@ sys.path[:0] = [str(ROOT / "fuzz"), str(ROOT / "bench/upstream")]
 import build  # noqa: E402
 import calls  # noqa: E402
 import fuzz  # noqa: E402
+import texts  # noqa: E402
 from classes import CLASSES  # noqa: E402
 from programs import Wrong, answers  # noqa: E402
 
@@ -100,16 +102,20 @@ def shrunk(text, differs):
 
 def shorter(text):
     """The text with any one part of it taken out, or replaced by one space or zero."""
-    parts = [(start, end) for start in range(len(text)) for end in range(start + 1, len(text) + 1)]
-    return [text[:start] + byte + text[end:] for start, end in parts for byte in (b"", b" ", b"0") if end - start > len(byte)]
+    parts = [(text[:start], text[end:]) for start in range(len(text)) for end in range(start + 1, len(text) + 1)]
+    made = [front + byte + back for front, back in parts for byte in (b"", b" ", b"0")]
+    return [other for other in made if len(other) < len(text)]
 
 
 def compare_lines(ours, theirs, seed, least):
-    """What came of at least so many lines, and how many there were."""
+    """What came of the lines in order and of at least so many of the fuzzer's, and how many there were."""
     both, tally = Both(ours, theirs), Tally()
     fuzzer = fuzz.Fuzzer(both, seed)
-    both.answers([kind + b" " + question.text for question in QUESTIONS if question.kind != "path" for kind in fuzz.KINDS])
-    tally.add(both.found())
+    first = [question.text for question in QUESTIONS if question.kind != "path"] + texts.systematic()
+    for start in range(0, len(first), BATCH):
+        both.answers([kind + b" " + text for text in first[start:start + BATCH] for kind in fuzz.KINDS])
+        tally.add(both.found())
+    least += both.answered
     while both.answered < least:
         fuzzer.batch(BATCH)
         tally.add(both.found())
@@ -168,7 +174,7 @@ def compare(arguments, theirs):
     paths, by_rule = compare_calls(arguments.paths_program, theirs, arguments.seed, arguments.calls)
     paths.show(lambda call: shrunk_call(arguments.paths_program, theirs, call))
     print(f"{count:>12,} lines, {len(lines.differences):,} differences")
-    print(f"{arguments.calls:>12,} calls, {len(paths.differences):,} differences, and {by_rule:,} paths that are no UTF-8")
+    print(f"{arguments.calls:>12,} calls, {len(paths.differences):,} differences, {by_rule:,} by the rule")
     print(f"{time.monotonic() - start:>12.1f} s")
     return lines.passed + paths.passed, lines.failed + paths.failed
 

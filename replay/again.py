@@ -1,7 +1,7 @@
-"""Asks the Rust crate again what is stored: python3 again.py. Prints the first differences, and last 'N passed, M failed'.
+"""Asks the Rust crate again what is stored: python3 again.py.
 
-Those are the lines of replay/lines.txt and the calls of crates/path_replay/stdin. Where the crate cannot be had it says
-`skipped` and why, and nothing has passed.
+Those are the lines of replay/lines.txt and the calls of crates/path_replay/stdin. Prints the first differences, and last
+'N passed, M failed'. Where the crate cannot be had it says `skipped` and why, and nothing has passed.
 """
 import pathlib
 import sys

@@ -67,7 +67,8 @@ def answered_calls(draw, upstream, count):
     asked = {}
     while len(asked) < count:
         asked[calls.line(*calls.drawn(draw))] = None
-    return [line + b"\t" + calls.by_rule(answer) for line, answer in zip(asked, answers([upstream, "paths"], list(asked)))]
+    given = answers([upstream, "paths"], list(asked))
+    return [line + b"\t" + calls.by_rule(answer) for line, answer in zip(asked, given)]
 
 
 def write(file, rows):

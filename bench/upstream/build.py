@@ -44,7 +44,7 @@ def override():
 def cargo(*arguments):
     """Runs Cargo in this folder. None where it succeeds, else what it says."""
     try:
-        run = subprocess.run(["cargo", *arguments], cwd=HERE, stdout=subprocess.DEVNULL, stderr=subprocess.PIPE, check=False)
+        run = subprocess.run(["cargo", *arguments], cwd=HERE, capture_output=True, check=False)
     except OSError as error:
         raise Missing(f"no Cargo: {error}") from None
     said = run.stderr.decode(errors="replace").strip()

@@ -1,6 +1,6 @@
-//! Answers each line of standard input by the Rust crate, as `config_value` does; with the argument `paths`, each call of
-//! `interpolate`, as `path_answers` does. Ends with 0 where every line is `ok`, with 1 where some line is not, and with
-//! 2 after an error; calls end with 0.
+//! Answers each line of standard input by the Rust crate, as `config_value` does; with the argument `paths`, each call
+//! of `interpolate`, as `path_answers` does. Ends with 0 where every line is `ok`, with 1 where some line is not, and
+//! with 2 after an error; calls end with 0.
 
 use std::io::{self, BufRead, BufReader, BufWriter, Write};
 use std::process::ExitCode;

@@ -12,7 +12,7 @@ use std::fmt::Display;
 use std::os::unix::ffi::{OsStrExt, OsStringExt};
 use std::path::PathBuf;
 
-/// How the text of each error of the crate begins, and what an answer calls it. One that begins another stands behind it.
+/// How the text of each error of the crate begins, and what an answer calls it. What begins another stands behind it.
 const ERRORS: [(&str, &str); 10] = [
     ("path is missing", "PathMissing"),
     ("git install dir is missing", "InstallDirMissing"),
@@ -73,7 +73,7 @@ pub fn answer(line: &str) -> Option<String> {
     Some(format!("{flag}\t{}\t{}\t{outcome}", digits(&behind_mark), CALLS.get()))
 }
 
-/// What an answer calls an error. The crate keeps the ill-formed bytes with the error; here they are cut from the value.
+/// What an answer calls an error. The crate keeps the ill-formed bytes with it; here they are cut from the value.
 fn refusal(error: &dyn Display, value: &[u8]) -> String {
     let text = error.to_string();
     let Some((_, name)) = ERRORS.iter().find(|(beginning, _)| text.starts_with(beginning)) else {

@@ -1,0 +1,143 @@
+"""The two that read: the library's programs and the installed Git. Each answers questions; None says refused."""
+import concurrent.futures
+import os
+import pathlib
+import platform
+import pwd
+import re
+import subprocess
+
+import calls
+from classes import NOT_SET, Question, dotted
+from colors import escape_code
+from programs import Wrong, answers
+
+FIRST_VERSION = (2, 30)
+REFUSED = 128
+USERS = 4
+
+
+def text_of(answer):
+    """The canonical text of an answer of the program, or None."""
+    return answer[len(b"ok "):] if answer.startswith(b"ok ") else None
+
+
+def value(question, given):
+    """What the answers to the lines of a question say, in the terms of Git."""
+    amount, boolean, color = (given[kind + b" " + question.text] for kind in (b"amount", b"boolean", b"color"))
+    if question.kind == "color":
+        return None if color is None else escape_code(color)
+    if question.kind == "int" or question.kind == "bool-or-int" and amount is not None:
+        return amount
+    return boolean
+
+
+class Missing(Exception):
+    """There is no Git to compare with."""
+
+
+class Library:
+    """The library, by its two programs."""
+
+    def __init__(self, program, paths_program, install):
+        self.program = program
+        self.paths_program = paths_program
+        self.install = install
+
+    def answers(self, questions):
+        lines = [kind + b" " + question.text for question in questions if question.kind != "path"
+                 for kind in (b"amount", b"boolean", b"color")]
+        given = dict(zip(lines, map(text_of, answers([self.program], lines))))
+        asked = [question for question in questions if question.kind == "path"]
+        paths = dict(zip(asked, self.paths(asked)))
+        return [paths[question] if question.kind == "path" else value(question, given) for question in questions]
+
+    def paths(self, questions):
+        """The answers to paths; the lookup knows the user that the path names, if the machine does."""
+        lines = []
+        for question in questions:
+            name, home = user_of(question.text)
+            lines.append(calls.line(question.text, self.install, question.home, {} if home is None else {name: home}))
+        outcomes = [answer.split(b"\t")[3:] for answer in answers([self.paths_program], lines)]
+        return [bytes.fromhex(outcome[1].decode()) if outcome[0] == b"ok" else None for outcome in outcomes]
+
+
+class Git:
+    """The installed Git, over files in a folder of its own."""
+
+    def __init__(self, command, folder):
+        self.command = command
+        self.folder = pathlib.Path(folder)
+        try:
+            run = subprocess.run([command, "--version"], stdout=subprocess.PIPE, check=True)
+        except (OSError, subprocess.CalledProcessError) as error:
+            raise Missing(str(error)) from None
+        self.said = run.stdout.decode().strip()
+        self.version = tuple(map(int, re.search(r"(\d+)\.(\d+)", self.said).groups()))
+        if self.version < FIRST_VERSION:
+            raise Missing(f"{self.said}, and Git from {dotted(FIRST_VERSION)} on is compared")
+
+    def config(self, name, values, arguments, home):
+        """Runs `git config` over a file with these values, one for each line."""
+        file = self.folder / name
+        file.write_bytes(b"[a]\n" + b"".join(b'\tb = "' + escaped(value) + b'"\n' for value in values))
+        known = {"PATH": os.environ["PATH"], "LC_ALL": "C", "GIT_CONFIG_NOSYSTEM": "1", "GIT_CONFIG_GLOBAL": os.devnull}
+        if home is not None:
+            known["HOME"] = os.fsdecode(home)
+        command = [self.command, "config", "--file", file, *arguments, "a.b"]
+        return subprocess.run(command, env=known, cwd=self.folder, capture_output=True, check=False)
+
+    def answer(self, name, question):
+        """The answer to a question, whose file has this name."""
+        how = ["--get-color"] if question.kind == "color" else [f"--type={question.kind}", "--null", "--get"]
+        run = self.config(name, [question.text], how, question.home)
+        if run.returncode == 0 and question.kind == "color":
+            return run.stdout
+        if run.returncode == 0 and run.stdout.endswith(b"\0"):
+            return run.stdout[:-1]
+        if run.returncode == 1 and not run.stdout:
+            return NOT_SET
+        if run.returncode != REFUSED:
+            raise Wrong(f"git ended with status {run.returncode} at {question}: {run.stderr!r}")
+        return None
+
+    def answers(self, questions):
+        with concurrent.futures.ThreadPoolExecutor() as pool:
+            return list(pool.map(self.answer, map(str, range(len(questions))), questions))
+
+    def lost(self, wanted):
+        """The texts that a file does not carry as they are."""
+        *given, _ = self.config("all", wanted, ["--null", "--get-all"], None).stdout.split(b"\0")
+        if len(given) != len(wanted):
+            return wanted
+        return [text for text, carried in zip(wanted, given) if text != carried]
+
+    def install(self):
+        """The directory that stands for the prefix; where Git does not know the prefix, any."""
+        given = self.answer("prefix", Question("path", calls.PREFIX))
+        return b"/usr" if given in (None, calls.PREFIX) else given.removesuffix(b"/")
+
+
+def escaped(text):
+    return text.replace(b"\\", b"\\\\").replace(b'"', b'\\"').replace(b"\n", b"\\n")
+
+
+def user_of(text):
+    """The user that a path names, and that user's home directory, or None."""
+    name = text.partition(b"/")[0].removeprefix(b"~") if text.startswith(b"~") else b""
+    try:
+        return name, os.fsencode(pwd.getpwnam(name.decode()).pw_dir)
+    except (KeyError, UnicodeDecodeError):
+        return name, None
+
+
+def users():
+    """A few users of the machine, of different homes."""
+    by_home = {entry.pw_dir: entry.pw_name for entry in reversed(pwd.getpwall())}
+    return [name.encode() for name in list(by_home.values())[::-1][:USERS]]
+
+
+def c_library():
+    """The version of glibc, or one below all where the machine has another C library."""
+    name, version = platform.libc_ver()
+    return tuple(map(int, version.split("."))) if name == "glibc" else (0,)
