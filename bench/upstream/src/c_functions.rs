@@ -78,7 +78,9 @@ words! {
 impl From<Integer> for CInteger {
     fn from(integer: Integer) -> Self {
         // the offsets of the suffixes are 10, 20 and 30
-        let suffix = integer.suffix.map_or(0, |suffix| suffix.bitwise_offset() / 10);
+        let suffix = integer
+            .suffix
+            .map_or(0, |suffix| suffix.bitwise_offset() / 10);
         CInteger {
             number: integer.value,
             suffix: suffix as u8,
@@ -121,10 +123,10 @@ unsafe fn handed<'a>(text: *const u8, length: usize) -> &'a Bytes {
 /// # Safety
 ///
 /// `place` may be written.
-unsafe fn handed_out<V>(value: Option<V>, place: *mut V) -> u32 {
+unsafe fn handed_out<V, C: From<V>>(value: Option<V>, place: *mut C) -> u32 {
     let Some(value) = value else { return 0 };
     // SAFETY: as above
-    unsafe { place.write(value) };
+    unsafe { place.write(value.into()) };
     1
 }
 
@@ -145,9 +147,13 @@ impl Write for Room<'_> {
 }
 
 #[unsafe(no_mangle)]
-pub unsafe extern "C" fn up_integer_read(text: *const u8, length: usize, value: *mut CInteger) -> u32 {
+pub unsafe extern "C" fn up_integer_read(
+    text: *const u8,
+    length: usize,
+    value: *mut CInteger,
+) -> u32 {
     // SAFETY: what the header asks of the caller; so below
-    unsafe { handed_out(Integer::try_from(handed(text, length)).ok().map(CInteger::from), value) }
+    unsafe { handed_out(Integer::try_from(handed(text, length)).ok(), value) }
 }
 
 #[unsafe(no_mangle)]
@@ -158,12 +164,12 @@ pub unsafe extern "C" fn up_amount_read(text: *const u8, length: usize, value: *
 #[unsafe(no_mangle)]
 pub unsafe extern "C" fn up_boolean_read(text: *const u8, length: usize, value: *mut u8) -> u32 {
     let boolean = unsafe { Boolean::try_from(handed(text, length)) };
-    unsafe { handed_out(boolean.ok().map(|boolean| u8::from(boolean.0)), value) }
+    unsafe { handed_out(boolean.ok().map(|boolean| boolean.0), value) }
 }
 
 #[unsafe(no_mangle)]
 pub unsafe extern "C" fn up_name_read(text: *const u8, length: usize, value: *mut CName) -> u32 {
-    unsafe { handed_out(Name::try_from(handed(text, length)).ok().map(CName::from), value) }
+    unsafe { handed_out(Name::try_from(handed(text, length)).ok(), value) }
 }
 
 #[unsafe(no_mangle)]
@@ -174,7 +180,7 @@ pub unsafe extern "C" fn up_attribute_read(text: *const u8, length: usize, value
 
 #[unsafe(no_mangle)]
 pub unsafe extern "C" fn up_color_read(text: *const u8, length: usize, value: *mut CColor) -> u32 {
-    unsafe { handed_out(Color::try_from(handed(text, length)).ok().map(CColor::from), value) }
+    unsafe { handed_out(Color::try_from(handed(text, length)).ok(), value) }
 }
 
 #[unsafe(no_mangle)]

@@ -19,9 +19,15 @@ const ERRORS: [(&str, &str); 10] = [
     ("home dir is missing", "HomeMissing"),
     ("home for user lookup is missing", "LookupMissing"),
     ("pwd user info is missing", "UserNotFound"),
-    ("Ill-formed UTF-8 in path past %(prefix)", "IllFormed\tPastPrefix"),
+    (
+        "Ill-formed UTF-8 in path past %(prefix)",
+        "IllFormed\tPastPrefix",
+    ),
     ("Ill-formed UTF-8 in path past ~/", "IllFormed\tPastHome"),
-    ("Ill-formed UTF-8 in path past ~user/", "IllFormed\tPastUser"),
+    (
+        "Ill-formed UTF-8 in path past ~user/",
+        "IllFormed\tPastUser",
+    ),
     ("Ill-formed UTF-8 in username", "IllFormed\tUsername"),
     ("Ill-formed UTF-8 in path", "IllFormed\tWhole"),
 ];
@@ -70,16 +76,26 @@ pub fn answer(line: &str) -> Option<String> {
         Ok(text) => format!("ok\t{}", digits(text.as_os_str().as_bytes())),
         Err(error) => refusal(&error, &behind_mark),
     };
-    Some(format!("{flag}\t{}\t{}\t{outcome}", digits(&behind_mark), CALLS.get()))
+    Some(format!(
+        "{flag}\t{}\t{}\t{outcome}",
+        digits(&behind_mark),
+        CALLS.get()
+    ))
 }
 
 /// What an answer calls an error. The crate keeps the ill-formed bytes with it; here they are cut from the value.
 fn refusal(error: &dyn Display, value: &[u8]) -> String {
     let text = error.to_string();
-    let Some((_, name)) = ERRORS.iter().find(|(beginning, _)| text.starts_with(beginning)) else {
+    let Some((_, name)) = ERRORS
+        .iter()
+        .find(|(beginning, _)| text.starts_with(beginning))
+    else {
         return text;
     };
-    let slash = value.iter().position(|byte| *byte == b'/').unwrap_or(value.len());
+    let slash = value
+        .iter()
+        .position(|byte| *byte == b'/')
+        .unwrap_or(value.len());
     let ill_formed = match name.strip_prefix("IllFormed\t") {
         None => return (*name).into(),
         Some("Whole") => value,
