@@ -5,6 +5,7 @@ import pathlib
 import platform
 import pwd
 import re
+import shutil
 import subprocess
 
 import calls
@@ -66,13 +67,12 @@ class Git:
     """The installed Git, over files in a folder of its own."""
 
     def __init__(self, command, folder):
-        self.command = command
+        found = shutil.which(command)
+        if found is None:
+            raise Missing(f"no {command} is installed")
+        self.command = os.path.abspath(found)
         self.folder = pathlib.Path(folder)
-        try:
-            run = subprocess.run([command, "--version"], stdout=subprocess.PIPE, check=True)
-        except (OSError, subprocess.CalledProcessError) as error:
-            raise Missing(str(error)) from None
-        self.said = run.stdout.decode().strip()
+        self.said = subprocess.check_output([self.command, "--version"]).decode().strip()
         self.version = tuple(map(int, re.search(r"(\d+)\.(\d+)", self.said).groups()))
         if self.version < FIRST_VERSION:
             raise Missing(f"{self.said}, and Git from {dotted(FIRST_VERSION)} on is compared")
