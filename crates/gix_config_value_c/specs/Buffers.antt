@@ -1,0 +1,18 @@
+-- Texts in the caller's memory.
+use Rattle.std.specs.Prelude.{◌≡◌, ℕ, ◌<◌, ◌≤◌, List, ◌++◌, length, drop}
+use Rattle.gix_config_value_c.specs.declared.status.TheConstants.{OK, SHORT_BUFFER}
+
+-- the text stands at the front of the buffer, and what is behind it is left alone; or the buffer is too short and left
+-- alone. Either way the length is that of the text.
+pub data PutsText (text buffer buffer' : List ℕ) (length' status : ℕ) : Type 0 where
+  whole : length text ≤ length buffer → buffer' ≡ text ++ drop (length text) buffer → length' ≡ length text → status ≡ OK
+      → PutsText text buffer buffer' length' status
+  short : length buffer < length text → buffer' ≡ buffer → length' ≡ length text → status ≡ SHORT_BUFFER
+      → PutsText text buffer buffer' length' status
+
+-- a text of which this is true is put into the buffer; or the status says why there is none, and all is left alone
+pub data AnswersText (is_text : List ℕ → Type 0) (is_reason : ℕ → Type 0) (buffer buffer' : List ℕ) (size size' status : ℕ) : Type 0 where
+  put : (text : List ℕ) → is_text text → PutsText text buffer buffer' size' status
+      → AnswersText is_text is_reason buffer buffer' size size' status
+  none : is_reason status → buffer' ≡ buffer → size' ≡ size
+      → AnswersText is_text is_reason buffer buffer' size size' status

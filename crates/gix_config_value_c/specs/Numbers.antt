@@ -1,0 +1,43 @@
+-- The numbers that stand in C for kinds, suffixes, truth values and faults.
+use Rattle.std.specs.Prelude.{◌≡◌, ◌≢◌, ℕ, Bool, true, false, Option, None, Some}
+use Rattle.config_integer.specs.declared.suffix.Suffix.{Suffix}
+use Rattle.config_integer.specs.declared.suffix.Suffix.TheVariants.{Kibi, Mebi, Gibi}
+use Rattle.config_text.specs.declared.errors.Fault.{Fault}
+use Rattle.config_text.specs.declared.errors.Fault.TheVariants as faults
+use Rattle.gix_config_value.specs.declared.kind.Kind.{Kind}
+use Rattle.gix_config_value.specs.declared.kind.Kind.TheVariants as kinds
+
+-- the value that stands in C as this, and none only where no value stands as it
+abbrev pub StandsFor : {V C : Type 0} → (V → C) → C → Option V → Type 0
+StandsFor {V} struct c None = (v : V) → c ≢ struct v
+StandsFor struct c (Some v) = c ≡ struct v
+
+-- a kind
+abbrev pub kind_number : Kind → ℕ
+kind_number kinds.Suffix = 1
+kind_number kinds.Integer = 2
+kind_number kinds.Amount = 3
+kind_number kinds.Boolean = 4
+kind_number kinds.Name = 5
+kind_number kinds.Attribute = 6
+kind_number kinds.Color = 7
+
+-- a suffix, or none
+abbrev pub suffix_number : Option Suffix → ℕ
+suffix_number None = 0
+suffix_number (Some Kibi) = 1
+suffix_number (Some Mebi) = 2
+suffix_number (Some Gibi) = 3
+
+-- a truth value
+abbrev pub flag_number : Bool → ℕ
+flag_number false = 0
+flag_number true = 1
+
+-- a fault of a text
+abbrev pub fault_number : Fault → ℕ
+fault_number faults.Boolean = 1
+fault_number faults.Integer = 2
+fault_number faults.Overflow = 3
+fault_number faults.OutOfRange = 4
+fault_number faults.Color = 5

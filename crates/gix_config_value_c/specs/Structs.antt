@@ -1,0 +1,50 @@
+-- The structs that stand in C for values.
+use Rattle.std.specs.Prelude.{ℕ, Option, None, Some}
+use Rattle.config_integer.specs.declared.integer.Integer.{Integer}
+use Rattle.config_word.specs.declared.name.Name.{Name}
+use Rattle.config_word.specs.declared.name.Name.TheVariants.{Normal, Default, Black, BrightBlack, Red, BrightRed, Green, BrightGreen, Yellow, BrightYellow, Blue, BrightBlue, Magenta, BrightMagenta, Cyan, BrightCyan, White, BrightWhite, Ansi, Rgb}
+use Rattle.config_color.specs.declared.color.Color.{Color}
+use Rattle.gix_config_value_c.specs.declared.structs.GcvInteger.{GcvInteger}
+use Rattle.gix_config_value_c.specs.declared.structs.GcvName.{GcvName}
+use Rattle.gix_config_value_c.specs.declared.structs.GcvColor.{GcvColor}
+use Rattle.gix_config_value_c.specs.Numbers.{suffix_number}
+
+-- an integer: its number, and the number of its suffix
+abbrev pub integer_struct : Integer → GcvInteger
+integer_struct v = record { value = v.value; suffix = suffix_number v.suffix }
+
+-- what has this tag alone
+abbrev pub tagged : ℕ → GcvName
+tagged tag = record { tag = tag; palette = 0; red = 0; green = 0; blue = 0 }
+
+-- a name: its tag, and its numbers, if it has some
+abbrev pub name_struct : Name → GcvName
+name_struct Normal = tagged 1
+name_struct Default = tagged 2
+name_struct Black = tagged 3
+name_struct BrightBlack = tagged 4
+name_struct Red = tagged 5
+name_struct BrightRed = tagged 6
+name_struct Green = tagged 7
+name_struct BrightGreen = tagged 8
+name_struct Yellow = tagged 9
+name_struct BrightYellow = tagged 10
+name_struct Blue = tagged 11
+name_struct BrightBlue = tagged 12
+name_struct Magenta = tagged 13
+name_struct BrightMagenta = tagged 14
+name_struct Cyan = tagged 15
+name_struct BrightCyan = tagged 16
+name_struct White = tagged 17
+name_struct BrightWhite = tagged 18
+name_struct (Ansi n) = record { tag = 19; palette = n; red = 0; green = 0; blue = 0 }
+name_struct (Rgb r g b) = record { tag = 20; palette = 0; red = r; green = g; blue = b }
+
+-- a name, or none
+abbrev pub part_struct : Option Name → GcvName
+part_struct None = tagged 0
+part_struct (Some n) = name_struct n
+
+-- a color: its names and the bits of its attributes
+abbrev pub color_struct : Color → GcvColor
+color_struct c = record { foreground = part_struct c.foreground; background = part_struct c.background; attributes = c.attributes.0 }

@@ -1,0 +1,65 @@
+//! The numbers that stand in C for kinds, suffixes and truth values.
+ghost use Rattle.std.specs.Prelude.{◌≡◌};
+ghost use Rattle.gix_config_value_c.specs.Numbers.{kind_number, suffix_number, flag_number, StandsFor};
+
+use gix_config_value::canonical::Kind;
+use gix_config_value::integer::Suffix;
+
+/// The kind of this number, or `None` where no kind has it.
+pub(crate) fn kind_of(number: u32) -> Option<Kind>
+    ensures { StandsFor kind_number number result }
+{
+    match number {
+        1 => Some(Kind::Suffix),
+        2 => Some(Kind::Integer),
+        3 => Some(Kind::Amount),
+        4 => Some(Kind::Boolean),
+        5 => Some(Kind::Name),
+        6 => Some(Kind::Attribute),
+        7 => Some(Kind::Color),
+        _ => None,
+    }
+}
+
+/// The number of a suffix, 0 for none.
+pub(crate) fn suffix_number(suffix: Option<Suffix>) -> u32
+    ensures { result ≡ suffix_number suffix }
+{
+    match suffix {
+        None => 0,
+        Some(Suffix::Kibi) => 1,
+        Some(Suffix::Mebi) => 2,
+        Some(Suffix::Gibi) => 3,
+    }
+}
+
+/// The suffix of this number, or none; and `None` where the number is that of neither.
+pub(crate) fn suffix_of(number: u32) -> Option<Option<Suffix>>
+    ensures { StandsFor suffix_number number result }
+{
+    match number {
+        0 => Some(None),
+        1 => Some(Some(Suffix::Kibi)),
+        2 => Some(Some(Suffix::Mebi)),
+        3 => Some(Some(Suffix::Gibi)),
+        _ => None,
+    }
+}
+
+/// The number of a truth value.
+pub(crate) fn flag_number(flag: bool) -> u32
+    ensures { result ≡ flag_number flag }
+{
+    if flag { 1 } else { 0 }
+}
+
+/// The truth value of this number, or `None` where it is neither 0 nor 1.
+pub(crate) fn flag_of(number: u32) -> Option<bool>
+    ensures { StandsFor flag_number number result }
+{
+    match number {
+        0 => Some(false),
+        1 => Some(true),
+        _ => None,
+    }
+}

@@ -1,0 +1,204 @@
+//! The plain structs that stand for values in C.
+ghost use Rattle.std.specs.Prelude.{◌≡◌};
+ghost use Rattle.gix_config_value_c.specs.Numbers.{StandsFor};
+ghost use Rattle.gix_config_value_c.specs.Reading.Structs.{tagged_name};
+ghost use Rattle.gix_config_value_c.specs.Structs.{tagged, integer_struct, name_struct, part_struct, color_struct};
+
+use crate::numbers::{suffix_number, suffix_of};
+use bitflags::Flags;
+use gix_config_value::color::{Attribute, Name};
+use gix_config_value::{Color, Integer};
+
+/// An integer: the number before the suffix, and the number of its suffix, 0 for none.
+#[repr(C)]
+#[derive(Clone, Copy, PartialEq, Eq)]
+pub struct GcvInteger {
+    /// The number before the suffix.
+    pub value: i64,
+    /// 0 for none, 1 for `k`, 2 for `m`, 3 for `g`.
+    pub suffix: u32,
+}
+
+/// A color's name. What its tag does not use is 0.
+#[repr(C)]
+#[derive(Clone, Copy, PartialEq, Eq)]
+pub struct GcvName {
+    /// 0 for no name, 1 to 18 for the words in the order of `Name`, 19 for a palette number, 20 for red, green and blue.
+    pub tag: u32,
+    /// The palette number.
+    pub palette: u8,
+    /// Red.
+    pub red: u8,
+    /// Green.
+    pub green: u8,
+    /// Blue.
+    pub blue: u8,
+}
+
+/// A color: its names, of which each may be none, and the bits of its attributes.
+#[repr(C)]
+#[derive(Clone, Copy, PartialEq, Eq)]
+pub struct GcvColor {
+    /// The color of the text.
+    pub foreground: GcvName,
+    /// The color behind the text.
+    pub background: GcvName,
+    /// The bits of the attributes.
+    pub attributes: u32,
+}
+
+/// The struct of an integer.
+pub(crate) fn integer_struct(integer: Integer) -> GcvInteger
+    ensures { result ≡ integer_struct integer }
+{
+    GcvInteger {
+        value: integer.value,
+        suffix: suffix_number(integer.suffix),
+    }
+}
+
+/// The integer of this struct, or `None` where its suffix has no such number.
+pub(crate) fn integer_of(integer: GcvInteger) -> Option<Integer>
+    ensures { StandsFor integer_struct integer result }
+{
+    let suffix = suffix_of(integer.suffix)?;
+    Some(Integer {
+        value: integer.value,
+        suffix,
+    })
+}
+
+/// The struct of a word, or of no name.
+const fn word(tag: u32) -> GcvName
+    ensures { result ≡ tagged tag }
+{
+    GcvName {
+        tag,
+        palette: 0,
+        red: 0,
+        green: 0,
+        blue: 0,
+    }
+}
+
+/// The struct of a name.
+pub(crate) fn name_struct(name: Name) -> GcvName
+    ensures { result ≡ name_struct name }
+{
+    match name {
+        Name::Normal => word(1),
+        Name::Default => word(2),
+        Name::Black => word(3),
+        Name::BrightBlack => word(4),
+        Name::Red => word(5),
+        Name::BrightRed => word(6),
+        Name::Green => word(7),
+        Name::BrightGreen => word(8),
+        Name::Yellow => word(9),
+        Name::BrightYellow => word(10),
+        Name::Blue => word(11),
+        Name::BrightBlue => word(12),
+        Name::Magenta => word(13),
+        Name::BrightMagenta => word(14),
+        Name::Cyan => word(15),
+        Name::BrightCyan => word(16),
+        Name::White => word(17),
+        Name::BrightWhite => word(18),
+        Name::Ansi(palette) => GcvName {
+            palette,
+            ..word(19)
+        },
+        Name::Rgb(red, green, blue) => GcvName {
+            red,
+            green,
+            blue,
+            ..word(20)
+        },
+    }
+}
+
+/// The struct of a name, or of none.
+fn part_struct(part: Option<Name>) -> GcvName
+    ensures { result ≡ part_struct part }
+{
+    match part {
+        None => word(0),
+        Some(name) => name_struct(name),
+    }
+}
+
+/// The name that the tag says, with the numbers that it uses, or `None` where it says none.
+fn tagged_name(name: GcvName) -> Option<Name>
+    ensures { result ≡ tagged_name name }
+{
+    match name.tag {
+        1 => Some(Name::Normal),
+        2 => Some(Name::Default),
+        3 => Some(Name::Black),
+        4 => Some(Name::BrightBlack),
+        5 => Some(Name::Red),
+        6 => Some(Name::BrightRed),
+        7 => Some(Name::Green),
+        8 => Some(Name::BrightGreen),
+        9 => Some(Name::Yellow),
+        10 => Some(Name::BrightYellow),
+        11 => Some(Name::Blue),
+        12 => Some(Name::BrightBlue),
+        13 => Some(Name::Magenta),
+        14 => Some(Name::BrightMagenta),
+        15 => Some(Name::Cyan),
+        16 => Some(Name::BrightCyan),
+        17 => Some(Name::White),
+        18 => Some(Name::BrightWhite),
+        19 => Some(Name::Ansi(name.palette)),
+        20 => Some(Name::Rgb(name.red, name.green, name.blue)),
+        _ => None,
+    }
+}
+
+/// The name of this struct, or `None` where it is that of no name.
+pub(crate) fn name_of(name: GcvName) -> Option<Name>
+    ensures { StandsFor name_struct name result }
+{
+    let found = tagged_name(name)?;
+    if name_struct(found) == name {
+        Some(found)
+    } else {
+        None
+    }
+}
+
+/// The name of this struct, or none; and `None` where it is that of neither.
+fn part_of(part: GcvName) -> Option<Option<Name>>
+    ensures { StandsFor part_struct part result }
+{
+    if part == word(0) {
+        return Some(None);
+    }
+    let name = name_of(part)?;
+    Some(Some(name))
+}
+
+/// The color of this struct, or `None` where one of its names is none.
+pub(crate) fn color_of(color: GcvColor) -> Option<Color>
+    ensures { StandsFor color_struct color result }
+{
+    let foreground = part_of(color.foreground)?;
+    let background = part_of(color.background)?;
+    Some(Color {
+        foreground,
+        background,
+        attributes: Attribute::from_bits_retain(color.attributes),
+    })
+}
+
+/// The struct of a color.
+pub(crate) fn color_struct(color: Color) -> GcvColor
+    ensures { result ≡ color_struct color }
+{
+    GcvColor {
+        foreground: part_struct(color.foreground),
+        background: part_struct(color.background),
+        attributes: color.attributes.bits(),
+    }
+}
