@@ -142,6 +142,15 @@ impl Color {
             && (self.background.is_none() || self.foreground.is_some())
     }
 
+    /// The color as it is shown, of any set of attributes.
+    pub fn shown(&self) -> Text
+        ensures { result.bytes ≡ color_shown self.now }
+    {
+        let mut text = Text::new();
+        self.show(&mut text);
+        text
+    }
+
     /// Writes the color as it is shown into a text that is empty.
     pub(crate) fn show(&self, text: &mut Text)
         requires { text.old.bytes ≡ [] }
@@ -278,9 +287,7 @@ impl fmt::Display for Color {
     ghost output = { λ c. Some (color_shown c) };
 
     fn fmt<W: fmt::Write>(&self, f: &mut fmt::Formatter<W>) -> fmt::Result {
-        let mut text = Text::new();
-        self.show(&mut text);
-        f.write_str(text.as_str())
+        f.write_str(self.shown().as_str())
     }
 }
 

@@ -143,7 +143,7 @@ impl Attribute {
     }
 
     /// The set as it is shown.
-    fn shown(self) -> Text
+    pub fn shown(self) -> Text
         ensures { result.bytes ≡ attribute_shown self.0 }
     {
         let mut text = Text::new();

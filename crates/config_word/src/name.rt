@@ -143,7 +143,7 @@ impl Name {
     }
 
     /// The name as it is shown.
-    fn shown(self) -> Text
+    pub fn shown(self) -> Text
         ensures { result.bytes ≡ name_shown self }
     {
         let mut text = Text::new();

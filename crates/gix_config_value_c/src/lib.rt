@@ -5,8 +5,12 @@
 #![tactic(auto)]
 
 mod buffer;
+mod colors;
 mod faults;
 mod numbers;
+mod products;
 mod readers;
+mod shown;
 mod status;
 mod structs;
+mod texts;

@@ -1,5 +1,5 @@
 //! The numbers that stand in C for kinds, suffixes and truth values.
-ghost use Rattle.std.specs.Prelude.{◌≡◌};
+ghost use Rattle.std.specs.Prelude.{◌≡◌, Some};
 ghost use Rattle.gix_config_value_c.specs.Numbers.{kind_number, suffix_number, flag_number, StandsFor};
 
 use gix_config_value::canonical::Kind;
@@ -33,17 +33,27 @@ pub(crate) fn suffix_number(suffix: Option<Suffix>) -> u32
     }
 }
 
+/// The suffix of this number, or `None` where no suffix has it.
+pub(crate) fn unit_of(number: u32) -> Option<Suffix>
+    ensures { StandsFor (λ s. suffix_number (Some s)) number result }
+{
+    match number {
+        1 => Some(Suffix::Kibi),
+        2 => Some(Suffix::Mebi),
+        3 => Some(Suffix::Gibi),
+        _ => None,
+    }
+}
+
 /// The suffix of this number, or none; and `None` where the number is that of neither.
 pub(crate) fn suffix_of(number: u32) -> Option<Option<Suffix>>
     ensures { StandsFor suffix_number number result }
 {
-    match number {
-        0 => Some(None),
-        1 => Some(Some(Suffix::Kibi)),
-        2 => Some(Some(Suffix::Mebi)),
-        3 => Some(Some(Suffix::Gibi)),
-        _ => None,
+    if number == 0 {
+        return Some(None);
     }
+    let suffix = unit_of(number)?;
+    Some(Some(suffix))
 }
 
 /// The number of a truth value.

@@ -1,0 +1,31 @@
+-- What is made of values that stand in C.
+use Rattle.std.specs.Prelude.{◌≡◌, ◌≢◌, ◌⊎◌, ℕ, ℤ, List}
+use Rattle.config_integer.specs.declared.integer.Integer.{Integer}
+use Rattle.gix_config_value.specs.Integer.{product}
+use Rattle.gix_config_value.specs.Numerals.{IsInI64}
+use Rattle.gix_config_value_c.specs.declared.status.TheConstants.{OK, OVERFLOW, BAD_SUFFIX}
+use Rattle.gix_config_value_c.specs.declared.structs.GcvInteger.{GcvInteger}
+use Rattle.gix_config_value_c.specs.Buffers.{AnswersText}
+use Rattle.gix_config_value_c.specs.Structs.{integer_struct}
+
+-- no value stands in C as this
+abbrev pub IsNoValue : {V C : Type 0} → (V → C) → C → Type 0
+IsNoValue {V} struct c = (v : V) → c ≢ struct v
+
+-- the text that the value is shown as
+abbrev pub IsShownAs : {V C : Type 0} → (V → C) → (V → List ℕ) → C → List ℕ → Type 0
+IsShownAs {V} struct shown c text = (v : V) × (c ≡ struct v) × (text ≡ shown v)
+
+-- the shown text is put into the buffer, or no value stands as `c`, which the status `bad` says
+abbrev pub Shows : {V C : Type 0} → (V → C) → (V → List ℕ) → ℕ → C → List ℕ → List ℕ → ℕ → ℕ → ℕ → Type 0
+Shows struct shown bad c buffer buffer' size size' status =
+    AnswersText (IsShownAs struct shown c) (λ reason. (reason ≡ bad) × IsNoValue struct c) buffer buffer' size size' status
+
+-- the product is put into `out`; or it is out of range, or no integer stands as `c`, and `out` is left alone
+pub data Multiplies (c : GcvInteger) (out out' : ℤ) (status : ℕ) : Type 0 where
+  multiplied : (v : Integer) → c ≡ integer_struct v → IsInI64 (product v) → out' ≡ product v → status ≡ OK
+      → Multiplies c out out' status
+  overflow : (v : Integer) → c ≡ integer_struct v → ¬ (IsInI64 (product v)) → out' ≡ out → status ≡ OVERFLOW
+      → Multiplies c out out' status
+  bad_suffix : IsNoValue integer_struct c → out' ≡ out → status ≡ BAD_SUFFIX
+      → Multiplies c out out' status

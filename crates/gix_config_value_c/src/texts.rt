@@ -1,0 +1,47 @@
+//! Texts of a kind that is chosen at run time.
+ghost use Rattle.gix_config_value_c.specs.Texts.{NormalizesInto, ComparesInto};
+
+use crate::buffer::put;
+use crate::numbers::{flag_number, kind_of};
+use crate::status::{OK, REFUSED, UNKNOWN_KIND};
+use bstr::BStr;
+use gix_config_value::canonical::{normalize, same};
+
+/// Puts the canonical text of the value of a text into the buffer, and its length into `length`. `REFUSED` where the
+/// text has no value of the kind, `UNKNOWN_KIND` where no kind has the number, and `SHORT_BUFFER` where the buffer is
+/// shorter than the canonical text: then nothing is written but that text's length.
+#[unsafe(no_mangle)]
+pub extern "C" fn gcv_raw_normalize(
+    kind: u32,
+    text: &[u8],
+    buffer: &mut [u8],
+    length: &mut usize,
+) -> u32
+    ensures { NormalizesInto kind text.now buffer.old buffer.new length.old length.new result }
+{
+    let Some(kind) = kind_of(kind) else {
+        return UNKNOWN_KIND;
+    };
+    match normalize(kind, BStr::new(text)) {
+        Some(canonical) => put(canonical.as_str().as_bytes(), buffer, length),
+        None => REFUSED,
+    }
+}
+
+/// Puts into `out` whether two texts mean the same, 1 or 0. `REFUSED` where one of them has no value of the kind, and
+/// `UNKNOWN_KIND` where no kind has the number: then `out` is left alone.
+#[unsafe(no_mangle)]
+pub extern "C" fn gcv_raw_same(kind: u32, first: &[u8], second: &[u8], out: &mut u32) -> u32
+    ensures { ComparesInto kind first.now second.now out.old out.new result }
+{
+    let Some(kind) = kind_of(kind) else {
+        return UNKNOWN_KIND;
+    };
+    match same(kind, BStr::new(first), BStr::new(second)) {
+        Some(answer) => {
+            *out = flag_number(answer);
+            OK
+        }
+        None => REFUSED,
+    }
+}
