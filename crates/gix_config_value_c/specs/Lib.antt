@@ -3,6 +3,9 @@ pub mod Structs
 pub mod Buffers
 pub mod Readers
 pub mod Values
+pub mod Faults
 pub mod Texts
 pub mod Colors
+pub mod Json
+pub mod Settings
 pub mod Reading

@@ -7,9 +7,11 @@
 mod buffer;
 mod colors;
 mod faults;
+mod json;
 mod numbers;
 mod products;
 mod readers;
+mod settings;
 mod shown;
 mod status;
 mod structs;

@@ -1,0 +1,49 @@
+-- A setting among entries that stand in C as one byte string and the lengths of names and texts.
+use Rattle.std.specs.Prelude.{◌≡◌, ◌+◌, ℕ, List, [], ◌∷◌, ◌++◌, length, slice_range}
+use Rattle.gix_config_value.specs.declared.kind.Kind.{Kind}
+use Rattle.gix_config_value.specs.Kinds.{KindGrammar}
+use Rattle.gix_config_value.specs.Settings.{Decides, IsAbsent}
+use Rattle.gix_config_value.specs.Value.{IsAccepted, IsRefused}
+use Rattle.gix_config_value_c.specs.declared.status.TheConstants.{OK, REFUSED, ABSENT, BAD_LENGTHS}
+use Rattle.gix_config_value_c.specs.declared.settings.GcvEntry.{GcvEntry}
+use Rattle.gix_config_value_c.specs.Numbers.{kind_number}
+use Rattle.gix_config_value_c.specs.Texts.{IsUnknown}
+
+-- the names and texts, one behind the other
+abbrev pub entry_bytes : List (List ℕ × List ℕ) → List ℕ
+entry_bytes [] = []
+entry_bytes (e ∷ es) = e.0 ++ (e.1 ++ entry_bytes es)
+
+-- the length of each name, and behind it that of its text
+abbrev pub entry_lengths : List (List ℕ × List ℕ) → List ℕ
+entry_lengths [] = []
+entry_lengths (e ∷ es) = length e.0 ∷ length e.1 ∷ entry_lengths es
+
+-- these bytes and lengths stand for the entries
+pub record AreEntries (bytes lengths : List ℕ) (es : List (List ℕ × List ℕ)) : Type 0 where
+  pub bytes_are : bytes ≡ entry_bytes es
+  pub lengths_are : lengths ≡ entry_lengths es
+
+-- the entry that decides for the name, and where its text stands among the bytes
+pub record IsDeciding (bytes : List ℕ) (es : List (List ℕ × List ℕ)) (name : List ℕ) (found : GcvEntry) (t : List ℕ) : Type 0 where
+  pub decides : Decides es name found.index t
+  pub stands : slice_range bytes found.start (found.start + found.length) ≡ t
+  pub sized : found.length ≡ length t
+
+-- the deciding entry is put into `out`, with a text that has a value of the kind, or that is refused; or no entry has the
+-- name, or the lengths do not fit, or the kind is unknown, and `out` is left alone
+pub data LooksUpInto (number : ℕ) (bytes lengths name : List ℕ) (out out' : GcvEntry) (status : ℕ) : Type 0 where
+  decided : (kind : Kind) (es : List (List ℕ × List ℕ)) (t : List ℕ) → number ≡ kind_number kind → AreEntries bytes lengths es
+      → IsDeciding bytes es name out' t → IsAccepted (KindGrammar kind) t → status ≡ OK
+      → LooksUpInto number bytes lengths name out out' status
+  refused : (kind : Kind) (es : List (List ℕ × List ℕ)) (t : List ℕ) → number ≡ kind_number kind → AreEntries bytes lengths es
+      → IsDeciding bytes es name out' t → IsRefused (KindGrammar kind) t → status ≡ REFUSED
+      → LooksUpInto number bytes lengths name out out' status
+  absent : (kind : Kind) (es : List (List ℕ × List ℕ)) → number ≡ kind_number kind → AreEntries bytes lengths es
+      → IsAbsent es name → out' ≡ out → status ≡ ABSENT
+      → LooksUpInto number bytes lengths name out out' status
+  bad_lengths : (kind : Kind) → number ≡ kind_number kind → ((es : List (List ℕ × List ℕ)) → ¬ (AreEntries bytes lengths es))
+      → out' ≡ out → status ≡ BAD_LENGTHS
+      → LooksUpInto number bytes lengths name out out' status
+  unknown : IsUnknown number status → out' ≡ out
+      → LooksUpInto number bytes lengths name out out' status

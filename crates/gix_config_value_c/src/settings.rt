@@ -1,0 +1,107 @@
+//! Settings by name, among entries that stand as one byte string and the lengths of names and texts.
+ghost use Rattle.std.specs.Prelude.{◌≡◌, Some, None};
+ghost use Rattle.gix_config_value_c.specs.Reading.Settings.{last_from, found_at};
+ghost use Rattle.gix_config_value_c.specs.Settings.{LooksUpInto};
+
+use crate::numbers::kind_of;
+use crate::status::{ABSENT, BAD_LENGTHS, OK, REFUSED, UNKNOWN_KIND};
+use bstr::BStr;
+use gix_config_value::canonical::normalize;
+
+/// An entry, and where its text stands among the bytes.
+#[repr(C)]
+#[derive(Clone, Copy)]
+pub struct GcvEntry {
+    /// The place of the entry, from 0.
+    pub index: usize,
+    /// Where the first byte of its text stands.
+    pub start: usize,
+    /// The length of its text.
+    pub length: usize,
+}
+
+/// This entry where it has the name, and else the one that was found before.
+fn found_at(
+    name: &[u8],
+    entry: &[u8],
+    index: usize,
+    start: usize,
+    length: usize,
+    found: Option<GcvEntry>,
+) -> Option<GcvEntry>
+    ensures { result ≡ found_at name.now entry.now index start length found }
+{
+    if entry == name {
+        return Some(GcvEntry {
+            index,
+            start,
+            length,
+        });
+    }
+    found
+}
+
+/// The last entry of the name, if there is one; and `None` where the lengths do not fit the bytes.
+fn last_entry(bytes: &[u8], lengths: &[usize], name: &[u8]) -> Option<Option<GcvEntry>>
+    ensures { result ≡ last_from name.now None 0 0 bytes.now lengths.now }
+{
+    let mut found = None;
+    let mut index = 0;
+    let mut start = 0;
+    let mut rest = bytes;
+    let mut pairs = lengths;
+    'entries: while let [name_length, text_length, behind @ ..] = pairs {
+        let (entry, text) = rest.split_at_checked(*name_length)?;
+        let (_text, after) = text.split_at_checked(*text_length)?;
+        found = found_at(
+            name,
+            entry,
+            index,
+            start + *name_length,
+            *text_length,
+            found,
+        );
+        index += 1;
+        start += *name_length + *text_length;
+        rest = after;
+        pairs = behind;
+    }
+    if pairs.is_empty() && rest.is_empty() {
+        Some(found)
+    } else {
+        None
+    }
+}
+
+/// Looks for the last entry of the name, which decides. The bytes are the names and texts of all entries, one behind
+/// the other, and the lengths are those of name, text, name, text and so on.
+///
+/// `OK` where its text has a value of the kind, and `REFUSED` where it has none: the entry is put into `out`. First
+/// `UNKNOWN_KIND` where no kind has the number, then `BAD_LENGTHS` where the lengths do not fit the bytes, then
+/// `ABSENT` where no entry has the name: then `out` is left alone.
+#[unsafe(no_mangle)]
+pub extern "C" fn gcv_raw_lookup(
+    kind: u32,
+    bytes: &[u8],
+    lengths: &[usize],
+    name: &[u8],
+    out: &mut GcvEntry,
+) -> u32
+    ensures { LooksUpInto kind bytes.now lengths.now name.now out.old out.new result }
+{
+    let Some(kind) = kind_of(kind) else {
+        return UNKNOWN_KIND;
+    };
+    let Some(last) = last_entry(bytes, lengths, name) else {
+        return BAD_LENGTHS;
+    };
+    let Some(entry) = last else {
+        return ABSENT;
+    };
+    *out = entry;
+    let text = &bytes[entry.start..entry.start + entry.length];
+    match normalize(kind, BStr::new(text)) {
+        Some(_) => OK,
+        None => REFUSED,
+    }
+}
