@@ -8,4 +8,5 @@ pub mod Texts
 pub mod Colors
 pub mod Json
 pub mod Settings
+pub mod Paths
 pub mod Reading

@@ -1,5 +1,5 @@
 -- What is made of values that stand in C.
-use Rattle.std.specs.Prelude.{◌≡◌, ◌≢◌, ◌⊎◌, ℕ, ℤ, List}
+use Rattle.std.specs.Prelude.{◌≡◌, ◌≢◌, ℕ, ℤ, List}
 use Rattle.config_integer.specs.declared.integer.Integer.{Integer}
 use Rattle.gix_config_value.specs.Integer.{product}
 use Rattle.gix_config_value.specs.Numerals.{IsInI64}

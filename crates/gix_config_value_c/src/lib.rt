@@ -9,6 +9,7 @@ mod colors;
 mod faults;
 mod json;
 mod numbers;
+mod paths;
 mod products;
 mod readers;
 mod settings;

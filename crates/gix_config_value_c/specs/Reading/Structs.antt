@@ -1,5 +1,5 @@
 -- The name that a tag and its numbers say.
-use Rattle.std.specs.Prelude.{ℕ, ◌==◌, List, Option, None, Some, if◌then◌else◌}
+use Rattle.std.specs.Prelude.{◌==◌, Option, None, Some, if◌then◌else◌}
 use Rattle.config_word.specs.declared.name.Name.{Name}
 use Rattle.config_word.specs.declared.name.Name.TheVariants.{Normal, Default, Black, BrightBlack, Red, BrightRed, Green, BrightGreen, Yellow, BrightYellow, Blue, BrightBlue, Magenta, BrightMagenta, Cyan, BrightCyan, White, BrightWhite, Ansi, Rgb}
 use Rattle.gix_config_value_c.specs.declared.structs.GcvName.{GcvName}
