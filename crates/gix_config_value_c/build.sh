@@ -1,0 +1,42 @@
+#!/bin/sh
+# Builds the library for C: sh crates/gix_config_value_c/build.sh PREFIX
+#
+# It proves the crate and those below it, and then puts the header into PREFIX/include, a static archive and a shared library
+# into PREFIX/lib, and what pkg-config reads into PREFIX/lib/pkgconfig. It needs `rt`, a C compiler (CC, or cc) and binutils.
+set -eu
+if [ $# -ne 1 ]; then
+    echo "usage: sh $0 PREFIX" >&2
+    exit 2
+fi
+here=$(CDPATH='' cd -- "$(dirname -- "$0")" && pwd)
+mkdir -p -- "$1/include" "$1/lib/pkgconfig"
+prefix=$(CDPATH='' cd -- "$1" && pwd)
+version=$(cat "$here/VERSION")
+soname=libgix_config_value.so.${version%%.*}
+if ! rt=$(command -v rt); then
+    echo "rt, the command of the toolchain, is not in PATH" >&2
+    exit 2
+fi
+# the toolchain's heap, which stands between the library and malloc, realloc and free
+heap=$(dirname -- "$(dirname -- "$(readlink -f -- "$rt")")")/c/liblibc_c.a
+if [ ! -f "$heap" ]; then
+    echo "the toolchain has no $heap" >&2
+    exit 2
+fi
+work=$(mktemp -d)
+trap 'rm -rf -- "$work"' EXIT
+
+(cd "$here" && rt lib)
+
+# one object, which shows nothing but what the header declares
+cc=${CC:-cc}
+"$cc" -r -nostdlib -o "$work/gix_config_value.o" -Wl,--whole-archive "$here/out/libgix_config_value_c.a" "$heap" -Wl,--no-whole-archive
+objcopy --wildcard --keep-global-symbol='gcv_raw_*' "$work/gix_config_value.o"
+rm -f -- "$prefix/lib/libgix_config_value.a"
+ar rcs "$prefix/lib/libgix_config_value.a" "$work/gix_config_value.o"
+"$cc" -shared -o "$prefix/lib/libgix_config_value.so.$version" -Wl,-soname,"$soname" -Wl,-z,defs -Wl,-z,noexecstack "$work/gix_config_value.o"
+ln -sf "libgix_config_value.so.$version" "$prefix/lib/$soname"
+ln -sf "$soname" "$prefix/lib/libgix_config_value.so"
+cp -- "$here/include/gix_config_value.h" "$prefix/include/"
+sed "s/@VERSION@/$version/" "$here/gix_config_value.pc.in" > "$prefix/lib/pkgconfig/gix_config_value.pc"
+echo "gix_config_value $version is in $prefix"
