@@ -1,0 +1,50 @@
+#!/usr/bin/env python3
+"""crates/gix_config_value_c/VERSION is the one version: version.py [PREFIX]. The header says the same, and so do a CHANGELOG.md
+and the Python package where they are there, and the library that was built into PREFIX. The last line is 'N passed, M failed'."""
+import pathlib
+import re
+import subprocess
+import sys
+
+ROOT = pathlib.Path(__file__).resolve().parent.parent
+CRATE = ROOT / "crates/gix_config_value_c"
+# a file, and how it says the version; the last two need not be there
+PLACES = [
+    (CRATE / "include/gix_config_value.h", r'^#define GCV_VERSION "(.*)"$'),
+    (ROOT / "CHANGELOG.md", r"^## \[?([0-9][^\s\]]*)"),
+    (ROOT / "python/pyproject.toml", r'^version = "(.*)"$'),
+    (ROOT / "python/gix_config_value/__init__.py", r'^__version__ = "(.*)"$'),
+]
+
+
+def said(path, pattern):
+    """What a file says, first of all."""
+    found = re.search(pattern, path.read_text(encoding="utf-8"), re.MULTILINE)
+    return found.group(1) if found else None
+
+
+def built(prefix, version):
+    """What pkg-config and the shared library in the prefix say, and what they should."""
+    module = subprocess.run(["pkg-config", "--modversion", "gix_config_value"], capture_output=True, text=True, check=False,
+                            env={"PKG_CONFIG_PATH": f"{prefix}/lib/pkgconfig", "PATH": "/usr/local/bin:/usr/bin:/bin"})
+    yield "pkg-config", module.stdout.strip(), version
+    soname = f"libgix_config_value.so.{version.split('.')[0]}"
+    library = pathlib.Path(prefix) / "lib" / f"libgix_config_value.so.{version}"
+    dynamic = subprocess.run(["readelf", "-d", library], capture_output=True, text=True, check=False).stdout
+    found = re.search(r"SONAME.*\[(.*)\]", dynamic)
+    yield str(library), found.group(1) if found else None, soname
+
+
+def main():
+    version = (CRATE / "VERSION").read_text(encoding="utf-8").strip()
+    rows = [(str(path.relative_to(ROOT)), said(path, pattern), version) for path, pattern in PLACES if path.exists()]
+    if len(sys.argv) > 1:
+        rows += built(sys.argv[1], version)
+    wrong = [f"{place} says {given}, and not {wanted}" for place, given, wanted in rows if given != wanted]
+    for line in wrong:
+        print(line)
+    print(f"{len(rows) - len(wrong)} passed, {len(wrong)} failed")
+    return 1 if wrong or not rows else 0
+
+
+sys.exit(main())

@@ -1,0 +1,282 @@
+/* Each status of each call on bad input, with what is left alone; lookups, compositions and the texts of faults. */
+#include "guarded.h"
+
+static area buffer_area;
+
+#define WRITER(name, type, call)                                                                                                  \
+    static gcv_status name(const void *state, char *buffer, size_t capacity, size_t *size)                                        \
+    {                                                                                                                             \
+        const type *value = (const type *)state;                                                                                  \
+        return call;                                                                                                              \
+    }
+
+WRITER(show_suffix, uint32_t, gcv_show_suffix(*value, buffer, capacity, size))
+WRITER(show_integer, gcv_integer, gcv_show_integer(value, buffer, capacity, size))
+WRITER(show_boolean, uint32_t, gcv_show_boolean(*value, buffer, capacity, size))
+WRITER(show_name, gcv_name, gcv_show_name(value, buffer, capacity, size))
+WRITER(show_attribute, uint32_t, gcv_show_attribute(*value, buffer, capacity, size))
+WRITER(show_color, gcv_color, gcv_show_color(value, buffer, capacity, size))
+WRITER(json_suffix, uint32_t, gcv_json_suffix(*value, buffer, capacity, size))
+WRITER(json_integer, gcv_integer, gcv_json_integer(value, buffer, capacity, size))
+WRITER(json_boolean, uint32_t, gcv_json_boolean(*value, buffer, capacity, size))
+WRITER(json_name, gcv_name, gcv_json_name(value, buffer, capacity, size))
+WRITER(json_attribute, uint32_t, gcv_json_attribute(*value, buffer, capacity, size))
+WRITER(fault_text, uint32_t, gcv_fault_text(*value, buffer, capacity, size))
+WRITER(normalize_empty, uint32_t, gcv_normalize(*value, NULL, 0, buffer, capacity, size))
+
+/* What an interpolation is given, with the flags of the exported call. */
+typedef struct given {
+    const char *path;
+    uint32_t flags[3];
+    const char *texts[3];
+} given;
+
+static gcv_status interpolate(const void *state, char *buffer, size_t capacity, size_t *size)
+{
+    const given *of = (const given *)state;
+    uint8_t none[1] = {0};
+    uint32_t fault = UNTOUCHED;
+    gcv_status status = gcv_raw_interpolate(
+        (const uint8_t *)of->path, strlen(of->path), of->flags[0], (const uint8_t *)of->texts[0], strlen(of->texts[0]),
+        of->flags[1], (const uint8_t *)of->texts[1], strlen(of->texts[1]), of->flags[2], (const uint8_t *)of->texts[2],
+        strlen(of->texts[2]), capacity == 0 ? none : (uint8_t *)buffer, capacity, size, &fault);
+    return (status == GCV_REFUSED) == (fault != UNTOUCHED) ? status : UNTOUCHED;
+}
+
+static const uint32_t no_numbers[] = {8, 21, 1000, UINT32_MAX};
+
+static void bad_numbers(void)
+{
+    for (size_t at = 0; at < 4; at++) {
+        uint32_t number = no_numbers[at];
+        gcv_integer integer = {1, number};
+        gcv_name name = {number + 13, 0, 0, 0, 0};
+        gcv_color color = {{GCV_RED, 0, 0, 0, 0}, name, 0};
+        int64_t product = UNTOUCHED;
+        count(writes_nothing(buffer_area, normalize_empty, &number, GCV_UNKNOWN_KIND), "normalize");
+        count(writes_nothing(buffer_area, show_suffix, &number, GCV_BAD_SUFFIX), "show_suffix");
+        count(writes_nothing(buffer_area, json_suffix, &number, GCV_BAD_SUFFIX), "json_suffix");
+        count(writes_nothing(buffer_area, show_integer, &integer, GCV_BAD_SUFFIX), "show_integer");
+        count(writes_nothing(buffer_area, json_integer, &integer, GCV_BAD_SUFFIX), "json_integer");
+        count(gcv_product(&integer, &product) == GCV_BAD_SUFFIX && product == UNTOUCHED, "product");
+        count(writes_nothing(buffer_area, show_boolean, &number, GCV_BAD_FLAG), "show_boolean");
+        count(writes_nothing(buffer_area, json_boolean, &number, GCV_BAD_FLAG), "json_boolean");
+        if (name.tag > GCV_RGB) {
+            count(writes_nothing(buffer_area, show_name, &name, GCV_BAD_NAME), "show_name");
+            count(writes_nothing(buffer_area, json_name, &name, GCV_BAD_NAME), "json_name");
+            count(writes_nothing(buffer_area, show_color, &color, GCV_BAD_NAME), "show_color");
+        }
+        if (number > GCV_FAULT_ILL_FORMED_PATH) {
+            count(writes_nothing(buffer_area, fault_text, &number, GCV_UNKNOWN_FAULT), "fault_text");
+        }
+    }
+    uint32_t zero = 0;
+    count(writes_nothing(buffer_area, normalize_empty, &zero, GCV_UNKNOWN_KIND), "normalize of kind 0");
+    count(writes_nothing(buffer_area, show_suffix, &zero, GCV_BAD_SUFFIX), "show_suffix of none");
+    count(writes_nothing(buffer_area, json_suffix, &zero, GCV_BAD_SUFFIX), "json_suffix of none");
+    count(writes_nothing(buffer_area, fault_text, &zero, GCV_UNKNOWN_FAULT), "fault_text of none");
+}
+
+/* A struct in which something stands that its tag does not use, and that of no name. */
+static void bad_names(void)
+{
+    static const gcv_name names[] = {{0, 0, 0, 0, 0},  {GCV_RED, 1, 0, 0, 0},  {GCV_RED, 0, 1, 0, 0},  {GCV_WHITE, 0, 0, 0, 255},
+                                     {0, 0, 0, 1, 0},  {GCV_ANSI, 1, 1, 0, 0}, {GCV_RGB, 1, 0, 0, 0}, {21, 0, 0, 0, 0}};
+    for (size_t at = 0; at < sizeof names / sizeof names[0]; at++) {
+        gcv_color color = {names[at], {GCV_RED, 0, 0, 0, 0}, 0};
+        gcv_color plain = {{0, 0, 0, 0, 0}, {0, 0, 0, 0, 0}, 0};
+        gcv_color out;
+        memset(&out, PATTERN, sizeof out);
+        gcv_color before = out;
+        count(writes_nothing(buffer_area, show_name, &names[at], GCV_BAD_NAME), "a bad name shown");
+        count(writes_nothing(buffer_area, json_name, &names[at], GCV_BAD_NAME), "a bad name as JSON");
+        if (at > 0) {
+            count(writes_nothing(buffer_area, show_color, &color, GCV_BAD_NAME), "a bad color shown");
+            count(gcv_compose(&color, &plain, &out) == GCV_BAD_NAME && memcmp(&out, &before, sizeof out) == 0, "compose, first");
+            count(gcv_compose(&plain, &color, &out) == GCV_BAD_NAME && memcmp(&out, &before, sizeof out) == 0, "compose, second");
+        }
+    }
+}
+
+static void shown_sets(void)
+{
+    static const struct {
+        uint32_t bits;
+        const char *shown;
+        const char *json;
+    } rows[] = {{0, "", "\"\""},
+                {GCV_BOLD | GCV_UL, "bold ul", "\"bold ul\""},
+                {GCV_NO_STRIKE | GCV_DIM, "dim nostrike", "\"dim nostrike\""},
+                {1, "", "\"\""}};
+    for (size_t at = 0; at < sizeof rows / sizeof rows[0]; at++) {
+        count(writes(buffer_area, show_attribute, &rows[at].bits, rows[at].shown, strlen(rows[at].shown)), rows[at].shown);
+        count(writes(buffer_area, json_attribute, &rows[at].bits, rows[at].json, strlen(rows[at].json)), rows[at].json);
+    }
+    gcv_color beside = {{GCV_NO_NAME, 0, 0, 0, 0}, {GCV_BLUE, 0, 0, 0, 0}, GCV_BOLD};
+    count(writes(buffer_area, show_color, &beside, "blue bold", 9), "a background alone is shown");
+    uint32_t all = UINT32_MAX;
+    static const char words[] = "bold dim italic ul blink reverse strike reset nodim nobold noitalic noul noblink noreverse nostrike";
+    count(writes(buffer_area, show_attribute, &all, words, sizeof words - 1), "all bits");
+}
+
+static int composes(const char *first, const char *second, gcv_status status, const char *both)
+{
+    gcv_color a, b, out;
+    memset(&out, PATTERN, sizeof out);
+    gcv_color before = out;
+    HOLDS(gcv_read_color(first, strlen(first), &a, NULL) == GCV_OK);
+    HOLDS(gcv_read_color(second, strlen(second), &b, NULL) == GCV_OK);
+    HOLDS(gcv_compose(&a, &b, &out) == status);
+    if (status != GCV_OK) {
+        HOLDS(memcmp(&out, &before, sizeof out) == 0);
+        return 1;
+    }
+    return writes(buffer_area, show_color, &out, both, strlen(both));
+}
+
+static void compositions(void)
+{
+    count(composes("bold red", "ul blue", GCV_OK, "red blue bold ul"), "two names");
+    count(composes("", "", GCV_OK, ""), "nothing");
+    count(composes("red blue", "dim", GCV_OK, "red blue dim"), "names and a set");
+    count(composes("red blue", "green", GCV_TOO_MANY_NAMES, NULL), "three names");
+    count(composes("red", "green white", GCV_TOO_MANY_NAMES, NULL), "three names, two behind");
+    gcv_color plain = {{0, 0, 0, 0, 0}, {0, 0, 0, 0, 0}, 0};
+    gcv_color beside = {{0, 0, 0, 0, 0}, {GCV_RED, 0, 0, 0, 0}, 0};
+    gcv_color unknown = {{0, 0, 0, 0, 0}, {0, 0, 0, 0, 0}, 1u << 31};
+    gcv_color out;
+    memset(&out, PATTERN, sizeof out);
+    gcv_color before = out;
+    count(gcv_compose(&plain, &beside, &out) == GCV_NO_TEXT && memcmp(&out, &before, sizeof out) == 0, "a background alone");
+    count(gcv_compose(&unknown, &plain, &out) == GCV_NO_TEXT && memcmp(&out, &before, sizeof out) == 0, "an unknown bit");
+}
+
+/* Entries, a name, and where the deciding text stands, or a status. */
+static int looks_up(uint32_t kind, const char *bytes, const size_t *lengths, size_t lengths_count, const char *name, gcv_status status,
+                    size_t index, size_t start, size_t length)
+{
+    gcv_entry entry = {UNTOUCHED, UNTOUCHED, UNTOUCHED};
+    HOLDS(gcv_lookup(kind, bytes, bytes ? strlen(bytes) : 0, lengths, lengths_count, name, name ? strlen(name) : 0, &entry) == status);
+    if (status != GCV_OK && status != GCV_REFUSED) {
+        index = start = length = UNTOUCHED;
+    }
+    HOLDS(entry.index == index && entry.start == start && entry.length == length);
+    return 1;
+}
+
+static void lookups(void)
+{
+    /* a=1, b=x, a=2k, the empty name with the empty text, b=yes */
+    static const char bytes[] = "a1bxa2kbyes";
+    static const size_t lengths[] = {1, 1, 1, 1, 1, 2, 0, 0, 1, 3};
+    static const size_t past[] = {1, 1, 1, 1, 1, 2, 0, 0, 1, 4};
+    static const size_t huge[] = {1, SIZE_MAX, 1, 1};
+    static const size_t wraps[] = {SIZE_MAX, 12};
+    count(looks_up(GCV_INTEGER, bytes, lengths, 10, "a", GCV_OK, 2, 5, 2), "the last one decides");
+    count(looks_up(GCV_BOOLEAN, bytes, lengths, 10, "b", GCV_OK, 4, 8, 3), "an earlier one is not read");
+    count(looks_up(GCV_INTEGER, bytes, lengths, 10, "b", GCV_REFUSED, 4, 8, 3), "refused");
+    count(looks_up(GCV_BOOLEAN, bytes, lengths, 10, "", GCV_OK, 3, 7, 0), "an empty name and text");
+    count(looks_up(GCV_BOOLEAN, bytes, lengths, 10, NULL, GCV_OK, 3, 7, 0), "a null name");
+    count(looks_up(GCV_INTEGER, bytes, lengths, 10, "c", GCV_ABSENT, 0, 0, 0), "absent");
+    count(looks_up(GCV_INTEGER, bytes, lengths, 10, "A", GCV_ABSENT, 0, 0, 0), "case counts");
+    count(looks_up(GCV_INTEGER, NULL, NULL, 0, "a", GCV_ABSENT, 0, 0, 0), "no entries");
+    count(looks_up(GCV_INTEGER, bytes, lengths, 9, "a", GCV_BAD_LENGTHS, 0, 0, 0), "an odd number");
+    count(looks_up(GCV_INTEGER, bytes, lengths, 8, "a", GCV_BAD_LENGTHS, 0, 0, 0), "bytes left over");
+    count(looks_up(GCV_INTEGER, bytes, past, 10, "a", GCV_BAD_LENGTHS, 0, 0, 0), "past the end");
+    count(looks_up(GCV_INTEGER, bytes, huge, 4, "a", GCV_BAD_LENGTHS, 0, 0, 0), "a huge length");
+    count(looks_up(GCV_INTEGER, bytes, wraps, 2, "a", GCV_BAD_LENGTHS, 0, 0, 0), "a sum that wraps");
+    count(looks_up(GCV_INTEGER, bytes, NULL, 0, "a", GCV_BAD_LENGTHS, 0, 0, 0), "bytes and no lengths");
+    count(looks_up(0, bytes, lengths, 10, "a", GCV_UNKNOWN_KIND, 0, 0, 0), "kind 0");
+    count(looks_up(8, bytes, lengths, 10, "a", GCV_UNKNOWN_KIND, 0, 0, 0), "kind 8");
+}
+
+static void contexts(void)
+{
+    static const struct {
+        given of;
+        gcv_status status;
+        const char *text;
+    } rows[] = {
+        {{"~/x", {0, 1, 0}, {"", "/h", ""}}, GCV_OK, "/h/x"},
+        {{":(optional)%(prefix)/x", {1, 0, 0}, {"/usr", "", ""}}, GCV_OK, "/usr/x"},
+        {{"~bob/x", {0, 0, 1}, {"", "", "eve:x:1:1:c:/e:/sh\nbob:x:1:1:c:/b:/sh\n"}}, GCV_OK, "/b/x"},
+        {{"~bob/x", {0, 0, 0}, {"", "", "bob:x:1:1:c:/b:/sh\n"}}, GCV_REFUSED, NULL},
+        {{"~/x", {0, 0, 1}, {"", "/h", ""}}, GCV_REFUSED, NULL},
+        {{"", {1, 1, 1}, {"", "", ""}}, GCV_REFUSED, NULL},
+        {{"x", {2, 0, 0}, {"", "", ""}}, GCV_BAD_FLAG, NULL},
+        {{"x", {0, UINT32_MAX, 0}, {"", "", ""}}, GCV_BAD_FLAG, NULL},
+        {{"x", {0, 0, 7}, {"", "", ""}}, GCV_BAD_FLAG, NULL},
+        {{"x", {1, 0, 0}, {"\xff", "", ""}}, GCV_NOT_UTF8, NULL},
+        {{"x", {0, 1, 0}, {"", "/h\xc0\x80", ""}}, GCV_NOT_UTF8, NULL},
+        {{"x", {0, 0, 1}, {"", "", "a:\xe2\x82"}}, GCV_NOT_UTF8, NULL},
+        {{"x", {0, 0, 0}, {"\xff", "\xff", "\xff"}}, GCV_OK, "x"},
+    };
+    for (size_t at = 0; at < sizeof rows / sizeof rows[0]; at++) {
+        if (rows[at].status == GCV_OK) {
+            count(writes(buffer_area, interpolate, &rows[at].of, rows[at].text, strlen(rows[at].text)), rows[at].of.path);
+        } else {
+            count(writes_nothing(buffer_area, interpolate, &rows[at].of, rows[at].status), rows[at].of.path);
+        }
+    }
+}
+
+/* The texts of the Rust crate gix-config-value 0.21.1, but for the ill-formed places and the conversion. */
+static void fault_texts(void)
+{
+    static const char *const texts[] = {
+        "Booleans need to be 'no', 'off', 'false', '' or 'yes', 'on', 'true' or any number",
+        "Integers needs to be positive or negative numbers which may have a suffix like 1k, 42, or 50G",
+        "integer suffix multiplication overflows `i64`",
+        "integer is out of range",
+        "Colors are specific color values and their attributes, like 'brightred', or 'blue'",
+        "path is missing",
+        "git install dir is missing",
+        "home dir is missing",
+        "home for user lookup is missing",
+        "pwd user info is missing",
+        "Ill-formed UTF-8 in path past %(prefix)",
+        "Ill-formed UTF-8 in path past ~/",
+        "Ill-formed UTF-8 in username",
+        "Ill-formed UTF-8 in path past ~user/",
+        "Ill-formed UTF-8 in path",
+    };
+    for (uint32_t at = 0; at < 15; at++) {
+        uint32_t fault = at + 1;
+        count(strlen(texts[at]) <= GCV_LONGEST_TEXT && writes(buffer_area, fault_text, &fault, texts[at], strlen(texts[at])), texts[at]);
+    }
+}
+
+/* The structs are read and written field by field, and what is not used is 0. */
+static void fields(void)
+{
+    gcv_name name;
+    gcv_color color;
+    gcv_integer integer;
+    memset(&name, PATTERN, sizeof name);
+    memset(&color, PATTERN, sizeof color);
+    memset(&integer, PATTERN, sizeof integer);
+    count(gcv_read_name("#12aBff", 7, &name, NULL) == GCV_OK && name.tag == GCV_RGB && name.palette == 0 && name.red == 0x12 &&
+              name.green == 0xab && name.blue == 0xff,
+          "red, green and blue");
+    count(gcv_read_name("200", 3, &name, NULL) == GCV_OK && name.tag == GCV_ANSI && name.palette == 200 && name.red == 0 &&
+              name.green == 0 && name.blue == 0,
+          "a palette number");
+    count(gcv_read_color("bold red", 8, &color, NULL) == GCV_OK && color.foreground.tag == GCV_RED && color.foreground.palette == 0 &&
+              color.background.tag == GCV_NO_NAME && color.background.blue == 0 && color.attributes == GCV_BOLD,
+          "a color");
+    count(gcv_read_integer("-0x10G", 6, &integer, NULL) == GCV_OK && integer.value == -16 && integer.suffix == GCV_GIBI, "an integer");
+}
+
+int main(void)
+{
+    buffer_area = new_area(4096);
+    bad_numbers();
+    bad_names();
+    shown_sets();
+    compositions();
+    lookups();
+    contexts();
+    fault_texts();
+    fields();
+    return finish();
+}

@@ -1,0 +1,131 @@
+#!/bin/sh
+# The tests of the C interface: sh crates/gix_config_value_c/tests/run.sh PROGRAM [PREFIX]
+#
+# PROGRAM is the built crates/config_value, whose answers the fuzzer's lines are compared with. Without PREFIX, where build.sh
+# has put the library, it is built into a folder of its own. The last line is 'N passed, M failed'. Where a tool is not there,
+# what needs it says so, and counts nothing.
+set -u
+tests=$(CDPATH='' cd -- "$(dirname -- "$0")" && pwd)
+root=$(CDPATH='' cd -- "$tests/../../.." && pwd)
+program=$1
+prefix=${2:-}
+work=$(mktemp -d)
+trap 'rm -rf -- "$work"' EXIT
+passed=0
+failed=0
+
+# one thing that holds or does not: holds NAME COMMAND..
+holds() {
+    name=$1
+    shift
+    if "$@" > "$work/output" 2>&1; then
+        passed=$((passed + 1))
+    else
+        failed=$((failed + 1))
+        echo "failed: $name"
+        head -n 20 "$work/output"
+    fi
+}
+
+# a program whose last line is 'N passed, M failed': counted NAME COMMAND..
+counted() {
+    name=$1
+    shift
+    "$@" > "$work/output" 2>&1
+    status=$?
+    last=$(tail -n 1 "$work/output")
+    case $last in
+        *" passed, "*" failed") ;;
+        *) last="0 passed, 1 failed" ;;
+    esac
+    echo "$name: $last"
+    if [ "$status" -ne 0 ]; then
+        head -n 40 "$work/output"
+    fi
+    passed=$((passed + ${last%% passed*}))
+    more=${last#*, }
+    more=${more%% failed}
+    if [ "$status" -ne 0 ] && [ "$more" -eq 0 ]; then
+        more=1
+    fi
+    failed=$((failed + more))
+}
+
+finish() {
+    echo "$passed passed, $failed failed"
+    [ "$failed" -eq 0 ]
+    exit
+}
+
+if [ -z "$prefix" ]; then
+    prefix=$work/prefix
+    if ! sh "$tests/../build.sh" "$prefix" > "$work/build" 2>&1; then
+        tail -n 40 "$work/build"
+        echo "the library is not built"
+        failed=1
+        finish
+    fi
+fi
+if ! command -v pkg-config > /dev/null; then
+    echo "skipped: no pkg-config"
+    finish
+fi
+PKG_CONFIG_PATH=$prefix/lib/pkgconfig
+LD_LIBRARY_PATH=$prefix/lib
+export PKG_CONFIG_PATH LD_LIBRARY_PATH
+flags=$(pkg-config --cflags gix_config_value)
+libs=$(pkg-config --libs gix_config_value)
+archive=$prefix/lib/libgix_config_value.a
+
+holds "the version" python3 "$root/.ci/version.py" "$prefix"
+holds "no symbol but those of the header" sh -c "nm -g --defined-only '$archive' | grep ' [A-Z] ' | grep -v ' gcv_raw_' | (! grep .)"
+
+# the examples, by each compiler as C99 and as C++, and over the archive alone
+warnings="-Wall -Wextra -Wconversion -Wpedantic -Werror"
+for compiler in gcc clang g++ clang++; do
+    if ! command -v "$compiler" > /dev/null; then
+        echo "skipped: the examples by $compiler, which is not there"
+        continue
+    fi
+    case $compiler in
+        *++) language="-x c++ -std=c++11" ;;
+        *) language="-std=c99" ;;
+    esac
+    for example in theme check setting; do
+        # shellcheck disable=SC2086
+        holds "$example by $compiler" "$compiler" $language $warnings $flags -o "$work/$example" "$root/examples/c/$example.c" -x none $libs
+    done
+    holds "theme by $compiler runs" sh -c "[ \"\$('$work/theme' 'bold red' 'ul #fff')\" = 'red #ffffff bold ul' ]"
+    holds "theme by $compiler refuses" sh -c "! '$work/theme' 'red blue' green"
+    holds "check by $compiler runs" sh -c "[ \"\$('$work/check' integer 0x10k)\" = 16k ]"
+    holds "check by $compiler refuses" sh -c "'$work/check' boolean maybe | grep '^refused: Booleans need'"
+    holds "setting by $compiler runs" sh -c "[ \"\$('$work/setting' core.limit)\" = '16384, by entry 1' ]"
+    holds "setting by $compiler has a default" sh -c "[ \"\$('$work/setting' core.other)\" = '4096, by default' ]"
+    holds "setting by $compiler refuses" sh -c "! '$work/setting' core.pager"
+done
+
+# the calls under sanitizers
+sanitizers="-g -fsanitize=address,undefined -fno-sanitize-recover=all"
+echo 'int main(void) { return 0; }' > "$work/empty.c"
+# shellcheck disable=SC2086
+if ! command -v clang > /dev/null; then
+    echo "skipped: the calls under sanitizers, for want of clang"
+    finish
+elif ! clang $sanitizers -o "$work/empty" "$work/empty.c" 2> /dev/null || ! "$work/empty"; then
+    echo "skipped: the calls under sanitizers, which this clang does not have"
+    finish
+fi
+for test in calls lines paths; do
+    # shellcheck disable=SC2086
+    holds "$test by clang" clang -std=c99 $warnings $sanitizers $flags -o "$work/$test" "$tests/$test.c" "$archive"
+done
+counted "each status" "$work/calls"
+counted "upstream's answers" "$work/lines" "$root/replay/lines.txt" "$root/replay/answers.txt"
+counted "stored paths" "$work/paths" "$root/crates/path_replay/stdin"
+if [ -x "$program" ]; then
+    holds "the fuzzer's lines are written" python3 "$tests/mutated.py" "$program" "$work/mutated" "$work/answers"
+    counted "the fuzzer's lines" "$work/lines" "$work/mutated" "$work/answers"
+else
+    echo "skipped: the fuzzer's lines, for want of the program $program"
+fi
+finish
