@@ -5,7 +5,7 @@ use crate::buffer::put;
 use crate::numbers::{flag_number, kind_of};
 use crate::status::{OK, REFUSED, UNKNOWN_KIND};
 use bstr::BStr;
-use gix_config_value::canonical::{normalize, same};
+use gix_config_value::canonical::{Text, normalize_into, same};
 
 /// Puts the canonical text of the value of a text into the buffer, and its length into `length`. `REFUSED` where the
 /// text has no value of the kind, `UNKNOWN_KIND` where no kind has the number, and `SHORT_BUFFER` where the buffer is
@@ -22,10 +22,11 @@ pub extern "C" fn gcv_raw_normalize(
     let Some(kind) = kind_of(kind) else {
         return UNKNOWN_KIND;
     };
-    match normalize(kind, BStr::new(text)) {
-        Some(canonical) => put(canonical.as_str().as_bytes(), buffer, length),
-        None => REFUSED,
+    let mut canonical = Text::new();
+    if !normalize_into(kind, BStr::new(text), &mut canonical) {
+        return REFUSED;
     }
+    put(canonical.as_str().as_bytes(), buffer, length)
 }
 
 /// Puts into `out` whether two texts mean the same, 1 or 0. `REFUSED` where one of them has no value of the kind, and

@@ -2,13 +2,13 @@
 //! would let every other test pass.
 
 use bstr::{BStr, BString};
-use gix_config_value::{Error, Fault, Returned};
 use gix_config_value::canonical::Kind;
 use gix_config_value::color::{Attribute, Item, Name};
 use gix_config_value::json::JsonError;
 use gix_config_value::path::interpolate::{Class, Place};
 use gix_config_value::program::{RunError, answer};
 use gix_config_value::settings::Refused;
+use gix_config_value::{Error, Fault, Returned};
 use std::alloc::AllocError;
 use std::test::Fail;
 use testing::{differ, equal};
@@ -134,9 +134,18 @@ fn different_refusals_are_unequal(rt: HostRuntime) -> Result<(), Fail> {
         returned(&rt, Fault::Color, "redt")?,
     ])?;
     differ(&[
-        Refused { index: 0, input: b"reds".as_slice() },
-        Refused { index: 1, input: b"reds".as_slice() },
-        Refused { index: 0, input: b"redt".as_slice() },
+        Refused {
+            index: 0,
+            input: b"reds".as_slice(),
+        },
+        Refused {
+            index: 1,
+            input: b"reds".as_slice(),
+        },
+        Refused {
+            index: 0,
+            input: b"redt".as_slice(),
+        },
     ])?;
     Ok(())
 }
