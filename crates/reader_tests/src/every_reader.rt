@@ -3,7 +3,7 @@
 use arrayvec::ArrayString;
 use bstr::{BStr, BString};
 use config_text::readers::TryRead;
-use gix_config_value::canonical::{Kind, Value, normalize};
+use gix_config_value::canonical::{Kind, Text, Value, normalize, normalize_into};
 use gix_config_value::color::{Attribute, Name};
 use gix_config_value::integer::{Amount, Suffix};
 use gix_config_value::{Boolean, Color, Error, Fault, Integer};
@@ -66,11 +66,16 @@ fn is_suffix(alloc: Global, input: &[u8], wanted: Wanted) -> Result<(), Fail> {
     equal(given, wanted.ok(), BStr::new(input))
 }
 
-/// The normalizer answers what is wanted.
+/// The normalizer answers what is wanted, by itself and into a text that already holds one.
 fn is_normalized(kind: Kind, input: BStr<'_>, wanted: Option<&str>) -> Result<(), Fail> {
     let text = normalize(kind, input);
     let given = text.as_ref().map(ArrayString::as_str);
-    equal(given, wanted, (kind, input))
+    equal(given, wanted, (kind, input))?;
+    let mut filled = Text::new();
+    filled.push_str("old");
+    let is_filled = normalize_into(kind, input, &mut filled);
+    equal(is_filled, wanted.is_some(), (kind, input))?;
+    equal(filled.as_str(), wanted.unwrap_or(""), (kind, input))
 }
 
 /// The kind's reader answers what is wanted, and so does the normalizer, to the canonical text too.
