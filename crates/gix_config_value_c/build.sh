@@ -2,7 +2,7 @@
 # Builds the library for C: sh crates/gix_config_value_c/build.sh PREFIX
 #
 # It proves the crate and those below it, and then puts the header into PREFIX/include, a static archive and a shared library
-# into PREFIX/lib, and what pkg-config reads into PREFIX/lib/pkgconfig. It needs `rt`, a C compiler (CC, or cc) and binutils.
+# into PREFIX/lib, what pkg-config reads into PREFIX/lib/pkgconfig, and the Python package into PREFIX/python. It needs `rt`, a C compiler (CC, or cc) and binutils.
 set -eu
 if [ $# -ne 1 ]; then
     echo "usage: sh $0 PREFIX" >&2
@@ -39,4 +39,8 @@ ln -sf "libgix_config_value.so.$version" "$prefix/lib/$soname"
 ln -sf "$soname" "$prefix/lib/libgix_config_value.so"
 cp -- "$here/include/gix_config_value.h" "$prefix/include/"
 sed "s/@VERSION@/$version/" "$here/gix_config_value.pc.in" > "$prefix/lib/pkgconfig/gix_config_value.pc"
+# the Python package, with the shared library inside
+rm -rf -- "$prefix/python"
+cp -R -- "$here/../../python" "$prefix/python"
+cp -- "$prefix/lib/libgix_config_value.so.$version" "$prefix/python/gix_config_value/$soname"
 echo "gix_config_value $version is in $prefix"

@@ -104,6 +104,14 @@ for compiler in gcc clang g++ clang++; do
     holds "setting by $compiler refuses" sh -c "! '$work/setting' core.pager"
 done
 
+# the Python package, where the library was built
+if ! python3 -c 'import ctypes' 2> /dev/null; then
+    echo "skipped: the Python package, for want of ctypes"
+else
+    holds "the Python package" env PYTHONDONTWRITEBYTECODE=1 PYTHONPATH="$prefix/python" \
+        python3 -m unittest discover -s "$root/python/tests"
+fi
+
 # the calls under sanitizers
 sanitizers="-g -fsanitize=address,undefined -fno-sanitize-recover=all"
 echo 'int main(void) { return 0; }' > "$work/empty.c"

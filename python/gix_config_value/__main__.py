@@ -1,0 +1,19 @@
+"""`python -m gix_config_value KIND TEXT` prints the canonical text of a value."""
+import sys
+
+from . import KINDS, Refused, normalize
+
+
+def main() -> int:
+    if len(sys.argv) != 3 or sys.argv[1] not in KINDS:
+        print(f"usage: python -m gix_config_value {'|'.join(KINDS)} TEXT", file=sys.stderr)
+        return 2
+    try:
+        print(normalize(sys.argv[1], sys.argv[2].encode("utf-8", "surrogateescape")))
+    except Refused as refused:
+        print(refused, file=sys.stderr)
+        return 1
+    return 0
+
+
+sys.exit(main())

@@ -1,0 +1,95 @@
+"""The package over upstream's stored answers, and what the C calls do not have. Run: python -m unittest discover -s tests"""
+import pathlib
+import subprocess
+import sys
+import unittest
+
+import gix_config_value as gcv
+from gix_config_value import Attribute, Boolean, Color, Integer, Name, Refused, Suffix, Tag
+
+READERS = {"suffix": Suffix, "integer": Integer, "amount": gcv.Amount, "boolean": Boolean, "name": Name,
+           "attribute": Attribute, "color": Color}
+
+
+def stored():
+    """The folder of the stored answers, in the repository that this file stands in."""
+    for folder in pathlib.Path(__file__).resolve().parents:
+        if (folder / "replay" / "lines.txt").exists():
+            return folder / "replay"
+    return None
+
+
+class Replay(unittest.TestCase):
+    @unittest.skipIf(stored() is None, "the stored answers stand in the repository alone")
+    def test_upstream(self):
+        lines = (stored() / "lines.txt").read_bytes().split(b"\n")[:-1]
+        answers = (stored() / "answers.txt").read_bytes().split(b"\n")[:-1]
+        self.assertEqual(len(lines), 9729)
+        self.assertEqual(len(lines), len(answers))
+        for line, answer in zip(lines, answers):
+            kind, _, text = line.partition(b" ")
+            kind = kind.decode(errors="replace")
+            if answer == b"unknown kind":
+                with self.assertRaises(ValueError):
+                    gcv.normalize(kind, text)
+            elif answer == b"refused":
+                with self.assertRaises(Refused) as caught:
+                    gcv.normalize(kind, text)
+                self.assertEqual(caught.exception.input, text)
+            else:
+                canonical = answer[3:].decode()
+                self.assertEqual(gcv.normalize(kind, text), canonical)
+                self.assertEqual(str(READERS[kind].parse(text)), canonical)
+                self.assertTrue(gcv.same(kind, text, canonical))
+
+
+class Values(unittest.TestCase):
+    def test_integer(self):
+        self.assertEqual(Integer.parse("-0x10G"), Integer(-16, Suffix.GIBI))
+        self.assertEqual(Integer.parse("10m").to_decimal(), 10 * 1024 * 1024)
+        with self.assertRaises(OverflowError):
+            Integer.parse("9223372036854775807k").to_decimal()
+        with self.assertRaises(OverflowError):
+            str(Integer(2**63))
+
+    def test_boolean(self):
+        self.assertEqual([bool(Boolean.parse(text)) for text in ("yes", "0x10", "off", "")], [True, True, False, False])
+
+    def test_color(self):
+        color = Color.parse("bold red #12aBff")
+        self.assertEqual(color, Color(Name(Tag.RED), Name(Tag.RGB, red=0x12, green=0xAB, blue=0xFF), Attribute.BOLD))
+        self.assertEqual(str(Color.parse("red").compose(Color.parse("ul blue"))), "red blue ul")
+        with self.assertRaises(ValueError):
+            Color.parse("red blue").compose(Color.parse("green"))
+        with self.assertRaises(ValueError):
+            str(Name(Tag.RED, palette=1))
+
+    def test_refused(self):
+        with self.assertRaises(Refused) as caught:
+            gcv.normalize("boolean", "maybe")
+        self.assertEqual(caught.exception.input, b"maybe")
+        self.assertTrue(caught.exception.fault.startswith("Booleans need to be"))
+        with self.assertRaises(ValueError):
+            gcv.normalize("number", "1")
+        with self.assertRaises(Refused):
+            gcv.same("integer", "1", "x")
+
+    def test_lookup(self):
+        entries = [("a", "1"), ("b", "x"), ("a", "2k"), ("", b""), ("b", "yes")]
+        self.assertEqual(gcv.lookup("integer", entries, "a"), Integer(2, Suffix.KIBI))
+        self.assertEqual(gcv.lookup("boolean", entries, "b"), Boolean(True))
+        self.assertEqual(gcv.lookup("boolean", entries, ""), Boolean(False))
+        self.assertEqual(gcv.lookup("boolean", entries, "c", Boolean(True)), Boolean(True))
+        self.assertIsNone(gcv.lookup("boolean", [], "a"))
+        with self.assertRaises(Refused):
+            gcv.lookup("integer", entries, "b")
+
+    def test_command(self):
+        run = subprocess.run([sys.executable, "-m", "gix_config_value", "integer", "0x10k"], capture_output=True, text=True, check=False)
+        self.assertEqual((run.returncode, run.stdout), (0, "16k\n"))
+        run = subprocess.run([sys.executable, "-m", "gix_config_value", "integer", "x"], capture_output=True, text=True, check=False)
+        self.assertEqual((run.returncode, run.stdout), (1, ""))
+
+
+if __name__ == "__main__":
+    unittest.main()
