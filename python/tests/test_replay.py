@@ -64,6 +64,14 @@ class Values(unittest.TestCase):
         with self.assertRaises(ValueError):
             str(Name(Tag.RED, palette=1))
 
+    def test_words(self):
+        for tag in Tag:
+            if tag not in (Tag.ANSI, Tag.RGB):
+                self.assertEqual(str(Name(tag)), tag.name.lower().replace("_", ""))
+        for attribute in Attribute:
+            self.assertEqual(str(attribute), attribute.name.lower().replace("_", ""))
+        self.assertEqual([str(suffix) for suffix in Suffix], ["k", "m", "g"])
+
     def test_refused(self):
         with self.assertRaises(Refused) as caught:
             gcv.normalize("boolean", "maybe")

@@ -3,6 +3,12 @@
 
 static area buffer_area;
 
+/* A number, and the text that it stands for. */
+typedef struct word {
+    uint32_t number;
+    const char *text;
+} word;
+
 #define WRITER(name, type, call)                                                                                                  \
     static gcv_status name(const void *state, char *buffer, size_t capacity, size_t *size)                                        \
     {                                                                                                                             \
@@ -22,6 +28,7 @@ WRITER(json_boolean, uint32_t, gcv_json_boolean(*value, buffer, capacity, size))
 WRITER(json_name, gcv_name, gcv_json_name(value, buffer, capacity, size))
 WRITER(json_attribute, uint32_t, gcv_json_attribute(*value, buffer, capacity, size))
 WRITER(fault_text, uint32_t, gcv_fault_text(*value, buffer, capacity, size))
+WRITER(normalize_canonical, word, gcv_normalize(value->number, value->text, strlen(value->text), buffer, capacity, size))
 WRITER(normalize_empty, uint32_t, gcv_normalize(*value, NULL, 0, buffer, capacity, size))
 
 /* What an interpolation is given, with the flags of the exported call. */
@@ -267,6 +274,51 @@ static void fields(void)
     count(gcv_read_integer("-0x10G", 6, &integer, NULL) == GCV_OK && integer.value == -16 && integer.suffix == GCV_GIBI, "an integer");
 }
 
+/* Each enumerator stands for its word. */
+static void words(void)
+{
+    static const word names[] = {
+        {GCV_NORMAL, "normal"}, {GCV_DEFAULT, "default"}, {GCV_BLACK, "black"}, {GCV_BRIGHT_BLACK, "brightblack"},
+        {GCV_RED, "red"}, {GCV_BRIGHT_RED, "brightred"}, {GCV_GREEN, "green"}, {GCV_BRIGHT_GREEN, "brightgreen"},
+        {GCV_YELLOW, "yellow"}, {GCV_BRIGHT_YELLOW, "brightyellow"}, {GCV_BLUE, "blue"}, {GCV_BRIGHT_BLUE, "brightblue"},
+        {GCV_MAGENTA, "magenta"}, {GCV_BRIGHT_MAGENTA, "brightmagenta"}, {GCV_CYAN, "cyan"},
+        {GCV_BRIGHT_CYAN, "brightcyan"}, {GCV_WHITE, "white"}, {GCV_BRIGHT_WHITE, "brightwhite"},
+    };
+    static const word attributes[] = {
+        {GCV_BOLD, "bold"}, {GCV_DIM, "dim"}, {GCV_ITALIC, "italic"}, {GCV_UL, "ul"}, {GCV_BLINK, "blink"},
+        {GCV_REVERSE, "reverse"}, {GCV_STRIKE, "strike"}, {GCV_RESET, "reset"}, {GCV_NO_DIM, "nodim"},
+        {GCV_NO_BOLD, "nobold"}, {GCV_NO_ITALIC, "noitalic"}, {GCV_NO_UL, "noul"}, {GCV_NO_BLINK, "noblink"},
+        {GCV_NO_REVERSE, "noreverse"}, {GCV_NO_STRIKE, "nostrike"},
+    };
+    static const word suffixes[] = {{GCV_KIBI, "k"}, {GCV_MEBI, "m"}, {GCV_GIBI, "g"}};
+    static const word kinds[] = {
+        {GCV_SUFFIX, "k"},  {GCV_INTEGER, "16k"},   {GCV_AMOUNT, "-3"},    {GCV_BOOLEAN, "true"},
+        {GCV_NAME, "cyan"}, {GCV_ATTRIBUTE, "dim"}, {GCV_COLOR, "red dim"},
+    };
+    for (size_t at = 0; at < sizeof names / sizeof names[0]; at++) {
+        gcv_name name = {names[at].number, 0, 0, 0, 0};
+        count(writes(buffer_area, show_name, &name, names[at].text, strlen(names[at].text)), names[at].text);
+    }
+    for (size_t at = 0; at < sizeof attributes / sizeof attributes[0]; at++) {
+        const word *of = &attributes[at];
+        count(writes(buffer_area, show_attribute, &of->number, of->text, strlen(of->text)), of->text);
+    }
+    for (size_t at = 0; at < sizeof suffixes / sizeof suffixes[0]; at++) {
+        const word *of = &suffixes[at];
+        count(writes(buffer_area, show_suffix, &of->number, of->text, strlen(of->text)), of->text);
+    }
+    for (size_t at = 0; at < sizeof kinds / sizeof kinds[0]; at++) {
+        count(writes(buffer_area, normalize_canonical, &kinds[at], kinds[at].text, strlen(kinds[at].text)), kinds[at].text);
+        for (uint32_t kind = GCV_SUFFIX; kind < GCV_AMOUNT; kind++) {
+            word other = {kind, kinds[at].text};
+            size_t size;
+            count((call_at(buffer_area, normalize_canonical, &other, 127, &size) == GCV_OK) ==
+                      (kind == kinds[at].number || (kind == GCV_INTEGER && kinds[at].number == GCV_AMOUNT)),
+                  "a text of another kind");
+        }
+    }
+}
+
 int main(void)
 {
     buffer_area = new_area(4096);
@@ -278,5 +330,6 @@ int main(void)
     contexts();
     fault_texts();
     fields();
+    words();
     return finish();
 }

@@ -127,7 +127,10 @@ for test in calls lines paths; do
     # shellcheck disable=SC2086
     holds "$test by clang" clang -std=c99 $warnings $sanitizers $flags -o "$work/$test" "$tests/$test.c" "$archive"
 done
+# shellcheck disable=SC2086
+holds "memory by clang" clang -std=c99 $warnings $flags -Wl,--wrap=malloc,--wrap=realloc,--wrap=free -o "$work/memory" "$tests/memory.c" "$archive"
 counted "each status" "$work/calls"
+counted "memory refused" "$work/memory"
 counted "upstream's answers" "$work/lines" "$root/replay/lines.txt" "$root/replay/answers.txt"
 counted "stored paths" "$work/paths" "$root/crates/path_replay/stdin"
 if [ -x "$program" ]; then

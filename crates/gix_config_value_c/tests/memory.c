@@ -1,0 +1,125 @@
+/* Memory that is refused: each request of each call that takes some, in turn. Linked with malloc, realloc and free wrapped. */
+#include "guarded.h"
+
+void *__real_malloc(size_t size);
+void *__real_realloc(void *block, size_t size);
+void __real_free(void *block);
+void *__wrap_malloc(size_t size);
+void *__wrap_realloc(void *block, size_t size);
+void __wrap_free(void *block);
+
+static unsigned long requests, blocks, refused_at;
+
+void *__wrap_malloc(size_t size)
+{
+    if (++requests == refused_at) {
+        return NULL;
+    }
+    blocks++;
+    return __real_malloc(size);
+}
+
+void *__wrap_realloc(void *block, size_t size)
+{
+    if (++requests == refused_at) {
+        return NULL;
+    }
+    blocks += block == NULL;
+    return __real_realloc(block, size);
+}
+
+void __wrap_free(void *block)
+{
+    blocks -= block != NULL;
+    __real_free(block);
+}
+
+static area buffer_area;
+
+static gcv_status json_suffix(const void *state, char *buffer, size_t capacity, size_t *size)
+{
+    (void)state;
+    return gcv_json_suffix(GCV_KIBI, buffer, capacity, size);
+}
+
+static gcv_status json_integer(const void *state, char *buffer, size_t capacity, size_t *size)
+{
+    static const gcv_integer integer = {-12, GCV_MEBI};
+    (void)state;
+    return gcv_json_integer(&integer, buffer, capacity, size);
+}
+
+static gcv_status json_boolean(const void *state, char *buffer, size_t capacity, size_t *size)
+{
+    (void)state;
+    return gcv_json_boolean(1, buffer, capacity, size);
+}
+
+static gcv_status json_name(const void *state, char *buffer, size_t capacity, size_t *size)
+{
+    static const gcv_name name = {GCV_RGB, 0, 1, 2, 3};
+    (void)state;
+    return gcv_json_name(&name, buffer, capacity, size);
+}
+
+static gcv_status json_attribute(const void *state, char *buffer, size_t capacity, size_t *size)
+{
+    (void)state;
+    return gcv_json_attribute(GCV_BOLD | GCV_UL, buffer, capacity, size);
+}
+
+static gcv_status interpolate(const void *state, char *buffer, size_t capacity, size_t *size)
+{
+    static const gcv_context context = {NULL, 0, "/home/u", 7, NULL, 0};
+    (void)state;
+    uint32_t fault = UNTOUCHED;
+    gcv_status status = gcv_interpolate("~/file", 6, &context, buffer, capacity, size, &fault);
+    return fault == UNTOUCHED ? status : UNTOUCHED;
+}
+
+static gcv_status read_and_show(const void *state, char *buffer, size_t capacity, size_t *size)
+{
+    gcv_color color;
+    (void)state;
+    return gcv_read_color("bold red", 8, &color, NULL) == GCV_OK ? gcv_show_color(&color, buffer, capacity, size) : UNTOUCHED;
+}
+
+static gcv_status normalize(const void *state, char *buffer, size_t capacity, size_t *size)
+{
+    (void)state;
+    return gcv_normalize(GCV_INTEGER, "0x10k", 5, buffer, capacity, size);
+}
+
+/* How often the call asks for memory; with each request refused in turn it writes nothing, and gives back what it took. */
+static int asks(writer call, const char *text, unsigned long wanted)
+{
+    size_t size;
+    requests = refused_at = 0;
+    HOLDS(call_at(buffer_area, call, NULL, strlen(text), &size) == GCV_OK && size == strlen(text));
+    HOLDS(memcmp(buffer_area.end - size, text, size) == 0);
+    HOLDS(requests == wanted && blocks == 0);
+    for (unsigned long at = 1; at <= wanted; at++) {
+        requests = 0;
+        refused_at = at;
+        HOLDS(call_at(buffer_area, call, NULL, strlen(text), &size) == GCV_NO_MEMORY);
+        HOLDS(size == UNTOUCHED && is_untouched(buffer_area, strlen(text), 0));
+        HOLDS(requests == at && blocks == 0);
+    }
+    refused_at = 0;
+    return 1;
+}
+
+int main(void)
+{
+    buffer_area = new_area(4096);
+    blocks = 0;
+    count(asks(json_suffix, "\"k\"", 2), "json_suffix");
+    count(asks(json_integer, "-12582912", 1), "json_integer");
+    count(asks(json_boolean, "true", 1), "json_boolean");
+    count(asks(json_name, "\"#010203\"", 2), "json_name");
+    count(asks(json_attribute, "\"bold ul\"", 2), "json_attribute");
+    count(asks(interpolate, "/home/u/file", 2), "interpolate");
+    count(asks(read_and_show, "red bold", 0), "read_color and show_color");
+    count(asks(normalize, "16k", 0), "normalize");
+    return finish();
+}
