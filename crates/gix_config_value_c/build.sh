@@ -1,8 +1,9 @@
 #!/bin/sh
 # Builds the library for C: sh crates/gix_config_value_c/build.sh PREFIX
 #
-# It proves the crate and those below it, and then puts the header into PREFIX/include, a static archive and a shared library
-# into PREFIX/lib, what pkg-config reads into PREFIX/lib/pkgconfig, and the Python package into PREFIX/python. It needs `rt`, a C compiler (CC, or cc) and binutils.
+# It proves the crate and those below it, and then puts the header into PREFIX/include, a static archive and a shared
+# library into PREFIX/lib, what pkg-config reads into PREFIX/lib/pkgconfig, and the Python package into PREFIX/python.
+# It needs `rt`, a C compiler (CC, or cc) and binutils.
 set -eu
 if [ $# -ne 1 ]; then
     echo "usage: sh $0 PREFIX" >&2
@@ -30,11 +31,13 @@ trap 'rm -rf -- "$work"' EXIT
 
 # one object, which shows nothing but what the header declares
 cc=${CC:-cc}
-"$cc" -r -nostdlib -o "$work/gix_config_value.o" -Wl,--whole-archive "$here/out/libgix_config_value_c.a" "$heap" -Wl,--no-whole-archive
+"$cc" -r -nostdlib -o "$work/gix_config_value.o" \
+    -Wl,--whole-archive "$here/out/libgix_config_value_c.a" "$heap" -Wl,--no-whole-archive
 objcopy --wildcard --keep-global-symbol='gcv_raw_*' "$work/gix_config_value.o"
 rm -f -- "$prefix/lib/libgix_config_value.a"
 ar rcs "$prefix/lib/libgix_config_value.a" "$work/gix_config_value.o"
-"$cc" -shared -o "$prefix/lib/libgix_config_value.so.$version" -Wl,-soname,"$soname" -Wl,-z,defs -Wl,-z,noexecstack "$work/gix_config_value.o"
+"$cc" -shared -o "$prefix/lib/libgix_config_value.so.$version" -Wl,-soname,"$soname" -Wl,-z,defs -Wl,-z,noexecstack \
+    "$work/gix_config_value.o"
 ln -sf "libgix_config_value.so.$version" "$prefix/lib/$soname"
 ln -sf "$soname" "$prefix/lib/libgix_config_value.so"
 cp -- "$here/include/gix_config_value.h" "$prefix/include/"
