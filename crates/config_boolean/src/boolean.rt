@@ -1,5 +1,5 @@
 //! Booleans: words in any case, and numbers.
-ghost use Rattle.std.specs.Prelude.{◌≡◌, Some, MatchOption, MatchBool};
+ghost use Rattle.std.specs.Prelude.{◌↔◌, IsTrue, ◌≡◌, Some, MatchOption, MatchBool};
 ghost use Rattle.bstr.specs.BStr.{bstr_bytes};
 ghost use Rattle.bstr.specs.Owned.{bstring_bytes};
 ghost use Rattle.std.specs.Cow.{cow_slice_items};
@@ -18,6 +18,7 @@ use config_text::errors::{Error, Fault, Returned};
 use config_text::json::JsonError;
 use config_text::readers::{TryRead, read_bytes, read_cow, read_owned, read_text};
 use config_text::value::{Text, Value};
+use config_text::words::is_in_any_case;
 use serde_json::Value as JsonValue;
 use std::alloc::Global;
 use std::borrow::CowSlice;
@@ -31,15 +32,34 @@ use std::fmt;
 #[derive(Clone, Copy, PartialEq, Eq, PartialOrd, Ord, Hash, Debug, Default)]
 pub struct Boolean(pub bool);
 
+/// Whether the text is one of the words for true, in any case of its letters.
+#[inline(always)]
+fn affirms(text: &[u8]) -> bool
+    ensures { IsTrue result ↔ (Affirms text.now) }
+{
+    is_in_any_case(text, b"yes") || is_in_any_case(text, b"on") || is_in_any_case(text, b"true")
+}
+
+/// Whether the text is one of the words for false, in any case of its letters, or empty.
+#[inline(always)]
+fn denies(text: &[u8]) -> bool
+    ensures { IsTrue result ↔ (Denies text.now) }
+{
+    if text.is_empty() {
+        return true;
+    }
+    is_in_any_case(text, b"no") || is_in_any_case(text, b"off") || is_in_any_case(text, b"false")
+}
+
 /// The truth value that a word names, in any case of its letters; the empty text is false.
+#[inline(always)]
 fn word(text: &[u8]) -> Option<bool>
     ensures { MatchOption result ((¬ Affirms text.now) × (¬ Denies text.now))
         (λ b. MatchBool b (Affirms text.now) (Denies text.now)) }
 {
-    let is = |word: &[u8]| text.eq_ignore_ascii_case(word);
-    if is(b"yes") || is(b"on") || is(b"true") {
+    if affirms(text) {
         Some(true)
-    } else if text.is_empty() || is(b"no") || is(b"off") || is(b"false") {
+    } else if denies(text) {
         Some(false)
     } else {
         None

@@ -1,2 +1,1 @@
 pub mod IntegerCounting
-mod Digits

@@ -4,36 +4,7 @@ ghost use Rattle.std.specs.Char.{digit_value};
 ghost use Rattle.config_integer.specs.Reading.Integer.{counted, base_of, digits_of, unsigned_of};
 
 use crate::suffix::{Suffix, suffix_of};
-
-/// What each byte is worth as a hexadecimal digit, and 16 where it is none.
-#[rattlefmt::skip]
-const DIGITS: [u8; 256] = [
-    16, 16, 16, 16, 16, 16, 16, 16, 16, 16, 16, 16, 16, 16, 16, 16,
-    16, 16, 16, 16, 16, 16, 16, 16, 16, 16, 16, 16, 16, 16, 16, 16,
-    16, 16, 16, 16, 16, 16, 16, 16, 16, 16, 16, 16, 16, 16, 16, 16,
-    0, 1, 2, 3, 4, 5, 6, 7, 8, 9, 16, 16, 16, 16, 16, 16,
-    16, 10, 11, 12, 13, 14, 15, 16, 16, 16, 16, 16, 16, 16, 16, 16,
-    16, 16, 16, 16, 16, 16, 16, 16, 16, 16, 16, 16, 16, 16, 16, 16,
-    16, 10, 11, 12, 13, 14, 15, 16, 16, 16, 16, 16, 16, 16, 16, 16,
-    16, 16, 16, 16, 16, 16, 16, 16, 16, 16, 16, 16, 16, 16, 16, 16,
-    16, 16, 16, 16, 16, 16, 16, 16, 16, 16, 16, 16, 16, 16, 16, 16,
-    16, 16, 16, 16, 16, 16, 16, 16, 16, 16, 16, 16, 16, 16, 16, 16,
-    16, 16, 16, 16, 16, 16, 16, 16, 16, 16, 16, 16, 16, 16, 16, 16,
-    16, 16, 16, 16, 16, 16, 16, 16, 16, 16, 16, 16, 16, 16, 16, 16,
-    16, 16, 16, 16, 16, 16, 16, 16, 16, 16, 16, 16, 16, 16, 16, 16,
-    16, 16, 16, 16, 16, 16, 16, 16, 16, 16, 16, 16, 16, 16, 16, 16,
-    16, 16, 16, 16, 16, 16, 16, 16, 16, 16, 16, 16, 16, 16, 16, 16,
-    16, 16, 16, 16, 16, 16, 16, 16, 16, 16, 16, 16, 16, 16, 16, 16,
-];
-
-/// The value of a hexadecimal digit, and 16 for any other byte.
-#[inline(always)]
-fn digit_of(byte: u8) -> u64
-    ensures digit { result < 16 → digit_value byte ≡ result }
-    ensures other { ¬ (result < 16) → ¬ (digit_value byte < 16) }
-{
-    u64::from(DIGITS[usize::from(byte)])
-}
+use config_text::digits::digit_of;
 
 /// The value of a digit of the base.
 #[inline(always)]
@@ -41,7 +12,7 @@ fn digit_in(byte: u8, base: u64) -> Option<u64>
     requires { base ≤ 16 }
     ensures { SomeIff result (digit_value byte < base) (digit_value byte) }
 {
-    let digit = digit_of(byte);
+    let digit = u64::from(digit_of(byte));
     if digit < base { Some(digit) } else { None }
 }
 

@@ -1,3 +1,4 @@
 pub mod SettingsLemmas
 pub mod ReplacedValues
 pub mod OneAnswer
+mod DigitRows

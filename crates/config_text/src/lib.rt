@@ -4,6 +4,7 @@
 //!   value, and the laws that make the two fit; the normalizer and the comparison, written once over it.
 //! - [`errors`]: why a text is refused, and the input that is given back with it.
 //! - [`readers`]: the readers of a type over borrowed and owned inputs, written once.
+//! - [`digits`]: what a byte is worth as a digit.
 //! - [`words`]: a text compared with a word.
 //! - [`json`]: why a value has no JSON value, and texts as JSON.
 //! - [`settings`]: a setting by name, of a list of entries.
@@ -12,6 +13,7 @@
 //! This crate knows no kind of value. Its definitions are on top of `specs/`; `specs/Laws/` holds lemmas.
 #![tactic(auto)]
 
+pub mod digits;
 pub mod errors;
 pub mod json;
 pub mod laws;

@@ -7,6 +7,7 @@ ghost use Rattle.config_word.specs.Reading.Item.{found, hex_pair_of, item_of, of
 
 use crate::attribute::Attribute;
 use crate::name::Name;
+use config_text::digits::digit_of;
 use config_text::words::{is, is_in_any_case};
 
 /// What a word of a color text stands for.
@@ -285,12 +286,8 @@ fn palette_number(digits: &[u8]) -> Option<u8>
 fn hex_value(digit: u8) -> Option<u8>
     ensures { SomeIff result (digit_value digit < 16) (digit_value digit) }
 {
-    match digit {
-        b'0'..=b'9' => Some(digit - b'0'),
-        b'a'..=b'f' => Some(digit - b'a' + 10),
-        b'A'..=b'F' => Some(digit - b'A' + 10),
-        _ => None,
-    }
+    let value = digit_of(digit);
+    if value < 16 { Some(value) } else { None }
 }
 
 /// The number that two hexadecimal digits write.

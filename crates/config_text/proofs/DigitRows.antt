@@ -3,7 +3,7 @@ use Rattle.std.proofs.Common.{◌≡◌, ℕ, zero, suc, ◌+◌, ◌<◌, ◌==
 use Rattle.std.proofs.lemmas.Bool.Decides.{nat_tests}
 use Rattle.std.proofs.lemmas.Bool.{and_parts}
 use Rattle.std.specs.Char.{digit_value}
-use Rattle.config_integer.specs.declared.magnitude.TheConstants.{DIGITS}
+use Rattle.config_text.specs.declared.digits.TheConstants.{DIGITS}
 
 -- whether a byte has this row: 16 where it is no digit of base 16
 abbrev is_row : ℕ → ℕ → Bool
