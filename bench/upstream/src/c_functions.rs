@@ -2,9 +2,10 @@
 
 use crate::Bytes;
 use gix_config_value::color::{Attribute, Name};
+use gix_config_value::integer::Suffix;
 use gix_config_value::path::interpolate::Context;
 use gix_config_value::{Boolean, Color, Integer, Path};
-use std::fmt::{self, Write};
+use std::fmt::{self, Display, Write};
 use std::os::unix::ffi::OsStrExt;
 use std::path::PathBuf;
 
@@ -183,16 +184,60 @@ pub unsafe extern "C" fn up_color_read(text: *const u8, length: usize, value: *m
     unsafe { handed_out(Color::try_from(handed(text, length)).ok(), value) }
 }
 
-#[unsafe(no_mangle)]
-pub unsafe extern "C" fn up_color_show(value: *const CColor, text: *mut u8) -> usize {
-    let color = Color::from(unsafe { *value });
+/// Writes what is shown of a value, and answers its length.
+///
+/// # Safety
+///
+/// `ROOM` bytes at `text` may be written.
+unsafe fn shown(value: impl Display, text: *mut u8) -> usize {
     let mut room = Room {
+        // SAFETY: as above
         bytes: unsafe { std::slice::from_raw_parts_mut(text, ROOM) },
         length: 0,
     };
-    match write!(room, "{color}") {
+    match write!(room, "{value}") {
         Ok(()) => room.length,
         Err(fmt::Error) => usize::MAX,
+    }
+}
+
+/// Writes what is shown of a value that was read, and answers its length, or `usize::MAX` where it was refused.
+///
+/// # Safety
+///
+/// As for `shown`.
+unsafe fn read_and_shown<V: Display, E>(value: Result<V, E>, text: *mut u8) -> usize {
+    match value {
+        // SAFETY: as above
+        Ok(value) => unsafe { shown(value, text) },
+        Err(_) => usize::MAX,
+    }
+}
+
+#[unsafe(no_mangle)]
+pub unsafe extern "C" fn up_color_show(value: *const CColor, text: *mut u8) -> usize {
+    unsafe { shown(Color::from(*value), text) }
+}
+
+#[unsafe(no_mangle)]
+pub unsafe extern "C" fn up_normalize(
+    kind: u32,
+    text: *const u8,
+    length: usize,
+    shown: *mut u8,
+) -> usize {
+    unsafe {
+        let text = handed(text, length);
+        match kind {
+            1 => read_and_shown(Suffix::try_from(text), shown),
+            2 => read_and_shown(Integer::try_from(text), shown),
+            3 => read_and_shown(Integer::from_bytes::<i64>(text), shown),
+            4 => read_and_shown(Boolean::try_from(text), shown),
+            5 => read_and_shown(Name::try_from(text), shown),
+            6 => read_and_shown(Attribute::try_from(text), shown),
+            7 => read_and_shown(Color::try_from(text), shown),
+            _ => usize::MAX,
+        }
     }
 }
 

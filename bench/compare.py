@@ -1,0 +1,126 @@
+"""Measures the calls of the C interface beside the Rust crate's and plain C: python3 compare.py [--rounds N] [--prefix PREFIX].
+
+PREFIX is where crates/gix_config_value_c/build.sh has put the library; without it, the library is proved and built into a
+folder of its own. The rows are in rows.tsv, and README.md says how to read the table. Where the Rust crate cannot be had it
+says `skipped` and why. Answers that differ end it with status 1.
+"""
+import argparse
+import datetime
+import os
+import pathlib
+import re
+import shlex
+import subprocess
+import sys
+import tempfile
+
+HERE = pathlib.Path(__file__).resolve().parent
+INTERFACE = HERE.parent / "crates/gix_config_value_c"
+sys.path.insert(0, str(HERE / "upstream"))
+
+import build  # noqa: E402
+
+KINDS = ["suffix", "integer", "amount", "boolean", "name", "attribute", "color"]
+# what a static library of Rust asks of the system
+SYSTEM = ["-lgcc_s", "-lutil", "-lrt", "-lpthread", "-lm", "-ldl"]
+
+
+def bytes_of(text):
+    """The bytes of a text, in which \\xHH is one byte."""
+    written = re.sub(rb"\\x([0-9a-f]{2})", lambda found: bytes.fromhex(found[1].decode()), text.encode())
+    return written
+
+
+def rows():
+    """The rows: what each is called, its call and kind, and the line that the driver reads."""
+    for line in (HERE / "rows.tsv").read_text(encoding="utf-8").splitlines():
+        if line.startswith("# "):
+            continue
+        row, asked, part, times, end = line.split("\t")
+        call, _, kind = asked.partition(" ")
+        text, end = bytes_of(part) * int(times), bytes_of(end)
+        if call not in ("same", "compose"):
+            text, end = text + end, b""
+        number = KINDS.index(kind) + 1 if kind else 0
+        yield row, asked, f"{call}\t{number}\t{text.hex()}\t{end.hex()}\n"
+
+
+def run(*command):
+    """Runs a command. Ends with what it says where it fails."""
+    ran = subprocess.run([str(word) for word in command], stdout=subprocess.PIPE, stderr=subprocess.STDOUT, check=False)
+    if ran.returncode != 0:
+        sys.exit(ran.stdout.decode(errors="replace")[-4000:])
+
+
+def driver(folder, prefix, crate):
+    """Links the three libraries and the driver into one program."""
+    program = folder / "compare"
+    compiler = shlex.split(os.environ.get("CC", "cc"))
+    flags = ["-std=gnu11", "-O2", "-Wall", "-Wextra", f"-I{prefix}/include", f"-I{HERE}/upstream"]
+    libraries = [f"{prefix}/lib/libgix_config_value.a", f"{crate}/libupstream.a"]
+    run(*compiler, *flags, HERE / "compare.c", HERE / "limit.c", *libraries, *SYSTEM, "-o", program)
+    return program
+
+
+def machine():
+    """The model of the processor, and how many there are."""
+    told = pathlib.Path("/proc/cpuinfo")
+    found = re.search(r"^model name\s*:\s*(.*)", told.read_text(encoding="utf-8") if told.exists() else "", re.MULTILINE)
+    return f"{found[1] if found else 'unknown processor'}, {os.cpu_count()} processors"
+
+
+def load():
+    return f"{os.getloadavg()[0]:.1f}"
+
+
+def head(before):
+    """What stands above a table, once all is measured."""
+    return f"{machine()}; load {before} before and {load()} after; {datetime.date.today().isoformat()}.\n"
+
+
+def figure(nanoseconds):
+    return nanoseconds if nanoseconds == "-" else f"{float(nanoseconds):,.0f}" if float(nanoseconds) >= 100 else f"{float(nanoseconds):.1f}"
+
+
+def ratio(measured):
+    return measured if measured == "-" else f"{float(measured):.2f}"
+
+
+def main():
+    arguments = argparse.ArgumentParser()
+    arguments.add_argument("--rounds", type=int, default=15)
+    arguments.add_argument("--milliseconds", type=float, default=4, help="how long a batch takes")
+    arguments.add_argument("--prefix", type=pathlib.Path)
+    arguments.add_argument("--only", default="", help="a word that the row or its call has")
+    arguments = arguments.parse_args()
+    try:
+        crate = build.build()
+    except build.Missing as missing:
+        print(f"skipped: {missing}")
+        return 0
+    except build.Broken as broken:
+        sys.exit(str(broken))
+    asked = [row for row in rows() if arguments.only in row[0] or arguments.only in row[1]]
+    with tempfile.TemporaryDirectory() as folder:
+        prefix = arguments.prefix
+        if prefix is None:
+            prefix = pathlib.Path(folder) / "prefix"
+            run("sh", INTERFACE / "build.sh", prefix)
+        program = driver(pathlib.Path(folder), prefix, crate)
+        before = load()
+        command = [program, str(arguments.rounds), str(arguments.milliseconds)]
+        lines = "".join(line for _, _, line in asked)
+        measured = subprocess.run(command, input=lines, stdout=subprocess.PIPE, text=True, check=False)
+    if measured.returncode != 0:
+        return 1
+    print(head(before))
+    print("| Row | Call | Rust crate, ns | This library, ns | Plain C, ns | To the Rust crate | Plain C to the Rust crate |")
+    print("|---|---|---|---|---|---|---|")
+    for (row, call, _), line in zip(asked, measured.stdout.splitlines(), strict=True):
+        crate, ours, limit, to_crate, limit_to_crate = line.split("\t")
+        print(f"| {row} | {call} | {figure(crate)} | {figure(ours)} | {figure(limit)} | {ratio(to_crate)} | {ratio(limit_to_crate)} |")
+    return 0
+
+
+if __name__ == "__main__":
+    sys.exit(main())
