@@ -1,10 +1,10 @@
 /* compare ROUNDS MILLISECONDS: measures calls of three libraries in one process, for compare.py.
  *
- * Each line of standard input is the name of a call, the number of a kind, and two texts as hexadecimal digits, with tabs
- * between. First each library is asked once, and the answers must agree. Then each is called in batches of so many
- * milliseconds, in turn, for so many rounds. A line is answered by the least nanoseconds of a call, for the Rust crate, this
- * library and plain C, and the middle of the rounds' ratios to the Rust crate, for this library and plain C. What is not
- * there is `-`. */
+ * Each line of standard input is the name of a call, the number of a kind, and two texts as hexadecimal digits, with
+ * tabs between. First each library is asked once, and the answers must agree. Then each is called in batches of so many
+ * milliseconds, in turn, for so many rounds. A line is answered by the least nanoseconds of a call, for the Rust crate,
+ * this library and plain C, and the middle of the rounds' ratios to the Rust crate, for this library and plain C. What
+ * is not there is `-`. */
 #define _GNU_SOURCE
 #include "gix_config_value.h"
 #include "limit.h"
@@ -15,7 +15,7 @@
 #include <string.h>
 #include <time.h>
 
-enum { RUST, OURS, LIMIT, LIBRARIES, MOST_ROUNDS = 1000, ENTRIES = 100, LONGEST_ANSWER = 400 };
+enum { RUST, OURS, LIMIT, LIBRARIES, MOST_ROUNDS = 1000, ENTRIES = 100, LONGEST_ANSWER = 400, LONGEST_SHOWN = 60 };
 static const char *const LIBRARY[] = {"the Rust crate", "this library", "plain C"};
 
 /* What a row asks with. */
@@ -61,8 +61,8 @@ static double nanoseconds(void)
     return (double)now.tv_sec * 1e9 + (double)now.tv_nsec;
 }
 
-/* Calls so many times, and says how long that took; 0 times asks once, and says whether there is an answer. What is asked
- * and what is answered is hidden from the compiler, so that no call is left out or done once for all. */
+/* Calls so many times, and says how long that took; 0 times asks once, and says whether there is an answer. What is
+ * asked and answered is hidden from the compiler, so that it leaves out no call and does none ahead of the loop. */
 typedef double calls(const struct row *row, uint64_t times, struct room *room);
 #define CALLS(name, accepted)                                                           \
     static double name(const struct row *row, uint64_t times, struct room *room)        \
@@ -112,10 +112,9 @@ CALLS(gcv_sameness, gcv_same(row->kind, TEXT, SECOND, &room->number) == GCV_OK)
 CALLS(gcv_composed, gcv_compose(&row->color, &row->second_color, &room->color) == GCV_OK)
 CALLS(gcv_settings, gcv_lookup(row->kind, entries, entries_length, lengths, 2 * ENTRIES, TEXT, &room->entry) == GCV_OK)
 
-/* What a name is called in a written answer: its number here, and what it holds. */
 static int write_name(char *to, gcv_name name)
 {
-    return sprintf(to, " name %u %u %u %u %u", name.tag, name.palette, name.red, name.green, name.blue);
+    return sprintf(to, "name %u %u %u %u %u, ", name.tag, name.palette, name.red, name.green, name.blue);
 }
 
 /* The same name as this library has it. */
@@ -166,7 +165,7 @@ static void write_color(char *to, int library, const struct room *room)
         color = (gcv_color){of_up(room->up_color.foreground), of_up(room->up_color.background), room->up_color.bits};
     to += write_name(to, color.foreground);
     to += write_name(to, color.background);
-    sprintf(to, " bits %#x", color.attributes);
+    sprintf(to, "bits %#x", color.attributes);
 }
 
 static void write_text(char *to, int library, const struct room *room)
@@ -253,7 +252,9 @@ static void compare_answers(const struct call *call, const struct row *row)
             strcpy(first, answer);
             asked = library;
         } else if (strcmp(first, answer) != 0) {
-            fprintf(stderr, "%s: %s answers %s, and %s answers %s\n", call->name, LIBRARY[asked], first, LIBRARY[library], answer);
+            int length = row->length < LONGEST_SHOWN ? (int)row->length : LONGEST_SHOWN;
+            fprintf(stderr, "%s of `%.*s`: ", call->name, length, row->text);
+            fprintf(stderr, "%s answers %s, and %s %s\n", LIBRARY[asked], first, LIBRARY[library], answer);
             exit(1);
         }
     }
@@ -275,12 +276,32 @@ static int rising(const void *first, const void *second)
     return (a > b) - (a < b);
 }
 
+/* Prints the least nanoseconds, and the middle of the ratios to the Rust crate. */
+static void print_figures(const struct call *call, const double *least, double ratios[][MOST_ROUNDS], int rounds)
+{
+    for (int library = 0; library < LIBRARIES; library++) {
+        if (call->by[library])
+            printf("%.2f\t", least[library]);
+        else
+            printf("-\t");
+    }
+    for (int library = OURS; library < LIBRARIES; library++) {
+        qsort(ratios[library], (size_t)rounds, sizeof(double), rising);
+        if (call->by[RUST] && call->by[library])
+            printf("%.3f", ratios[library][rounds / 2]);
+        else
+            printf("-");
+        printf(library == LIMIT ? "\n" : "\t");
+    }
+    fflush(stdout);
+}
+
 static void measure(const struct call *call, const struct row *row, int rounds, double batch)
 {
     static double ratios[LIBRARIES][MOST_ROUNDS];
     struct room room;
     double least[LIBRARIES];
-    uint64_t times[LIBRARIES];
+    uint64_t times[LIBRARIES] = {0};
     for (int library = 0; library < LIBRARIES; library++) {
         least[library] = 1e18;
         if (call->by[library])
@@ -297,14 +318,27 @@ static void measure(const struct call *call, const struct row *row, int rounds, 
             ratios[library][round] = taken[library] / taken[RUST];
         }
     }
-    for (int library = 0; library < LIBRARIES; library++)
-        call->by[library] ? printf("%.2f\t", least[library]) : printf("-\t");
-    for (int library = OURS; library < LIBRARIES; library++) {
-        qsort(ratios[library], (size_t)rounds, sizeof(double), rising);
-        const char *after = library == LIMIT ? "\n" : "\t";
-        call->by[RUST] && call->by[library] ? printf("%.3f%s", ratios[library][rounds / 2], after) : printf("-%s", after);
-    }
-    fflush(stdout);
+    print_figures(call, least, ratios, rounds);
+}
+
+/* Asks, compares and measures what a line says. */
+static void answer_line(char *line, int rounds, double batch)
+{
+    char *rest = line;
+    line[strcspn(line, "\n")] = 0;
+    const struct call *call = call_of(strsep(&rest, "\t"));
+    struct row row = {.kind = (uint32_t)atoi(strsep(&rest, "\t"))};
+    char *text = bytes_of(strsep(&rest, "\t"), &row.length);
+    char *second = bytes_of(rest, &row.second_length);
+    row.text = text;
+    row.second = second;
+    up_color_read((uint8_t *)text, row.length, &row.up_color);
+    gcv_read_color(text, row.length, &row.color, NULL);
+    gcv_read_color(second, row.second_length, &row.second_color, NULL);
+    compare_answers(call, &row);
+    measure(call, &row, rounds, batch);
+    free(text);
+    free(second);
 }
 
 int main(int count, char **arguments)
@@ -319,22 +353,8 @@ int main(int count, char **arguments)
     make_entries();
     char *line = NULL;
     size_t room = 0;
-    while (getline(&line, &room, stdin) > 0) {
-        char *rest = line;
-        line[strcspn(line, "\n")] = 0;
-        const struct call *call = call_of(strsep(&rest, "\t"));
-        struct row row = {.kind = (uint32_t)atoi(strsep(&rest, "\t"))};
-        char *text = bytes_of(strsep(&rest, "\t"), &row.length), *second = bytes_of(rest, &row.second_length);
-        row.text = text;
-        row.second = second;
-        up_color_read((uint8_t *)text, row.length, &row.up_color);
-        gcv_read_color(text, row.length, &row.color, NULL);
-        gcv_read_color(second, row.second_length, &row.second_color, NULL);
-        compare_answers(call, &row);
-        measure(call, &row, rounds, batch);
-        free(text);
-        free(second);
-    }
+    while (getline(&line, &room, stdin) > 0)
+        answer_line(line, rounds, batch);
     free(line);
     return 0;
 }

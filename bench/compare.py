@@ -1,8 +1,10 @@
-"""Measures the calls of the C interface beside the Rust crate's and plain C: python3 compare.py [--rounds N] [--prefix PREFIX].
+"""Measures the calls of the C interface beside the Rust crate's and plain C.
 
-PREFIX is where crates/gix_config_value_c/build.sh has put the library; without it, the library is proved and built into a
-folder of its own. The rows are in rows.tsv, and README.md says how to read the table. Where the Rust crate cannot be had it
-says `skipped` and why. Answers that differ end it with status 1.
+python3 compare.py [--rounds N] [--milliseconds N] [--prefix PREFIX] [--only WORD]
+
+PREFIX is where crates/gix_config_value_c/build.sh has put the library; without it, the library is proved and built into
+a folder of its own. The rows are in rows.tsv, and README.md says how to read the table. Where the Rust crate cannot be
+had it says `skipped` and why. Answers that differ end it with status 1.
 """
 import argparse
 import datetime
@@ -27,8 +29,7 @@ SYSTEM = ["-lgcc_s", "-lutil", "-lrt", "-lpthread", "-lm", "-ldl"]
 
 def bytes_of(text):
     """The bytes of a text, in which \\xHH is one byte."""
-    written = re.sub(rb"\\x([0-9a-f]{2})", lambda found: bytes.fromhex(found[1].decode()), text.encode())
-    return written
+    return re.sub(rb"\\x([0-9a-f]{2})", lambda found: bytes.fromhex(found[1].decode()), text.encode())
 
 
 def rows():
@@ -64,9 +65,9 @@ def driver(folder, prefix, crate):
 
 def machine():
     """The model of the processor, and how many there are."""
-    told = pathlib.Path("/proc/cpuinfo")
-    found = re.search(r"^model name\s*:\s*(.*)", told.read_text(encoding="utf-8") if told.exists() else "", re.MULTILINE)
-    return f"{found[1] if found else 'unknown processor'}, {os.cpu_count()} processors"
+    told = pathlib.Path("/proc/cpuinfo").read_text(encoding="utf-8")
+    found = re.search(r"^model name\s*:\s*(.*)", told, re.MULTILINE)
+    return f"{found[1] if found else 'unknown model'}, {os.cpu_count()} processors"
 
 
 def load():
@@ -78,12 +79,11 @@ def head(before):
     return f"{machine()}; load {before} before and {load()} after; {datetime.date.today().isoformat()}.\n"
 
 
-def figure(nanoseconds):
-    return nanoseconds if nanoseconds == "-" else f"{float(nanoseconds):,.0f}" if float(nanoseconds) >= 100 else f"{float(nanoseconds):.1f}"
-
-
-def ratio(measured):
-    return measured if measured == "-" else f"{float(measured):.2f}"
+def written(measured, places):
+    """A figure as the table has it, with so many places where it is below 100."""
+    if measured == "-":
+        return measured
+    return f"{float(measured):,.{places if float(measured) < 100 else 0}f}"
 
 
 def main():
@@ -114,11 +114,12 @@ def main():
     if measured.returncode != 0:
         return 1
     print(head(before))
-    print("| Row | Call | Rust crate, ns | This library, ns | Plain C, ns | To the Rust crate | Plain C to the Rust crate |")
+    print("| Row | Call | Rust crate, ns | This library, ns | Plain C, ns | This to Rust | Plain C to Rust |")
     print("|---|---|---|---|---|---|---|")
     for (row, call, _), line in zip(asked, measured.stdout.splitlines(), strict=True):
-        crate, ours, limit, to_crate, limit_to_crate = line.split("\t")
-        print(f"| {row} | {call} | {figure(crate)} | {figure(ours)} | {figure(limit)} | {ratio(to_crate)} | {ratio(limit_to_crate)} |")
+        figures = line.split("\t")
+        cells = [row, call, *(written(one, 1) for one in figures[:3]), *(written(one, 2) for one in figures[3:])]
+        print("| " + " | ".join(cells) + " |")
     return 0
 
 

@@ -1,23 +1,37 @@
 #include "limit.h"
 #include <string.h>
 
+#define INLINE static inline __attribute__((always_inline))
+
 /* Numbers. */
 
-static int digit_of(unsigned char byte)
+/* the value of each digit and one more, and 0 for other bytes */
+static const uint8_t DIGITS[256] = {
+    ['0'] = 1, 2, 3, 4, 5, 6, 7, 8, 9, 10, ['A'] = 11, 12, 13, 14, 15, 16, ['a'] = 11, 12, 13, 14, 15, 16};
+
+/* At least 16 where the byte is no digit. */
+static inline unsigned digit_of(char byte)
 {
-    unsigned digit = byte - '0', letter = (byte | 0x20) - 'a';
-    return digit < 10 ? (int)digit : letter < 6 ? (int)letter + 10 : 16;
+    return DIGITS[(unsigned char)byte] - 1u;
+}
+
+/* The place behind a run of one byte, which stands in all eight of `run`, but for at most seven of them. */
+static inline const char *skip(const char *at, const char *end, uint64_t run)
+{
+    uint64_t eight;
+    while (end - at >= 8 && (memcpy(&eight, at, 8), eight == run))
+        at += 8;
+    return at;
 }
 
 /* Reads digits, and answers the place behind them; null where there are none or the number is above `most`. */
-static inline const char *digits(const char *at, const char *end, unsigned base, uint64_t most, uint64_t *number)
+INLINE const char *digits(const char *at, const char *end, unsigned base, uint64_t most, uint64_t *number)
 {
     const char *first = at;
-    uint64_t sum = 0, eight;
-    while (end - at >= 8 && (memcpy(&eight, at, 8), eight == 0x3030303030303030))
-        at += 8;
+    uint64_t sum = 0;
+    at = skip(at, end, 0x3030303030303030);
     for (; at < end; at++) {
-        unsigned digit = (unsigned)digit_of((unsigned char)*at);
+        unsigned digit = digit_of(*at);
         if (digit >= base)
             break;
         if (sum >> 59 && sum > (most - digit) / base)
@@ -60,7 +74,8 @@ int limit_integer(const char *text, size_t length, gcv_integer *value)
 int limit_amount(const char *text, size_t length, int64_t *value)
 {
     gcv_integer integer;
-    return limit_integer(text, length, &integer) && !__builtin_mul_overflow(integer.value, INT64_C(1) << 10 * integer.suffix, value);
+    return limit_integer(text, length, &integer) &&
+           !__builtin_mul_overflow(integer.value, INT64_C(1) << 10 * integer.suffix, value);
 }
 
 /* Words. A text of at most 16 bytes is two numbers, which no other text of its length has. */
@@ -95,11 +110,11 @@ typedef struct {
 } word;
 
 static const char *const NAMES[] = {
-    "", "normal", "default", "black", "brightblack", "red", "brightred", "green", "brightgreen", "yellow", "brightyellow", "blue",
-    "brightblue", "magenta", "brightmagenta", "cyan", "brightcyan", "white", "brightwhite"};
+    "", "normal", "default", "black", "brightblack", "red", "brightred", "green", "brightgreen", "yellow",
+    "brightyellow", "blue", "brightblue", "magenta", "brightmagenta", "cyan", "brightcyan", "white", "brightwhite"};
 static const char *const ATTRIBUTES[] = {
-    [1] = "bold", [2] = "dim", [3] = "italic", [4] = "ul", [5] = "blink", [6] = "reverse", [7] = "strike", [8] = "reset",
-    [21] = "nodim", [22] = "nobold", [23] = "noitalic", [24] = "noul", [25] = "noblink", [26] = "noreverse", [27] = "nostrike"};
+    [1] = "bold", "dim", "italic", "ul", "blink", "reverse", "strike", "reset",
+    [21] = "nodim", "nobold", "noitalic", "noul", "noblink", "noreverse", "nostrike"};
 
 static word words[SLOTS];
 
@@ -155,7 +170,7 @@ void limit_prepare(void)
     }
 }
 
-static inline const word *find(const char *text, size_t length)
+INLINE const word *find(const char *text, size_t length)
 {
     if (length > LONGEST_WORD)
         return NULL;
@@ -180,12 +195,18 @@ int limit_boolean(const char *text, size_t length, uint32_t *value)
     packed folded = small(pack(text, length));
     if (is_word(folded, length, "true") || is_word(folded, length, "yes") || is_word(folded, length, "on"))
         amount = 1;
-    else if (is_word(folded, length, "false") || is_word(folded, length, "no") || is_word(folded, length, "off") || length == 0)
+    else if (is_word(folded, length, "false") || is_word(folded, length, "no") || is_word(folded, length, "off"))
         amount = 0;
-    else if (!limit_amount(text, length, &amount))
+    else if (length > 0 && !limit_amount(text, length, &amount))
         return 0;
     *value = amount != 0;
     return 1;
+}
+
+/* Whether a word that begins so is a number or none. */
+static inline int is_palette(char first)
+{
+    return first == '+' || (first >= '0' && first <= '9');
 }
 
 static int palette(const char *at, const char *end, gcv_name *value)
@@ -210,8 +231,8 @@ static int rgb(const char *text, size_t length, gcv_name *value)
         return 0;
     uint8_t part[3];
     for (int i = 0; i < 3; i++) {
-        int high = digit_of((unsigned char)(length == 4 ? text[1 + i] : text[1 + 2 * i]));
-        int low = digit_of((unsigned char)(length == 4 ? text[1 + i] : text[2 + 2 * i]));
+        unsigned high = digit_of(text[length == 4 ? 1 + i : 1 + 2 * i]);
+        unsigned low = digit_of(text[length == 4 ? 1 + i : 2 + 2 * i]);
         if ((high | low) > 15)
             return 0;
         part[i] = (uint8_t)(high << 4 | low);
@@ -221,12 +242,11 @@ static int rgb(const char *text, size_t length, gcv_name *value)
 }
 
 /* Reads a word of a color: puts the name, or else adds the bit and leaves the tag as it is. */
-static inline int item(const char *text, size_t length, gcv_name *name, uint32_t *bits)
+INLINE int item(const char *text, size_t length, gcv_name *name, uint32_t *bits)
 {
-    unsigned char first = (unsigned char)*text;
-    if (first == '#')
+    if (*text == '#')
         return rgb(text, length, name);
-    if (first == '+' || (unsigned)(first - '0') < 10)
+    if (is_palette(*text))
         return palette(text, text + length, name);
     const word *known = find(text, length);
     if (!known)
@@ -270,8 +290,8 @@ static size_t wide_space(const unsigned char *at, const unsigned char *end)
         return 0;
     unsigned code = (at[0] & 0xfu) << 12 | (at[1] & 0x3fu) << 6 | (at[2] & 0x3fu);
     int is_code = at[0] >> 4 == 0xe && at[1] >> 6 == 2 && at[2] >> 6 == 2;
-    int is_space = code == 0x1680 || (code >= 0x2000 && code <= 0x200a) || code == 0x2028 || code == 0x2029 || code == 0x202f ||
-                   code == 0x205f || code == 0x3000;
+    int is_space = code == 0x1680 || (code >= 0x2000 && code <= 0x200a) || code == 0x2028 || code == 0x2029 ||
+                   code == 0x202f || code == 0x205f || code == 0x3000;
     return is_code && is_space ? 3 : 0;
 }
 
@@ -279,33 +299,46 @@ static size_t wide_space(const unsigned char *at, const unsigned char *end)
 static const uint8_t SPACES[256] = {['\t'] = 1, ['\n'] = 1, ['\v'] = 1, ['\f'] = 1, ['\r'] = 1, [' '] = 1,
                                     [0xc2] = 2, [0xe1] = 2, [0xe2] = 2, [0xe3] = 2};
 
+/* The place before `stop` at which white space begins, and its length; else `stop` and 0. */
+INLINE const unsigned char *find_space(const unsigned char *at, const unsigned char *stop, const unsigned char *end,
+                                       size_t *space)
+{
+    for (*space = 0; at < stop; at++) {
+        if (SPACES[*at] == 1)
+            *space = 1;
+        else if (SPACES[*at] == 2)
+            *space = wide_space(at, end);
+        if (*space)
+            break;
+    }
+    return at;
+}
+
 int limit_color(const char *text, size_t length, gcv_color *value)
 {
-    const unsigned char *at = (const unsigned char *)text, *end = at + length, *first = at;
+    const unsigned char *at = (const unsigned char *)text, *end = at + length;
     gcv_name names[2] = {{0}, {0}};
     unsigned count = 0;
     uint32_t bits = 0;
-    for (;; first = at) {
-        size_t space = 0;
-        while (at < end) {
-            if (SPACES[*at] == 1)
-                space = 1;
-            else if (SPACES[*at] == 2)
-                space = wide_space(at, end);
-            if (space)
-                break;
-            at++;
+    while (at < end) {
+        const unsigned char *first = at, *stop = end - at > LONGEST_WORD ? at + LONGEST_WORD + 1 : end;
+        size_t space;
+        at = find_space(at, stop, end, &space);
+        if (!space && at < end) {
+            if (!is_palette((char)*first))
+                return 0;
+            at = find_space(at, end, end, &space);
         }
         if (at > first) {
             gcv_name name = {0};
-            if (!item((const char *)first, (size_t)(at - first), &name, &bits) || (name.tag && count == 2))
+            if (!item((const char *)first, (size_t)(at - first), &name, &bits))
+                return 0;
+            if (name.tag && count == 2)
                 return 0;
             if (name.tag)
                 names[count++] = name;
         }
-        if (at == end)
-            break;
-        at += space;
+        at = (const unsigned char *)skip((const char *)at + space, (const char *)end, SMALL);
     }
     *value = (gcv_color){names[0], names[1], bits};
     return 1;

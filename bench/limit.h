@@ -1,5 +1,5 @@
-/* Readers of the same values in plain C, which nothing is proved of: the limit that the library is held against. They keep
-   no fault and check no buffer. A reader answers 1 and puts the value, or answers 0 where it refuses the text. */
+/* Readers of the same values in plain C, of which nothing is proved: the limit that the library is held against. They
+   keep no fault and check no buffer. A reader answers 1 and puts the value, or 0 where it refuses the text. */
 #ifndef LIMIT_H
 #define LIMIT_H
 

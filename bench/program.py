@@ -1,0 +1,107 @@
+"""Measures builds of config_value beside the Rust crate's program: python3 program.py PROGRAM.. [--runs N].
+
+README.md says how to build it by each compiler and how to read the table. Where the Rust crate cannot be had it says
+`skipped` and why. Answers that differ end it with status 1.
+"""
+import argparse
+import os
+import pathlib
+import re
+import shlex
+import shutil
+import statistics
+import subprocess
+import sys
+import tempfile
+
+from compare import build, head, load, run
+from growth import lines
+
+HERE = pathlib.Path(__file__).resolve().parent
+# a line of each kind, and one that is refused
+KINDS = [
+    b"suffix K", b"integer -010m", b"amount 7k", b"boolean Yes",
+    b"name #F1b", b"attribute no-dim", b"color red ul blue", b"boolean maybe",
+]
+# what it is, the input of a size, and the size
+INPUTS = [
+    ("1,000,000 short lines", lines(b"integer 0x10k"), 1_000_000),
+    ("1,000,000 lines of every kind", lines(*KINDS), 1_000_000),
+    ("one line of 50 MB, zeros", lambda size: b"integer 0x" + b"0" * size + b"7\n", 50_000_000),
+    ("one line of 50 MB, `ul `", lambda size: b"color " + b"ul " * (size // 3) + b"\n", 50_000_000),
+]
+
+
+def answers(program, file):
+    with open(file, "rb") as given:
+        return subprocess.run([program], stdin=given, stdout=subprocess.PIPE, check=False).stdout
+
+
+def usage(measuring, program, file):
+    """The seconds of processor time of a run, and its peak memory in KiB."""
+    with open(file, "rb") as given:
+        command = [measuring, program]
+        ran = subprocess.run(command, stdin=given, stdout=subprocess.DEVNULL, stderr=subprocess.PIPE, check=True)
+    seconds, memory, status = ran.stderr.decode().splitlines()[-1].split()
+    if status not in ("0", "1"):
+        sys.exit(f"{program} ended with status {status}")
+    return float(seconds), int(memory)
+
+
+def writes(program, file):
+    """How often a program writes, or `-` where strace is not there or may not trace."""
+    if not shutil.which("strace"):
+        return "-"
+    with open(file, "rb") as given, tempfile.NamedTemporaryFile() as trace:
+        command = ["strace", "-f", "-qq", "-e", "trace=write,writev", "-o", trace.name, program]
+        quiet = subprocess.DEVNULL
+        ran = subprocess.run(command, stdin=given, stdout=quiet, stderr=quiet, check=False)
+        count = len(re.findall(rb"writev?\(", trace.read()))
+    return f"{count:,}" if ran.returncode in (0, 1) else "-"
+
+
+def rows(measuring, programs, file, runs):
+    """For each program its least milliseconds, the middle of its ratios to the first one, its writes and its peak."""
+    measured = [[usage(measuring, program, file) for program in programs] for _ in range(runs)]
+    for place, program in enumerate(programs):
+        times = [runs_of[place][0] for runs_of in measured]
+        ratios = [runs_of[place][0] / max(runs_of[0][0], 1e-6) for runs_of in measured]
+        peak = max(runs_of[place][1] for runs_of in measured) / 1024
+        yield f"{min(times) * 1000:.1f}", f"{statistics.median(ratios):.2f}", writes(program, file), f"{peak:.1f}"
+
+
+def main():
+    arguments = argparse.ArgumentParser()
+    arguments.add_argument("program", nargs="+")
+    arguments.add_argument("--runs", type=int, default=9)
+    arguments = arguments.parse_args()
+    try:
+        crate = build.build()
+    except build.Missing as missing:
+        print(f"skipped: {missing}")
+        return 0
+    except build.Broken as broken:
+        sys.exit(str(broken))
+    programs = [str(crate / "upstream"), *(os.path.abspath(program) for program in arguments.program)]
+    names = ["the Rust crate", *arguments.program]
+    before, table = load(), []
+    with tempfile.TemporaryDirectory() as folder:
+        measuring, file = f"{folder}/usage", f"{folder}/input"
+        run(*shlex.split(os.environ.get("CC", "cc")), "-O2", HERE / "usage.c", "-o", measuring)
+        for what, made, size in INPUTS:
+            pathlib.Path(file).write_bytes(made(size))
+            wanted = answers(programs[0], file)
+            for name, program in zip(names, programs):
+                if answers(program, file) != wanted:
+                    sys.exit(f"{what}: the answers of {name} are not those of the Rust crate")
+            table += [(what, name, *row) for name, row in zip(names, rows(measuring, programs, file, arguments.runs))]
+    print(head(before))
+    print("| Input | Program | Processor time, ms | To the Rust crate | Calls of `write` | Peak memory, MiB |")
+    print("|---|---|---|---|---|---|")
+    for row in table:
+        print("| " + " | ".join(row) + " |")
+    return 0
+
+
+if __name__ == "__main__":
+    sys.exit(main())
