@@ -12,6 +12,7 @@ import os
 import pathlib
 import re
 import shlex
+import statistics
 import subprocess
 import sys
 import tempfile
@@ -25,6 +26,10 @@ import build  # noqa: E402
 KINDS = ["suffix", "integer", "amount", "boolean", "name", "attribute", "color"]
 # what a static library of Rust asks of the system
 SYSTEM = ["-lgcc_s", "-lutil", "-lrt", "-lpthread", "-lm", "-ldl"]
+# whether the code of this library is moved, and then that of the Rust crate once more
+LAYOUTS = [(0, 0), (1, 0), (0, 1), (1, 1)]
+HEADINGS = ["Row", "Call", "Rust crate, ns", "This library, ns", "Plain C, ns"]
+HEADINGS += ["This to Rust", "Over the layouts", "Plain C to Rust"]
 
 
 def bytes_of(text):
@@ -53,14 +58,29 @@ def run(*command):
         sys.exit(ran.stdout.decode(errors="replace")[-4000:])
 
 
-def driver(folder, prefix, crate):
-    """Links the three libraries and the driver into one program."""
-    program = folder / "compare"
+def drivers(folder, prefix, crate):
+    """Links the driver and the libraries, once for each layout."""
     compiler = shlex.split(os.environ.get("CC", "cc"))
     flags = ["-std=gnu11", "-O2", "-Wall", "-Wextra", f"-I{prefix}/include", f"-I{HERE}/upstream"]
-    libraries = [f"{prefix}/lib/libgix_config_value.a", f"{crate}/libupstream.a"]
-    run(*compiler, *flags, HERE / "compare.c", HERE / "limit.c", *libraries, *SYSTEM, "-o", program)
-    return program
+    for name in ("compare", "limit", "shift"):
+        run(*compiler, *flags, "-c", HERE / f"{name}.c", "-o", folder / f"{name}.o")
+    ours, theirs = f"{prefix}/lib/libgix_config_value.a", f"{crate}/libupstream.a"
+    for first, second in LAYOUTS:
+        shift = [folder / "shift.o"]
+        objects = [folder / "compare.o", *shift * first, ours, *shift * second, theirs, folder / "limit.o"]
+        program = folder / f"compare{first}{second}"
+        run(*compiler, *objects, *SYSTEM, "-o", program)
+        yield program
+
+
+def figures(program, arguments, asked):
+    """What the driver measures of each row: the figures, None where there are none."""
+    command = [program, str(arguments.rounds), str(arguments.milliseconds)]
+    lines = "".join(line for _, _, line in asked)
+    measured = subprocess.run(command, input=lines, stdout=subprocess.PIPE, text=True, check=False)
+    if measured.returncode != 0:
+        sys.exit(measured.returncode)
+    return [[None if one == "-" else float(one) for one in line.split("\t")] for line in measured.stdout.splitlines()]
 
 
 def machine():
@@ -79,16 +99,23 @@ def head(before):
     return f"{machine()}; load {before} before and {load()} after; {datetime.date.today().isoformat()}.\n"
 
 
-def written(measured, places):
-    """A figure as the table has it, with so many places where it is below 100."""
-    if measured == "-":
-        return measured
-    return f"{float(measured):,.{places if float(measured) < 100 else 0}f}"
+def nanoseconds(of_layouts):
+    """The least, as the table has it."""
+    least = min(of_layouts) if None not in of_layouts else None
+    return "-" if least is None else f"{least:.1f}" if least < 100 else f"{least:,.0f}"
+
+
+def ratio(of_layouts):
+    return "-" if None in of_layouts else f"{statistics.median(of_layouts):.2f}"
+
+
+def span(of_layouts):
+    return "-" if None in of_layouts else f"{min(of_layouts):.2f} to {max(of_layouts):.2f}"
 
 
 def main():
     arguments = argparse.ArgumentParser()
-    arguments.add_argument("--rounds", type=int, default=15)
+    arguments.add_argument("--rounds", type=int, default=5, help="for each layout")
     arguments.add_argument("--milliseconds", type=float, default=4, help="how long a batch takes")
     arguments.add_argument("--prefix", type=pathlib.Path)
     arguments.add_argument("--only", default="", help="a word that the row or its call has")
@@ -106,19 +133,15 @@ def main():
         if prefix is None:
             prefix = pathlib.Path(folder) / "prefix"
             run("sh", INTERFACE / "build.sh", prefix)
-        program = driver(pathlib.Path(folder), prefix, crate)
+        programs = list(drivers(pathlib.Path(folder), prefix, crate))
         before = load()
-        command = [program, str(arguments.rounds), str(arguments.milliseconds)]
-        lines = "".join(line for _, _, line in asked)
-        measured = subprocess.run(command, input=lines, stdout=subprocess.PIPE, text=True, check=False)
-    if measured.returncode != 0:
-        return 1
+        measured = [figures(program, arguments, asked) for program in programs]
     print(head(before))
-    print("| Row | Call | Rust crate, ns | This library, ns | Plain C, ns | This to Rust | Plain C to Rust |")
-    print("|---|---|---|---|---|---|---|")
-    for (row, call, _), line in zip(asked, measured.stdout.splitlines(), strict=True):
-        figures = line.split("\t")
-        cells = [row, call, *(written(one, 1) for one in figures[:3]), *(written(one, 2) for one in figures[3:])]
+    print("| " + " | ".join(HEADINGS) + " |")
+    print("|---" * len(HEADINGS) + "|")
+    for (row, call, _), *layouts in zip(asked, *measured, strict=True):
+        rust, ours, limit, to_rust, limit_to_rust = zip(*layouts)
+        cells = [row, call, *map(nanoseconds, (rust, ours, limit)), ratio(to_rust), span(to_rust), ratio(limit_to_rust)]
         print("| " + " | ".join(cells) + " |")
     return 0
 

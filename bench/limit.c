@@ -29,12 +29,13 @@ INLINE const char *digits(const char *at, const char *end, unsigned base, uint64
 {
     const char *first = at;
     uint64_t sum = 0;
+    unsigned digit;
     at = skip(at, end, 0x3030303030303030);
-    for (; at < end; at++) {
-        unsigned digit = digit_of(*at);
-        if (digit >= base)
-            break;
-        if (sum >> 59 && sum > (most - digit) / base)
+    /* fifteen digits of base 16 are in range */
+    for (const char *sure = end - at > 15 ? at + 15 : end; at < sure && (digit = digit_of(*at)) < base; at++)
+        sum = sum * base + digit;
+    for (; at < end && (digit = digit_of(*at)) < base; at++) {
+        if (sum > (most - digit) / base)
             return NULL;
         sum = sum * base + digit;
     }
