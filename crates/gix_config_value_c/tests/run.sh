@@ -111,6 +111,13 @@ else
     holds "the Python package" env PYTHONDONTWRITEBYTECODE=1 PYTHONPATH="$prefix/python" \
         python3 -m unittest discover -s "$root/python/tests"
 fi
+if ! python3 -m pip --version > /dev/null 2>&1; then
+    echo "skipped: the install of the Python package, for want of pip"
+else
+    holds "the Python package installs" python3 -m pip install --quiet --disable-pip-version-check --no-index \
+        --no-build-isolation --target "$work/site" "$prefix/python"
+    holds "the installed package runs" env PYTHONPATH="$work/site" sh -c "[ \"\$(python3 -m gix_config_value integer 0x10k)\" = 16k ]"
+fi
 
 # the calls under sanitizers
 sanitizers="-g -fsanitize=address,undefined -fno-sanitize-recover=all"
