@@ -6,7 +6,7 @@ ghost use Rattle.config_word.specs.Attribute.{AttributeText, CanonicalAttribute,
 ghost use Rattle.config_word.specs.Laws.Attribute.{attribute_canonical_reads, attribute_decided, attribute_one_text, attribute_one_value, attribute_shown_is_text};
 ghost use Rattle.config_word.specs.Reading.Attribute.{shown_row, shown_rows};
 ghost use Rattle.config_text.specs.Refusals.{Always, ReadsBytes, ReadsFault};
-ghost use Rattle.config_text.specs.Value.{HasText, Reads};
+ghost use Rattle.config_text.specs.Value.{HasText, IsTextOf, Reads};
 ghost use Rattle.std.proofs.Common.{rules};
 ghost use Rattle.config_text.specs.Json.{GivesJsonText};
 
@@ -144,7 +144,9 @@ impl Attribute {
 
     /// The set as it is shown.
     pub fn shown(self) -> Text
-        ensures { result.bytes ≡ attribute_shown self.0 }
+        ensures bytes { result.bytes ≡ attribute_shown self.0 }
+        ensures text { HasText AttributeText self
+            → IsTextOf AttributeText CanonicalAttribute self result.bytes }
     {
         let mut text = Text::new();
         self.push_to(&mut text);

@@ -6,7 +6,7 @@ ghost use Rattle.config_text.specs.declared.errors.Fault.TheVariants as faults;
 ghost use Rattle.config_word.specs.Name.{NameText, CanonicalName, NameFits, hex_pair, name_shown};
 ghost use Rattle.config_word.specs.Laws.Name.{name_canonical_reads, name_decided, name_one_text, name_one_value, name_shown_is_text};
 ghost use Rattle.config_text.specs.Refusals.{Always, ReadsBytes, ReadsFault};
-ghost use Rattle.config_text.specs.Value.{Reads};
+ghost use Rattle.config_text.specs.Value.{IsTextOf, Reads};
 ghost use Rattle.std.proofs.Common.{rules};
 ghost use Rattle.config_text.specs.Json.{GivesJsonText};
 
@@ -144,8 +144,10 @@ impl Name {
 
     /// The name as it is shown.
     pub fn shown(self) -> Text
-        ensures { result.bytes ≡ name_shown self }
+        ensures bytes { result.bytes ≡ name_shown self }
+        ensures text { IsTextOf NameText CanonicalName self result.bytes }
     {
+        numbers_fit(self);
         let mut text = Text::new();
         self.push_to(&mut text);
         text
