@@ -1,0 +1,189 @@
+//! Reports the settings whose values Git would refuse, of those that `git config --list --null` prints.
+#![tactic(auto)]
+
+use clap::{Arg, ArgAction, ArgMatches, Command};
+use config_checks::check::{CheckError, Summary, check};
+use config_checks::git::SETTINGS;
+use config_checks::options::Options;
+use config_checks::row::Row;
+use config_checks::table::{BadRow, read_rows};
+use std::alloc::{AllocError, Global};
+use std::io::{self, BufReader, ErrorKind, IsTerminal};
+use std::process::ExitCode;
+use std::{env, fs};
+use thiserror::Error;
+
+/// The most bytes that one read takes.
+const READ: usize = 65536;
+
+/// What the program was asked for by its arguments.
+fn command<'a>(alloc: Global) -> Result<Command<'a>, AllocError> {
+    let scope = Arg::new(alloc, "show-scope")
+        .long("show-scope")
+        .action(ArgAction::SetTrue)
+        .help("A scope stands before each entry, as `git config --show-scope` puts it there");
+    let origin = Arg::new(alloc, "show-origin")
+        .long("show-origin")
+        .action(ArgAction::SetTrue)
+        .help("An origin stands before each entry, as `git config --show-origin` puts it there");
+    let canonical = Arg::new(alloc, "canonical")
+        .long("canonical")
+        .action(ArgAction::SetTrue)
+        .help("Report right values too that are not spelled canonically");
+    let settings = Arg::new(alloc, "settings")
+        .long("settings")
+        .value_name("FILE")
+        .action(ArgAction::Set)
+        .help("Rows of further settings, which win over the built-in ones");
+    Command::new(alloc, "config_check")
+        .version("0.1.0")
+        .about(
+            "Reports the settings whose values Git would refuse: git config --list --null | config_check",
+        )
+        .arg(scope)?
+        .arg(origin)?
+        .arg(canonical)?
+        .arg(settings)
+}
+
+/// Why a run ends with status 2.
+#[derive(Debug, Drop, Error)]
+enum Failure<'m> {
+    #[error("cannot read {file}: {error}")]
+    File { file: &'m str, error: io::Error },
+    #[error("{file}:{}: {}", .bad.line, .bad.fault)]
+    Row { file: &'m str, bad: BadRow },
+    #[error("cannot read: {0}")]
+    Read(io::Error),
+    #[error("cannot write: {0}")]
+    Write(io::Error),
+    #[error("no memory")]
+    Memory(AllocError),
+    #[error("the last entry is cut off")]
+    CutOff,
+}
+
+impl Failure<'_> {
+    /// Whether it is told: not where the reader of the output has gone away.
+    fn is_told(&self) -> bool {
+        match self {
+            Failure::Write(error) => error.kind() != ErrorKind::BrokenPipe,
+            _ => true,
+        }
+    }
+}
+
+/// The bytes of a file of settings, or none where no file is named.
+fn file_bytes<'m>(rt: &HostRuntime, file: Option<&'m str>) -> Result<Vec<u8>, Failure<'m>> {
+    let Some(file) = file else {
+        return Ok(Vec::new(rt.alloc()));
+    };
+    match fs::read(rt, file) {
+        Ok(bytes) => Ok(bytes),
+        Err(error) => Err(Failure::File { file, error }),
+    }
+}
+
+/// Puts the rows of a text behind others.
+fn add_rows<'m, 't>(
+    alloc: Global,
+    file: &'m str,
+    text: &'t [u8],
+    rows: &mut Vec<Row<'t>>,
+) -> Result<(), Failure<'m>> {
+    match read_rows(alloc, text, rows) {
+        Ok(()) => Ok(()),
+        Err(bad) => Err(Failure::Row { file, bad }),
+    }
+}
+
+/// Checks what stands on standard input.
+fn check_input<'m>(
+    rt: &HostRuntime,
+    rows: &[Row<'_>],
+    options: &Options,
+) -> Result<Summary, Failure<'m>> {
+    let alloc = rt.alloc();
+    let mut reader = match BufReader::with_capacity(alloc, READ, rt.stdin()) {
+        Ok(reader) => reader,
+        Err(error) => return Err(Failure::Read(error)),
+    };
+    match check(alloc, rows, options, &mut reader, &mut rt.stdout()) {
+        Ok(summary) => Ok(summary),
+        Err(CheckError::Read(error)) => Err(Failure::Read(error)),
+        Err(CheckError::Write(error)) => Err(Failure::Write(error)),
+        Err(CheckError::Memory(error)) => Err(Failure::Memory(error)),
+    }
+}
+
+/// Checks standard input by the rows of a file and the built-in ones, and gives the exit status: 0 where nothing was
+/// found, and 1 where something was.
+fn run<'m>(rt: &HostRuntime, matches: &ArgMatches<'m>) -> Result<u8, Failure<'m>> {
+    let alloc = rt.alloc();
+    let file = matches.get_str("settings");
+    let text = file_bytes(rt, file)?;
+    let mut rows = Vec::new(alloc);
+    add_rows(alloc, file.unwrap_or(""), &text, &mut rows)?;
+    add_rows(
+        alloc,
+        "the built-in settings",
+        SETTINGS.as_bytes(),
+        &mut rows,
+    )?;
+    let options = Options {
+        scope: matches.get_flag("show-scope"),
+        origin: matches.get_flag("show-origin"),
+        canonical: matches.get_flag("canonical"),
+        color: rt.stdout().is_terminal(),
+    };
+    let summary = check_input(rt, &rows, &options)?;
+    if let Err(error) = eprintln!(rt; "config_check: {summary}") {
+        return Err(Failure::Write(error));
+    }
+    if summary.is_cut_off {
+        return Err(Failure::CutOff);
+    }
+    Ok(if summary.counts.findings == 0 { 0 } else { 1 })
+}
+
+/// The exit status of an outcome, whose failure is told on standard error.
+fn status(rt: &HostRuntime, outcome: Result<u8, Failure<'_>>) -> ExitCode {
+    match outcome {
+        Ok(status) => ExitCode::from(status),
+        Err(failure) => {
+            if failure.is_told() {
+                let _ = eprintln!(rt; "config_check: {failure}");
+            }
+            ExitCode::from(2)
+        }
+    }
+}
+
+/// The words of the command line.
+fn words(rt: &HostRuntime) -> Result<Vec<String>, Failure<'static>> {
+    match env::args(rt) {
+        Ok(words) => match words.collect(rt.alloc()) {
+            Ok(words) => Ok(words),
+            Err(error) => Err(Failure::Memory(error)),
+        },
+        Err(error) => Err(Failure::Read(error)),
+    }
+}
+
+fn main(rt: HostRuntime) -> ExitCode {
+    let words = match words(&rt) {
+        Ok(words) => words,
+        Err(failure) => return status(&rt, Err(failure)),
+    };
+    let command = match command(rt.alloc()) {
+        Ok(command) => command,
+        Err(error) => return status(&rt, Err(Failure::Memory(error))),
+    };
+    match command.try_get_matches_from(words.as_slice()) {
+        Ok(matches) => status(&rt, run(&rt, &matches)),
+        Err(error) => {
+            let _ = error.print(&rt);
+            ExitCode::from(error.exit_code() as u8)
+        }
+    }
+}

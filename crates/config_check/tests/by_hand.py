@@ -1,0 +1,138 @@
+"""Single entries, keys, rows and arguments, against the tables of rows.py."""
+import re
+
+import rows
+from checking import CANNOT, Ended, arguments, cut_off, ended, with_errors_cut
+
+ROWS = 10_000
+WRONG_USE = re.compile(rb"[Uu]sage|error")
+
+
+def entry_of(key, value):
+    return key if value is None else key + b"\n" + value
+
+
+def finding(number, key, value, reason):
+    """The line of a finding; key and value as they are shown."""
+    return b"%d\t%s\t%s\t%s\n" % (number, key, value or b"", reason)
+
+
+def expect_entries(group, program, how, entries):
+    """Entries, each with its key and its value as they are shown, and its reason or None.
+
+    All are one input; where this fails, each is asked alone.
+    """
+    data = b"".join(entry + b"\0" for entry, _, _, _ in entries)
+    output = b"".join(finding(number, key, value, reason)
+                      for number, (_, key, value, reason) in enumerate(entries, 1) if reason is not None)
+    count = len(entries)
+    wanted = ended(output, (count, count, 0, output.count(b"\n")))
+    came = program.run(how, data)
+    if came == wanted:
+        group.passed += count
+        return
+    before = group.failed
+    for entry, key, value, reason in entries if count > 1 else []:
+        expect_entries(group, program, how, [(entry, key, value, reason)])
+    if group.failed == before:
+        group.expect((how, data), wanted, came)
+
+
+def expect_values(group, program, how, key, values, reason):
+    """Values that are shown as they are, and have one reason."""
+    expect_entries(group, program, how, [(entry_of(key, value), key, value, reason) for value in values])
+
+
+def values(group, program):
+    """Each kind and each reason, with and without a judgement of the spelling."""
+    settings = program.settings(rows.SETTINGS)
+    how, canonical = arguments(settings), arguments(settings, canonical=True)
+    for key, accepted in rows.ACCEPTED:
+        expect_values(group, program, how, key, accepted, None)
+    for key, reason, refused in rows.REPORTED:
+        expect_values(group, program, how, key, refused, reason)
+        expect_values(group, program, canonical, key, refused, reason)
+    for key, spellings in rows.SPELLINGS:
+        expect_values(group, program, how, key, spellings, None)
+        expect_entries(group, program, canonical, [
+            (entry_of(key, value), key, value, b"should be " + text) for value, text in spellings.items()])
+    for key, accepted in rows.CANONICAL:
+        expect_values(group, program, canonical, key, accepted, None)
+
+
+def escapes(group, program):
+    """What is shown otherwise than it is."""
+    how = arguments(program.settings(rows.SETTINGS))
+    key = b"test.word"
+    expect_entries(group, program, how, [
+        (entry_of(key, value), key, shown, rows.NO_WORD) for value, shown in rows.SHOWN])
+    expect_entries(group, program, how, [
+        (entry_of(key, value), key, shown, reason) for key, value, shown, reason in rows.SHOWN_OF_KINDS])
+    expect_entries(group, program, how, [
+        (entry_of(key, value), key, value, None) for key, value in rows.UNSHOWN_ACCEPTED])
+
+
+def keys(group, program):
+    """Which row a key belongs to, if to any; the value is no integer."""
+    how = arguments(program.settings(rows.SETTINGS))
+    expect_entries(group, program, how, [
+        (entry_of(key, b"x"), shown or key, b"x", rows.INTEGER_FAULT) for key, shown in rows.KNOWN_KEYS])
+    for key in rows.UNKNOWN_KEYS:
+        entry = entry_of(key, b"x")
+        group.expect(entry, ended(b"", (1, 0, 1, 0)), program.run(how, entry + b"\0"))
+    expect_entries(group, program, how, [
+        (entry_of(key, value), key, value, reason) for key, value, reason in rows.FIRST_ROWS])
+
+
+def fields(group, program):
+    """Scopes and origins, and what is cut off at the end."""
+    how = arguments(program.settings(rows.SETTINGS))
+    for wanted, table in ((ended, rows.FIELDS), (cut_off, rows.CUT_OFF)):
+        for more, data, output, counts in table:
+            group.expect((more, data), wanted(output, counts), program.run([*how, *more], data))
+
+
+def built_in(group, program):
+    """Rows of the program itself, and others that win over them."""
+    for key, value, reason in rows.BUILT_IN:
+        entry = entry_of(key, value)
+        wanted = b"" if reason is None else finding(1, key, value, reason)[:-1]
+        came = program.run([], entry + b"\0")
+        is_line = came.output.count(b"\n") == 1
+        group.expect(entry, ended(wanted, (1, 1, 0, 1 if wanted else 0)),
+                     came._replace(output=came.output[:len(wanted)]) if is_line else came)
+    how = arguments(program.settings(rows.OWN_SETTINGS))
+    expect_entries(group, program, how, [
+        (entry_of(key, value), key, value, reason) for key, value, reason in rows.OWN_ROWS])
+
+
+def settings_files(group, program):
+    """Files of settings that are wrong, missing, or in order."""
+    for text, line in rows.BAD_ROWS:
+        file = program.settings(text)
+        begins = f"config_check: {file}:{line}: ".encode()
+        came = program.run(["--settings", file], b"test.x\n1\0")
+        group.expect(text, Ended(2, b"", begins), with_errors_cut(came, begins))
+    for text in rows.GOOD_ROWS:
+        came = program.run(["--settings", program.settings(text)], b"other.x\0")
+        group.expect(text, ended(b"", (1, 0, 1, 0)), came)
+    text = b"".join(b"filler.key-%d bool\n" % number for number in range(ROWS)) + b"test.x int\n"
+    expect_values(group, program, arguments(program.settings(text)), b"test.x", [b"yes"], rows.INTEGER_FAULT)
+    for file in (str(program.folder / "missing"), str(program.folder)):
+        came = program.run(["--settings", file], b"test.x\n1\0")
+        group.expect(["--settings", file], Ended(2, b"", CANNOT), with_errors_cut(came, CANNOT))
+
+
+def wrong_and_other_arguments(group, program):
+    for more in rows.WRONG_ARGUMENTS:
+        came = program.run(more, b"")
+        is_said = WRONG_USE.search(came.errors) is not None
+        group.expect((more, came.errors), (2, b"", True), (came.status, came.output, is_said))
+    for more in (["--help"], ["--version"]):
+        came = program.run(more, b"core.bare\nmaybe\0")
+        group.expect(more, (0, True, b""), (came.status, came.output.endswith(b"\n"), came.errors))
+
+
+def check(group, program):
+    for part in (values, escapes, keys, fields, built_in, settings_files, wrong_and_other_arguments):
+        part(group, program)

@@ -1,0 +1,134 @@
+"""What all tests use: how the program is run, how it has to end, and how what passed is counted."""
+import collections
+import itertools
+import os
+import pathlib
+import subprocess
+
+import plain_reader
+
+SECONDS = 120
+FAULTS_SHOWN = 10
+BYTES_SHOWN = 300
+CUT_OFF = b"config_check: the last entry is cut off\n"
+CANNOT = b"config_check: cannot "
+
+# how a run of the program ended
+Ended = collections.namedtuple("Ended", "status output errors")
+NO_END = Ended(f"no end after {SECONDS} seconds", b"", b"")
+
+
+class Program:
+    """The program under test, and a folder for the settings that are given to it."""
+
+    def __init__(self, path, folder):
+        self.path = os.path.abspath(path)
+        self.folder = pathlib.Path(folder)
+        self.numbers = itertools.count()
+
+    def settings(self, text):
+        """The name of a new file of settings."""
+        file = self.folder / f"settings-{next(self.numbers)}"
+        file.write_bytes(text)
+        return str(file)
+
+    def run(self, arguments, data=None, **how):
+        """How the program ends over the data; `how` is for subprocess.run."""
+        return run([self.path, *arguments], data, **how)
+
+
+def run(command, data=None, **how):
+    """How a command ends."""
+    if data is not None:
+        how["input"] = data
+    for end in ("stdout", "stderr"):
+        how.setdefault(end, subprocess.PIPE)
+    try:
+        process = subprocess.run(command, timeout=SECONDS, check=False, **how)
+    except subprocess.TimeoutExpired:
+        return NO_END
+    return Ended(process.returncode, process.stdout, process.stderr)
+
+
+def summary(counts):
+    """The line of the numbers of entries, judged ones, unknown keys and findings."""
+    return b"config_check: %d entries, %d judged, %d unknown keys, %d findings\n" % counts
+
+
+def ended(output, counts):
+    """How a run over a whole input has to end."""
+    return Ended(1 if output else 0, output, summary(counts))
+
+
+def cut_off(output, counts):
+    """How a run over an input that is cut off has to end."""
+    return Ended(2, output, summary(counts) + CUT_OFF)
+
+
+def by_plain_reader(rows, data, **how):
+    """How a run has to end by the plain reader."""
+    output, counts, status = plain_reader.findings(rows, data, **how)
+    return Ended(status, output, counts + b"\n" + (CUT_OFF if status == 2 else b""))
+
+
+def arguments(settings, scope=False, origin=False, canonical=False):
+    """The arguments for a file of settings and the choices."""
+    chosen = {"--show-scope": scope, "--show-origin": origin, "--canonical": canonical}
+    return ["--settings", settings, *(name for name, is_chosen in chosen.items() if is_chosen)]
+
+
+def with_errors_cut(came, beginning):
+    """The run with only so much of its one line of errors as has to be there."""
+    is_line = came.errors.count(b"\n") == 1 and came.errors.endswith(b"\n")
+    return came._replace(errors=came.errors[:len(beginning)]) if is_line else came
+
+
+def brief(thing):
+    said = repr(thing)
+    return said if len(said) <= BYTES_SHOWN else f"{said[:BYTES_SHOWN]}.. ({len(said)} characters)"
+
+
+def first_difference(wanted, came):
+    """The first line in which two texts differ, of each."""
+    pairs = itertools.zip_longest(wanted.splitlines(True), came.splitlines(True), fillvalue=b"")
+    return next(((one, other) for one, other in pairs if one != other), (wanted, came))
+
+
+def described(wanted, came):
+    """What was wanted, and what came in its place."""
+    if not (isinstance(wanted, Ended) and isinstance(came, Ended)):
+        return f"    wanted {brief(wanted)}\n    came   {brief(came)}"
+    lines = []
+    for name, one, other in zip(Ended._fields, wanted, came):
+        if one != other and isinstance(one, bytes) and isinstance(other, bytes):
+            one, other = first_difference(one, other)
+        if one != other:
+            lines.append(f"    {name}: wanted {brief(one)}\n    {name}: came   {brief(other)}")
+    return "\n".join(lines)
+
+
+class Group:
+    """A group of tests, with what passed and what failed of it."""
+
+    def __init__(self, name):
+        self.name = name
+        self.passed = 0
+        self.failed = 0
+        self.notes = []
+
+    def expect(self, given, wanted, came):
+        """Counts one test; whether it passed."""
+        if wanted == came:
+            self.passed += 1
+            return True
+        self.failed += 1
+        if self.failed <= FAULTS_SHOWN:
+            print(f"{self.name}: {brief(given)}\n{described(wanted, came)}")
+        return False
+
+    def skip(self, what, why):
+        self.notes.append(f"{what} skipped: {why}")
+
+    def report(self):
+        notes = "".join(f"; {note}" for note in self.notes)
+        print(f"{self.name}: {self.passed} passed, {self.failed} failed{notes}", flush=True)

@@ -1,0 +1,91 @@
+"""How the program ends where it cannot read or write, and what it writes on a terminal."""
+import os
+import pathlib
+import pty
+
+import rows
+from checking import CANNOT, Ended, arguments, run, summary
+
+FULL = pathlib.Path("/dev/full")
+FINDING = b"test.bool\nmaybe\0"
+MANY = 200_000
+RED, PLAIN = b"\x1b[31m", b"\x1b[m"
+
+
+def expect_cannot(group, what, came):
+    """Nothing was written, and a line says what could not be read or written."""
+    is_said = any(line.startswith(CANNOT) and line.endswith(b"\n") for line in came.errors.splitlines(True))
+    group.expect((what, came.errors), (2, b"", True), (came.status, came.output or b"", is_said))
+
+
+def closed_pipe(group, program, how):
+    """Nothing reads the output: before the start, or after some of it."""
+    for data in (FINDING, FINDING * MANY):
+        reader, writer = os.pipe()
+        os.close(reader)
+        came = program.run(how, data, stdout=writer)
+        os.close(writer)
+        group.expect("a pipe that nothing reads", Ended(2, None, b""), came)
+    shell = ["sh", "-c", '{ "$@"; echo "status $?" >&2; } | head -c 10', "sh", program.path, *how]
+    came = run(shell, FINDING * MANY)
+    group.expect("a pipe that is closed early", Ended(0, b"1\ttest.boo", b"status 2\n"), came)
+
+
+def full_device(group, program, how):
+    if not FULL.exists():
+        group.skip("a full device", f"there is no {FULL}")
+        return
+    for data in (FINDING, FINDING * MANY):
+        with FULL.open("wb") as full:
+            came = program.run(how, data, stdout=full)
+        expect_cannot(group, FULL, came)
+
+
+def closed_files(group, program, how):
+    """Standard input or output is closed, or standard input is a folder."""
+    for redirection in ("<&-", ">&-"):
+        shell = ["sh", "-c", f'exec "$@" {redirection}', "sh", program.path, *how]
+        came = run(shell, FINDING)
+        expect_cannot(group, redirection, came)
+    folder = os.open(program.folder, os.O_RDONLY)
+    came = program.run(how, stdin=folder)
+    os.close(folder)
+    expect_cannot(group, "a folder", came)
+
+
+def written_on_terminal(terminal):
+    """What was written on a terminal whose other end is closed."""
+    found = b""
+    while True:
+        try:
+            more = os.read(terminal, 4096)
+        except OSError:
+            return found
+        if not more:
+            return found
+        found += more
+
+
+def terminal(group, program, how):
+    """The reason is red on a terminal, and nowhere else."""
+    environment = dict(os.environ, TERM="xterm")
+    environment.pop("NO_COLOR", None)
+    first, second = b"1\ttest.bool\tmaybe\t", b"2\ttest.bool\t\\x1b[31m\t"
+    data = FINDING + b"test.bool\n\x1b[31m\0"
+    ours, programs = pty.openpty()
+    came = program.run(how, data, stdout=programs, env=environment)
+    os.close(programs)
+    output = written_on_terminal(ours).replace(b"\r\n", b"\n")
+    os.close(ours)
+    red = RED + rows.BOOLEAN_FAULT + PLAIN + b"\n"
+    came = came._replace(output=output)
+    group.expect("a terminal", Ended(1, first + red + second + red, summary((2, 2, 0, 2))), came)
+    plain = rows.BOOLEAN_FAULT + b"\n"
+    came = program.run(how, data, env=environment)
+    group.expect("a pipe", Ended(1, first + plain + second + plain, summary((2, 2, 0, 2))), came)
+
+
+def check(group, program):
+    how = arguments(program.settings(rows.SETTINGS))
+    for part in (closed_pipe, full_device, closed_files, terminal):
+        part(group, program, how)

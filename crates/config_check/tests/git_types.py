@@ -1,0 +1,169 @@
+"""What Git refuses by `git config --type`, and what config_check reports, of the same texts.
+
+Each difference has to belong to exactly one class, of diff/classes.py or of those below.
+"""
+import collections
+import concurrent.futures
+import pathlib
+import sys
+import tempfile
+
+import made
+import rows
+from checking import arguments
+
+sys.path.append(str(pathlib.Path(__file__).resolve().parents[3] / "diff"))
+
+import classes  # noqa: E402
+import texts  # noqa: E402
+from classes import Case, Question, amount  # noqa: E402
+from colors import escape_code  # noqa: E402
+from readers import NOT_SET, REFUSED, Git, Missing, c_library, user_of, users  # noqa: E402
+
+TEXTS = 400
+HOMES = [classes.HOME, None]
+# the kind of a row, and the type that Git is asked for
+KINDS = [("bool", "bool"), ("int", "int"), ("size", "int"), ("bool-or-int", "bool-or-int"),
+         ("color", "color"), ("path", "path")]
+SHOULD_BE = b"should be "
+
+# the kind of the rows in which the class is expected, its rule over a case, and texts in which it is seen
+Own = collections.namedtuple("Own", "name kind rule shown")
+
+
+def number_of_git_alone(case):
+    """The number of a text that is reported, and that Git reads as this number; None for other texts."""
+    number = amount(case.question.text)
+    return number if number is not None and case.ours is None and case.git == b"%d" % number else None
+
+
+def beyond_an_int(case):
+    number = number_of_git_alone(case)
+    return number is not None and not -2 ** 31 <= number < 2 ** 31
+
+
+def below_zero(case):
+    number = number_of_git_alone(case)
+    return number is not None and number < 0
+
+
+def not_looked_up(case):
+    text = case.question.text.removeprefix(b":(optional)")
+    return text.startswith(b"~") and case.ours is not None and case.git is None
+
+
+OWN_CLASSES = [
+    Own("an int has 32 bits here, and 64 in Git", "int", beyond_an_int, [b"2147483648", b"-2147483649"]),
+    Own("a size is not below zero here", "size", below_zero, [b"-1", b"-1k"]),
+    Own("no home and no user is looked up here", "path", not_looked_up, [b"~no-such-user/x", b"~/x"]),
+]
+
+
+def by_hand(kind):
+    """The texts that the tables have for a kind, but for those that a file does not carry."""
+    shown = [text for own in OWN_CLASSES if own.kind == kind for text in own.shown]
+    known = shown + [value for value in made.VALUES_BY_KEY[b"test." + kind.encode()] if value is not None]
+    return [text for text in known if b"\0" not in text and (kind == "path" or b"\n" not in text)]
+
+
+def questions(draw, kind, asked):
+    """What Git is asked for a kind of rows: texts by hand, of the classes, and made by mutation."""
+    known = [one.text for each in classes.CLASSES for one in each.shown if one.kind == asked]
+    if asked == "path":
+        known += texts.PATH_TEXTS + texts.of_users(users())
+    made_of = asked if asked in texts.MADE else "number"
+    found = list(dict.fromkeys(known + by_hand(kind)))
+    found = texts.texts(draw, made_of, found, len(found) + TEXTS)
+    homes = HOMES if asked == "path" else [None]
+    return [Question(asked, text, home) for home in homes for text in found]
+
+
+def in_terms_of_git(asked, canonical):
+    """The value of a canonical text, as Git prints it; None where the text was reported."""
+    if canonical is None or asked == "path":
+        return canonical
+    if asked == "color":
+        return escape_code(canonical)
+    return b"%d" % amount(canonical) if asked != "bool" and amount(canonical) is not None else canonical
+
+
+def canonical_texts(program, how, key, values):
+    """The canonical text of each value, by what the program reports of them; None where it is wrong."""
+    data = b"".join(key + b"\n" + value + b"\0" for value in values)
+    found = list(values)
+    for line in program.run(how, data).output.splitlines():
+        number, _, _, reason = line.split(b"\t")
+        found[int(number) - 1] = reason.removeprefix(SHOULD_BE) if reason.startswith(SHOULD_BE) else None
+    return found
+
+
+def by_git(git, name, asked):
+    """The answers of Git to questions of one type and home: at once, or by halves where it refuses one."""
+    question = asked[0]
+    how = [f"--type={question.kind}", "--null", "--get-all"]
+    run = git.config(name, [one.text for one in asked], how, question.home)
+    *given, _ = run.stdout.split(b"\0")
+    if run.returncode == 0 and len(given) == len(asked):
+        return given
+    if len(asked) == 1:
+        return [None if run.returncode == REFUSED else NOT_SET]
+    half = len(asked) // 2
+    return by_git(git, name, asked[:half]) + by_git(git, name, asked[half:])
+
+
+def all_by_git(git, asked, ours):
+    """The answers of Git: what the program accepts in one file, and each other text in one of its own."""
+    parts = [[one] for one, text in zip(asked, ours) if text is None]
+    for home in HOMES:
+        accepted = [one for one, text in zip(asked, ours) if text is not None and one.home == home]
+        parts += [accepted] if accepted else []
+    with concurrent.futures.ThreadPoolExecutor() as pool:
+        answers = pool.map(by_git, [git] * len(parts), map(str, range(len(parts))), parts)
+        given = {one: answer for part, found in zip(parts, answers) for one, answer in zip(part, found)}
+    return [given[one] for one in asked]
+
+
+def differs(case):
+    """Paths are looked up by Git alone, so no more is compared of them than whether they are refused."""
+    if case.question.kind == "path":
+        return (case.ours is None) != (case.git is None)
+    return case.ours != case.git
+
+
+def classes_of(kind, case, running):
+    found = [one.name for one in classes.of(case) if classes.is_expected(one.when, running)]
+    return found + [own.name for own in OWN_CLASSES if own.kind == kind and own.rule(case)]
+
+
+def compare(group, program, draw, git):
+    """Asks both, and counts the differences by class."""
+    running = {"Git": git.version, "glibc": c_library()}
+    install = git.install()
+    how = arguments(program.settings(rows.SETTINGS), canonical=True)
+    seen = collections.defaultdict(list)
+    for kind, asked_type in KINDS:
+        asked = questions(draw, kind, asked_type)
+        group.expect("texts that a file does not carry", [], git.lost(sorted({one.text for one in asked})))
+        ours = canonical_texts(program, how, b"test." + kind.encode(), [one.text for one in asked])
+        for one, text, answer in zip(asked, ours, all_by_git(git, asked, ours)):
+            case = Case(one, user_of(one.text)[1], install, in_terms_of_git(asked_type, text), answer)
+            found = classes_of(kind, case, running) if differs(case) else None
+            group.expect((kind, case, found), True, found is None or len(found) == 1)
+            for name in found or []:
+                seen[name].append((kind, case))
+    for name, cases in seen.items():
+        kind, case = cases[0]
+        print(f"{len(cases):>7,} {name}: {case.question.text!r} as {kind}")
+    for own in OWN_CLASSES:
+        group.expect(own.name, True, bool(seen[own.name]))
+
+
+def check(group, program, draw):
+    with tempfile.TemporaryDirectory() as folder:
+        try:
+            git = Git("git", folder)
+        except Missing as missing:
+            group.skip("all", missing)
+            return
+        group.notes.append(git.said)
+        compare(group, program, draw, git)

@@ -1,0 +1,324 @@
+"""A second, plain reader of the input of config_check, from docs/CHECKING.md and docs/GRAMMAR.md alone.
+
+`findings` gives what the program has to write and its status. Nothing here is meant to be fast.
+"""
+import collections
+import re
+import sys
+
+BOOLEAN_FAULT = b"Booleans need to be 'no', 'off', 'false', '' or 'yes', 'on', 'true' or any number"
+INTEGER_FAULT = (b"Integers needs to be positive or negative numbers"
+                 b" which may have a suffix like 1k, 42, or 50G")
+OVERFLOW_FAULT = b"integer suffix multiplication overflows `i64`"
+COLOR_FAULT = b"Colors are specific color values and their attributes, like 'brightred', or 'blue'"
+
+# a key, cut at its first and at its last dot; where they are one dot, there is no middle
+Key = collections.namedtuple("Key", "first middle last")
+Row = collections.namedtuple("Row", "key kind words")
+
+# a number has any count of digits
+sys.set_int_max_str_digits(0)
+
+
+class Refused(Exception):
+    """A text that is wrong; it holds the reason."""
+
+
+class BadRow(Exception):
+    """A line that is no row; it holds the number of the line."""
+
+
+# numbers and booleans
+
+BITS_64 = range(-2 ** 63, 2 ** 63)
+BITS_32 = range(-2 ** 31, 2 ** 31)
+SIZES = range(0, 2 ** 63)
+INTEGER = re.compile(rb"([+-]?)(0[xX][0-9a-fA-F]+|0[bB][01]+|0[0-7]*|[1-9][0-9]*)([kKmMgG]?)")
+BASES = {b"0x": 16, b"0b": 2}
+FACTORS = {b"": 1, b"k": 2 ** 10, b"m": 2 ** 20, b"g": 2 ** 30}
+TRUE = [b"yes", b"on", b"true"]
+FALSE = [b"no", b"off", b"false", b""]
+
+
+def integer(text):
+    """The number of an integer text, and its suffix in lower case; None for any other text."""
+    match = INTEGER.fullmatch(text)
+    if match is None:
+        return None
+    sign, magnitude, suffix = match.groups()
+    base = BASES.get(magnitude[:2].lower(), 8 if magnitude.startswith(b"0") else 10)
+    number = int(sign + magnitude, base)
+    return (number, suffix.lower()) if number in BITS_64 else None
+
+
+def product(number, suffix):
+    return number * FACTORS[suffix]
+
+
+def boolean(text):
+    """What a boolean text means; None for any other text."""
+    if text.lower() in TRUE:
+        return True
+    if text.lower() in FALSE:
+        return False
+    found = integer(text)
+    return product(*found) != 0 if found is not None and product(*found) in BITS_64 else None
+
+
+def bool_shown(truth):
+    return b"true" if truth else b"false"
+
+
+def integer_shown(number, suffix):
+    return b"%d" % number + suffix
+
+
+# colors
+
+COLORS = [b"black", b"red", b"green", b"yellow", b"blue", b"magenta", b"cyan", b"white"]
+COLOR_WORDS = {b"normal", b"default", *COLORS, *(b"bright" + color for color in COLORS)}
+PALETTE = re.compile(rb"\+?([0-9]+)")
+SIX_DIGITS = re.compile(rb"#[0-9a-fA-F]{6}")
+THREE_DIGITS = re.compile(rb"#([0-9a-fA-F])([0-9a-fA-F])([0-9a-fA-F])")
+ATTRIBUTES = [b"bold", b"dim", b"italic", b"ul", b"blink", b"reverse", b"strike", b"reset",
+              b"nodim", b"nobold", b"noitalic", b"noul", b"noblink", b"noreverse", b"nostrike"]
+SPACES = [*range(0x09, 0x0E), 0x20, 0x85, 0xA0, 0x1680, *range(0x2000, 0x200B), 0x2028, 0x2029, 0x202F,
+          0x205F, 0x3000]
+SPACE = re.compile(b"|".join(chr(code).encode() for code in SPACES))
+
+
+def name(word):
+    """How a name of a color is displayed; None for any other word."""
+    if word.lower() in COLOR_WORDS:
+        return word.lower()
+    if word == b"-1":
+        return b"normal"
+    if PALETTE.fullmatch(word):
+        number = int(word)
+        return b"%d" % number if number <= 255 else None
+    if SIX_DIGITS.fullmatch(word):
+        return word.lower()
+    return THREE_DIGITS.sub(rb"#\1\1\2\2\3\3", word).lower() if THREE_DIGITS.fullmatch(word) else None
+
+
+def attribute(word):
+    """How an attribute is displayed; None for any other word."""
+    if word.lower() == b"reset":
+        return b"reset"
+    plain = b"no" + word[len(b"no-"):] if word.startswith(b"no-") else word
+    return plain if plain in ATTRIBUTES else None
+
+
+def color(text):
+    """How a color is displayed; None for a text that is no color."""
+    names, attributes = [], set()
+    for word in SPACE.split(text):
+        if name(word) is not None:
+            names.append(name(word))
+        elif attribute(word) is not None:
+            attributes.add(attribute(word))
+        elif word:
+            return None
+    known = [one for one in ATTRIBUTES if one in attributes]
+    return b" ".join(names + known) if len(names) <= 2 else None
+
+
+# the kinds: each takes the words of the row and a text, and gives the canonical text; or it refuses
+
+def of_bool(_, text):
+    if boolean(text) is None:
+        raise Refused(BOOLEAN_FAULT)
+    return bool_shown(boolean(text))
+
+
+def in_range(found, numbers):
+    """The canonical text of an integer whose product is one of these numbers."""
+    if product(*found) not in numbers:
+        raise Refused(b"out of range: not from %d to %d" % (numbers[0], numbers[-1]))
+    return integer_shown(*found)
+
+
+def of_integer(text, numbers):
+    found = integer(text)
+    if found is None:
+        raise Refused(INTEGER_FAULT)
+    if product(*found) not in BITS_64:
+        raise Refused(OVERFLOW_FAULT)
+    return in_range(found, numbers)
+
+
+def of_int(_, text):
+    return of_integer(text, BITS_32)
+
+
+def of_size(_, text):
+    return of_integer(text, SIZES)
+
+
+def of_bool_or_int(words, text):
+    found = integer(text)
+    if found is None or product(*found) not in BITS_64:
+        return of_bool(words, text)
+    return in_range(found, BITS_32)
+
+
+def of_color(_, text):
+    if color(text) is None:
+        raise Refused(COLOR_FAULT)
+    return color(text)
+
+
+def of_path(_, text):
+    """A path has no other spelling."""
+    if text.removeprefix(b":(optional)") == b"":
+        raise Refused(b"an empty path")
+    if not is_utf8(text):
+        raise Refused(b"a path of ill-formed UTF-8")
+    return text
+
+
+def is_utf8(text):
+    try:
+        text.decode()
+    except UnicodeDecodeError:
+        return False
+    return True
+
+
+def one_of(words, text):
+    """The first of the words that is this text, ASCII case aside; None if none is."""
+    return next((word for word in words if word.lower() == text.lower()), None)
+
+
+def of_word(words, text):
+    if text not in words:
+        raise Refused(b"none of: " + b", ".join(words))
+    return text
+
+
+def of_word_any_case(words, text):
+    if one_of(words, text) is None:
+        raise Refused(b"none of: " + b", ".join(words))
+    return one_of(words, text)
+
+
+def boolean_beside(words, text):
+    """The canonical text of a boolean that is none of the words."""
+    if boolean(text) is None:
+        raise Refused(b"no boolean, and none of: " + b", ".join(words))
+    return bool_shown(boolean(text))
+
+
+def of_bool_or_word(words, text):
+    return text if text in words else boolean_beside(words, text)
+
+
+def of_bool_or_word_any_case(words, text):
+    word = one_of(words, text)
+    return boolean_beside(words, text) if word is None else word
+
+
+KINDS = {b"bool": of_bool, b"int": of_int, b"size": of_size, b"bool-or-int": of_bool_or_int,
+         b"color": of_color, b"path": of_path, b"word": of_word, b"word-any-case": of_word_any_case,
+         b"bool-or-word": of_bool_or_word, b"bool-or-word-any-case": of_bool_or_word_any_case}
+WITH_WORDS = [b"word", b"word-any-case", b"bool-or-word", b"bool-or-word-any-case"]
+RIGHT_WITHOUT_VALUE = [b"bool", b"bool-or-int", b"bool-or-word", b"bool-or-word-any-case"]
+
+
+def reason(row, value, canonical):
+    """Why a value is reported, or None; the value is None where the entry has none."""
+    if value is None:
+        return None if row.kind in RIGHT_WITHOUT_VALUE else b"no value"
+    try:
+        spelling = KINDS[row.kind](row.words, value)
+    except Refused as refused:
+        return refused.args[0]
+    return b"should be " + spelling if canonical and spelling != value else None
+
+
+# rows and keys
+
+def key_of(text):
+    """The parts of a key; None where it has no dot."""
+    first, dot, rest = text.partition(b".")
+    middle, second_dot, last = rest.rpartition(b".")
+    return Key(first.lower(), middle if second_dot else None, last.lower()) if dot else None
+
+
+def row_of(line):
+    """The row that a line is; None where it is none."""
+    parts = line.split()
+    if len(parts) < 2:
+        return None
+    text, kind, *words = parts
+    key = key_of(text)
+    is_row = key is not None and kind in KINDS and bool(words) == (kind in WITH_WORDS)
+    return Row(key, kind, words) if is_row else None
+
+
+def rows_of(text):
+    """The rows of the text of a settings file."""
+    rows = []
+    for number, line in enumerate(text.split(b"\n"), 1):
+        if line and not line.startswith(b"#"):
+            if row_of(line) is None:
+                raise BadRow(number)
+            rows.append(row_of(line))
+    return rows
+
+
+def is_matched(pattern, key):
+    """Whether the key of a row stands for this key."""
+    is_any_middle = pattern.middle == b"*" and key.middle is not None
+    return (pattern.first == key.first and (is_any_middle or pattern.middle == key.middle)
+            and pattern.last in (b"*", key.last))
+
+
+def row_for(rows, text):
+    """The first row whose key matches, or None."""
+    key = key_of(text)
+    return next((row for row in rows if is_matched(row.key, key)), None) if key is not None else None
+
+
+# input and output
+
+UNSHOWN = re.compile("[\\\\\x00-\x1f\x7f-\x9f\udc80-\udcff]")
+
+
+def character_shown(match):
+    """A backslash, a control character, or a byte that is no part of well-formed UTF-8."""
+    if match[0] == "\\":
+        return "\\\\"
+    return "".join(f"\\x{byte:02x}" for byte in match[0].encode(errors="surrogateescape"))
+
+
+def shown(text):
+    """A text as it stands in a field of a finding."""
+    return UNSHOWN.sub(character_shown, text.decode(errors="surrogateescape")).encode()
+
+
+def entries(data, fields):
+    """The entries, each behind its fields, and whether something is cut off at the end."""
+    *ended, rest = data.split(b"\0")
+    texts = ended + [rest] if rest else ended
+    size = fields + 1
+    whole = len(texts) // size * size
+    return [texts[at:at + size] for at in range(0, whole, size)], bool(rest) or whole < len(texts)
+
+
+def findings(rows, data, scope=False, origin=False, canonical=False):
+    """The output, the line of counts, and the status for an input."""
+    found, is_cut_off = entries(data, scope + origin)
+    judged, lines = 0, []
+    for number, (*fields, entry) in enumerate(found, 1):
+        key, line_feed, value = entry.partition(b"\n")
+        row = row_for(rows, key)
+        if row is None:
+            continue
+        judged += 1
+        why = reason(row, value if line_feed else None, canonical)
+        if why is not None:
+            lines.append(b"\t".join([b"%d" % number, *map(shown, [*fields, key, value]), why]) + b"\n")
+    counts = len(found), judged, len(found) - judged, len(lines)
+    summary = b"config_check: %d entries, %d judged, %d unknown keys, %d findings" % counts
+    return b"".join(lines), summary, 2 if is_cut_off else 1 if lines else 0

@@ -1,0 +1,363 @@
+"""What config_check has to say of single entries, written by hand from docs/CHECKING.md.
+
+In the tables a value is None where the entry has none.
+"""
+from plain_reader import BOOLEAN_FAULT, COLOR_FAULT, INTEGER_FAULT, OVERFLOW_FAULT
+
+SETTINGS = b"""\
+# a key for each kind
+test.bool bool
+test.int\tint
+test.size \t size
+test.bool-or-int bool-or-int
+test.color color
+test.path path
+test.word word one Two three-3
+test.alone word alone
+test.word-any-case word-any-case one Two kilo
+test.bool-or-word bool-or-word always never auto
+test.bool-or-word-any-case bool-or-word-any-case always Never kilo
+
+# words that are boolean texts too
+both.bytes bool-or-word yes 1 auto
+both.any-case bool-or-word-any-case Yes 0X10 auto
+
+# keys
+Mixed.CASE int
+middle.*.last int
+middle.Exact.Other int
+middle.two.parts.other int
+empty..middle int
+any-last.* int
+any-last.sub.* int
+any-both.*.* int
+literal.a*.last int
+literal.last* int
+*.star int
+t\xc3\xa9st.\xc3\x9f int
+
+# the first row wins
+first.twice int
+first.twice bool
+first.* path
+first.later int
+first.sub.x bool
+first.*.x int
+first.*.* color
+"""
+
+NO_VALUE = b"no value"
+NO_INT = b"out of range: not from -2147483648 to 2147483647"
+NO_SIZE = b"out of range: not from 0 to 9223372036854775807"
+EMPTY_PATH = b"an empty path"
+ILL_FORMED_PATH = b"a path of ill-formed UTF-8"
+NO_WORD = b"none of: one, Two, three-3"
+NO_WORD_ANY_CASE = b"none of: one, Two, kilo"
+NO_BOOL_OR_WORD = b"no boolean, and none of: always, never, auto"
+NO_BOOL_OR_WORD_ANY_CASE = b"no boolean, and none of: always, Never, kilo"
+
+KELVIN = "\u212a".encode()  # its lower case is k
+LONG_S = "\u017f".encode()  # its upper case is S
+ARABIC_ONE = "\u0661".encode()
+NINES = b"9" * 5000
+ZEROS = b"0" * 5000
+
+WORDS = [b"yes", b"on", b"true", b"no", b"off", b"false", b"YES", b"oN", b"TrUe", b"NO", b"Off", b"FALSE",
+         b""]
+SMALL_NUMBERS = [b"0", b"1", b"-1", b"+1", b"+0", b"-0", b"00", b"010", b"-017", b"0x0", b"0X1f", b"0xFFk",
+                 b"0b0", b"0B101", b"+0b1m", b"1k", b"1K", b"-1m", b"1M", b"1g", b"1G", b"-2g", b"+0x0m",
+                 b"-0k", ZEROS, b"2147483647", b"-2147483648", b"0x7fffffff", b"-0x80000000", b"2097151k",
+                 b"-2097152k"]
+MIDDLE_NUMBERS = [b"2147483648", b"-2147483649", b"0x80000000", b"2g", b"3G", b"2097152k", b"-2097153k",
+                  b"9223372036854775807", b"-9223372036854775808", b"0x7fffffffffffffff",
+                  b"-0x8000000000000000", b"0777777777777777777777", b"8589934591g", b"-8589934592g",
+                  b"9007199254740991k", b"-9007199254740992k", b"-8796093022208m"]
+LARGE_PRODUCTS = [b"8589934592g", b"-8589934593g", b"9007199254740992k", b"-9007199254740993k",
+                  b"8796093022208m", b"9223372036854775807k", b"-9223372036854775808g",
+                  b"0x7fffffffffffffffG"]
+NO_NUMBERS = [b" 1", b"1 ", b"1 k", b"1kk", b"1kb", b"k", b"G", b"+", b"-", b"--1", b"+-1", b"-+1", b"08",
+              b"0o7", b"0x", b"0xg", b"0b", b"0b2", b"0x-1", b"0x1_0", b"1_0", b"1.5", b"1e3", b"1t", b"one",
+              b"0k0", NINES, b"1" + KELVIN, ARABIC_ONE, b"9223372036854775808", b"-9223372036854775809",
+              b"9223372036854775808k", b"0x8000000000000000", b"01000000000000000000000",
+              b"18446744073709551616", b"18446744073709551617"]
+NO_BOOLEANS = [b"maybe", b"y", b"n", b"t", b"tru", b"truee", b" yes", b"yes ", b" ", b"ye" + LONG_S,
+               b"fal" + LONG_S + b"e", b"null", b"none", b"enable"]
+NAMES = [b"black", b"red", b"green", b"yellow", b"blue", b"magenta", b"cyan", b"white", b"brightblack",
+         b"brightred", b"brightgreen", b"brightyellow", b"brightblue", b"brightmagenta", b"brightcyan",
+         b"brightwhite", b"normal", b"default", b"RED", b"BrightCyan", b"NORMAL", b"Default", b"-1", b"0",
+         b"00", b"7", b"+7", b"+007", b"255", b"00000255", ZEROS, b"#0a1B2c", b"#FFFFFF", b"#f1B"]
+ATTRIBUTES = [b"bold", b"dim", b"italic", b"ul", b"blink", b"reverse", b"strike", b"reset", b"Reset",
+              b"nobold", b"nodim", b"noitalic", b"noul", b"noblink", b"noreverse", b"nostrike", b"no-bold",
+              b"no-dim", b"no-italic", b"no-ul", b"no-blink", b"no-reverse", b"no-strike"]
+COLORS = [b"", b" ", b"   ", b"red blue", b"red bold blue", b"bold ul red", b"red red", b"normal -1",
+          b"default -1 bold", b"bold bold no-bold nobold", b"reset red", b" red ", b"0 255 bold",
+          b"#fff #000000", b"red\xe3\x80\x80blue", b"red\xe2\x80\x8abold", b"\xe1\x9a\x80red"]
+NO_COLORS = [b"re", b"redd", b"bright", b"bright red", b"brightnormal", b"brightdefault", b"brightbrightred",
+             b"lightred", b"256", b"+256", b"1000", b"00256", NINES, b"-2", b"-0", b"-01", b"+-1", b"+",
+             b"0x7", b"1k", b"#", b"#ff", b"#ffff", b"#fffff", b"#fffffff", b"#ggg", b"#gggggg", b"fff",
+             b"Bold", b"BOLD", b"No-ul", b"noreset", b"no-reset", b"no", b"no-", b"no-no-bold", b"nonobold",
+             b"red,blue", b"red blue green", b"-1 -1 -1", b"1 2 3", b"normal default red",
+             b"red bold blue ul green", b"red maybe", b"blac" + KELVIN, b"red\xe2\x80\x8bblue",
+             b"red\xef\xbb\xbf", b"red\xe1\xa0\x8eblue"]
+PATHS = [b"/x", b"x", b"x/y", b" ", b"~", b"~/", b"~/x", b"~no-such-user/x", b"%(prefix)/", b"%(prefix)/x",
+         b"\xc3\xa9", b":(optional)x", b":(optional) ", b":(optional):(optional)", b":(Optional)",
+         b":(optional", b"x:(optional)"]
+
+# key, and the values that are right
+ACCEPTED = [
+    (b"test.bool", [None, *WORDS, *SMALL_NUMBERS, *MIDDLE_NUMBERS]),
+    (b"test.int", SMALL_NUMBERS),
+    (b"test.size", [b"0", b"1", b"-0", b"+0", b"-0k", b"010", b"0x10k", b"0b1g", b"512m", b"2147483648",
+                    b"8589934591g", b"9223372036854775807", b"+9223372036854775807", b"0x7fffffffffffffff",
+                    ZEROS]),
+    (b"test.bool-or-int", [None, *WORDS, *SMALL_NUMBERS]),
+    (b"test.color", [*NAMES, *ATTRIBUTES, *COLORS]),
+    (b"test.path", PATHS),
+    (b"test.word", [b"one", b"Two", b"three-3"]),
+    (b"test.alone", [b"alone"]),
+    (b"test.word-any-case", [b"one", b"ONE", b"oNe", b"two", b"Two", b"TWO", b"kilo", b"KILO"]),
+    (b"test.bool-or-word", [None, b"always", b"never", b"auto", *WORDS, *SMALL_NUMBERS, *MIDDLE_NUMBERS]),
+    (b"test.bool-or-word-any-case", [None, b"always", b"ALWAYS", b"never", b"Never", b"KiLo", *WORDS,
+                                     *SMALL_NUMBERS]),
+    (b"both.bytes", [None, b"yes", b"YES", b"1", b"01", b"auto"]),
+    (b"both.any-case", [None, b"yes", b"YES", b"0x10", b"16", b"AUTO"]),
+]
+
+# key, the reason, and the values that have it
+REPORTED = [
+    (b"test.bool", BOOLEAN_FAULT, [*NO_BOOLEANS, *NO_NUMBERS, *LARGE_PRODUCTS]),
+    (b"test.int", NO_VALUE, [None]),
+    (b"test.int", INTEGER_FAULT, [*WORDS, *NO_BOOLEANS, *NO_NUMBERS]),
+    (b"test.int", OVERFLOW_FAULT, LARGE_PRODUCTS),
+    (b"test.int", NO_INT, MIDDLE_NUMBERS),
+    (b"test.size", NO_VALUE, [None]),
+    (b"test.size", INTEGER_FAULT, [*WORDS, *NO_BOOLEANS, *NO_NUMBERS]),
+    (b"test.size", OVERFLOW_FAULT, LARGE_PRODUCTS),
+    (b"test.size", NO_SIZE, [b"-1", b"-1k", b"-0b1", b"-9223372036854775808", b"-9007199254740992k",
+                             b"-8589934592g"]),
+    (b"test.bool-or-int", BOOLEAN_FAULT, [*NO_BOOLEANS, *NO_NUMBERS, *LARGE_PRODUCTS]),
+    (b"test.bool-or-int", NO_INT, MIDDLE_NUMBERS),
+    (b"test.color", NO_VALUE, [None]),
+    (b"test.color", COLOR_FAULT, NO_COLORS),
+    (b"test.path", NO_VALUE, [None]),
+    (b"test.path", EMPTY_PATH, [b"", b":(optional)"]),
+    (b"test.word", NO_VALUE, [None]),
+    (b"test.word", NO_WORD, [b"", b"ONE", b"two", b"on", b"onee", b"one ", b" one", b"one Two", b"one, Two",
+                             b"yes", b"1"]),
+    (b"test.alone", b"none of: alone", [b"", b"Alone", b"al"]),
+    (b"test.word-any-case", NO_VALUE, [None]),
+    (b"test.word-any-case", NO_WORD_ANY_CASE, [b"", b"tw", b"twoo", b"two ", b"yes", b"1", KELVIN + b"ilo"]),
+    (b"test.bool-or-word", NO_BOOL_OR_WORD,
+     [b"Always", b"NEVER", b"alway", b"alwayss", b" auto", *NO_BOOLEANS, *NO_NUMBERS, *LARGE_PRODUCTS]),
+    (b"test.bool-or-word-any-case", NO_BOOL_OR_WORD_ANY_CASE,
+     [b"alway", b"never ", KELVIN + b"ilo", *NO_BOOLEANS, *NO_NUMBERS, *LARGE_PRODUCTS]),
+    (b"both.bytes", b"no boolean, and none of: yes, 1, auto", [b"Auto", b"maybe"]),
+    (b"both.any-case", b"no boolean, and none of: Yes, 0X10, auto", [b"aut", b"maybe"]),
+]
+
+# key, and accepted values with their canonical texts
+SPELLINGS = [
+    (b"test.bool", {b"yes": b"true", b"on": b"true", b"True": b"true", b"1": b"true",
+                    b"-8589934592g": b"true", b"no": b"false", b"OFF": b"false",
+                    b"": b"false", b"0": b"false", b"0x0k": b"false"}),
+    (b"test.int", {b"0x10K": b"16k", b"+1": b"1", b"-0": b"0", b"00": b"0", b"-0K": b"0k", b"010": b"8",
+                   b"-0b11M": b"-3m", b"1G": b"1g", b"-0x80000000": b"-2147483648", ZEROS: b"0"}),
+    (b"test.size", {b"0x10K": b"16k", b"+512m": b"512m", b"-0": b"0", b"8589934591G": b"8589934591g",
+                    b"0x7fffffffffffffff": b"9223372036854775807"}),
+    (b"test.bool-or-int", {b"yes": b"true", b"No": b"false", b"": b"false", b"0x10K": b"16k", b"+1": b"1",
+                           b"00": b"0", b"-0g": b"0g"}),
+    (b"test.color", {b" ": b"", b"  red  ": b"red", b"RED": b"red", b"BrightBlue": b"brightblue",
+                     b"-1": b"normal", b"Default": b"default", b"+007": b"7", ZEROS: b"0",
+                     b"#fB1": b"#ffbb11", b"#ABCDEF": b"#abcdef", b"bold red": b"red bold",
+                     b"red  blue": b"red blue", b"red red bold bold": b"red red bold",
+                     b"ul bold": b"bold ul", b"no-bold no-dim": b"nodim nobold",
+                     b"-1 -1 ul": b"normal normal ul", b"blue\xe3\x80\x80red": b"blue red",
+                     b"nostrike reset RESET strike": b"strike reset nostrike"}),
+    (b"test.word-any-case", {b"ONE": b"one", b"two": b"Two", b"TWO": b"Two", b"Kilo": b"kilo"}),
+    (b"test.bool-or-word", {b"yes": b"true", b"": b"false", b"0x10": b"true", b"00": b"false"}),
+    (b"test.bool-or-word-any-case", {b"ALWAYS": b"always", b"never": b"Never", b"yes": b"true",
+                                     b"0": b"false", b"FALSE": b"false"}),
+    (b"both.bytes", {b"YES": b"true", b"on": b"true", b"01": b"true", b"0": b"false"}),
+    (b"both.any-case", {b"yes": b"Yes", b"YES": b"Yes", b"0x10": b"0X10", b"16": b"true", b"AUTO": b"auto"}),
+]
+
+# key, and the accepted values whose spelling is canonical, or that have no other
+CANONICAL = [
+    (b"test.bool", [None, b"true", b"false"]),
+    (b"test.int", [b"0", b"1", b"-1", b"16k", b"0k", b"-3m", b"1g", b"2147483647", b"-2147483648", b"1024",
+                   b"1024k"]),
+    (b"test.size", [b"0", b"512m", b"9223372036854775807", b"8589934591g"]),
+    (b"test.bool-or-int", [None, b"true", b"false", b"0", b"-1", b"16k"]),
+    (b"test.color", [b"", b"red", b"red blue", b"red red", b"red bold", b"bold ul", b"nodim nobold",
+                     b"normal", b"0", b"255", b"#ffbb11", b"strike reset nostrike",
+                     b"default normal bold dim italic ul blink reverse strike reset "
+                     b"nodim nobold noitalic noul noblink noreverse nostrike"]),
+    (b"test.path", [b"x", b"//x", b"~/x", b":(optional)x", b"x/../y"]),
+    (b"test.word", [b"one", b"Two"]),
+    (b"test.word-any-case", [b"one", b"Two", b"kilo"]),
+    (b"test.bool-or-word", [None, b"always", b"true", b"false"]),
+    (b"test.bool-or-word-any-case", [None, b"always", b"Never", b"true", b"false"]),
+    (b"both.bytes", [None, b"yes", b"1", b"auto", b"true", b"false"]),
+    (b"both.any-case", [None, b"Yes", b"0X10", b"auto", b"true", b"false"]),
+]
+
+# a value of the first kind of words, which is none of them, and how it is shown
+SHOWN = [
+    (b"a\tb", rb"a\x09b"), (b"a\nb", rb"a\x0ab"), (b"\n", rb"\x0a"), (b"a\n\nb\n", rb"a\x0a\x0ab\x0a"),
+    (b"a\rb", rb"a\x0db"), (b"\\", rb"\\"), (b"\\x41\\\\", rb"\\x41\\\\"), (b"\x01\x1f", rb"\x01\x1f"),
+    (b"\x1b[31m", rb"\x1b[31m"), (b" ", b" "), (b"\x7f", rb"\x7f"), (b"\xc2\x80", rb"\xc2\x80"),
+    (b"\xc2\x85", rb"\xc2\x85"), (b"\xc2\x9f", rb"\xc2\x9f"), (b"\xc2\xa0", b"\xc2\xa0"),
+    (b"\xef\xbb\xbfone", b"\xef\xbb\xbfone"), (b"\xe2\x80\xa8", b"\xe2\x80\xa8"),
+    (b"\xe2\x80\x8b", b"\xe2\x80\x8b"), (b"\xc3\xa9", b"\xc3\xa9"), (b"\xe2\x82\xac", b"\xe2\x82\xac"),
+    (b"\xf0\x9f\x98\x80", b"\xf0\x9f\x98\x80"), (b"\xef\xbf\xbf", b"\xef\xbf\xbf"),
+    (b"\xf4\x8f\xbf\xbf", b"\xf4\x8f\xbf\xbf"), (b"\xffa", rb"\xffa"), (b"a\xffb", rb"a\xffb"),
+    (b"a\xff", rb"a\xff"), (b"\x80", rb"\x80"), (b"a\xbfb", rb"a\xbfb"), (b"\xc3", rb"\xc3"),
+    (b"a\xc3b", rb"a\xc3b"), (b"\xe2\x82", rb"\xe2\x82"), (b"\xe2\x82b", rb"\xe2\x82b"),
+    (b"\xf0\x9f\x98", rb"\xf0\x9f\x98"), (b"\xf0\x9fa", rb"\xf0\x9fa"),
+    (b"\xe2\xe2\x82\xac", b"\\xe2\xe2\x82\xac"), (b"\xe2\x82\xac\x82", b"\xe2\x82\xac\\x82"),
+    (b"\xe2\xc3\xa9", b"\\xe2\xc3\xa9"), (b"\xe2\x82\xc2\x85", rb"\xe2\x82\xc2\x85"),
+    (b"\xc0\x80", rb"\xc0\x80"), (b"\xc1\xbf", rb"\xc1\xbf"), (b"\xe0\x9f\xbf", rb"\xe0\x9f\xbf"),
+    (b"\xe0\xa0\x80", b"\xe0\xa0\x80"), (b"\xed\x9f\xbf", b"\xed\x9f\xbf"),
+    (b"\xed\xa0\x80", rb"\xed\xa0\x80"), (b"\xed\xbf\xbf", rb"\xed\xbf\xbf"),
+    (b"\xf0\x8f\xbf\xbf", rb"\xf0\x8f\xbf\xbf"), (b"\xf0\x90\x80\x80", b"\xf0\x90\x80\x80"),
+    (b"\xf4\x90\x80\x80", rb"\xf4\x90\x80\x80"), (b"\xf5\x80\x80\x80", rb"\xf5\x80\x80\x80"),
+    (b"\xf8\x88\x80\x80\x80", rb"\xf8\x88\x80\x80\x80"),
+]
+
+# other values that are shown otherwise than they are: key, value, how it is shown, and the reason
+SHOWN_OF_KINDS = [
+    (b"test.bool", b"\t1", rb"\x091", BOOLEAN_FAULT),
+    (b"test.bool", b"yes\n", rb"yes\x0a", BOOLEAN_FAULT),
+    (b"test.int", b"\n1", rb"\x0a1", INTEGER_FAULT),
+    (b"test.int", b"1\r", rb"1\x0d", INTEGER_FAULT),
+    (b"test.color", b"red\x1cblue", rb"red\x1cblue", COLOR_FAULT),
+    (b"test.color", b"red\xc2blue", rb"red\xc2blue", COLOR_FAULT),
+    (b"test.color", b"red\xe2\x80", rb"red\xe2\x80", COLOR_FAULT),
+    (b"test.color", b"red\xa0blue", rb"red\xa0blue", COLOR_FAULT),
+    (b"test.path", b"\xff", rb"\xff", ILL_FORMED_PATH),
+    (b"test.path", b"x/\xe2\x82", rb"x/\xe2\x82", ILL_FORMED_PATH),
+    (b"test.path", b"~/\xed\xa0\x80", rb"~/\xed\xa0\x80", ILL_FORMED_PATH),
+    (b"test.path", b":(optional)\xff", rb":(optional)\xff", ILL_FORMED_PATH),
+    (b"test.path", b"%(prefix)/\xc0\x80\\", rb"%(prefix)/\xc0\x80\\", ILL_FORMED_PATH),
+]
+
+# values that are accepted though they are shown otherwise than they are
+UNSHOWN_ACCEPTED = [
+    (b"test.color", b"red\nblue"), (b"test.color", b"\n"), (b"test.color", b"\t\v\f\r \n"),
+    (b"test.color", b"red\xc2\x85bold"), (b"test.color", b"red\tblue"), (b"test.path", b"\n"),
+    (b"test.path", b"a\nb\tc\\"), (b"test.path", b"\x7f\xc2\x80"),
+]
+
+# keys of rows of integers, and how they are shown; keys that no row matches
+KNOWN_KEYS = [
+    (b"mixed.case", None), (b"MIXED.case", None), (b"mIxEd.cAsE", None), (b"TEST.INT", None),
+    (b"middle.x.last", None), (b"MIDDLE.x.LAST", None), (b"middle..last", None), (b"middle...last", None),
+    (b"middle.a.b.c.last", None), (b"middle.*.last", None), (b"middle.last.last", None),
+    (b"middle.\xff\t.last", rb"middle.\xff\x09.last"), (b"middle.a\\b.last", rb"middle.a\\b.last"),
+    (b"middle.\xc3\xa9 \"q\".last", b"middle.\xc3\xa9 \"q\".last"), (b"middle.Exact.other", None),
+    (b"Middle.Exact.OTHER", None), (b"middle.two.parts.other", None), (b"empty..middle", None),
+    (b"any-last.x", None), (b"any-last.*", None), (b"any-last.", None),
+    (b"ANY-LAST.\xff", rb"ANY-LAST.\xff"), (b"any-last.sub.x", None), (b"any-last.sub.", None),
+    (b"any-both.x.y", None), (b"any-both..", None), (b"any-both.a.b.c", None), (b"literal.a*.last", None),
+    (b"literal.last*", None), (b"*.star", None), (b"T\xc3\xa9ST.\xc3\x9f", None),
+]
+UNKNOWN_KEYS = [
+    b"", b".", b"..", b"test", b"int", b"test.", b".int", b"test.in", b"test.intt", b"tes.int", b"testt.int",
+    b"test.x.int", b"test..int", b"test.int.", b".test.int", b" test.int", b"test.int ", b"test int",
+    b"middle.last", b"middle.x.las", b"middle.exact.other", b"middle.EXACT.other", b"middle.Exact",
+    b"middle.Exact.", b"middle.two.other", b"middle.two.Parts.other", b"empty.middle", b"empty.x.middle",
+    b"empty...middle", b"any-last", b"any-last.x.y", b"any-last.SUB.x", b"any-last.sub.x.y", b"any-last..x",
+    b"any-both.y", b"literal.ab.last", b"literal.A*.last", b"literal.last-one", b"x.star",
+    b"t\xc3\x89st.\xc3\x9f", b"te" + LONG_S + b"t.int", b"\xff.\xff",
+]
+
+# which row decides: key, value, and the reason
+FIRST_ROWS = [
+    (b"first.twice", b"yes", INTEGER_FAULT), (b"first.twice", b"1", None), (b"first.later", b"yes", None),
+    (b"first.later", b"", EMPTY_PATH), (b"first.sub.x", b"red", BOOLEAN_FAULT),
+    (b"first.sub.x", b"yes", None), (b"first.Sub.x", b"yes", INTEGER_FAULT),
+    (b"first.sub.y", b"yes", COLOR_FAULT), (b"first.sub.y", b"red", None),
+]
+
+# rows of the program itself: key, value, and how the reason begins
+BUILT_IN = [
+    (b"core.bare", b"maybe", BOOLEAN_FAULT), (b"core.bare", b"true", None), (b"core.bare", None, None),
+    (b"CORE.Bare", b"2x", BOOLEAN_FAULT), (b"core.bigfilethreshold", b"lots", INTEGER_FAULT),
+    (b"core.bigFileThreshold", b"512m", None), (b"core.bigFileThreshold", None, NO_VALUE),
+    (b"core.bigFileThreshold", b"-1", b"out of range: not from 0 to "),
+    (b"push.default", b"everything", b"none of: "), (b"push.default", b"simple", None),
+    (b"push.default", b"nothing", None), (b"push.default", None, NO_VALUE),
+    (b"color.branch.local", b"purple", COLOR_FAULT), (b"color.branch.local", b"bold red", None),
+    (b"branch.x.rebase", b"maybe", b"no boolean, and none of: "), (b"branch.x.rebase", b"true", None),
+    (b"branch.a.b.rebase", b"interactive", None), (b"branch.x.rebase", None, None),
+    (b"core.excludesFile", b"", EMPTY_PATH), (b"core.excludesfile", b"~/x", None),
+    (b"core.excludesfile", None, NO_VALUE),
+]
+
+# rows that win over those of the program, and what they say: key, value, and the reason
+OWN_SETTINGS = b"core.bare int\npush.default color\nbranch.*.rebase size\n"
+OWN_ROWS = [
+    (b"core.bare", b"true", INTEGER_FAULT), (b"core.bare", b"1", None),
+    (b"push.default", b"simple", COLOR_FAULT), (b"push.default", b"bold", None),
+    (b"branch.x.rebase", b"true", INTEGER_FAULT), (b"branch.x.rebase", b"-1", NO_SIZE),
+    (b"color.branch.local", b"purple", COLOR_FAULT),
+]
+
+# texts of settings with a line that is no row, and the number of that line
+BAD_ROWS = [
+    (b"nodot bool\n", 1), (b"test.x\n", 1), (b"test.x \n", 1), (b"nodot\n", 1), (b"test.x,bool\n", 1),
+    (b"test.x boolean\n", 1), (b"test.x BOOL\n", 1), (b"test.x bool-or\n", 1), (b"test.x int,\n", 1),
+    (b"test.x bool yes\n", 1), (b"test.x int 1 2\n", 1), (b"test.x path path\n", 1), (b"test.x # bool\n", 1),
+    (b"test.x word\n", 1), (b"test.x word-any-case\n", 1), (b"test.x bool-or-word \n", 1),
+    (b"test.x bool-or-word-any-case\n", 1), (b"test.x bool\nnodot bool", 2),
+    (b"# first\n\ntest.x bool\n\ntest.y bool\ttrue\ntest.z none\n", 5),
+]
+
+# other texts of settings that are in order
+GOOD_ROWS = [b"", b"\n", b"\n\n", b"#\n", b"# nodot bool", b"#nodot bool\n\n", b"test.x bool",
+             b"test.x\t \tword  a\t\tb\n"]
+
+# inputs with a scope, an origin, both or none before each entry: the arguments, the input, the output, and
+# the numbers of entries, judged ones, unknown keys and findings
+FIELDS = [
+    ([], b"", b"", (0, 0, 0, 0)),
+    ([], b"\0", b"", (1, 0, 1, 0)),
+    ([], b"\0\0test.bool\0", b"", (3, 1, 2, 0)),
+    ([], b"test.int\0other.int\0test.int\n\0",
+     b"1\ttest.int\t\tno value\n3\ttest.int\t\t" + INTEGER_FAULT + b"\n", (3, 2, 1, 2)),
+    (["--show-scope"], b"local\0test.int\0global\0test.int\n1\0", b"1\tlocal\ttest.int\t\tno value\n",
+     (2, 2, 0, 1)),
+    (["--show-origin"], b"file:a\0test.int\0", b"1\tfile:a\ttest.int\t\tno value\n", (1, 1, 0, 1)),
+    (["--show-scope", "--show-origin"], b"local\0file:a\0test.int\0command\0command line:\0test.int\nx\0",
+     b"1\tlocal\tfile:a\ttest.int\t\tno value\n"
+     b"2\tcommand\tcommand line:\ttest.int\tx\t" + INTEGER_FAULT + b"\n", (2, 2, 0, 2)),
+    (["--show-origin", "--show-scope"], b"local\0file:a\0test.int\0",
+     b"1\tlocal\tfile:a\ttest.int\t\tno value\n", (1, 1, 0, 1)),
+    (["--show-scope", "--show-origin"], b"\0\0test.int\0", b"1\t\t\ttest.int\t\tno value\n", (1, 1, 0, 1)),
+    (["--show-scope", "--show-origin"], b"a\tb\n\0file:\\\xff\xc2\x85\xc3\xa9\0test.int\0",
+     b"1\ta\\x09b\\x0a\tfile:\\\\\\xff\\xc2\\x85\xc3\xa9\ttest.int\t\tno value\n", (1, 1, 0, 1)),
+    (["--show-scope"], b"test.int\0test.int\0", b"1\ttest.int\ttest.int\t\tno value\n", (1, 1, 0, 1)),
+    (["--show-scope"], b"test.int\0other.int\0", b"", (1, 0, 1, 0)),
+]
+
+# inputs that are cut off, as above
+CUT_OFF = [
+    ([], b"test.int", b"1\ttest.int\t\tno value\n", (1, 1, 0, 1)),
+    ([], b"test.int\n1", b"", (1, 1, 0, 0)),
+    ([], b"test.int\n", b"1\ttest.int\t\t" + INTEGER_FAULT + b"\n", (1, 1, 0, 1)),
+    ([], b"\0x", b"", (2, 0, 2, 0)),
+    (["--show-scope"], b"local", b"", (0, 0, 0, 0)),
+    (["--show-scope"], b"local\0", b"", (0, 0, 0, 0)),
+    (["--show-scope"], b"\0", b"", (0, 0, 0, 0)),
+    (["--show-scope"], b"local\0test.int", b"1\tlocal\ttest.int\t\tno value\n", (1, 1, 0, 1)),
+    (["--show-scope"], b"test.int\0test.int\0test.int", b"1\ttest.int\ttest.int\t\tno value\n",
+     (1, 1, 0, 1)),
+    (["--show-scope", "--show-origin"], b"local\0file:a\0", b"", (0, 0, 0, 0)),
+    (["--show-scope", "--show-origin"], b"local\0file:a", b"", (0, 0, 0, 0)),
+    (["--show-scope", "--show-origin"], b"a\0b\0test.int\0test.int\0", b"1\ta\tb\ttest.int\t\tno value\n",
+     (1, 1, 0, 1)),
+]
+
+# arguments that are wrong
+WRONG_ARGUMENTS = [["--no-such-argument"], ["-x"], ["input"], ["--settings"], ["--show-scope=maybe"],
+                   ["--canonical", "more"]]

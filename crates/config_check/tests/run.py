@@ -1,0 +1,67 @@
+#!/usr/bin/env python3
+"""The tests of the program config_check: python3 run.py PROGRAM [--seed N] [--inputs N]
+
+It prints what failed, a line for each group, the classes of differences from Git, and last
+'N passed, M failed'. The run is the same for the same seed and number of mutated entries.
+Without Git, what needs it says so and counts nothing.
+"""
+import argparse
+import random
+import sys
+import tempfile
+
+import by_hand
+import endings
+import git_types
+import inputs
+import repository
+from checking import Group, Program
+
+
+def groups(program, seed, count):
+    """The name of each group, and what runs it; each draws by itself, so that none changes another."""
+    def draw():
+        return random.Random(seed)
+
+    return [
+        ("rows, keys and arguments", lambda group: by_hand.check(group, program)),
+        ("inputs that are cut off", lambda group: inputs.cut(group, program)),
+        ("inputs that arrive in pieces", lambda group: inputs.pieces(group, program, draw())),
+        ("a repository", lambda group: repository.check(group, program)),
+        ("the types of Git", lambda group: git_types.check(group, program, draw())),
+        ("large inputs", lambda group: inputs.large(group, program, draw())),
+        ("mutated inputs", lambda group: inputs.mutated(group, program, draw(), count)),
+        ("closed and full outputs, and a terminal", lambda group: endings.check(group, program)),
+    ]
+
+
+def run_group(group, check):
+    """Runs a group; where its tests cannot go on, whatever the reason, one more has failed."""
+    try:
+        check(group)
+    except Exception as error:
+        group.failed += 1
+        print(f"{group.name}: broken off by {error!r}")
+    group.report()
+
+
+def main():
+    arguments = argparse.ArgumentParser()
+    arguments.add_argument("program")
+    arguments.add_argument("--seed", type=int, default=1)
+    arguments.add_argument("--inputs", type=int, default=100_000)
+    arguments = arguments.parse_args()
+    passed = failed = 0
+    with tempfile.TemporaryDirectory() as folder:
+        program = Program(arguments.program, folder)
+        for name, check in groups(program, arguments.seed, arguments.inputs):
+            group = Group(name)
+            run_group(group, check)
+            passed += group.passed
+            failed += group.failed
+    print(f"{passed} passed, {failed} failed")
+    return 1 if failed else 0
+
+
+if __name__ == "__main__":
+    sys.exit(main())

@@ -1,0 +1,212 @@
+-- A check, entry by entry.
+use Rattle.std.proofs.Common.{◌≡◌, ◌+◌, ◌≤◌, ℕ, List, [], ◌∷◌, ◌++◌, flat_map, true, false, Option, refl, sym, ap, subst, ◌∙◌, append_assoc, append-nil, arith, inl, inr, Result, Ok, Err, IfOk, IfErr}
+use Rattle.std.specs.Io.KnownBytes.{Consumes, Keeps}
+use Rattle.std.proofs.KnownBytes.{Consumes-nil, Consumes-trans, Appends-nil, Appends-trans, Appends-kept}
+use Rattle.std.proofs.lemmas.List.Elements.{All-append, All-cons}
+use Rattle.std.proofs.lemmas.Grind.{flat_map-append}
+use Rattle.std.specs.List.{All}
+use Rattle.config_checks.specs.declared.options.Options.{Options}
+use Rattle.config_checks.specs.declared.row.Row.{Row}
+use Rattle.config_checks.specs.declared.check.Counts.{Counts}
+use Rattle.config_checks.specs.declared.check.Summary.{Summary}
+use Rattle.config_checks.specs.declared.check.CheckError.{CheckError}
+use Rattle.config_checks.specs.declared.check.CheckError.TheVariants.{Read, Write, Memory}
+use Rattle.config_checks.specs.declared.entry.EntryEnd.TheVariants.{Nul, CutOff, CutBefore, Nothing}
+use Rattle.config_checks.specs.Entries.{Entry, IsEntry, IsCut, IsBegun, whole, cut_off, cut_before, entry_bytes}
+use Rattle.config_checks.specs.Report.{unknown, right, found, Report, nothing, next, Completes, Fails, WritesAfter, AreRead}
+use Rattle.config_checks.specs.Reading.Fields.{ReadsEntry, BreaksEntry}
+use Rattle.config_checks.specs.Reading.Steps.{SoFar, Judges, BreaksLine, IsNoRead}
+use Rattle.config_checks.proofs.EntryLemmas.{ends_both, without_none}
+
+module _ (rows : List Row) (options : Options) where
+  no_entries : All IsEntry []
+  no_entries k d below = absurd (omega arith)
+
+  -- nothing was read yet
+  pub start : (u w : Option (List ℕ)) → SoFar rows options u u w w (record { entries = 0; unknown = 0; findings = 0 })
+  start u w = record {
+    input = [];
+    output = [];
+    entries = [];
+    consumed = Consumes-nil u;
+    cut = record { joined = refl; each = no_entries };
+    appended = Appends-nil w;
+    report = nothing;
+  }
+
+  one_more : (entries : List Entry) (entry : Entry) → All IsEntry entries → IsEntry entry → All IsEntry (entries ++ entry ∷ [])
+  one_more entries entry each is = All-append IsEntry entries (entry ∷ []) each (All-cons IsEntry entry [] is no_entries)
+
+  joined_more : (input : List ℕ) (entries : List Entry) (entry : Entry) → input ≡ flat_map (entry_bytes options) entries ++ []
+      → input ++ entry_bytes options entry ≡ flat_map (entry_bytes options) (entries ++ entry ∷ []) ++ []
+  joined_more input entries entry joined =
+      let bytes = flat_map (entry_bytes options) in
+      ap (λ l. l ++ entry_bytes options entry) (joined ∙ append-nil (bytes entries))
+      ∙ sym (append-nil (bytes (entries ++ entry ∷ [])) ∙ flat_map-append (entry_bytes options) entries (entry ∷ [])
+      ∙ ap (λ l. bytes entries ++ l) (append-nil (entry_bytes options entry)))
+
+  -- one more entry
+  pub more : (u v v' w x x' : Option (List ℕ)) (entry : Entry) (s s' : Counts) → SoFar rows options u v w x s
+      → ReadsEntry options v v' entry Nul → Judges rows options entry s s' x x' → SoFar rows options u v' w x' s'
+  more u v v' w x x' entry s s' so_far read judged = record {
+    input = so_far.input ++ entry_bytes options entry;
+    output = so_far.output ++ judged.line;
+    entries = so_far.entries ++ entry ∷ [];
+    consumed = Consumes-trans u v v' _ _ so_far.consumed read.0;
+    cut = record { joined = joined_more so_far.input so_far.entries entry so_far.cut.joined; each = one_more so_far.entries entry so_far.cut.each read.1 };
+    appended = Appends-trans w x x' _ _ so_far.appended judged.appended;
+    report = next so_far.entries so_far.output s entry judged.key judged.value judged.line s' so_far.report judged.setting judged.adds;
+  }
+
+  -- what was read so far, and then a rest
+  with_rest : (input : List ℕ) (entries : List Entry) (rest : List ℕ) → IsCut options input entries [] → IsCut options (input ++ rest) entries rest
+  with_rest input entries rest cut = record {
+    joined = ap (λ l. l ++ rest) (cut.joined ∙ append-nil (flat_map (entry_bytes options) entries));
+    each = cut.each;
+  }
+
+  -- ---- the input has ended
+
+  pub ends_whole : (u v v' w x x' : Option (List ℕ)) (entry : Entry) (s : Counts) (r : Summary) → SoFar rows options u v w x s
+      → ReadsEntry options v v' entry Nothing → Keeps x x' → r.counts ≡ s → r.is_cut_off ≡ false → Completes rows options u v' w x' r
+  ends_whole u v v' w x x' entry s r so_far read kept counts is = record {
+    input = so_far.input ++ [];
+    output = so_far.output;
+    entries = so_far.entries;
+    consumed = Consumes-trans u v v' _ _ so_far.consumed read.0;
+    at_end = ends_both u v v' so_far.input so_far.consumed read.1;
+    appended = Appends-kept w x x' _ so_far.appended kept;
+    whole = whole (with_rest so_far.input so_far.entries [] so_far.cut) is;
+    report = rw counts so_far.report;
+  }
+
+  pub ends_before : (u v v' w x x' : Option (List ℕ)) (entry : Entry) (s : Counts) (r : Summary) → SoFar rows options u v w x s
+      → ReadsEntry options v v' entry CutBefore → Keeps x x' → r.counts ≡ s → r.is_cut_off ≡ true → Completes rows options u v' w x' r
+  ends_before u v v' w x x' entry s r so_far read kept counts is = record {
+    input = so_far.input ++ read.0;
+    output = so_far.output;
+    entries = so_far.entries;
+    consumed = Consumes-trans u v v' _ _ so_far.consumed read.1;
+    at_end = ends_both u v v' so_far.input so_far.consumed read.2;
+    appended = Appends-kept w x x' _ so_far.appended kept;
+    whole = cut_before read.0 (with_rest so_far.input so_far.entries read.0 so_far.cut) read.3 is;
+    report = rw counts so_far.report;
+  }
+
+  pub ends_cut_off : (u v v' w x x' x'' : Option (List ℕ)) (entry : Entry) (s s' : Counts) (r : Summary) → SoFar rows options u v w x s
+      → ReadsEntry options v v' entry CutOff → Judges rows options entry s s' x x' → Keeps x' x'' → r.counts ≡ s' → r.is_cut_off ≡ true
+      → Completes rows options u v' w x'' r
+  ends_cut_off u v v' w x x' x'' entry s s' r so_far read judged kept counts is = record {
+    input = so_far.input ++ read.0;
+    output = so_far.output ++ judged.line;
+    entries = so_far.entries ++ entry ∷ [];
+    consumed = Consumes-trans u v v' _ _ so_far.consumed read.1;
+    at_end = ends_both u v v' so_far.input so_far.consumed read.2;
+    appended = Appends-kept w x' x'' _ (Appends-trans w x x' _ _ so_far.appended judged.appended) kept;
+    whole = cut_off so_far.entries entry read.0 (with_rest so_far.input so_far.entries read.0 so_far.cut) read.3 refl is;
+    report = rw counts (next so_far.entries so_far.output s entry judged.key judged.value judged.line s' so_far.report judged.setting judged.adds);
+  }
+
+  -- ---- something failed
+
+  written_after : (e : CheckError) (entries : List Entry) (output missing : List ℕ) (s : Counts) → IsNoRead e
+      → Report rows options entries (output ++ missing) s → WritesAfter e rows options entries output
+  written_after (Read e) entries output missing s no_read report = absurd no_read
+  written_after (Write e) entries output missing s no_read report = record { s = s; missing = missing; report = report }
+  written_after (Memory e) entries output missing s no_read report = record { s = s; missing = missing; report = report }
+
+  -- a flush, at the end of the input
+  pub fails_at_end : (u v w x : Option (List ℕ)) (r : Summary) (e : CheckError) → Completes rows options u v w x r → IsNoRead e
+      → Fails rows options u v w x e
+  fails_at_end u v w x r e complete no_read = record {
+    input = complete.input;
+    output = complete.output;
+    entries = complete.entries;
+    consumed = complete.consumed;
+    appended = complete.appended;
+    read = inr (r.is_cut_off, complete.whole);
+    written = written_after e complete.entries complete.output [] r.counts no_read
+        (subst (λ l. Report rows options complete.entries l r.counts) (sym (append-nil complete.output)) complete.report);
+  }
+
+  -- a read
+  pub fails_reading : (u v v' w x : Option (List ℕ)) (s : Counts) (e : CheckError) → SoFar rows options u v w x s → BreaksEntry options v v'
+      → ¬ (IsNoRead e) → Fails rows options u v' w x e
+  fails_reading u v v' w x s (Write e) so_far broken read = absurd (read tt)
+  fails_reading u v v' w x s (Memory e) so_far broken read = absurd (read tt)
+  fails_reading u v v' w x s (Read e) so_far broken read = record {
+    input = so_far.input ++ broken.0;
+    output = so_far.output;
+    entries = so_far.entries;
+    consumed = Consumes-trans u v v' _ _ so_far.consumed broken.1;
+    appended = so_far.appended;
+    read = inl (broken.0, with_rest so_far.input so_far.entries broken.0 so_far.cut, broken.2);
+    written = (s, so_far.report);
+  }
+
+  -- nothing of one more entry was read
+  nothing_begun : IsBegun options []
+  nothing_begun = record {
+    entry = record { scope = []; origin = []; setting = [] };
+    is_entry = record { scope = without_none; origin = without_none; setting = without_none };
+    missing = entry_bytes options (record { scope = []; origin = []; setting = [] });
+    parts = refl;
+  }
+
+  pub breaks_nowhere : (v : Option (List ℕ)) → BreaksEntry options v v
+  breaks_nowhere v = ([], Consumes-nil v, nothing_begun)
+
+  -- the line of an entry
+  module _ (u v v' w x x' : Option (List ℕ)) (entry : Entry) (s : Counts) (e : CheckError) (so_far : SoFar rows options u v w x s)
+      (broken : BreaksLine rows options entry s x x') (no_read : IsNoRead e) where
+    begun : Report rows options (so_far.entries ++ entry ∷ []) ((so_far.output ++ broken.part.written) ++ broken.part.missing) broken.after
+    begun =
+        let all = ap (λ l. so_far.output ++ l) broken.part.parts ∙ sym (append_assoc so_far.output broken.part.written broken.part.missing) in
+        subst (λ l. Report rows options (so_far.entries ++ entry ∷ []) l broken.after) all
+        (next so_far.entries so_far.output s entry broken.key broken.value broken.line broken.after so_far.report broken.setting broken.adds)
+
+    fails_writing : (rest : List ℕ) → Consumes v v' rest → AreRead options (so_far.input ++ rest) (so_far.entries ++ entry ∷ [])
+        → Fails rows options u v' w x' e
+    fails_writing rest consumed read = record {
+      input = so_far.input ++ rest;
+      output = so_far.output ++ broken.part.written;
+      entries = so_far.entries ++ entry ∷ [];
+      consumed = Consumes-trans u v v' _ _ so_far.consumed consumed;
+      appended = Appends-trans w x x' _ _ so_far.appended broken.part.appended;
+      read = read;
+      written = written_after e (so_far.entries ++ entry ∷ []) (so_far.output ++ broken.part.written) broken.part.missing broken.after no_read begun;
+    }
+
+    pub fails_whole : ReadsEntry options v v' entry Nul → Fails rows options u v' w x' e
+    fails_whole read = fails_writing (entry_bytes options entry) read.0 (inl (
+      [],
+      record {
+        joined = joined_more so_far.input so_far.entries entry so_far.cut.joined;
+        each = one_more so_far.entries entry so_far.cut.each read.1;
+      },
+      nothing_begun,
+    ))
+
+    pub fails_cut_off : ReadsEntry options v v' entry CutOff → Fails rows options u v' w x' e
+    fails_cut_off read = fails_writing read.0 read.1
+        (inr (true, cut_off so_far.entries entry read.0 (with_rest so_far.input so_far.entries read.0 so_far.cut) read.3 refl refl))
+
+-- ---- counts
+
+pub adds_one : (rows : List Row) (options : Options) (entry : Entry) (s s' : Counts) (x x' : Option (List ℕ)) → Judges rows options entry s s' x x'
+    → (s'.entries ≡ s.entries + 1) × (s'.unknown ≤ s.unknown + 1) × (s'.findings ≤ s.findings + 1)
+adds_one rows options entry s s' x x' judged = elim judged.adds [
+  | unknown is none after ↦ rw after (refl, omega arith, omega arith)
+  | right row decides is none after ↦ rw after (refl, omega arith, omega arith)
+  | found row reason decides is line after ↦ rw after (refl, omega arith, omega arith)
+]
+
+-- ---- results
+
+pub ok_from : {T E : Type 0} {P Q R : T → Type 0} (r : Result T E) → IfOk r P → IfOk r Q → ((v : T) → P v → Q v → R v) → IfOk r R
+ok_from (Ok v) p q so = so v p q
+ok_from (Err e) p q so = tt
+
+pub err_from : {T E : Type 0} {P R : E → Type 0} (r : Result T E) → IfErr r P → ((e : E) → P e → R e) → IfErr r R
+err_from (Ok v) p so = tt
+err_from (Err e) p so = so e p

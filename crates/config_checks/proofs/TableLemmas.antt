@@ -1,0 +1,60 @@
+-- Texts split at bytes that pass a test.
+use Rattle.std.proofs.Common.{◌≡◌, ◌≢◌, ◌<◌, ◌≤◌, ◌+◌, ◌-◌, ◌==◌, ◌++◌, suc, length-append, subst, eqb-true, ℕ, List, [], ◌∷◌, Bool, true, false, length, take, drop, get_or, refl, sym, ap, ◌∙◌, arith}
+use Rattle.std.specs.List.{slice_split, position_or_len, before_first, after_first}
+use Rattle.std.proofs.lemmas.List.Elements.{All-from_get_or}
+use Rattle.std.proofs.lemmas.List.Splits.{slice_split_none, slice_split_first}
+use Rattle.std.proofs.lemmas.List.Sums.{position_or_len_is}
+use Rattle.config_checks.specs.declared.row.Row.{Row}
+use Rattle.config_checks.specs.Keys.{IsWithout}
+use Rattle.config_checks.specs.Rows.{lines_of, AddsRow, AddsRows, nothing, next}
+use Rattle.config_checks.proofs.WriteLemmas.{take_rest}
+
+-- the first byte that passes stands at this place
+pub split_at : (test : ℕ → Bool) (t : List ℕ) (at : ℕ) → at < length t → test (get_or t at 0) ≡ true
+    → ((k : ℕ) → k < at → test (get_or t k 0) ≡ false)
+    → slice_split test t ≡ take at t ∷ slice_split test (take (length t - (at + 1)) (drop (at + 1) t))
+split_at test t at inside here before =
+    let place : position_or_len test t ≡ at = position_or_len_is test t at 0 (omega (arith, inside)) (λ k below. before k below) (λ _. here) in
+    let within : position_or_len test t < length t = omega (arith, place, inside) in
+    let front : take at t ≡ before_first test t = ap (λ n. take n t) (sym place) in
+    let behind : take (length t - (at + 1)) (drop (at + 1) t) ≡ after_first test t = take_rest (at + 1) t ∙ ap (λ n. drop (n + 1) t) (sym place) in
+    rw (front, behind) (slice_split_first test t 0 within)
+
+-- no byte passes
+pub split_nowhere : (test : ℕ → Bool) (t : List ℕ) → ((k : ℕ) → k < length t → test (get_or t k 0) ≡ false) → slice_split test t ≡ t ∷ []
+split_nowhere test t none = slice_split_none test t (All-from_get_or (λ b. test b ≡ false) t 0 none)
+
+-- ---- lines and their rows
+
+not_that : (a b : ℕ) → a ≢ b → (a == b) ≡ false
+not_that a b differs = told (a == b) refl where
+  told : (same : Bool) → (a == b) ≡ same → (a == b) ≡ false
+  told true is = absurd (differs (eqb-true a b is))
+  told false is = is
+
+-- a text that is cut at its first LF
+line_cut : (front rest : List ℕ) → IsWithout 10 front → lines_of (front ++ 10 ∷ rest) ≡ front ∷ lines_of rest
+line_cut [] rest none = refl
+line_cut (b ∷ bs) rest none =
+    rw (not_that b 10 (none 0 0 (omega arith)), line_cut bs rest (λ k d below. none (suc k) d (omega arith))) refl
+
+line_alone : (t : List ℕ) → IsWithout 10 t → lines_of t ≡ t ∷ []
+line_alone t none = split_nowhere (λ b. b == 10) t (λ k below. not_that (get_or t k 0) 10 (none k 0 below))
+
+-- the rows of the rest are the last ones of the text
+abbrev pub SoFar : List ℕ → List ℕ → List Row → List Row → Type 0
+SoFar text rest before rows = (after : List Row) → AddsRows (lines_of rest) rows after → AddsRows (lines_of text) before after
+
+pub more_lines : (text rest line tail : List ℕ) (before rows rows' : List Row) → rest ≡ line ++ 10 ∷ tail → IsWithout 10 line
+    → SoFar text rest before rows → AddsRow line rows rows' → SoFar text tail before rows'
+more_lines text rest line tail before rows rows' parts none so_far adds after later =
+    so_far after (subst (λ lines. AddsRows lines rows after) (sym (ap lines_of parts ∙ line_cut line tail none))
+    (next line (lines_of tail) rows rows' after adds later))
+
+pub last_line : (text rest : List ℕ) (before rows rows' : List Row) → IsWithout 10 rest → SoFar text rest before rows → AddsRow rest rows rows'
+    → AddsRows (lines_of text) before rows'
+last_line text rest before rows rows' none so_far adds =
+    so_far rows' (subst (λ lines. AddsRows lines rows rows') (sym (line_alone rest none)) (next rest [] rows rows' rows' adds (nothing rows')))
+
+pub shorter_tail : (rest line tail : List ℕ) → rest ≡ line ++ 10 ∷ tail → length tail + 1 ≤ length rest
+shorter_tail rest line tail parts = rw parts (omega (arith, length-append {A = ℕ}))

@@ -1,0 +1,103 @@
+-- The line of a finding.
+use Rattle.std.specs.Prelude.{ℕ, zero, suc, ◌+◌, ◌-◌, ◌/◌, ◌%◌, ◌==◌, ◌&&◌, ◌||◌, nat_lt, List, [], ◌∷◌, ◌++◌, take, flat_map, codes, Bool, true, false, Option, None, Some, if◌then◌else◌}
+use denote.Ref.{Bor}
+use Rattle.bstr.specs.Utf8.{decoded}
+use Rattle.config_text.specs.declared.errors.Fault.{Fault}
+use Rattle.config_text.specs.declared.errors.Fault.TheVariants as faults
+use Rattle.config_checks.specs.declared.kind.SettingKind.{SettingKind}
+use Rattle.config_checks.specs.declared.kind.SettingKind.TheVariants as kinds
+use Rattle.config_checks.specs.declared.reason.Reason.{Reason}
+use Rattle.config_checks.specs.declared.reason.Reason.TheVariants.{NoValue, Refused, OutOfRange, EmptyPath, IllFormedPath, NoWord, NotCanonical, OtherCase}
+
+-- ---- texts shown safely
+
+abbrev pub backslash : ℕ
+backslash = 0x5C
+
+-- a hexadecimal digit
+abbrev pub digit : ℕ → ℕ
+digit d = if nat_lt d 10 then 0x30 + d else 0x57 + d
+
+-- `\x` and two digits
+abbrev pub hex : ℕ → List ℕ
+hex b = backslash ∷ 0x78 ∷ digit (b / 16) ∷ digit (b % 16) ∷ []
+
+-- U+0000 to U+001F, and U+007F to U+009F
+abbrev pub is_control : ℕ → Bool
+is_control c = nat_lt c 0x20 || (nat_lt 0x7E c && nat_lt c 0xA0)
+
+-- the bytes of a character, if they are one: a control character and what is no character byte by byte, a backslash twice
+abbrev pub piece_shown : Option ℕ → List ℕ → List ℕ
+piece_shown None bytes = flat_map hex bytes
+piece_shown (Some c) bytes =
+    if is_control c then flat_map hex bytes
+    else if c == backslash then backslash ∷ backslash ∷ []
+    else bytes
+
+-- past the first n bytes
+unfoldable pub shown_past : ℕ → List ℕ → List ℕ
+shown_past n [] = []
+shown_past (suc n) (b ∷ bs) = shown_past n bs
+shown_past zero (b ∷ bs) =
+    let piece = decoded (b ∷ bs) in
+    piece_shown piece.char (take piece.size (b ∷ bs)) ++ shown_past (piece.size - 1) bs
+
+abbrev pub shown : List ℕ → List ℕ
+shown = shown_past 0
+
+-- ---- the text of a reason
+
+abbrev pub fault_text : Fault → List ℕ
+fault_text faults.Boolean = codes "Booleans need to be 'no', 'off', 'false', '' or 'yes', 'on', 'true' or any number"
+fault_text faults.Integer = codes "Integers needs to be positive or negative numbers which may have a suffix like 1k, 42, or 50G"
+fault_text faults.Overflow = codes "integer suffix multiplication overflows `i64`"
+fault_text faults.OutOfRange = codes "integer is out of range"
+fault_text faults.Color = codes "Colors are specific color values and their attributes, like 'brightred', or 'blue'"
+
+abbrev pub range_text : SettingKind → List ℕ
+range_text kinds.Size = codes "out of range: not from 0 to 9223372036854775807"
+range_text _ = codes "out of range: not from -2147483648 to 2147483647"
+
+-- words with `, ` before each
+abbrev pub listed : List (Bor (List ℕ)) → List ℕ
+listed words = flat_map (λ word. codes ", " ++ shown word.now) words
+
+-- words with `, ` between them
+abbrev pub words_text : List (Bor (List ℕ)) → List ℕ
+words_text [] = []
+words_text (word ∷ words) = shown word.now ++ listed words
+
+abbrev pub no_word_text : SettingKind → List ℕ
+no_word_text (kinds.Word list) =
+    (if list.or_bool then codes "no boolean, and none of: " else codes "none of: ") ++ words_text list.words.items
+no_word_text _ = []
+
+abbrev pub reason_text : SettingKind → Reason → List ℕ
+reason_text kind NoValue = codes "no value"
+reason_text kind (Refused fault) = fault_text fault
+reason_text kind OutOfRange = range_text kind
+reason_text kind EmptyPath = codes "an empty path"
+reason_text kind IllFormedPath = codes "a path of ill-formed UTF-8"
+reason_text kind NoWord = no_word_text kind
+reason_text kind (NotCanonical canonical) = codes "should be " ++ canonical.bytes
+reason_text kind (OtherCase word) = codes "should be " ++ shown word.now
+
+-- ---- the line
+
+abbrev pub tab : ℕ
+tab = 9
+
+-- a field that may not be there, with the tab before it
+abbrev pub field : Option (List ℕ) → List ℕ
+field None = []
+field (Some t) = tab ∷ shown t
+
+-- a value, and nothing where there is none
+abbrev pub value_shown : Option (List ℕ) → List ℕ
+value_shown None = []
+value_shown (Some t) = shown t
+
+-- in red, where colors are wanted
+abbrev pub painted : Bool → List ℕ → List ℕ
+painted true t = (0x1B ∷ codes "[31m") ++ t ++ (0x1B ∷ codes "[m")
+painted false t = t

@@ -1,0 +1,7 @@
+pub mod Keys
+pub mod Reasons
+pub mod Rows
+pub mod Findings
+pub mod Entries
+pub mod Report
+pub mod Reading

@@ -1,0 +1,58 @@
+-- How far a check has come.
+use Rattle.std.specs.Prelude.{◌≡◌, ℕ, ◌+◌, ◌^◌, ◌<◌, ◌≤◌, List, [], ◌++◌, Option}
+use Rattle.std.specs.Io.KnownBytes.{Consumes, Appends}
+use Rattle.config_checks.specs.declared.options.Options.{Options}
+use Rattle.config_checks.specs.declared.row.Row.{Row}
+use Rattle.config_checks.specs.declared.check.Counts.{Counts}
+use Rattle.config_checks.specs.declared.check.CheckError.{CheckError}
+use Rattle.config_checks.specs.declared.check.CheckError.TheVariants.{Read, Write, Memory}
+use Rattle.config_checks.specs.Entries.{Entry, IsCut, IsSetting}
+use Rattle.config_checks.specs.Report.{Adds, Report}
+
+-- some of the bytes were written
+pub record WritesPart (held holds : Option (List ℕ)) (bytes : List ℕ) : Type 0 where
+  pub written : List ℕ
+  pub missing : List ℕ
+  pub appended : Appends held holds written
+  pub parts : bytes ≡ written ++ missing
+
+-- each count fits, and leaves room for one more
+pub record HasRoom (s : Counts) : Type 0 where
+  pub entries : s.entries + 1 < 2 ^ 64
+  pub unknown : s.unknown ≤ s.entries
+  pub findings : s.findings ≤ s.entries
+
+-- an entry was judged, and its line written
+pub record Judges (rows : List Row) (options : Options) (entry : Entry) (s s' : Counts) (held holds : Option (List ℕ)) : Type 0 where
+  pub key : List ℕ
+  pub value : Option (List ℕ)
+  pub line : List ℕ
+  pub setting : IsSetting entry.setting key value
+  pub adds : Adds rows options entry key value s line s'
+  pub appended : Appends held holds line
+
+-- an entry was judged, and of its line some bytes were written
+pub record BreaksLine (rows : List Row) (options : Options) (entry : Entry) (s : Counts) (held holds : Option (List ℕ)) : Type 0 where
+  pub key : List ℕ
+  pub value : Option (List ℕ)
+  pub line : List ℕ
+  pub after : Counts
+  pub setting : IsSetting entry.setting key value
+  pub adds : Adds rows options entry key value s line after
+  pub part : WritesPart held holds line
+
+-- no fault of reading
+abbrev pub IsNoRead : CheckError → Type 0
+IsNoRead (Read e) = ⊥
+IsNoRead (Write e) = Unit {0}
+IsNoRead (Memory e) = Unit {0}
+
+-- the entries that were read so far, and their lines, which were written
+pub record SoFar (rows : List Row) (options : Options) (unread left held holds : Option (List ℕ)) (s : Counts) : Type 0 where
+  pub input : List ℕ
+  pub output : List ℕ
+  pub entries : List Entry
+  pub consumed : Consumes unread left input
+  pub cut : IsCut options input entries []
+  pub appended : Appends held holds output
+  pub report : Report rows options entries output s

@@ -1,0 +1,91 @@
+-- Rows: what each setting has to be.
+use Rattle.std.specs.Prelude.{◌≡◌, ◌≢◌, ◌⊎◌, ℕ, ◌<◌, ◌==◌, ◌||◌, Bool, true, false, List, [], ◌∷◌, ◌++◌, length, take, map, flat_map, codes, Option, None, Some, slice_index_or, All}
+use Rattle.std.specs.List.{slice_split}
+use Rattle.config_checks.specs.declared.key.Key.{Key}
+use Rattle.config_checks.specs.declared.row.Row.{Row}
+use Rattle.config_checks.specs.declared.kind.SettingKind.{SettingKind}
+use Rattle.config_checks.specs.declared.kind.SettingKind.TheVariants as kinds
+use Rattle.config_checks.specs.Keys.{IsKey, Covers}
+
+-- no row covers the key
+abbrev pub CoversNone : List Row → Key → Type 0
+CoversNone rows key = All (λ row. ¬ (Covers row.key key)) rows
+
+-- the first row that covers the key of this text
+pub record Decides (rows : List Row) (t : List ℕ) (row : Row) : Type 0 where
+  pub key : Key
+  pub is_key : IsKey t key
+  pub place : ℕ
+  pub inside : place < length rows
+  pub stands : slice_index_or rows place row ≡ row
+  pub covers : Covers row.key key
+  pub first : CoversNone (take place rows) key
+
+-- the text is no key, or no row covers it
+abbrev pub IsUnknown : List Row → List ℕ → Type 0
+IsUnknown rows t = ((key : Key) → ¬ (IsKey t key)) ⊎ ((key : Key) × IsKey t key × CoversNone rows key)
+
+-- ---- how rows are written
+
+-- a space, a tab, or the CR before an LF
+abbrev pub is_blank : ℕ → Bool
+is_blank b = (b == 32) || (b == 9) || (b == 13)
+
+-- a field, if something stands in it
+abbrev pub field_if_some : List ℕ → List (List ℕ)
+field_if_some [] = []
+field_if_some (b ∷ bs) = (b ∷ bs) ∷ []
+
+-- the fields of a line: what stands between blanks
+abbrev pub fields_of : List ℕ → List (List ℕ)
+fields_of line = flat_map field_if_some (slice_split is_blank line)
+
+-- nothing, or a comment
+abbrev pub IsNoRow : List (List ℕ) → Type 0
+IsNoRow [] = Unit {0}
+IsNoRow (field ∷ fields) = (rest : List ℕ) × (field ≡ codes "#" ++ rest)
+
+-- the name of a kind without words
+abbrev pub plain_name : SettingKind → Option (List ℕ)
+plain_name kinds.Bool = Some (codes "bool")
+plain_name kinds.Int = Some (codes "int")
+plain_name kinds.Size = Some (codes "size")
+plain_name kinds.BoolOrInt = Some (codes "bool-or-int")
+plain_name kinds.Color = Some (codes "color")
+plain_name kinds.Path = Some (codes "path")
+plain_name (kinds.Word list) = None
+
+-- the name of a kind of words
+abbrev pub words_name : (ignores_case or_bool : Bool) → List ℕ
+words_name false false = codes "word"
+words_name true false = codes "word-any-case"
+words_name false true = codes "bool-or-word"
+words_name true true = codes "bool-or-word-any-case"
+
+-- the kind of this name and these words
+abbrev pub IsKind : List ℕ → List (List ℕ) → SettingKind → Type 0
+IsKind name words (kinds.Word list) = (words_name list.ignores_case list.or_bool ≡ name) × (words ≢ []) × (map (λ word. word.now) list.words.items ≡ words)
+IsKind name words kind = (plain_name kind ≡ Some name) × (words ≡ [])
+
+-- a key, the name of a kind, and words
+pub record IsRow (fields : List (List ℕ)) (row : Row) : Type 0 where
+  pub key : List ℕ
+  pub name : List ℕ
+  pub words : List (List ℕ)
+  pub parts : fields ≡ key ∷ name ∷ words
+  pub is_key : IsKey key row.key
+  pub is_kind : IsKind name words row.kind
+
+-- the lines of a text
+abbrev pub lines_of : List ℕ → List (List ℕ)
+lines_of text = slice_split (λ b. b == 10) text
+
+-- one more line: it is no row, or adds one
+abbrev pub AddsRow : List ℕ → List Row → List Row → Type 0
+AddsRow line rows rows' = (IsNoRow (fields_of line) × (rows' ≡ rows)) ⊎ ((row : Row) × IsRow (fields_of line) row × (rows' ≡ rows ++ row ∷ []))
+
+-- these lines, in order
+pub data AddsRows : List (List ℕ) → List Row → List Row → Type 0 where
+  nothing : (rows : List Row) → AddsRows [] rows rows
+  next : (line : List ℕ) (lines : List (List ℕ)) (rows rows' rows'' : List Row) → AddsRow line rows rows' → AddsRows lines rows' rows''
+      → AddsRows (line ∷ lines) rows rows''

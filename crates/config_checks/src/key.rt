@@ -1,0 +1,94 @@
+//! Keys of settings, and the keys of rows that cover them.
+ghost use Rattle.std.specs.Prelude.{◌≡◌, ◌↔◌, ◌++◌, ◌∷◌, IsTrue, MatchOption, IfSome};
+ghost use Rattle.config_text.specs.SameWord.{SameWord};
+ghost use Rattle.config_checks.specs.Keys.{IsWithout, IsKey, CoversBetween, Covers};
+ghost use Rattle.config_checks.specs.declared.key.Key as key;
+
+use bstr::ByteSlice;
+
+/// What covers any text in the key of a row.
+const ANY: &[u8] = b"*";
+
+/// The key of a setting, as `core.bare` or `branch.main.rebase`, or of a row, as `branch.*.rebase`.
+#[derive(Clone, Copy)]
+pub struct Key<'k> {
+    /// What stands before the first dot.
+    pub section: &'k [u8],
+    /// What stands between the first dot and the last, where these are two.
+    pub between: Option<&'k [u8]>,
+    /// What stands behind the last dot.
+    pub last: &'k [u8],
+}
+
+/// What stands before the first place of a byte, and what follows it.
+pub(crate) fn cut_first(text: &[u8], byte: u8) -> Option<(&[u8], &[u8])>
+    ensures parts { MatchOption result (IsWithout byte text.now)
+        (λ cut. text.now ≡ cut.0.now ++ byte ∷ cut.1.now) }
+    ensures first { IfSome result (λ cut. IsWithout byte cut.0.now) }
+{
+    match text.find_byte(byte) {
+        Some(at) => Some((&text[..at], &text[at + 1..])),
+        None => None,
+    }
+}
+
+/// What stands before the last place of a byte, and what follows it.
+fn cut_last(text: &[u8], byte: u8) -> Option<(&[u8], &[u8])>
+    ensures parts { MatchOption result (IsWithout byte text.now)
+        (λ cut. text.now ≡ cut.0.now ++ byte ∷ cut.1.now) }
+    ensures last { IfSome result (λ cut. IsWithout byte cut.1.now) }
+{
+    match text.rfind_byte(byte) {
+        Some(at) => Some((&text[..at], &text[at + 1..])),
+        None => None,
+    }
+}
+
+/// Whether a text of a row is one text, ignoring ASCII case.
+pub(crate) fn is_same_word(row: &[u8], text: &[u8]) -> bool
+    ensures { IsTrue result ↔ SameWord row.now text.now }
+{
+    row.eq_ignore_ascii_case(text)
+}
+
+/// Whether what a row has between its dots covers what a key has there.
+fn covers_between(row: Option<&[u8]>, between: Option<&[u8]>) -> bool
+    ensures { IsTrue result ↔ CoversBetween row.entry between.entry }
+{
+    match (row, between) {
+        (None, None) => true,
+        (Some(row), Some(between)) => row == ANY || row == between,
+        _ => false,
+    }
+}
+
+impl<'k> Key<'k> {
+    /// The key that a text is, or `None` where no dot stands in it.
+    pub fn parse(text: &'k [u8]) -> Option<Key<'k>>
+        ensures { MatchOption result ((k : key.Key) → ¬ (IsKey text.now k)) (IsKey text.now) }
+    {
+        let (section, rest) = cut_first(text, b'.')?;
+        match cut_last(rest, b'.') {
+            Some((between, last)) => Some(Key {
+                section,
+                between: Some(between),
+                last,
+            }),
+            None => Some(Key {
+                section,
+                between: None,
+                last: rest,
+            }),
+        }
+    }
+
+    /// Whether this key of a row covers a key. Sections and last parts are compared ignoring ASCII case, and what stands
+    /// between them by bytes. `*` covers any text between the dots, and any last part.
+    pub fn covers(&self, key: &Key<'_>) -> bool
+        ensures { IsTrue result ↔ Covers self.now key.now }
+    {
+        is_same_word(self.section, key.section)
+            && covers_between(self.between, key.between)
+            && (self.last == ANY || is_same_word(self.last, key.last))
+    }
+}

@@ -1,0 +1,74 @@
+//! What a row demands of a setting.
+ghost use Rattle.std.specs.Prelude.{◌≡◌, ◌↔◌, IsTrue, MatchOption};
+ghost use Rattle.config_checks.specs.Reasons.{IsWord, IsNoWord, IsFirstWord, takes_true};
+
+use crate::key::is_same_word;
+
+/// The words that a setting may be.
+#[derive(Drop)]
+pub struct WordList<'t> {
+    /// The words.
+    pub words: Vec<&'t [u8]>,
+    /// Whether ASCII case makes no difference.
+    pub ignores_case: bool,
+    /// Whether boolean texts are taken too.
+    pub or_bool: bool,
+}
+
+/// What a row demands of a setting.
+#[derive(Drop)]
+pub enum SettingKind<'t> {
+    /// A boolean text, or no value, which Git reads as true.
+    Bool,
+    /// An integer text whose product lies within 32 bits.
+    Int,
+    /// An integer text whose product lies from 0 to 2^63-1.
+    Size,
+    /// An integer text whose product lies within 32 bits, a boolean word, or no value.
+    BoolOrInt,
+    /// A color text.
+    Color,
+    /// A path that is not empty and UTF-8, behind the mark `:(optional)` where one stands.
+    Path,
+    /// A word of the list, or what else the list takes.
+    Word(WordList<'t>),
+}
+
+impl<'t> WordList<'t> {
+    /// Whether a text is this word of the list.
+    fn is_word(&self, word: &[u8], text: &[u8]) -> bool
+        ensures { IsTrue result ↔ IsWord self.now text.now word.entry }
+    {
+        if self.ignores_case {
+            is_same_word(word, text)
+        } else {
+            word == text
+        }
+    }
+
+    /// The first word of the list that a text is.
+    pub fn find(&self, text: &[u8]) -> Option<&'t [u8]>
+        ensures { MatchOption result (IsNoWord self.now text.now self.now.words.items)
+            (IsFirstWord self.now text.now) }
+    {
+        for word in &self.words {
+            if self.is_word(word, text) {
+                return Some(word);
+            }
+        }
+        None
+    }
+}
+
+impl SettingKind<'_> {
+    /// Whether a setting with no value is right: Git reads it as true.
+    pub fn takes_true(&self) -> bool
+        ensures { result ≡ takes_true self.now }
+    {
+        match self {
+            SettingKind::Bool | SettingKind::BoolOrInt => true,
+            SettingKind::Word(list) => list.or_bool,
+            _ => false,
+        }
+    }
+}

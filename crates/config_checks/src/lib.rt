@@ -1,0 +1,13 @@
+//! What is wrong in the settings that Git would read.
+#![tactic(auto)]
+
+pub mod check;
+mod entry;
+pub mod finding;
+pub mod git;
+pub mod key;
+pub mod kind;
+pub mod options;
+pub mod reason;
+pub mod row;
+pub mod table;
