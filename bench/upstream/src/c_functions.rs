@@ -6,6 +6,7 @@ use gix_config_value::integer::Suffix;
 use gix_config_value::path::interpolate::Context;
 use gix_config_value::{Boolean, Color, Integer, Path};
 use std::fmt::{self, Display, Write};
+use std::hint::black_box;
 use std::os::unix::ffi::OsStrExt;
 use std::path::PathBuf;
 
@@ -241,9 +242,20 @@ pub unsafe extern "C" fn up_normalize(
     }
 }
 
-/// The lookup of `up_interpolate`.
-fn alice_at_home(name: &str) -> Option<PathBuf> {
-    (name == "alice").then(|| PathBuf::from("/home/alice"))
+/// The passwd text that `up_interpolate` looks users up in.
+static PASSWD: &str = "alice:x:1000:1000::/home/alice:/bin/sh\n";
+
+/// The lookup of `up_interpolate`: the home of the user's line in the passwd text, which is read anew each time.
+fn home_in_passwd(name: &str) -> Option<PathBuf> {
+    black_box(PASSWD).lines().find_map(|line| {
+        let mut fields = line.split(':');
+        if fields.next() != Some(name) {
+            return None;
+        }
+        let home = fields.nth(4)?;
+        let _shell = fields.next()?;
+        fields.next().is_none().then(|| PathBuf::from(home))
+    })
 }
 
 #[unsafe(no_mangle)]
@@ -252,7 +264,7 @@ pub unsafe extern "C" fn up_interpolate(text: *const u8, length: usize, path: *m
     let interpolated = value.interpolate(Context {
         git_install_dir: Some("/usr/lib/git".as_ref()),
         home_dir: Some("/home/bob".as_ref()),
-        home_for_user: Some(alice_at_home),
+        home_for_user: Some(home_in_passwd),
     });
     let Ok(interpolated) = interpolated else {
         return usize::MAX;

@@ -2,3 +2,4 @@ pub mod Path
 pub mod Passwd
 pub mod Interpolation
 pub mod Laws
+pub mod Parts

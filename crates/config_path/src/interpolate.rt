@@ -1,17 +1,14 @@
 //! The directories that stand in a path value for `%(prefix)`, `~` and `~user`.
-ghost use Rattle.std.specs.Prelude.{◌≡◌, ◌≢◌, ◌≤◌, ◌<◌, ◌++◌, ℕ, List, [], ◌∷◌, length, Option, None, Some, IsUtf8, MatchOption, MatchResult, IfSome, option_copied, string_bytes};
+ghost use Rattle.std.specs.Prelude.{◌≡◌, ◌≢◌, ◌<◌, [], ◌∷◌, length, None, Some, IsUtf8, MatchOption, MatchResult, IfSome, option_copied, string_bytes};
 ghost use Rattle.std.specs.Option.{ForSome};
-ghost use Rattle.config_path.specs.Interpolation.{Interpolated, LooksUp, IsOneName, below, join, IsIllFormed, GivesBelow, GivesBelowGiven, GivesBelowUser, GivesValue, place_shown, class_of};
+ghost use Rattle.config_path.specs.Interpolation.{Interpolated, LooksUp, place_shown, class_of};
+ghost use Rattle.config_path.specs.Parts.{parts_text, IsMadeOf};
 ghost use Rattle.config_path.specs.Passwd.{colon, pieces, home_of_fields, home_in};
 
-use crate::path::past;
-use bstr::ByteSlice;
+use crate::parts::{Parts, parts_of};
 use std::alloc::{AllocError, Global};
 use std::fmt;
 use thiserror::Error as ThisError;
-
-/// What a value begins with where it refers to the install directory.
-const PREFIX: &[u8] = b"%(prefix)/";
 
 /// What a path value may refer to.
 #[derive(Clone, Copy)]
@@ -138,134 +135,29 @@ impl<'a, F> Default for Context<'a, F> {
     }
 }
 
-/// The bytes as text. Fails with `IllFormed`, which holds the place and all the bytes.
-fn text_at<'p>(place: Place, bytes: &'p [u8]) -> Result<&'p str, Error<'p>>
+/// The text of the parts, in one allocation. Fails only if memory runs out, and never where it is empty.
+fn concatenated(alloc: Global, parts: Parts<'_, '_>) -> Result<String, AllocError>
     ensures { MatchResult result
-        (λ text. (text.now ≡ bytes.now) × IsUtf8 bytes.now)
-        (λ e. ¬ (IsUtf8 bytes.now) × IsIllFormed place bytes.now e) }
+        (λ whole. string_bytes whole ≡ parts_text parts.entry)
+        (λ _. parts_text parts.entry ≢ []) }
 {
-    match str::from_utf8(bytes) {
-        Ok(text) => Ok(text),
-        Err(_) => Err(Error::IllFormed {
-            place,
-            input: bytes,
-        }),
-    }
-}
-
-/// Three texts as one, in one allocation. Fails only if memory runs out, and never where all three
-/// are empty.
-fn concatenated(alloc: Global, first: &str, second: &str, third: &str) -> Result<String, AllocError>
-    requires { length second.now ≤ 1 }
-    ensures { MatchResult result
-        (λ whole. string_bytes whole ≡ first.now ++ second.now ++ third.now)
-        (λ _. first.now ++ second.now ++ third.now ≢ []) }
-{
-    let mut whole = String::with_capacity(alloc, first.len() + second.len() + third.len())?;
-    whole.push_str(first)?;
-    whole.push_str(second)?;
-    whole.push_str(third)?;
+    let slash = parts.slash();
+    let length = parts.dir.len() + slash.len() + parts.rest.len();
+    let mut whole = String::with_capacity(alloc, length)?;
+    whole.push_str(parts.dir)?;
+    whole.push_str(slash)?;
+    whole.push_str(parts.rest)?;
     Ok(whole)
 }
 
-/// A directory and a rest as one path. Fails only if memory runs out, and never where that path is
-/// empty.
-fn joined(alloc: Global, dir: &str, rest: &str) -> Result<String, AllocError>
-    ensures { MatchResult result
-        (λ path. string_bytes path ≡ join dir.now rest.now)
-        (λ _. join dir.now rest.now ≢ []) }
+/// The parts as one text, or the same refusal.
+fn made<'p>(alloc: Global, parts: Result<Parts<'_, 'p>, Error<'p>>) -> Result<String, Error<'p>>
+    ensures { IsMadeOf parts.entry result }
 {
-    if rest.as_bytes().starts_with(b"/") {
-        return concatenated(alloc, "", "", rest);
-    }
-    if dir.is_empty() || dir.as_bytes().ends_with(b"/") {
-        return concatenated(alloc, dir, "", rest);
-    }
-    concatenated(alloc, dir, "/", rest)
-}
-
-/// The text as an answer, or `Memory`.
-fn answer<'p>(text: Result<String, AllocError>) -> Result<String, Error<'p>>
-    ensures { MatchResult text (λ s. result ≡ Ok s) (λ e. result ≡ Err (Error.Memory e)) }
-{
-    match text {
+    match concatenated(alloc, parts?) {
         Ok(text) => Ok(text),
         Err(e) => Err(Error::Memory(e)),
     }
-}
-
-/// The directory, or the directory and the rest joined. Fails with `IllFormed` at the place where
-/// the rest is not UTF-8, and else only with `Memory`.
-fn below_dir<'p>(
-    alloc: Global,
-    place: Place,
-    dir: &str,
-    rest: Option<&'p [u8]>,
-) -> Result<String, Error<'p>>
-    ensures { GivesBelow place dir.now (option_copied rest.entry) result }
-{
-    match rest {
-        None => answer(concatenated(alloc, dir, "", "")),
-        Some(rest) => answer(joined(alloc, dir, text_at(place, rest)?)),
-    }
-}
-
-/// The same below a directory that may be missing: then it fails with `missing`.
-fn below_given<'p>(
-    alloc: Global,
-    missing: Error<'p>,
-    place: Place,
-    dir: Option<&str>,
-    rest: Option<&'p [u8]>,
-) -> Result<String, Error<'p>>
-    ensures { GivesBelowGiven missing.entry place (option_copied dir.entry)
-        (option_copied rest.entry) result }
-{
-    match dir {
-        None => Err(missing),
-        Some(dir) => below_dir(alloc, place, dir, rest),
-    }
-}
-
-/// The same below the directory that the lookup answers for the name.
-fn below_user<'p, 'a, F>(
-    alloc: Global,
-    lookup: Option<F>,
-    name: &'p [u8],
-    rest: Option<&'p [u8]>,
-) -> Result<String, Error<'p>>
-where
-    F: FnOnce(&str) -> Option<&'a str> + Drop,
-    requires { ForSome lookup (λ f. (name : _) → IsUtf8 name.now → F.pre f name) }
-    ensures { GivesBelowUser (LooksUp F.FnOnce) lookup name.now
-        (option_copied rest.entry) result }
-{
-    let Some(lookup) = lookup else {
-        return Err(Error::LookupMissing);
-    };
-    let name = text_at(Place::Username, name)?;
-    match lookup(name) {
-        None => Err(Error::UserNotFound),
-        Some(dir) => below_dir(alloc, Place::PastUser, dir, rest),
-    }
-}
-
-/// What stands before the first `/`, or all, and what follows that `/`, where there is one.
-fn name_and_rest(path: &[u8]) -> (&[u8], Option<&[u8]>)
-    ensures whole { path.now ≡ below result.0.now (option_copied result.1) }
-    ensures name { IsOneName result.0.now }
-{
-    match path.find_byte(b'/') {
-        None => (path, None),
-        Some(at) => (&path[..at], Some(&path[at + 1..])),
-    }
-}
-
-/// The value itself. Fails with `IllFormed` where it is not UTF-8, and else only with `Memory`.
-fn unchanged<'p>(alloc: Global, value: &'p [u8]) -> Result<String, Error<'p>>
-    ensures { GivesValue value.now result }
-{
-    answer(concatenated(alloc, text_at(Place::Whole, value)?, "", ""))
 }
 
 /// The value with what it refers to: what `Path::interpolate` answers for a path of these bytes.
@@ -279,31 +171,7 @@ where
     requires { ForSome context.home_for_user (λ f. (name : _) → IsUtf8 name.now → F.pre f name) }
     ensures { Interpolated (LooksUp F.FnOnce) context.entry value.now result }
 {
-    let Context {
-        git_install_dir,
-        home_dir,
-        home_for_user,
-    } = context;
-    if value.is_empty() {
-        return Err(Error::PathMissing);
-    }
-    if let Some(rest) = past(value, PREFIX) {
-        return below_given(
-            alloc,
-            Error::InstallDirMissing,
-            Place::PastPrefix,
-            git_install_dir,
-            Some(rest),
-        );
-    }
-    let Some(path) = past(value, b"~") else {
-        return unchanged(alloc, value);
-    };
-    let (name, rest) = name_and_rest(path);
-    if name.is_empty() {
-        return below_given(alloc, Error::HomeMissing, Place::PastHome, home_dir, rest);
-    }
-    below_user(alloc, home_for_user, name, rest)
+    made(alloc, parts_of(value, context))
 }
 
 /// The piece before the first separator and what follows it, or `None` where the text holds no
@@ -323,6 +191,9 @@ fn home_in_line<'a>(line: &'a str, name: &str) -> Option<&'a str>
     ensures { option_copied result ≡ home_of_fields name.now (pieces colon line.now) }
 {
     let (user, rest) = split_piece(line, ':')?;
+    if user != name {
+        return None;
+    }
     let (_password, rest) = split_piece(rest, ':')?;
     let (_id, rest) = split_piece(rest, ':')?;
     let (_group, rest) = split_piece(rest, ':')?;
@@ -330,7 +201,7 @@ fn home_in_line<'a>(line: &'a str, name: &str) -> Option<&'a str>
     let (home, shell) = split_piece(rest, ':')?;
     match split_piece(shell, ':') {
         Some(_) => None,
-        None => (user == name).then_some(home),
+        None => Some(home),
     }
 }
 

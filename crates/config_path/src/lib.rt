@@ -10,6 +10,8 @@
 //! for users; for one there is [`interpolate::home_for_user`], which reads the text of a passwd
 //! file.
 //!
+//! [`parts`] answers the same in parts that are borrowed, for callers that have a buffer of their own.
+//!
 //! What fails says why: [`interpolate::Error`], by [`interpolate::Class`]. Results are allocated,
 //! so each call that makes one takes the allocator.
 //!
@@ -19,4 +21,5 @@
 
 pub mod interpolate;
 pub mod laws;
+pub mod parts;
 pub mod path;

@@ -46,7 +46,7 @@ enum {
     GCV_NOT_UTF8 = 11,      /* a directory or the passwd text is no UTF-8 */
     GCV_BAD_LENGTHS = 12,   /* the lengths are not those of names and texts that fill the bytes */
     GCV_SHORT_BUFFER = 13,  /* the buffer is shorter than the text */
-    GCV_NO_MEMORY = 14      /* memory was refused */
+    GCV_NO_MEMORY = 14      /* memory was refused, or a path stands for more than there can be */
 };
 
 /* The kinds of values. */
@@ -418,8 +418,8 @@ static inline void gcv_cut_mark(const char *text, size_t length, uint32_t *optio
  * directory, and ~user for the home directory of that user in the passwd text.
  *
  * GCV_REFUSED where it stands for nothing: `*fault` is one of the faults of paths, and is as it was after any other answer.
- * GCV_NOT_UTF8 where a text of the context is no UTF-8. The call takes memory from malloc for the path and for what it stands
- * for, and gives it back before it ends; GCV_NO_MEMORY where it is refused. */
+ * GCV_NOT_UTF8 where a text of the context is no UTF-8. The call takes no memory; GCV_NO_MEMORY where what the path stands for
+ * is longer than PTRDIFF_MAX. */
 static inline gcv_status gcv_interpolate(const char *text, size_t length, const gcv_context *context, char *buffer,
                                          size_t capacity, size_t *size, uint32_t *fault)
 {

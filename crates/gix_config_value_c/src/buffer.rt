@@ -1,4 +1,5 @@
 //! Texts that are written into the caller's memory.
+ghost use Rattle.std.specs.Prelude.{◌≡◌, ℕ, ◌+◌, ◌≤◌, ◌++◌, length as list_length, take, drop};
 ghost use Rattle.gix_config_value_c.specs.Buffers.{PutsText};
 
 use crate::status::{OK, SHORT_BUFFER};
@@ -14,4 +15,17 @@ pub(crate) fn put(text: &[u8], buffer: &mut [u8], length: &mut usize) -> u32
     }
     buffer[..text.len()].copy_from_slice(text);
     OK
+}
+
+/// Writes a text into the buffer behind its first bytes, for which there must be room. Answers where the text ends.
+#[inline(always)]
+pub(crate) fn push(text: &[u8], buffer: &mut [u8], at: usize) -> usize
+    requires { at + list_length text.now ≤ list_length buffer.old }
+    ensures end { result ≡ at + list_length text.now }
+    ensures front { take result buffer.new ≡ take at buffer.old ++ text.now }
+    ensures behind { (n : ℕ) → result ≤ n → drop n buffer.new ≡ drop n buffer.old }
+{
+    let end = at + text.len();
+    buffer[at..end].copy_from_slice(text);
+    end
 }

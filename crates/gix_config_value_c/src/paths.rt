@@ -1,19 +1,25 @@
 //! Path values: the mark of an optional path, and the directories that a path refers to.
-ghost use Rattle.std.specs.Prelude.{MatchResult, option_copied, Some, None};
-ghost use Rattle.bstr.specs.Owned.{bstring_bytes};
+ghost use Rattle.std.specs.Prelude.{◌≡◌, ℕ, ◌≤◌, ◌<◌, Bool, List, MatchResult, Result, IsUtf8, option_copied, Some, None, length as text_length};
+ghost use Rattle.std.specs.declared.string.String.{String};
+ghost use Rattle.std.specs.declared.alloc.Global.{Global};
+ghost use Rattle.config_path.specs.declared.interpolate.Error.{Error};
+ghost use Rattle.config_path.specs.Parts.{parts_text, IsMadeOf, Makes};
+ghost use Rattle.gix_config_value.specs.Path.{Marked};
+ghost use Rattle.gix_config_value_c.specs.Buffers.{AnswersText};
 ghost use Rattle.gix_config_value_c.specs.Paths.{CutsMark, IsGiven, IsBad, InterpolatedIn, PutsPath, InterpolatesInto};
 
-use crate::buffer::put;
+use crate::buffer::push;
 use crate::faults::path_fault_number;
 use crate::numbers::flag_of;
-use crate::status::{BAD_FLAG, NO_MEMORY, NOT_UTF8, REFUSED};
-use bstr::BStr;
-use gix_config_value::Path;
+use crate::status::{BAD_FLAG, NO_MEMORY, NOT_UTF8, OK, REFUSED, SHORT_BUFFER};
+use config_path::parts::{Parts, parts_of};
 use gix_config_value::path::interpolate::{Context, Error, absent, home_for_user};
-use std::alloc::Global;
 
 /// The mark of an optional path.
 const MARK: &[u8] = b":(optional)";
+
+/// The bytes of the longest block of memory, and so of the longest text.
+const LONGEST_BLOCK: usize = usize::MAX / 2;
 
 /// Puts into `optional` whether a path is marked as optional, 1 or 0, and into `start` where the path begins behind
 /// the mark. Only one mark is cut off.
@@ -49,80 +55,118 @@ fn given<'a>(flag: u32, bytes: &'a [u8]) -> Result<Option<&'a str>, u32>
     }
 }
 
-/// The path interpolated, where users are looked up in a passwd text.
-fn with_users<'p>(
-    alloc: Global,
-    path: &'p Path,
-    install_dir: Option<&str>,
-    home: Option<&str>,
-    passwd: &str,
-) -> Result<String, Error<'p>>
-    ensures { InterpolatedIn (option_copied install_dir.entry) (option_copied home.entry) (Some passwd.now)
-        (bstring_bytes path.now.value) result }
+/// What follows the mark of an optional path, or all where it does not stand there.
+fn without_mark(text: &[u8]) -> &[u8]
+    ensures { (is_optional : Bool) × Marked text.now is_optional result.now }
 {
-    path.interpolate(
-        alloc,
-        Context {
-            git_install_dir: install_dir,
-            home_dir: home,
-            home_for_user: Some(|name: &str| home_for_user(passwd, name)),
-        },
-    )
-}
-
-/// The path interpolated, where no users are looked up.
-fn without_users<'p>(
-    alloc: Global,
-    path: &'p Path,
-    install_dir: Option<&str>,
-    home: Option<&str>,
-) -> Result<String, Error<'p>>
-    ensures { InterpolatedIn (option_copied install_dir.entry) (option_copied home.entry) None
-        (bstring_bytes path.now.value) result }
-{
-    path.interpolate(
-        alloc,
-        Context {
-            git_install_dir: install_dir,
-            home_dir: home,
-            home_for_user: absent(|_name: &str| None),
-        },
-    )
-}
-
-/// The path interpolated, where users are looked up in the passwd text, if there is one.
-fn interpolated<'p>(
-    alloc: Global,
-    path: &'p Path,
-    install_dir: Option<&str>,
-    home: Option<&str>,
-    passwd: Option<&str>,
-) -> Result<String, Error<'p>>
-    ensures { InterpolatedIn (option_copied install_dir.entry) (option_copied home.entry) (option_copied passwd.entry)
-        (bstring_bytes path.now.value) result }
-{
-    match passwd {
-        Some(passwd) => with_users(alloc, path, install_dir, home, passwd),
-        None => without_users(alloc, path, install_dir, home),
+    match text.strip_prefix(MARK) {
+        Some(path) => path,
+        None => text,
     }
 }
 
-/// Puts an answer into the buffer, or its fault into `fault`.
+/// The parts of what a path stands for, where users are looked up in a passwd text.
+fn with_users<'a, 'p>(
+    path: &'p [u8],
+    install_dir: Option<&'a str>,
+    home: Option<&'a str>,
+    passwd: &'a str,
+) -> Result<Parts<'a, 'p>, Error<'p>>
+    ensures { Makes result (InterpolatedIn (option_copied install_dir.entry) (option_copied home.entry) (Some passwd.now)
+        path.now) }
+{
+    let context = Context {
+        git_install_dir: install_dir,
+        home_dir: home,
+        home_for_user: Some(|name: &str| home_for_user(passwd, name)),
+    };
+    parts_of(path, context)
+}
+
+/// The parts of what a path stands for, where no users are looked up.
+fn without_users<'a, 'p>(
+    path: &'p [u8],
+    install_dir: Option<&'a str>,
+    home: Option<&'a str>,
+) -> Result<Parts<'a, 'p>, Error<'p>>
+    ensures { Makes result (InterpolatedIn (option_copied install_dir.entry) (option_copied home.entry) None path.now) }
+{
+    let context = Context {
+        git_install_dir: install_dir,
+        home_dir: home,
+        home_for_user: absent(|_name: &str| None),
+    };
+    parts_of(path, context)
+}
+
+/// The parts of what a path stands for, where users are looked up in the passwd text, if there is one.
+fn interpolated<'a, 'p>(
+    path: &'p [u8],
+    install_dir: Option<&'a str>,
+    home: Option<&'a str>,
+    passwd: Option<&'a str>,
+) -> Result<Parts<'a, 'p>, Error<'p>>
+    ensures { Makes result (InterpolatedIn (option_copied install_dir.entry) (option_copied home.entry)
+        (option_copied passwd.entry) path.now) }
+{
+    match passwd {
+        Some(passwd) => with_users(path, install_dir, home, passwd),
+        None => without_users(path, install_dir, home),
+    }
+}
+
+/// Puts the text of the parts into the buffer. A text that no block of memory could hold is refused as `NO_MEMORY`.
+fn put_parts(parts: Parts<'_, '_>, buffer: &mut [u8], length: &mut usize) -> u32
+    ensures { AnswersText (λ text. (text ≡ parts_text parts.entry) × IsUtf8 text × (text_length text ≤ LONGEST_BLOCK))
+        (λ reason. (reason ≡ NO_MEMORY) × (LONGEST_BLOCK < text_length (parts_text parts.entry)))
+        buffer.old buffer.new length.old length.new result }
+{
+    let (dir, slash, rest) = (
+        parts.dir.as_bytes(),
+        parts.slash().as_bytes(),
+        parts.rest.as_bytes(),
+    );
+    let size = dir.len() + slash.len() + rest.len();
+    if size > LONGEST_BLOCK {
+        return NO_MEMORY;
+    }
+    *length = size;
+    if buffer.len() < size {
+        return SHORT_BUFFER;
+    }
+    let at = push(dir, buffer, 0);
+    let at = push(slash, buffer, at);
+    push(rest, buffer, at);
+    OK
+}
+
+/// Puts the number of a fault into `fault`. No part of a path asks for memory, so `NO_MEMORY` is not met.
+fn put_fault(error: Error<'_>, fault: &mut u32) -> u32
+    ensures { (buffer : List ℕ) (size : ℕ)
+        → PutsPath (Err error.entry) buffer buffer size size fault.old fault.new result }
+{
+    match error {
+        Error::Memory(_) => NO_MEMORY,
+        error => {
+            *fault = path_fault_number(error);
+            REFUSED
+        }
+    }
+}
+
+/// Puts the text of the parts into the buffer, or the fault into `fault`.
 fn put_path(
-    answer: Result<String, Error<'_>>,
+    answer: Result<Parts<'_, '_>, Error<'_>>,
     buffer: &mut [u8],
     length: &mut usize,
     fault: &mut u32,
 ) -> u32
-    ensures { PutsPath answer.entry buffer.old buffer.new length.old length.new fault.old fault.new result }
+    ensures { (r : Result (String Global) Error) × IsMadeOf answer.entry r
+        × PutsPath r buffer.old buffer.new length.old length.new fault.old fault.new result }
 {
     match answer {
-        Ok(text) => put(text.as_bytes(), buffer, length),
-        Err(Error::Memory(_)) => NO_MEMORY,
-        Err(error) => {
-            *fault = path_fault_number(error);
-            REFUSED
-        }
+        Ok(parts) => put_parts(parts, buffer, length),
+        Err(error) => put_fault(error, fault),
     }
 }
 
@@ -130,11 +174,10 @@ fn put_path(
 /// cut off first. Each of the install directory, the home directory and the passwd text is there where its flag is 1.
 ///
 /// `BAD_FLAG` where a flag is neither 0 nor 1, and `NOT_UTF8` where a text that is there is no UTF-8. `REFUSED` where the
-/// path stands for nothing: the number of the fault is put into `fault`. `NO_MEMORY` where memory was refused; the call
-/// takes some for the path and for the text, and gives it back. `SHORT_BUFFER` where the buffer is shorter than the text.
+/// path stands for nothing: the number of the fault is put into `fault`. `NO_MEMORY` where the text is longer than a block
+/// of memory can be; the call takes none. `SHORT_BUFFER` where the buffer is shorter than the text.
 #[unsafe(no_mangle)]
 pub extern "C" fn gcv_raw_interpolate(
-    alloc: Global,
     text: &[u8],
     has_install_dir: u32,
     install_dir: &[u8],
@@ -161,9 +204,6 @@ pub extern "C" fn gcv_raw_interpolate(
         Ok(passwd) => passwd,
         Err(status) => return status,
     };
-    let Ok(path) = Path::from_bstr(alloc, BStr::new(text)) else {
-        return NO_MEMORY;
-    };
-    let answer = interpolated(alloc, &path, install_dir, home, passwd);
+    let answer = interpolated(without_mark(text), install_dir, home, passwd);
     put_path(answer, buffer, length, fault)
 }

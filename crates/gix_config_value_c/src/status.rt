@@ -28,5 +28,5 @@ pub const NOT_UTF8: u32 = 11;
 pub const BAD_LENGTHS: u32 = 12;
 /// The buffer is shorter than the text.
 pub const SHORT_BUFFER: u32 = 13;
-/// Memory was refused.
+/// Memory was refused, or a path stands for more than there can be.
 pub const NO_MEMORY: u32 = 14;

@@ -118,7 +118,7 @@ int main(void)
     count(asks(json_boolean, "true", 1), "json_boolean");
     count(asks(json_name, "\"#010203\"", 2), "json_name");
     count(asks(json_attribute, "\"bold ul\"", 2), "json_attribute");
-    count(asks(interpolate, "/home/u/file", 2), "interpolate");
+    count(asks(interpolate, "/home/u/file", 0), "interpolate");
     count(asks(read_and_show, "red bold", 0), "read_color and show_color");
     count(asks(normalize, "16k", 0), "normalize");
     return finish();

@@ -1,4 +1,4 @@
-use Rattle.std.proofs.Common.{◌≡◌, ◌==◌, ◌<◌, ℕ, List, [], ◌∷◌, length, None, refl, sym, ap, ◌∙◌, arith}
+use Rattle.std.proofs.Common.{◌≡◌, ◌==◌, ◌<◌, ℕ, List, [], ◌∷◌, length, None, Bool, true, false, not, bytes_eq, refl, sym, ap, ◌∙◌, arith}
 use Rattle.std.proofs.lemmas.List.Splits.{length-slice_split}
 use Rattle.config_path.specs.Passwd.{colon, pieces, home_of_fields}
 use Rattle.config_path.proofs.interpolate.home_in_line.Goals as goal
@@ -6,6 +6,20 @@ use Rattle.config_path.proofs.interpolate.home_in_line.Goals as goal
 too_many : (name a b c d e f g : List ℕ) (more : List (List ℕ)) → 0 < length more → None ≡ home_of_fields name (a ∷ b ∷ c ∷ d ∷ e ∷ f ∷ g ∷ more)
 too_many name a b c d e f g [] h = absurd (omega arith)
 too_many name a b c d e f g (x ∷ xs) h = refl
+
+is_false : (b : Bool) → true ≡ not b → false ≡ b
+is_false true h = sym h
+is_false false h = refl
+
+other_user : (name user : List ℕ) (more : List (List ℕ)) → false ≡ bytes_eq user name → None ≡ home_of_fields name (user ∷ more)
+other_user name user [] h = refl
+other_user name user (a ∷ []) h = refl
+other_user name user (a ∷ b ∷ []) h = refl
+other_user name user (a ∷ b ∷ c ∷ []) h = refl
+other_user name user (a ∷ b ∷ c ∷ d ∷ []) h = refl
+other_user name user (a ∷ b ∷ c ∷ d ∷ e ∷ []) h = refl
+other_user name user (a ∷ b ∷ c ∷ d ∷ e ∷ f ∷ []) h = rw (← h) refl
+other_user name user (a ∷ b ∷ c ∷ d ∷ e ∷ f ∷ g ∷ more) h = refl
 
 some_piece : (separator : ℕ) (text : List ℕ) → 0 < length (pieces separator text)
 some_piece separator text = omega (arith, length-slice_split (λ b. b == separator) text)
@@ -41,3 +55,8 @@ returns-in_err-_comment c =
 pub returns-in_err-home : goal.returns-in_err-home
 returns-in_err-home c =
     rw (c.from_residual-in_err-home.ensures, c.in_ok-user.ensures.cut, c.in_ok-_password.ensures.cut, c.in_ok-_id.ensures.cut, c.in_ok-_group.ensures.cut, c.in_ok-_comment.ensures.cut, c.in_err-home.ensures.cut) refl
+
+pub returns-then-ne : goal.returns-then-ne
+returns-then-ne c =
+    other_user c.args.name.now c.in_ok-user.user.now (pieces colon c.in_ok-user.rest.now) (is_false _ c.if-ne.ensures)
+    ∙ ap (λ ps. home_of_fields c.args.name.now ps) (sym c.in_ok-user.ensures.cut)

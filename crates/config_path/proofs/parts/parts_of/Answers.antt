@@ -2,7 +2,7 @@ use Rattle.std.proofs.Common.{◌≡◌, ◌==◌, ℕ, List, [], ◌∷◌, len
 use Rattle.std.proofs.lemmas.Bool.Decides.{nat_tests}
 use Rattle.config_path.specs.Interpolation.{HasForm, below, IsOneName}
 use Rattle.config_path.specs.Interpolation.Form.{below_prefix, below_home, below_user}
-use Rattle.config_path.proofs.interpolate.interpolated.Goals as goal
+use Rattle.config_path.proofs.parts.parts_of.Goals as goal
 
 home_form : (value path name : List ℕ) (rest : Option (List ℕ)) → value ≡ 126 ∷ path → path ≡ below name rest → true ≡ (length name == 0) → HasForm value (below_home rest)
 home_form value path [] rest v p e = v ∙ ap (λ t. 126 ∷ t) p
@@ -14,20 +14,20 @@ user_form value path (x ∷ xs) rest v p n e = (v ∙ ap (λ t. 126 ∷ t) p, (�
 
 pub returns-in-Some : goal.returns-in-Some
 returns-in-Some g c =
-    record { form = below_prefix c.in-Some.rest.now; has_form = c.in-Some.ensures; gives = c.below_given.ensures }
+    λ r made. record { form = below_prefix c.in-Some.rest.now; has_form = c.in-Some.ensures; gives = c.below_given.ensures r made }
 
 pub returns-then-is_empty-2 : goal.returns-then-is_empty-2
 returns-then-is_empty-2 g c =
-    record {
+    λ r made. record {
       form = below_home _;
       has_form = home_form _ _ _ _ c.in-Some-past.ensures c.name_and_rest.ensures.whole c.if-is_empty-2.ensures;
-      gives = c.below_given-then-is_empty-2.ensures;
+      gives = c.below_given-then-is_empty-2.ensures r made;
     }
 
 pub returns : goal.returns
 returns g c =
-    record {
+    λ r made. record {
       form = below_user _ _;
       has_form = user_form _ _ _ _ c.in-Some-past.ensures c.name_and_rest.ensures.whole c.name_and_rest.ensures.name c.if-is_empty-2.ensures;
-      gives = c.below_user.ensures;
+      gives = c.below_user.ensures r made;
     }

@@ -1,8 +1,0 @@
-use Rattle.std.proofs.Common.{Some, refl}
-use Rattle.config_path.proofs.interpolate.below_user.Goals as goal
-
-pub returns-in-Some-lookup : goal.returns-in-Some-lookup
-returns-in-Some-lookup g c =
-    let name = c.in_ok-name.ensures in
-    rw c.in-Some.is
-    (λ _. (Some c.in-Some-lookup.dir.now, (Some c.in-Some-lookup.dir, (c.in_ok-name.name, c.in-Some-lookup.ensures, name.0), refl), c.below_dir.ensures), λ n. absurd (n name.1))

@@ -1,0 +1,181 @@
+//! What a path value stands for, as parts that are borrowed: a directory, a `/` and a rest.
+//!
+//! No memory is asked for. `Path::interpolate` makes one text of the parts, and a caller with a buffer writes them there.
+ghost use Rattle.std.specs.Prelude.{◌≡◌, [], None, IsUtf8, MatchResult, codes, if◌then◌else◌, option_copied};
+ghost use Rattle.std.specs.Option.{ForSome};
+ghost use Rattle.config_path.specs.Interpolation.{Interpolated, LooksUp, IsOneName, below, join, IsIllFormed, GivesBelow, GivesBelowGiven, GivesBelowUser, GivesValue};
+ghost use Rattle.config_path.specs.Parts.{parts_text, Makes};
+
+use crate::interpolate::{Context, Error, Place};
+use crate::path::past;
+use bstr::ByteSlice;
+
+/// What a value begins with where it refers to the install directory.
+const PREFIX: &[u8] = b"%(prefix)/";
+
+/// A text in parts, one behind the other.
+#[derive(Clone, Copy)]
+pub struct Parts<'a, 'p> {
+    /// The directory, of the context.
+    pub dir: &'a str,
+    /// Whether a `/` stands behind the directory.
+    pub has_slash: bool,
+    /// What follows, of the value.
+    pub rest: &'p str,
+}
+
+impl Parts<'_, '_> {
+    /// What stands behind the directory: a `/` or nothing.
+    #[inline(always)]
+    pub fn slash(&self) -> &'static str
+        ensures { result.now ≡ (if self.now.has_slash then codes "/" else []) }
+    {
+        if self.has_slash { "/" } else { "" }
+    }
+}
+
+/// The bytes as text. Fails with `IllFormed`, which holds the place and all the bytes.
+fn text_at<'p>(place: Place, bytes: &'p [u8]) -> Result<&'p str, Error<'p>>
+    ensures { MatchResult result
+        (λ text. (text.now ≡ bytes.now) × IsUtf8 bytes.now)
+        (λ e. ¬ (IsUtf8 bytes.now) × IsIllFormed place bytes.now e) }
+{
+    match str::from_utf8(bytes) {
+        Ok(text) => Ok(text),
+        Err(_) => Err(Error::IllFormed {
+            place,
+            input: bytes,
+        }),
+    }
+}
+
+/// A directory and a rest as one path.
+fn joined<'a, 'p>(dir: &'a str, rest: &'p str) -> Parts<'a, 'p>
+    ensures { parts_text result ≡ join dir.now rest.now }
+{
+    if rest.as_bytes().starts_with(b"/") {
+        return Parts {
+            dir: "",
+            has_slash: false,
+            rest,
+        };
+    }
+    let has_slash = !dir.is_empty() && !dir.as_bytes().ends_with(b"/");
+    Parts {
+        dir,
+        has_slash,
+        rest,
+    }
+}
+
+/// The directory, or the directory and the rest joined. Fails with `IllFormed` at the place where
+/// the rest is not UTF-8.
+fn below_dir<'a, 'p>(
+    place: Place,
+    dir: &'a str,
+    rest: Option<&'p [u8]>,
+) -> Result<Parts<'a, 'p>, Error<'p>>
+    ensures { Makes result (GivesBelow place dir.now (option_copied rest.entry)) }
+{
+    match rest {
+        None => Ok(Parts {
+            dir,
+            has_slash: false,
+            rest: "",
+        }),
+        Some(rest) => Ok(joined(dir, text_at(place, rest)?)),
+    }
+}
+
+/// The same below a directory that may be missing: then it fails with `missing`.
+fn below_given<'a, 'p>(
+    missing: Error<'p>,
+    place: Place,
+    dir: Option<&'a str>,
+    rest: Option<&'p [u8]>,
+) -> Result<Parts<'a, 'p>, Error<'p>>
+    ensures { Makes result (GivesBelowGiven missing.entry place (option_copied dir.entry)
+        (option_copied rest.entry)) }
+{
+    match dir {
+        None => Err(missing),
+        Some(dir) => below_dir(place, dir, rest),
+    }
+}
+
+/// The same below the directory that the lookup answers for the name.
+fn below_user<'p, 'a, F>(
+    lookup: Option<F>,
+    name: &'p [u8],
+    rest: Option<&'p [u8]>,
+) -> Result<Parts<'a, 'p>, Error<'p>>
+where
+    F: FnOnce(&str) -> Option<&'a str> + Drop,
+    requires { ForSome lookup (λ f. (name : _) → IsUtf8 name.now → F.pre f name) }
+    ensures { Makes result (GivesBelowUser (LooksUp F.FnOnce) lookup name.now
+        (option_copied rest.entry)) }
+{
+    let Some(lookup) = lookup else {
+        return Err(Error::LookupMissing);
+    };
+    let name = text_at(Place::Username, name)?;
+    match lookup(name) {
+        None => Err(Error::UserNotFound),
+        Some(dir) => below_dir(Place::PastUser, dir, rest),
+    }
+}
+
+/// What stands before the first `/`, or all, and what follows that `/`, where there is one.
+fn name_and_rest(path: &[u8]) -> (&[u8], Option<&[u8]>)
+    ensures whole { path.now ≡ below result.0.now (option_copied result.1) }
+    ensures name { IsOneName result.0.now }
+{
+    match path.find_byte(b'/') {
+        None => (path, None),
+        Some(at) => (&path[..at], Some(&path[at + 1..])),
+    }
+}
+
+/// The value itself. Fails with `IllFormed` where it is not UTF-8.
+fn unchanged<'a, 'p>(value: &'p [u8]) -> Result<Parts<'a, 'p>, Error<'p>>
+    ensures { Makes result (GivesValue value.now) }
+{
+    Ok(Parts {
+        dir: "",
+        has_slash: false,
+        rest: text_at(Place::Whole, value)?,
+    })
+}
+
+/// The parts of what a value stands for: each string of their text is what the path table gives, and so is each refusal.
+/// It refuses as `Path::interpolate` does, and never with `Memory`.
+pub fn parts_of<'p, 'a, F>(
+    value: &'p [u8],
+    context: Context<'a, F>,
+) -> Result<Parts<'a, 'p>, Error<'p>>
+where
+    F: FnOnce(&str) -> Option<&'a str> + Drop,
+    requires { ForSome context.home_for_user (λ f. (name : _) → IsUtf8 name.now → F.pre f name) }
+    ensures { Makes result (Interpolated (LooksUp F.FnOnce) context.entry value.now) }
+{
+    let Context {
+        git_install_dir,
+        home_dir,
+        home_for_user,
+    } = context;
+    if value.is_empty() {
+        return Err(Error::PathMissing);
+    }
+    if let Some(rest) = past(value, PREFIX) {
+        let missing = Error::InstallDirMissing;
+        return below_given(missing, Place::PastPrefix, git_install_dir, Some(rest));
+    }
+    let Some(path) = past(value, b"~") else {
+        return unchanged(value);
+    };
+    let (name, rest) = name_and_rest(path);
+    if name.is_empty() {
+        return below_given(Error::HomeMissing, Place::PastHome, home_dir, rest);
+    }
+    below_user(home_for_user, name, rest)
+}
