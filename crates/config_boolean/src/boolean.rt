@@ -190,7 +190,11 @@ impl Value for Boolean {
     }
 
     fn write_to(&self, text: &mut Text) {
-        text.push_str(self.shown());
+        if self.0 {
+            text.push_str("true");
+        } else {
+            text.push_str("false");
+        }
     }
 
     ghost one_value = { boolean_one_value };

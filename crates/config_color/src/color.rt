@@ -152,6 +152,7 @@ impl Color {
     }
 
     /// Writes the color as it is shown into a text that is empty.
+    #[inline(always)]
     pub(crate) fn show(&self, text: &mut Text)
         requires { text.old.bytes ≡ [] }
         ensures { text.new.bytes ≡ color_shown self.now }

@@ -104,6 +104,7 @@ fn hex_digit(number: u8) -> &'static str
 impl Name {
     /// Appends the name as it is shown, in at most 13 bytes, for which there must be room. Colors
     /// append their names by it.
+    #[inline(always)]
     pub fn push_to(self, text: &mut Text)
         requires { length text.old.bytes + 13 ≤ LONGEST_TEXT }
         ensures { text.new.bytes ≡ text.old.bytes ++ name_shown self }
@@ -162,6 +163,7 @@ pub fn numbers_fit(name: Name)
 {}
 
 /// The name that the text is a text of.
+#[inline(always)]
 fn name_of(text: &[u8]) -> Option<Name>
     ensures { Reads NameText text.now result }
 {
@@ -228,6 +230,7 @@ impl Value for Name {
 
     ghost displayed = { name_shown };
 
+    #[inline(always)]
     fn read(input: BStr<'_>) -> Option<Name> {
         name_of(input.as_bytes())
     }

@@ -118,6 +118,7 @@ pub(crate) fn name_struct(name: Name) -> GcvName
 }
 
 /// The struct of a name, or of none.
+#[inline(always)]
 fn part_struct(part: Option<Name>) -> GcvName
     ensures { result ≡ part_struct part }
 {
@@ -169,6 +170,7 @@ pub(crate) fn name_of(name: GcvName) -> Option<Name>
 }
 
 /// The name of this struct, or none; and `None` where it is that of neither.
+#[inline(always)]
 fn part_of(part: GcvName) -> Option<Option<Name>>
     ensures { StandsFor part_struct part result }
 {
@@ -180,6 +182,7 @@ fn part_of(part: GcvName) -> Option<Option<Name>>
 }
 
 /// The color of this struct, or `None` where one of its names is none.
+#[inline(always)]
 pub(crate) fn color_of(color: GcvColor) -> Option<Color>
     ensures { StandsFor color_struct color result }
 {
@@ -193,6 +196,7 @@ pub(crate) fn color_of(color: GcvColor) -> Option<Color>
 }
 
 /// The struct of a color.
+#[inline(always)]
 pub(crate) fn color_struct(color: Color) -> GcvColor
     ensures { result ≡ color_struct color }
 {
