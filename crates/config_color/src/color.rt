@@ -1,5 +1,5 @@
 //! Colors: what text is drawn with, read from a text and shown as one.
-ghost use Rattle.std.specs.Prelude.{◌↔◌, IsTrue, ◌≡◌, ◌+◌, ◌<◌, ◌≤◌, [], Some, length, slice_range};
+ghost use Rattle.std.specs.Prelude.{◌↔◌, IsTrue, ◌≡◌, ◌+◌, ◌<◌, ◌≤◌, [], None, Some, length, slice_range};
 ghost use Rattle.std.specs.Cow.{cow_slice_items};
 ghost use Rattle.bstr.specs.BStr.{bstr_bytes};
 ghost use Rattle.bstr.specs.Owned.{bstring_bytes};
@@ -12,7 +12,7 @@ ghost use Rattle.std.proofs.Common.{rules};
 ghost use Rattle.config_text.specs.Refusals.{Always, ReadsBytes, ReadsText, ReadsOwned};
 ghost use Rattle.config_color.specs.Space.{Space};
 ghost use Rattle.config_text.specs.Value.{HasText, Reads};
-ghost use Rattle.config_color.specs.Split.{IsWithoutSpace, piece, words};
+ghost use Rattle.config_color.specs.Split.{IsWithoutSpace, ArePlain, piece, words};
 
 use crate::space::space_at;
 use bitflags::Flags;
@@ -177,6 +177,50 @@ struct FirstWord {
     space: usize,
 }
 
+/// How many bytes of a long word are looked at at once.
+const RUN: usize = 16;
+
+/// How many bytes a text has that is refused by its first word, if that is none, before it is walked.
+const LONG_TEXT: usize = 160;
+
+/// Whether each byte of the run at `at` is one with which no white space begins.
+#[inline(always)]
+fn is_plain_run(text: &[u8], at: usize) -> bool
+    requires { at + RUN ≤ length text.now }
+    ensures { IsTrue result → ArePlain text.now at (at + RUN) }
+{
+    let mut is_plain = true;
+    for place in at..at + RUN {
+        let byte = text[place];
+        is_plain &= b' ' < byte && byte < 0xc2;
+    }
+    is_plain
+}
+
+/// The first word of a text, looked at in runs as far as they are plain, and then byte by byte.
+fn long_first_word(text: &[u8]) -> FirstWord
+    ensures clear { IsWithoutSpace text.now result.length }
+    ensures within { result.length + result.space ≤ length text.now }
+    ensures parted { 0 < result.space
+        → Space (slice_range text.now result.length (result.length + result.space)) }
+    ensures last { result.space ≡ 0 → result.length ≡ length text.now }
+{
+    let mut start = 0;
+    while text.len() - start >= RUN && is_plain_run(text, start) {
+        start += RUN;
+    }
+    for at in start..text.len() {
+        let space = space_at(text, at);
+        if space > 0 {
+            return FirstWord { length: at, space };
+        }
+    }
+    FirstWord {
+        length: text.len(),
+        space: 0,
+    }
+}
+
 /// The first word of a text.
 #[inline(always)]
 fn first_word(text: &[u8]) -> FirstWord
@@ -211,11 +255,27 @@ fn past_spaces(text: &[u8]) -> &[u8]
     rest
 }
 
-/// The color of a text, or `None` where it has none. The text is walked once, from its front.
+/// Whether the first word of a text is none of a color. It is asked of long texts, since it looks at words in runs.
+#[inline(never)]
+fn begins_with_no_word(text: &[u8]) -> bool
+    ensures { IsTrue result → Reads ColorText text.now None }
+{
+    let first = long_first_word(text);
+    let (text, _behind) = text.split_at(first.length);
+    match Color::default().with_word(text) {
+        Some(_) => false,
+        None => true,
+    }
+}
+
+/// The color of a text, or `None` where it has none. The text is walked from its front.
 #[inline(always)]
 fn color_of(input: &[u8]) -> Option<Color>
     ensures { Reads ColorText input.now result }
 {
+    if input.len() >= LONG_TEXT && begins_with_no_word(input) {
+        return None;
+    }
     let mut color = Color::default();
     let mut rest = past_spaces(input);
     loop {

@@ -1,6 +1,9 @@
 -- Which bytes the spellings of white space have.
-use Rattle.std.proofs.Common.{◌≡◌, ℕ, ◌≤◌, ◌⊎◌, List, [], ◌∷◌, ◌++◌, length, get_or, arith}
+use Rattle.std.proofs.Common.{◌≡◌, ℕ, ◌+◌, ◌<◌, ◌≤◌, ◌⊎◌, inl, inr, List, [], ◌∷◌, ◌++◌, length, get_or, drop, arith}
+use Rattle.std.proofs.lemmas.Bool.Decides.{leb_tells}
+use Rattle.std.proofs.lemmas.List.{get_or-drop}
 use Rattle.config_color.specs.Space.{spellings, Space}
+use Rattle.config_color.specs.Split.{IsWithoutSpace, ArePlain}
 
 pub narrow_bytes : (a : ℕ) → Space (a ∷ []) → ((9 ≤ a) × (a ≤ 13)) ⊎ (a ≡ 32)
 unfolding spellings
@@ -68,3 +71,16 @@ begins_not text p q r space rest h e = refuted text p q r (begins text space res
 pub bytes_double : (a b : ℕ) → a ≡ 194 → (b ≡ 133) ⊎ (b ≡ 160) → Space (a ∷ b ∷ [])
 unfolding spellings
 bytes_double a b h k = grind arith
+
+-- with a plain byte no white space begins
+plain_begins_not : (text : List ℕ) → (32 < get_or text 0 0) × (get_or text 0 0 < 194) → (space rest : List ℕ) → Space space → ¬ (text ≡ space ++ rest)
+plain_begins_not text p =
+    begins_not text (λ l h. let k = narrow_bytes _ h in grind arith) (λ l h. let k = double_bytes _ _ h in grind arith) (λ l h. let k = triple_bytes _ _ _ h in grind arith)
+
+-- a run of plain bytes has no white space
+pub plain_run : (text : List ℕ) (from to : ℕ) → IsWithoutSpace text from → ArePlain text from to → IsWithoutSpace text to
+plain_run text from to clear plain k below space rest s =
+    elim (leb_tells from k) [
+      | inl h ↦ let e : k + 0 ≡ k = omega arith in plain_begins_not (drop k text) (rw (get_or-drop k text 0 0, e) (plain k h.1 below)) space rest s
+      | inr h ↦ clear k h.1 space rest s
+    ]
