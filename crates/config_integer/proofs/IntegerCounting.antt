@@ -1,7 +1,7 @@
 -- One turn of the count of digits, and its end at a byte that is none.
-use Rattle.std.proofs.Common.{◌≡◌, ℕ, zero, suc, ◌+◌, ◌-◌, ◌*◌, ◌<◌, ◌≤◌, List, [], ◌∷◌, length, get_or, take, drop, length-drop, Option, Some, add-one, drop-cons, arith, ◌∙◌, ap, sym, subst}
+use Rattle.std.proofs.Common.{◌≡◌, ℕ, zero, suc, ◌+◌, ◌-◌, ◌*◌, ◌<◌, ◌≤◌, List, [], ◌∷◌, length, get_or, take, drop, length-drop, Option, Some, add-one, drop-cons, arith, ◌∙◌, ap, sym, subst, refl}
 use Rattle.std.proofs.lemmas.Bool.Decides.{nat_tests}
-use Rattle.std.proofs.lemmas.List.{take_all}
+use Rattle.std.proofs.lemmas.List.{take_all, take_rest}
 use Rattle.std.specs.Option.{option_map}
 use Rattle.std.specs.Char.{digit_value}
 use Rattle.config_integer.specs.declared.suffix.Suffix.{Suffix}
@@ -29,6 +29,22 @@ counted_end base limit n at b t within byte other = rw (drop-cons t at 0) (grind
 counted_start : (base limit : ℕ) (t : List ℕ) → base ≤ 36 → digit_value (get_or t 0 0) < base → counted base limit t ≡ counted_from base limit 0 t
 counted_start base limit [] h d = absurd (omega arith)
 counted_start base limit (c ∷ cs) h d = grind (arith, nat_tests)
+
+-- a zero that another zero follows changes no number
+counted_two_zeros : (base limit : ℕ) (ds : List ℕ) → 0 < base → base ≤ 16 → counted base limit (48 ∷ ds) ≡ counted base limit (48 ∷ 48 ∷ ds)
+counted_two_zeros base limit ds low high =
+    let d : digit_value 48 < base = low in
+    counted_start base limit (48 ∷ ds) (omega arith) d
+    ∙ sym (counted_digit base limit 0 0 0 48 (48 ∷ 48 ∷ ds) (omega arith) refl d (omega arith) (omega arith))
+    ∙ sym (counted_start base limit (48 ∷ 48 ∷ ds) (omega arith) d)
+
+pub counted_zero : (base limit : ℕ) (t : List ℕ) → 2 ≤ length t → get_or t 0 0 ≡ 48 → get_or t 1 0 ≡ 48 → 0 < base → base ≤ 16
+    → counted base limit (take (length t - 1) (drop 1 t)) ≡ counted base limit t
+counted_zero base limit t long first second low high = ap (counted base limit) (take_rest t 1) ∙ dropped t long first second where
+  dropped : (t : List ℕ) → 2 ≤ length t → get_or t 0 0 ≡ 48 → get_or t 1 0 ≡ 48 → counted base limit (drop 1 t) ≡ counted base limit t
+  dropped [] long first second = absurd (omega arith)
+  dropped (x ∷ []) long first second = absurd (omega arith)
+  dropped (x ∷ y ∷ ds) long first second = rw (first, second) (counted_two_zeros base limit ds low high)
 
 -- behind a digit, a byte that is none ends the count: the rest is a suffix, or the text is refused
 pub counted_unit : (base limit n at b : ℕ) (t : List ℕ) (r o : Option Suffix) → r ≡ o → at < length t → base ≤ 36

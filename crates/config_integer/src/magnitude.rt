@@ -1,5 +1,5 @@
 //! The magnitude of an integer, and the suffix behind it, read in one pass over the bytes.
-ghost use Rattle.std.specs.Prelude.{◌≡◌, ◌≤◌, ◌<◌, ◌+◌, ◌*◌, Some, None, IfSome, SomeIff};
+ghost use Rattle.std.specs.Prelude.{◌≡◌, ℕ, ◌≤◌, ◌<◌, ◌+◌, ◌*◌, Some, None, IfSome, SomeIff};
 ghost use Rattle.std.specs.Char.{digit_value};
 ghost use Rattle.config_integer.specs.Reading.Integer.{counted, base_of, digits_of, unsigned_of};
 
@@ -67,6 +67,19 @@ fn based(text: &[u8]) -> (u64, &[u8])
     }
 }
 
+/// The text without those zeros at its front that another zero follows, which change no number.
+#[inline(always)]
+fn past_zeros(text: &[u8]) -> &[u8]
+    ensures { (base limit : ℕ) → 0 < base → base ≤ 16
+        → counted base limit result.now ≡ counted base limit text.now }
+{
+    let mut rest = text;
+    while let [b'0', b'0', ..] = rest {
+        rest = &rest[1..];
+    }
+    rest
+}
+
 /// The magnitude of a text without a sign, where it is at most `limit`, and its suffix. The limit is
 /// that of `i64` on either side.
 #[inline(always)]
@@ -76,5 +89,5 @@ pub(crate) fn unsigned(text: &[u8], limit: u64) -> Option<(u64, Option<Suffix>)>
     ensures small { IfSome result (λ r. r.0 ≤ limit) }
 {
     let (base, digits) = based(text);
-    counted(digits, base, limit)
+    counted(past_zeros(digits), base, limit)
 }
