@@ -1,10 +1,10 @@
 //! Sets of text attributes.
-ghost use Rattle.std.specs.Prelude.{⊤, ◌≡◌, ◌+◌, ◌≤◌, ◌++◌, ◌↔◌, length, map, IsTrue, Some};
+ghost use Rattle.std.specs.Prelude.{⊤, ◌≡◌, ◌+◌, ◌≤◌, ◌++◌, ◌↔◌, length, map, take, IsTrue, Some};
 ghost use Rattle.bstr.specs.BStr.{bstr_bytes};
 ghost use Rattle.config_text.specs.declared.errors.Fault.TheVariants as faults;
 ghost use Rattle.config_word.specs.Attribute.{AttributeText, CanonicalAttribute, attribute_flags, attribute_shown};
 ghost use Rattle.config_word.specs.Laws.Attribute.{attribute_canonical_reads, attribute_decided, attribute_one_text, attribute_one_value, attribute_shown_is_text};
-ghost use Rattle.config_word.specs.Reading.Attribute.{shown_row, shown_rows};
+ghost use Rattle.config_word.specs.Reading.Attribute.{shown_row, shown_rows, words_in};
 ghost use Rattle.config_text.specs.Refusals.{Always, ReadsBytes, ReadsFault};
 ghost use Rattle.config_text.specs.Value.{HasText, IsTextOf, Reads};
 ghost use Rattle.std.proofs.Common.{rules};
@@ -123,7 +123,28 @@ fn shown_words() -> &'static [Shown]
     &SHOWN
 }
 
+/// The first constants and their words, with bits that are below `LATE`.
+fn early_words() -> &'static [Shown]
+    ensures { map shown_row result.now ≡ take 8 shown_rows }
+{
+    &SHOWN[..8]
+}
+
+/// The bit of the first constant that is none of the early ones.
+const LATE: u32 = 1 << 21;
+
 impl Attribute {
+    /// The constants and their words that the set can have.
+    fn possible_words(self) -> &'static [Shown]
+        ensures { words_in self.0 (map shown_row result.now) ≡ words_in self.0 shown_rows }
+    {
+        if self.0 < LATE {
+            early_words()
+        } else {
+            shown_words()
+        }
+    }
+
     /// Appends the words of the known bits that are set, by rising bit, with one space between, in
     /// at most 99 bytes, for which there must be room. Colors append their attributes by it.
     pub fn push_to(self, text: &mut Text)
@@ -131,7 +152,7 @@ impl Attribute {
         ensures { text.new.bytes ≡ text.old.bytes ++ attribute_shown self.0 }
     {
         let mut is_first = true;
-        for shown in shown_words() {
+        for shown in self.possible_words() {
             if self.contains(shown.attribute) {
                 if !is_first {
                     text.push_str(" ");

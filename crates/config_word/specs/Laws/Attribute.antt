@@ -1,14 +1,15 @@
 -- The laws of `Value` for attributes, and what is said of several.
-use Rattle.std.proofs.Common.{◌≡◌, ℕ, zero, suc, ◌+◌, ◌*◌, ◌^◌, ◌<◌, ◌≤◌, ◌⊎◌, ◌↔◌, inl, inr, Bool, true, false, cond, ◌||◌, List, [], ◌∷◌, ◌++◌, map, filter, flat_map, length, codes, refl, sym, ap, ◌∙◌, arith, lit≤, ◌==◌, nat_le, bit_and, bytes_eq, IsTrue}
+use Rattle.std.proofs.Common.{◌≡◌, ℕ, zero, suc, ◌+◌, ◌*◌, ◌^◌, ◌<◌, ◌≤◌, ◌⊎◌, ◌↔◌, inl, inr, Bool, true, false, cond, ◌||◌, List, [], ◌∷◌, ◌++◌, map, filter, flat_map, length, take, drop, rules, codes, refl, sym, ap, ◌∙◌, arith, lit≤, ◌==◌, nat_le, bit_and, bytes_eq, IsTrue}
 use Rattle.std.proofs.Math.Bool.{or-true}
 use Rattle.std.proofs.lemmas.Bool.{leb-true}
 use Rattle.std.proofs.lemmas.Bool.Decides.{Decides-eqb, nat_tests}
-use Rattle.std.proofs.lemmas.List.{append-nil, length-append}
-use Rattle.std.proofs.lemmas.Nat.{pow_pos}
+use Rattle.std.proofs.lemmas.List.{append-nil, length-append, take-append-drop}
+use Rattle.std.proofs.lemmas.List.Elements.{filter-append}
+use Rattle.std.proofs.lemmas.Nat.{pow_pos, and_le_l}
 use Rattle.std.proofs.lemmas.Nat.Bits.{and_pow, bit_at-lt}
 use Rattle.std.proofs.lemmas.Slice.Eq.{bytes_eq-Decides}
 use Rattle.std.specs.Int.{bit_at}
-use Rattle.std.specs.List.{join_with_byte, list_all, list_any}
+use Rattle.std.specs.List.{join_with_byte, list_all, list_any, AllByRecursion}
 use Rattle.config_word.specs.declared.attribute.Attribute.{Attribute}
 use Rattle.config_word.specs.Attribute.{AttributeRow, AttributeText, CanonicalAttribute, IsKnownBit, attribute_shown, attribute_words, attributes, rising_words}
 use Rattle.config_word.specs.Reading.Attribute.{remaining, shown_rows, words_in}
@@ -150,6 +151,29 @@ words_in-shown bits = words_in-rows bits attributes
 -- at first all that is shown is left to write
 pub shown-remaining : (bits : ℕ) → attribute_shown bits ≡ remaining true (words_in bits shown_rows)
 shown-remaining bits = join-remaining (attribute_words bits) ∙ ap (remaining true) (sym (words_in-shown bits))
+
+-- a set below a row's value does not pass its test
+below_fails : (bits value : ℕ) → bits < value → (bit_and bits value == value) ≡ false
+below_fails bits value h = let l = and_le_l bits value in grind (arith, nat_tests)
+
+none_above : (bits least : ℕ) (rows : List (ℕ × List ℕ)) → AllByRecursion (λ (row : ℕ × List ℕ). least ≤ row.0) rows → bits < least
+    → filter (λ (row : ℕ × List ℕ). bit_and bits row.0 == row.0) rows ≡ []
+none_above bits least [] all h = refl
+none_above bits least (row ∷ rows) all h = rw (below_fails bits row.0 (omega (arith, all.0))) (none_above bits least rows all.1 h)
+
+late_rows : AllByRecursion (λ (row : ℕ × List ℕ). 2 ^ 21 ≤ row.0) (drop 8 shown_rows)
+unfolding attributes
+late_rows = search rules
+
+-- a set below the ninth value is shown by the first eight rows
+pub early_rows : (bits : ℕ) → bits < 2 ^ 21 → words_in bits (take 8 shown_rows) ≡ words_in bits shown_rows
+early_rows bits h =
+    let p : ℕ × List ℕ → Bool = λ row. bit_and bits row.0 == row.0 in
+    ap (λ rows. map (λ (row : ℕ × List ℕ). row.1) rows)
+    (sym (append-nil (filter p (take 8 shown_rows)))
+    ∙ ap (λ rows. filter p (take 8 shown_rows) ++ rows) (sym (none_above bits (2 ^ 21) (drop 8 shown_rows) late_rows h))
+    ∙ sym (filter-append p (take 8 shown_rows) (drop 8 shown_rows))
+    ∙ ap (filter p) (take-append-drop 8 shown_rows))
 
 -- one row more, left out or not
 spaced-step : (x : Bool) (w : List ℕ) (row : AttributeRow) (rows all : List AttributeRow)
