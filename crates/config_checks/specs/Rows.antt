@@ -5,6 +5,8 @@ use Rattle.config_checks.specs.declared.key.Key.{Key}
 use Rattle.config_checks.specs.declared.row.Row.{Row}
 use Rattle.config_checks.specs.declared.kind.SettingKind.{SettingKind}
 use Rattle.config_checks.specs.declared.kind.SettingKind.TheVariants as kinds
+use Rattle.config_checks.specs.declared.table.RowFault.{RowFault}
+use Rattle.config_checks.specs.declared.table.RowFault.TheVariants.{NoKind, NoKey, UnknownKind, NoWords, Words, Memory}
 use Rattle.config_checks.specs.Keys.{IsKey, Covers}
 
 -- no row covers the key
@@ -67,6 +69,11 @@ abbrev pub IsKind : List ℕ → List (List ℕ) → SettingKind → Type 0
 IsKind name words (kinds.Word list) = (words_name list.ignores_case list.or_bool ≡ name) × (words ≢ []) × (map (λ word. word.now) list.words.items ≡ words)
 IsKind name words kind = (plain_name kind ≡ Some name) × (words ≡ [])
 
+-- no kind has this name
+pub record IsNoKind (name : List ℕ) : Type 0 where
+  pub plain : (kind : SettingKind) → plain_name kind ≢ Some name
+  pub of_words : (ignores_case or_bool : Bool) → words_name ignores_case or_bool ≢ name
+
 -- a key, the name of a kind, and words
 pub record IsRow (fields : List (List ℕ)) (row : Row) : Type 0 where
   pub key : List ℕ
@@ -75,6 +82,21 @@ pub record IsRow (fields : List (List ℕ)) (row : Row) : Type 0 where
   pub parts : fields ≡ key ∷ name ∷ words
   pub is_key : IsKey key row.key
   pub is_kind : IsKind name words row.kind
+
+-- why there is no kind of this name and these words
+abbrev pub IsBadKind : List ℕ → List (List ℕ) → RowFault → Type 0
+IsBadKind name words UnknownKind = IsNoKind name
+IsBadKind name words NoWords = (words ≡ []) × ((ignores_case or_bool : Bool) × (words_name ignores_case or_bool ≡ name))
+IsBadKind name words Words = (words ≢ []) × ((kind : SettingKind) × (plain_name kind ≡ Some name))
+IsBadKind name words (Memory e) = Unit {0}
+IsBadKind name words _ = ⊥
+
+-- why these fields are no row
+abbrev pub IsBadRow : List (List ℕ) → RowFault → Type 0
+IsBadRow fields NoKind = (key : List ℕ) × (fields ≡ key ∷ [])
+IsBadRow fields NoKey = (key : List ℕ) × (rest : List (List ℕ)) × (fields ≡ key ∷ rest) × ((k : Key) → ¬ (IsKey key k))
+IsBadRow fields (Memory e) = Unit {0}
+IsBadRow fields fault = (key name : List ℕ) × (words : List (List ℕ)) × (fields ≡ key ∷ name ∷ words) × IsBadKind name words fault
 
 -- the lines of a text
 abbrev pub lines_of : List ℕ → List (List ℕ)

@@ -3,7 +3,8 @@
 /// The rows of Git's settings.
 pub const SETTINGS: &str = "\
 # Settings of Git 2.39.5 as git-config(1) of Debian's package git-man 1:2.39.5-0+deb12u3 documents them.
-# A setting whose values the page does not settle has no row.
+# A setting whose values the page does not settle has no row. The page says nothing of case in words: it counts here, but where
+# Git 2.39.5 was seen to ignore it.
 # advice
 advice.*                            bool
 # core
@@ -19,14 +20,14 @@ core.splitIndex                     bool
 core.untrackedCache                 bool-or-word keep
 core.checkStat                      word default minimal
 core.quotePath                      bool
-core.eol                            word lf crlf native
-core.safecrlf                       bool-or-word warn
-core.autocrlf                       bool-or-word input
+core.eol                            word-any-case lf crlf native
+core.safecrlf                       bool-or-word-any-case warn
+core.autocrlf                       bool-or-word-any-case input
 core.symlinks                       bool
 core.ignoreStat                     bool
 core.bare                           bool
 core.worktree                       path
-core.logAllRefUpdates               bool-or-word always
+core.logAllRefUpdates               bool-or-word-any-case always
 core.repositoryFormatVersion        int
 core.warnAmbiguousRefs              bool
 core.compression                    int
@@ -78,29 +79,29 @@ checkout.thresholdForParallelism    int
 # clean
 clean.requireForce                  bool
 # color
-color.advice                        bool-or-word always never auto
+color.advice                        bool-or-word-any-case always never auto
 color.advice.hint                   color
 color.blame.repeatedLines           color
-color.branch                        bool-or-word always never auto
+color.branch                        bool-or-word-any-case always never auto
 color.branch.*                      color
-color.diff                          bool-or-word always never auto
+color.diff                          bool-or-word-any-case always never auto
 color.diff.*                        color
 color.decorate.*                    color
-color.grep                          bool-or-word always never auto
+color.grep                          bool-or-word-any-case always never auto
 color.grep.*                        color
-color.interactive                   bool-or-word always never auto
+color.interactive                   bool-or-word-any-case always never auto
 color.interactive.*                 color
 color.pager                         bool
-color.push                          bool-or-word always never auto
+color.push                          bool-or-word-any-case always never auto
 color.push.error                    color
-color.remote                        bool-or-word always never auto
+color.remote                        bool-or-word-any-case always never auto
 color.remote.*                      color
-color.showBranch                    bool-or-word always never auto
-color.status                        bool-or-word always never auto
+color.showBranch                    bool-or-word-any-case always never auto
+color.status                        bool-or-word-any-case always never auto
 color.status.*                      color
-color.transport                     bool-or-word always never auto
+color.transport                     bool-or-word-any-case always never auto
 color.transport.rejected            color
-color.ui                            bool-or-word always never auto
+color.ui                            bool-or-word-any-case always never auto
 # commit
 commit.cleanup                      word strip whitespace verbatim scissors default
 commit.gpgSign                      bool
@@ -127,13 +128,13 @@ diff.ignoreSubmodules               word none untracked dirty all
 diff.relative                       bool
 diff.orderFile                      path
 diff.renameLimit                    int
-diff.renames                        bool-or-word copies copy
+diff.renames                        bool-or-word-any-case copies copy
 diff.suppressBlankEmpty             bool
 diff.submodule                      word short log diff
 diff.*.binary                       bool
 diff.*.cachetextconv                bool
 diff.indentHeuristic                bool
-diff.algorithm                      word default myers minimal patience histogram
+diff.algorithm                      word-any-case default myers minimal patience histogram
 diff.colorMoved                     bool-or-word default plain blocks zebra dimmed-zebra dimmed_zebra
 # extensions
 extensions.objectFormat             word sha1 sha256
@@ -150,21 +151,21 @@ fetch.fsck.*                        word error warn ignore
 fetch.unpackLimit                   int
 fetch.prune                         bool
 fetch.pruneTags                     bool
-fetch.output                        word full compact
-fetch.negotiationAlgorithm          word consecutive skipping noop default
+fetch.output                        word-any-case full compact
+fetch.negotiationAlgorithm          word-any-case consecutive skipping noop default
 fetch.showForcedUpdates             bool
 fetch.parallel                      int
 fetch.writeCommitGraph              bool
 # format
 format.forceInBodyFrom              bool
-format.numbered                     bool-or-word auto
+format.numbered                     bool-or-word-any-case auto
 format.coverFromDescription         word message default subject auto none
 format.encodeEmailHeaders           bool
-format.thread                       bool-or-word shallow deep
+format.thread                       bool-or-word-any-case shallow deep
 format.signOff                      bool
-format.coverLetter                  bool-or-word auto
+format.coverLetter                  bool-or-word-any-case auto
 format.filenameMaxLength            int
-format.useAutoBase                  bool-or-word whenAble
+format.useAutoBase                  bool-or-word-any-case whenAble
 # filter
 filter.*.required                   bool
 # fsck
@@ -205,7 +206,7 @@ grep.fullName                       bool
 grep.fallbackToNoIndex              bool
 # gpg
 gpg.format                          word openpgp x509 ssh
-gpg.minTrustLevel                   word undefined never marginal fully ultimate
+gpg.minTrustLevel                   word-any-case undefined never marginal fully ultimate
 # gui
 gui.commitMsgWidth                  int
 gui.diffContext                     int
@@ -336,8 +337,8 @@ pack.writeBitmapHashCache           bool
 pack.writeBitmapLookupTable         bool
 pack.writeReverseIndex              bool
 # protocol
-protocol.allow                      word always never user
-protocol.*.allow                    word always never user
+protocol.allow                      word-any-case always never user
+protocol.*.allow                    word-any-case always never user
 protocol.version                    word 0 1 2
 # pull
 pull.ff                             bool-or-word only
@@ -346,7 +347,7 @@ pull.rebase                         bool-or-word merges m interactive i
 push.autoSetupRemote                bool
 push.default                        word nothing current upstream tracking simple matching
 push.followTags                     bool
-push.gpgSign                        bool-or-word if-asked
+push.gpgSign                        bool-or-word-any-case if-asked
 push.recurseSubmodules              word check on-demand only no
 push.useForceIfIncludes             bool
 push.negotiate                      bool
@@ -374,7 +375,7 @@ receive.unpackLimit                 int
 receive.maxInputSize                size
 receive.denyDeletes                 bool
 receive.denyDeleteCurrent           bool
-receive.denyCurrentBranch           bool-or-word refuse warn ignore updateInstead
+receive.denyCurrentBranch           bool-or-word-any-case refuse warn ignore updateInstead
 receive.denyNonFastForwards         bool
 receive.updateServerInfo            bool
 receive.shallowUpdate               bool
@@ -425,7 +426,7 @@ status.branch                       bool
 status.aheadBehind                  bool
 status.displayCommentPrefix         bool
 status.renameLimit                  int
-status.renames                      bool-or-word copies copy
+status.renames                      bool-or-word-any-case copies copy
 status.showStash                    bool
 status.showUntrackedFiles           word no normal all
 status.submoduleSummary             bool-or-int

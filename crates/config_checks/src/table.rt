@@ -1,7 +1,8 @@
 //! Rows as they are written, a line each.
-ghost use Rattle.std.specs.Prelude.{◌≡◌, ◌∷◌, ◌++◌, ◌<◌, [], length, ℕ, List, map, IfOk, OnOk, MatchOption, IfSome};
+ghost use Rattle.std.specs.Prelude.{◌≡◌, ◌≢◌, Bool, Some, ◌∷◌, ◌++◌, ◌<◌, [], length, ℕ, List, map, IfOk, IfErr, OnOk, MatchOption, IfSome};
 ghost use Rattle.std.specs.List.{slice_split};
-ghost use Rattle.config_checks.specs.Rows.{fields_of, field_if_some, is_blank, IsNoRow, IsRow, IsKind, plain_name, words_name, lines_of, AddsRow, AddsRows};
+ghost use Rattle.config_checks.specs.declared.kind.SettingKind as kinds;
+ghost use Rattle.config_checks.specs.Rows.{fields_of, field_if_some, is_blank, IsNoRow, IsRow, IsKind, IsBadKind, IsBadRow, plain_name, words_name, lines_of, AddsRow, AddsRows};
 
 use crate::key::{Key, cut_first};
 use crate::kind::{SettingKind, WordList};
@@ -88,7 +89,8 @@ fn fields_of<'t>(alloc: Global, line: &'t [u8]) -> Result<Vec<&'t [u8]>, AllocEr
 
 /// The kind of a name, of those without words.
 fn plain_kind(name: &[u8]) -> Option<SettingKind<'static>>
-    ensures { IfSome result (λ kind. IsKind name.now [] kind) }
+    ensures { MatchOption result ((k : kinds.SettingKind) → plain_name k ≢ Some name.now)
+        (λ k. (plain_name k ≡ Some name.now) × IsKind name.now [] k) }
 {
     if is(name, b"bool") {
         Some(SettingKind::Bool)
@@ -109,7 +111,8 @@ fn plain_kind(name: &[u8]) -> Option<SettingKind<'static>>
 
 /// Of the name of a kind of words: whether it ignores case, and whether it takes booleans too.
 fn words_kind(name: &[u8]) -> Option<(bool, bool)>
-    ensures { IfSome result (λ p. words_name p.0 p.1 ≡ name.now) }
+    ensures { MatchOption result ((a b : Bool) → words_name a b ≢ name.now)
+        (λ p. words_name p.0 p.1 ≡ name.now) }
 {
     match name {
         b"word" => Some((false, false)),
@@ -122,7 +125,8 @@ fn words_kind(name: &[u8]) -> Option<(bool, bool)>
 
 /// The kind of a name and words.
 fn kind_of<'t>(alloc: Global, name: &[u8], words: &[&'t [u8]]) -> Result<SettingKind<'t>, RowFault>
-    ensures { IfOk result (IsKind name.now (map (λ word. word.now) words.now)) }
+    ensures kind { IfOk result (IsKind name.now (map (λ word. word.now) words.now)) }
+    ensures refused { IfErr result (IsBadKind name.now (map (λ word. word.now) words.now)) }
 {
     if let Some(kind) = plain_kind(name) {
         if !words.is_empty() {
@@ -149,7 +153,8 @@ fn kind_of<'t>(alloc: Global, name: &[u8], words: &[&'t [u8]]) -> Result<Setting
 
 /// The row that a line is, or `None` where it is empty or a comment.
 pub fn read_row<'t>(alloc: Global, line: &'t [u8]) -> Result<Option<Row<'t>>, RowFault>
-    ensures { IfOk result (λ r. MatchOption r (IsNoRow (fields_of line.now)) (IsRow (fields_of line.now))) }
+    ensures row { IfOk result (λ r. MatchOption r (IsNoRow (fields_of line.now)) (IsRow (fields_of line.now))) }
+    ensures refused { IfErr result (IsBadRow (fields_of line.now)) }
 {
     let fields = match fields_of(alloc, line) {
         Ok(fields) => fields,
@@ -167,8 +172,10 @@ pub fn read_row<'t>(alloc: Global, line: &'t [u8]) -> Result<Option<Row<'t>>, Ro
     let Some(key) = Key::parse(key) else {
         return Err(RowFault::NoKey);
     };
-    let kind = kind_of(alloc, name, words)?;
-    Ok(Some(Row { key, kind }))
+    match kind_of(alloc, name, words) {
+        Ok(kind) => Ok(Some(Row { key, kind })),
+        Err(fault) => Err(fault),
+    }
 }
 
 /// Puts the row that a line is, if it is one, behind others.
