@@ -1,6 +1,6 @@
 #!/usr/bin/env python3
-"""crates/gix_config_value_c/VERSION is the one version: version.py [PREFIX]. The header says the same, and so do a CHANGELOG.md
-and the Python package where they are there, and the library that was built into PREFIX. The last line is 'N passed, M failed'."""
+"""crates/gix_config_value_c/VERSION is the one version: version.py [PREFIX]. The header says the same, and so do a CHANGELOG.md,
+the program config_check and the Python package where they are there, and the library that was built into PREFIX. The last line is 'N passed, M failed'."""
 import pathlib
 import re
 import subprocess
@@ -8,10 +8,11 @@ import sys
 
 ROOT = pathlib.Path(__file__).resolve().parent.parent
 CRATE = ROOT / "crates/gix_config_value_c"
-# a file, and how it says the version; the last two need not be there
+# a file, and how it says the version; all but the first need not be there
 PLACES = [
     (CRATE / "include/gix_config_value.h", r'^#define GCV_VERSION "(.*)"$'),
     (ROOT / "CHANGELOG.md", r"^## \[?([0-9][^\s\]]*)"),
+    (ROOT / "crates/config_check/src/main.rt", r'^        \.version\("(.*)"\)$'),
     (ROOT / "python/pyproject.toml", r'^version = "(.*)"$'),
     (ROOT / "python/gix_config_value/__init__.py", r'^__version__ = "(.*)"$'),
 ]

@@ -14,7 +14,8 @@ const INPUT: &[u8] = b"core.bare\nmaybe\0core.bare\nmaybe\0core.bare\nmaybe\0";
 const ENTRY: usize = 16;
 
 /// The line of an entry, but for its number.
-const LINE: &[u8] = b"\tcore.bare\tmaybe\tBooleans need to be 'no', 'off', 'false', '' or 'yes', 'on', 'true' or any number\n";
+const LINE: &[u8] =
+    b"\tcore.bare\tmaybe\tBooleans need to be 'no', 'off', 'false', '' or 'yes', 'on', 'true' or any number\n";
 
 const OPTIONS: Options = Options {
     scope: false,
@@ -66,7 +67,11 @@ fn a_read_that_fails(rt: HostRuntime) -> Result<(), Fail> {
         let outcome = checked(alloc, reader, &mut writer)?;
         equal(name(&outcome), "read", call)?;
         let whole = (call as usize - 1) * 7 / ENTRY;
-        equal(writer.held.as_slice(), lines(alloc, whole)?.as_slice(), call)?;
+        equal(
+            writer.held.as_slice(),
+            lines(alloc, whole)?.as_slice(),
+            call,
+        )?;
     }
     Ok(())
 }

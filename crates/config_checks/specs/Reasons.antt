@@ -152,8 +152,14 @@ HasSpelling kinds.Color (Some t) r = IsRespelled ColorText CanonicalColor t r
 HasSpelling kinds.Path (Some t) r = r ≡ None
 HasSpelling (kinds.Word list) (Some t) r = IsRespelledByWords list t r
 
--- the reason, or, where there is none and spellings are wanted, the spelling
+-- what is found behind a reason: the reason, if there is one, and else, where canonical texts are wanted, what it should be
+abbrev pub IsFoundBehind : (wants_canonical : Bool) → SettingKind → Option (List ℕ) → Option Reason → Option Reason → Type 0
+IsFoundBehind wants_canonical kind value (Some reason) r = r ≡ Some reason
+IsFoundBehind true kind value None r = HasSpelling kind value r
+IsFoundBehind false kind value None r = r ≡ None
+
+-- what is found of a setting
 pub record HasFinding (wants_canonical : Bool) (kind : SettingKind) (value : Option (List ℕ)) (r : Option Reason) : Type 0 where
   pub reason : Option Reason
   pub judged : HasReason kind value reason
-  pub found : r ≡ reason ⊎ ((reason ≡ None) × IsTrue wants_canonical × HasSpelling kind value r)
+  pub found : IsFoundBehind wants_canonical kind value reason r

@@ -3,7 +3,7 @@
 -- Where no spelling of white space stands in the text, its words are the text itself, or none where it is
 -- empty. Otherwise it is cut at the last place at which one stands: its words are those of what stands before
 -- that spelling, and then what follows it, where that is not empty.
-use Rattle.std.specs.Prelude.{◌≡◌, ℕ, zero, suc, ◌<◌, ◌≤◌, ◌==◌, List, [], ◌∷◌, ◌++◌, length, drop, slice_index, Option, None, Some, if◌then◌else◌}
+use Rattle.std.specs.Prelude.{◌≡◌, ℕ, zero, suc, ◌<◌, ◌==◌, List, [], ◌∷◌, ◌++◌, length, drop, Option, None, Some, if◌then◌else◌}
 use Rattle.std.specs.Option.{option_or}
 use Rattle.config_color.specs.Space.{spellings, Space}
 
@@ -26,10 +26,6 @@ after_space text = after_one spellings text
 -- no spelling of white space stands at the first n places of the text
 abbrev pub IsWithoutSpace : List ℕ → ℕ → Type 0
 IsWithoutSpace text n = (k : ℕ) → k < n → (space rest : List ℕ) → Space space → ¬ (drop k text ≡ space ++ rest)
-
--- the bytes from one place on and before another are such that no white space begins with them
-abbrev pub ArePlain : List ℕ → ℕ → ℕ → Type 0
-ArePlain text from to = (k : ℕ) → from ≤ k → k < to → (32 < slice_index text k) × (slice_index text k < 194)
 
 -- a cut of a text: what stands before a spelling, and what follows it
 abbrev pub Cut : Type 0

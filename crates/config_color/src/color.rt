@@ -6,13 +6,13 @@ ghost use Rattle.bstr.specs.Owned.{bstring_bytes};
 ghost use Rattle.config_text.specs.declared.errors.Fault.TheVariants as faults;
 ghost use Rattle.config_color.specs.Color.{ColorText, CanonicalColor, PartFits, color_shown, no_color};
 ghost use Rattle.config_color.specs.Laws.Color.{color_one_value, color_decided};
-ghost use Rattle.config_color.specs.Reading.Color.{next_name, with_item, read_from, names_shown};
+ghost use Rattle.config_color.specs.Reading.Color.{next_name, with_item, read_from, names_shown, ArePlain};
 ghost use Rattle.config_color.specs.Laws.ColorShown.{color_equal, color_canonical_reads, color_one_text, color_shown_is_text};
 ghost use Rattle.std.proofs.Common.{rules};
 ghost use Rattle.config_text.specs.Refusals.{Always, ReadsBytes, ReadsText, ReadsOwned};
 ghost use Rattle.config_color.specs.Space.{Space};
 ghost use Rattle.config_text.specs.Value.{HasText, Reads};
-ghost use Rattle.config_color.specs.Split.{IsWithoutSpace, ArePlain, piece, words};
+ghost use Rattle.config_color.specs.Split.{IsWithoutSpace, piece, words};
 
 use crate::space::space_at;
 use bitflags::Flags;

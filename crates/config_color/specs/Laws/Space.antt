@@ -3,7 +3,8 @@ use Rattle.std.proofs.Common.{◌≡◌, ℕ, ◌+◌, ◌<◌, ◌≤◌, ◌�
 use Rattle.std.proofs.lemmas.Bool.Decides.{leb_tells}
 use Rattle.std.proofs.lemmas.List.{get_or-drop}
 use Rattle.config_color.specs.Space.{spellings, Space}
-use Rattle.config_color.specs.Split.{IsWithoutSpace, ArePlain}
+use Rattle.config_color.specs.Split.{IsWithoutSpace}
+use Rattle.config_color.specs.Reading.Color.{ArePlain}
 
 pub narrow_bytes : (a : ℕ) → Space (a ∷ []) → ((9 ≤ a) × (a ≤ 13)) ⊎ (a ≡ 32)
 unfolding spellings

@@ -1,6 +1,6 @@
 -- Color text as a function, from the front: what the code computes, proved in `Laws.Color` to be `ColorText`. The
 -- contracts of private functions cite it, and no public one does.
-use Rattle.std.specs.Prelude.{ℕ, List, [], ◌∷◌, ◌++◌, Option, None, Some}
+use Rattle.std.specs.Prelude.{ℕ, ◌<◌, ◌≤◌, List, [], ◌∷◌, ◌++◌, slice_index, Option, None, Some}
 use Rattle.std.specs.Int.RustNames.{bit_or}
 use Rattle.std.specs.List.{join_with_byte}
 use Rattle.std.specs.Option.{option_and_then}
@@ -48,3 +48,7 @@ places_of (Some n) (Some o) (Some m) d = None
 -- the names as they are shown
 abbrev pub names_shown : Option Name → Option Name → List ℕ
 names_shown f b = join_with_byte space (part_shown f ++ part_shown b)
+
+-- the bytes from one place on and before another are such that no white space begins with them
+abbrev pub ArePlain : List ℕ → ℕ → ℕ → Type 0
+ArePlain text from to = (k : ℕ) → from ≤ k → k < to → (32 < slice_index text k) × (slice_index text k < 194)

@@ -1,5 +1,5 @@
 use Rattle.std.proofs.Common.{IsTrue}
-use Rattle.config_color.specs.Split.{ArePlain}
+use Rattle.config_color.specs.Reading.Color.{ArePlain}
 use Rattle.config_color.proofs.color.is_plain_run.Given as goal
 
 abbrev pub invariant-loop-place : goal.invariant-loop-place
