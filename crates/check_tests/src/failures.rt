@@ -61,17 +61,19 @@ fn lines(alloc: Global, count: usize) -> Result<Vec<u8>, Fail> {
 #[test]
 fn a_read_that_fails(rt: HostRuntime) -> Result<(), Fail> {
     let alloc = rt.alloc();
-    for call in 1..8u64 {
-        let mut writer = Writer::new(alloc, 0, usize::MAX)?;
-        let reader = Reader::failing(INPUT, 7, call, ErrorKind::Other);
-        let outcome = checked(alloc, reader, &mut writer)?;
-        equal(name(&outcome), "read", call)?;
-        let whole = (call as usize - 1) * 7 / ENTRY;
-        equal(
-            writer.held.as_slice(),
-            lines(alloc, whole)?.as_slice(),
-            call,
-        )?;
+    for piece in [7, 8, 16] {
+        for call in 1..=(INPUT.len() / piece) as u64 {
+            let mut writer = Writer::new(alloc, 0, usize::MAX)?;
+            let reader = Reader::failing(INPUT, piece, call, ErrorKind::Other);
+            let outcome = checked(alloc, reader, &mut writer)?;
+            equal(name(&outcome), "read", (piece, call))?;
+            let whole = (call as usize - 1) * piece / ENTRY;
+            equal(
+                writer.held.as_slice(),
+                lines(alloc, whole)?.as_slice(),
+                (piece, call),
+            )?;
+        }
     }
     Ok(())
 }

@@ -49,6 +49,8 @@ fn command<'a>(alloc: Global) -> Result<Command<'a>, AllocError> {
 /// Why a run ends with status 2.
 #[derive(Debug, Drop, Error)]
 enum Failure<'m> {
+    #[error("cannot read the arguments: {0}")]
+    Arguments(io::Error),
     #[error("cannot read {file}: {error}")]
     File { file: &'m str, error: io::Error },
     #[error("{file}:{}: {}", .bad.line, .bad.fault)]
@@ -166,7 +168,15 @@ fn words(rt: &HostRuntime) -> Result<Vec<String>, Failure<'static>> {
             Ok(words) => Ok(words),
             Err(error) => Err(Failure::Memory(error)),
         },
-        Err(error) => Err(Failure::Read(error)),
+        Err(error) => Err(Failure::Arguments(error)),
+    }
+}
+
+/// Prints the usage, the version, or what is wrong with the arguments.
+fn tell(rt: &HostRuntime, error: &clap::Error) -> Result<u8, Failure<'static>> {
+    match error.print(rt) {
+        Ok(()) => Ok(error.exit_code() as u8),
+        Err(error) => Err(Failure::Write(error)),
     }
 }
 
@@ -181,9 +191,6 @@ fn main(rt: HostRuntime) -> ExitCode {
     };
     match command.try_get_matches_from(words.as_slice()) {
         Ok(matches) => status(&rt, run(&rt, &matches)),
-        Err(error) => {
-            let _ = error.print(&rt);
-            ExitCode::from(error.exit_code() as u8)
-        }
+        Err(error) => status(&rt, tell(&rt, &error)),
     }
 }

@@ -108,11 +108,10 @@ def built_in(group, program):
 
 def settings_files(group, program):
     """Files of settings that are wrong, missing, or in order."""
-    for text, line in rows.BAD_ROWS:
+    for text, line, fault in rows.BAD_ROWS:
         file = program.settings(text)
-        begins = f"config_check: {file}:{line}: ".encode()
-        came = program.run(["--settings", file], b"test.x\n1\0")
-        group.expect(text, Ended(2, b"", begins), with_errors_cut(came, begins))
+        told = f"config_check: {file}:{line}: ".encode() + fault + b"\n"
+        group.expect(text, Ended(2, b"", told), program.run(["--settings", file], b"test.x\n1\0"))
     for text in rows.GOOD_ROWS:
         came = program.run(["--settings", program.settings(text)], b"other.x\0")
         group.expect(text, ended(b"", (1, 0, 1, 0)), came)

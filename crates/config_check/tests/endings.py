@@ -39,6 +39,10 @@ def full_device(group, program, how):
         with FULL.open("wb") as full:
             came = program.run(how, data, stdout=full)
         expect_cannot(group, FULL, came)
+    for argument in ("--help", "--version"):
+        with FULL.open("wb") as full:
+            came = program.run([argument], b"", stdout=full)
+        expect_cannot(group, argument, came)
 
 
 def closed_files(group, program, how):

@@ -245,12 +245,16 @@ def key_of(text):
     return Key(first.lower(), middle if second_dot else None, last.lower()) if dot else None
 
 
-def row_of(line):
-    """The row that a line is; None where it is none."""
-    parts = line.split()
-    if len(parts) < 2:
+def fields_of(line):
+    """What stands between spaces, tabs and CRs."""
+    return [field for field in re.split(rb"[ \t\r]", line) if field]
+
+
+def row_of(fields):
+    """The row that these fields are; None where they are none."""
+    if len(fields) < 2:
         return None
-    text, kind, *words = parts
+    text, kind, *words = fields
     key = key_of(text)
     is_row = key is not None and kind in KINDS and bool(words) == (kind in WITH_WORDS)
     return Row(key, kind, words) if is_row else None
@@ -260,10 +264,11 @@ def rows_of(text):
     """The rows of the text of a settings file."""
     rows = []
     for number, line in enumerate(text.split(b"\n"), 1):
-        if line and not line.startswith(b"#"):
-            if row_of(line) is None:
+        fields = fields_of(line)
+        if fields and not fields[0].startswith(b"#"):
+            if row_of(fields) is None:
                 raise BadRow(number)
-            rows.append(row_of(line))
+            rows.append(row_of(fields))
     return rows
 
 

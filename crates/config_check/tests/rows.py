@@ -303,19 +303,25 @@ OWN_ROWS = [
     (b"color.branch.local", b"purple", COLOR_FAULT),
 ]
 
-# texts of settings with a line that is no row, and the number of that line
+# what is said of a line that is no row
+NO_DOT, NO_KIND, NO_SUCH_KIND, NO_WORDS, WORDS = (
+    b"no dot stands in the key", b"no kind stands behind the key", b"no such kind", b"no words stand behind the kind",
+    b"words stand behind a kind that takes none")
+# texts of settings with such a line, its number, and what is said of it
 BAD_ROWS = [
-    (b"nodot bool\n", 1), (b"test.x\n", 1), (b"test.x \n", 1), (b"nodot\n", 1), (b"test.x,bool\n", 1),
-    (b"test.x boolean\n", 1), (b"test.x BOOL\n", 1), (b"test.x bool-or\n", 1), (b"test.x int,\n", 1),
-    (b"test.x bool yes\n", 1), (b"test.x int 1 2\n", 1), (b"test.x path path\n", 1), (b"test.x # bool\n", 1),
-    (b"test.x word\n", 1), (b"test.x word-any-case\n", 1), (b"test.x bool-or-word \n", 1),
-    (b"test.x bool-or-word-any-case\n", 1), (b"test.x bool\nnodot bool", 2),
-    (b"# first\n\ntest.x bool\n\ntest.y bool\ttrue\ntest.z none\n", 5),
+    (b"nodot bool\n", 1, NO_DOT), (b"test.x\n", 1, NO_KIND), (b"test.x \n", 1, NO_KIND), (b"nodot\n", 1, NO_KIND),
+    (b"test.x,bool\n", 1, NO_KIND), (b"nodot boolean\n", 1, NO_DOT), (b"test.x\x0bbool\n", 1, NO_KIND),
+    (b"test.x boolean\n", 1, NO_SUCH_KIND), (b"test.x BOOL\n", 1, NO_SUCH_KIND), (b"test.x bool-or\n", 1, NO_SUCH_KIND),
+    (b"test.x int,\n", 1, NO_SUCH_KIND), (b"test.x bool yes\n", 1, WORDS), (b"test.x int 1 2\n", 1, WORDS),
+    (b"test.x path path\n", 1, WORDS), (b"test.x # bool\n", 1, NO_SUCH_KIND), (b"test.x word\n", 1, NO_WORDS),
+    (b"test.x word-any-case\n", 1, NO_WORDS), (b"test.x bool-or-word \n", 1, NO_WORDS),
+    (b"test.x bool-or-word-any-case\n", 1, NO_WORDS), (b"test.x bool\nnodot bool", 2, NO_DOT),
+    (b"# first\n\ntest.x bool\n\ntest.y bool\ttrue\ntest.z none\n", 5, WORDS),
 ]
 
 # other texts of settings that are in order
 GOOD_ROWS = [b"", b"\n", b"\n\n", b"#\n", b"# nodot bool", b"#nodot bool\n\n", b"test.x bool",
-             b"test.x\t \tword  a\t\tb\n"]
+             b"test.x\t \tword  a\t\tb\n", b" \t \n\r\n", b"  # a comment\n", b"  test.x bool\r\n"]
 
 # inputs with a scope, an origin, both or none before each entry: the arguments, the input, the output, and
 # the numbers of entries, judged ones, unknown keys and findings
@@ -360,4 +366,5 @@ CUT_OFF = [
 
 # arguments that are wrong
 WRONG_ARGUMENTS = [["--no-such-argument"], ["-x"], ["input"], ["--settings"], ["--show-scope=maybe"],
-                   ["--canonical", "more"]]
+                   ["--canonical", "more"], ["--show-scope", "--show-scope"],
+                   ["--settings", "/dev/null", "--settings", "/dev/null"]]

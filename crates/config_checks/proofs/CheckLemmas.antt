@@ -124,7 +124,7 @@ module _ (rows : List Row) (options : Options) where
     entries = complete.entries;
     consumed = complete.consumed;
     appended = complete.appended;
-    read = inr (r.is_cut_off, complete.whole);
+    read = inr (r.is_cut_off, complete.at_end, complete.whole);
     written = written_after e complete.entries complete.output [] r.counts no_read
         (subst (λ l. Report rows options complete.entries l r.counts) (sym (append-nil complete.output)) complete.report);
   }
@@ -165,7 +165,7 @@ module _ (rows : List Row) (options : Options) where
         subst (λ l. Report rows options (so_far.entries ++ entry ∷ []) l broken.after) all
         (next so_far.entries so_far.output s entry broken.key broken.value broken.line broken.after so_far.report broken.setting broken.adds)
 
-    fails_writing : (rest : List ℕ) → Consumes v v' rest → AreRead options (so_far.input ++ rest) (so_far.entries ++ entry ∷ [])
+    fails_writing : (rest : List ℕ) → Consumes v v' rest → AreRead options u v' (so_far.input ++ rest) (so_far.entries ++ entry ∷ [])
         → Fails rows options u v' w x' e
     fails_writing rest consumed read = record {
       input = so_far.input ++ rest;
@@ -189,7 +189,7 @@ module _ (rows : List Row) (options : Options) where
 
     pub fails_cut_off : ReadsEntry options v v' entry CutOff → Fails rows options u v' w x' e
     fails_cut_off read = fails_writing read.0 read.1
-        (inr (true, cut_off so_far.entries entry read.0 (with_rest so_far.input so_far.entries read.0 so_far.cut) read.3 refl refl))
+        (inr (true, ends_both u v v' so_far.input so_far.consumed read.2, cut_off so_far.entries entry read.0 (with_rest so_far.input so_far.entries read.0 so_far.cut) read.3 refl refl))
 
 -- ---- counts
 

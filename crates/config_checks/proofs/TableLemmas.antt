@@ -1,12 +1,13 @@
 -- Texts split at bytes that pass a test.
-use Rattle.std.proofs.Common.{◌≡◌, ◌≢◌, ◌<◌, ◌≤◌, ◌+◌, ◌-◌, ◌==◌, ◌++◌, suc, length-append, subst, eqb-true, ℕ, List, [], ◌∷◌, Bool, true, false, length, take, drop, get_or, refl, sym, ap, ◌∙◌, arith}
+use Rattle.std.proofs.Common.{◌≡◌, ◌≢◌, ◌<◌, ◌≤◌, ◌+◌, ◌-◌, ◌==◌, ◌++◌, suc, append_assoc, length-append, subst, eqb-true, ℕ, List, [], ◌∷◌, Bool, true, false, length, take, drop, get_or, refl, sym, ap, ◌∙◌, arith}
 use Rattle.std.specs.List.{slice_split, position_or_len, before_first, after_first}
 use Rattle.std.proofs.lemmas.List.Elements.{All-from_get_or}
 use Rattle.std.proofs.lemmas.List.Splits.{slice_split_none, slice_split_first}
 use Rattle.std.proofs.lemmas.List.Sums.{position_or_len_is}
 use Rattle.config_checks.specs.declared.row.Row.{Row}
+use Rattle.config_checks.specs.declared.table.BadRow.{BadRow}
 use Rattle.config_checks.specs.Keys.{IsWithout}
-use Rattle.config_checks.specs.Rows.{lines_of, AddsRow, AddsRows, nothing, next}
+use Rattle.config_checks.specs.Rows.{lines_of, fields_of, IsBadRow, IsBadLine, AddsRow, AddsRows}
 use Rattle.config_checks.proofs.WriteLemmas.{take_rest}
 
 -- the first byte that passes stands at this place
@@ -41,20 +42,61 @@ line_cut (b ∷ bs) rest none =
 line_alone : (t : List ℕ) → IsWithout 10 t → lines_of t ≡ t ∷ []
 line_alone t none = split_nowhere (λ b. b == 10) t (λ k below. not_that (get_or t k 0) 10 (none k 0 below))
 
--- the rows of the rest are the last ones of the text
-abbrev pub SoFar : List ℕ → List ℕ → List Row → List Row → Type 0
-SoFar text rest before rows = (after : List Row) → AddsRows (lines_of rest) rows after → AddsRows (lines_of text) before after
+-- the lines before the rest were read
+pub record SoFar (text rest : List ℕ) (number : ℕ) (before rows : List Row) : Type 0 where
+  pub lines : List (List ℕ)
+  pub parts : lines_of text ≡ lines ++ lines_of rest
+  pub numbered : number ≡ length lines + 1
+  pub added : AddsRows lines before rows
 
-pub more_lines : (text rest line tail : List ℕ) (before rows rows' : List Row) → rest ≡ line ++ 10 ∷ tail → IsWithout 10 line
-    → SoFar text rest before rows → AddsRow line rows rows' → SoFar text tail before rows'
-more_lines text rest line tail before rows rows' parts none so_far adds after later =
-    so_far after (subst (λ lines. AddsRows lines rows after) (sym (ap lines_of parts ∙ line_cut line tail none))
-    (next line (lines_of tail) rows rows' after adds later))
+pub start : (text : List ℕ) (rows : List Row) → SoFar text text 1 rows rows
+start text rows = record { lines = []; parts = refl; numbered = refl; added = refl }
 
-pub last_line : (text rest : List ℕ) (before rows rows' : List Row) → IsWithout 10 rest → SoFar text rest before rows → AddsRow rest rows rows'
-    → AddsRows (lines_of text) before rows'
-last_line text rest before rows rows' none so_far adds =
-    so_far rows' (subst (λ lines. AddsRows lines rows rows') (sym (line_alone rest none)) (next rest [] rows rows' rows' adds (nothing rows')))
+one_more : (lines : List (List ℕ)) (line : List ℕ) (a b c : List Row) → AddsRows lines a b → AddsRow line b c → AddsRows (lines ++ line ∷ []) a c
+one_more [] line a b c same adds = (c, subst (λ rows. AddsRow line rows c) same adds, refl)
+one_more (first ∷ lines) line a b c so_far adds = (so_far.0, so_far.1, one_more lines line so_far.0 b c so_far.2 adds)
+
+pub more_lines : (text rest line tail : List ℕ) (number : ℕ) (before rows rows' : List Row) → rest ≡ line ++ 10 ∷ tail → IsWithout 10 line
+    → SoFar text rest number before rows → AddsRow line rows rows' → SoFar text tail (number + 1) before rows'
+more_lines text rest line tail number before rows rows' parts none so_far adds = record {
+  lines = so_far.lines ++ line ∷ [];
+  parts = so_far.parts ∙ ap (λ l. so_far.lines ++ l) (ap lines_of parts ∙ line_cut line tail none)
+      ∙ sym (append_assoc so_far.lines (line ∷ []) (lines_of tail));
+  numbered = omega (arith, so_far.numbered, length-append {A = List ℕ});
+  added = one_more so_far.lines line before rows rows' so_far.added adds;
+}
+
+pub last_line : (text rest : List ℕ) (number : ℕ) (before rows rows' : List Row) → IsWithout 10 rest → SoFar text rest number before rows
+    → AddsRow rest rows rows' → AddsRows (lines_of text) before rows'
+last_line text rest number before rows rows' none so_far adds =
+    subst (λ lines. AddsRows lines before rows') (sym (so_far.parts ∙ ap (λ l. so_far.lines ++ l) (line_alone rest none)))
+    (one_more so_far.lines rest before rows rows' so_far.added adds)
+
+pub bad_line : (text rest line tail : List ℕ) (bad : BadRow) (before rows : List Row) → rest ≡ line ++ 10 ∷ tail → IsWithout 10 line
+    → SoFar text rest bad.line before rows → IsBadRow (fields_of line) bad.fault → IsBadLine text before bad
+bad_line text rest line tail bad before rows parts none so_far fault = record {
+  before = so_far.lines;
+  line = line;
+  behind = lines_of tail;
+  rows' = rows;
+  parts = so_far.parts ∙ ap (λ l. so_far.lines ++ l) (ap lines_of parts ∙ line_cut line tail none);
+  numbered = so_far.numbered;
+  added = so_far.added;
+  fault = fault;
+}
+
+pub bad_last_line : (text rest : List ℕ) (bad : BadRow) (before rows : List Row) → IsWithout 10 rest
+    → SoFar text rest bad.line before rows → IsBadRow (fields_of rest) bad.fault → IsBadLine text before bad
+bad_last_line text rest bad before rows none so_far fault = record {
+  before = so_far.lines;
+  line = rest;
+  behind = [];
+  rows' = rows;
+  parts = so_far.parts ∙ ap (λ l. so_far.lines ++ l) (line_alone rest none);
+  numbered = so_far.numbered;
+  added = so_far.added;
+  fault = fault;
+}
 
 pub shorter_tail : (rest line tail : List ℕ) → rest ≡ line ++ 10 ∷ tail → length tail + 1 ≤ length rest
 shorter_tail rest line tail parts = rw parts (omega (arith, length-append {A = ℕ}))

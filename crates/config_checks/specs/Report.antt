@@ -76,10 +76,10 @@ pub record BeginsReport (rows : List Row) (options : Options) (entries : List En
   pub missing : List ℕ
   pub report : Report rows options entries (output ++ missing) s
 
--- the entries that were read: each but for one that was begun, or all of a whole input
-abbrev pub AreRead : Options → List ℕ → List Entry → Type 0
-AreRead options input entries = ((rest : List ℕ) × IsCut options input entries rest × IsBegun options rest)
-    ⊎ ((is_cut_off : Bool) × IsInput options input entries is_cut_off)
+-- the entries that were read: each but for one that was begun, or, at the end of the input, all of it
+abbrev pub AreRead : Options → Option (List ℕ) → Option (List ℕ) → List ℕ → List Entry → Type 0
+AreRead options unread left input entries = ((rest : List ℕ) × IsCut options input entries rest × IsBegun options rest)
+    ⊎ ((is_cut_off : Bool) × EndsKnown unread left × IsInput options input entries is_cut_off)
 
 -- after a fault of reading the lines of all entries that were read are written, and after another a beginning of them
 abbrev pub WritesAfter : CheckError → List Row → Options → List Entry → List ℕ → Type 0
@@ -93,5 +93,5 @@ pub record Fails (rows : List Row) (options : Options) (unread left held holds :
   pub entries : List Entry
   pub consumed : Consumes unread left input
   pub appended : Appends held holds output
-  pub read : AreRead options input entries
+  pub read : AreRead options unread left input entries
   pub written : WritesAfter e rows options entries output

@@ -1,11 +1,12 @@
 -- Rows: what each setting has to be.
-use Rattle.std.specs.Prelude.{◌≡◌, ◌≢◌, ◌⊎◌, ℕ, ◌<◌, ◌==◌, ◌||◌, Bool, true, false, List, [], ◌∷◌, ◌++◌, length, take, map, flat_map, codes, Option, None, Some, slice_index_or, All}
+use Rattle.std.specs.Prelude.{◌≡◌, ◌≢◌, ◌⊎◌, ℕ, ◌+◌, ◌<◌, ◌==◌, ◌||◌, Bool, true, false, List, [], ◌∷◌, ◌++◌, length, take, map, flat_map, codes, Option, None, Some, slice_index_or, All}
 use Rattle.std.specs.List.{slice_split}
 use Rattle.config_checks.specs.declared.key.Key.{Key}
 use Rattle.config_checks.specs.declared.row.Row.{Row}
 use Rattle.config_checks.specs.declared.kind.SettingKind.{SettingKind}
 use Rattle.config_checks.specs.declared.kind.SettingKind.TheVariants as kinds
 use Rattle.config_checks.specs.declared.table.RowFault.{RowFault}
+use Rattle.config_checks.specs.declared.table.BadRow.{BadRow}
 use Rattle.config_checks.specs.declared.table.RowFault.TheVariants.{NoKind, NoKey, UnknownKind, NoWords, Words, Memory}
 use Rattle.config_checks.specs.Keys.{IsKey, Covers}
 
@@ -76,6 +77,7 @@ pub record IsNoKind (name : List ℕ) : Type 0 where
 
 -- a key, the name of a kind, and words
 pub record IsRow (fields : List (List ℕ)) (row : Row) : Type 0 where
+  pub is_row : ¬ (IsNoRow fields)
   pub key : List ℕ
   pub name : List ℕ
   pub words : List (List ℕ)
@@ -91,12 +93,17 @@ IsBadKind name words Words = (words ≢ []) × ((kind : SettingKind) × (plain_n
 IsBadKind name words (Memory e) = Unit {0}
 IsBadKind name words _ = ⊥
 
--- why these fields are no row
+-- the first thing that is wrong with these fields: there is no kind, the key is none, or there is no such kind
+abbrev pub HasRowFault : List (List ℕ) → RowFault → Type 0
+HasRowFault fields NoKind = (key : List ℕ) × (fields ≡ key ∷ [])
+HasRowFault fields NoKey = (key name : List ℕ) × (words : List (List ℕ)) × (fields ≡ key ∷ name ∷ words) × ((k : Key) → ¬ (IsKey key k))
+HasRowFault fields fault = (key name : List ℕ) × (words : List (List ℕ)) × (fields ≡ key ∷ name ∷ words)
+    × ((k : Key) × IsKey key k) × IsBadKind name words fault
+
+-- why these fields are no row, and no comment
 abbrev pub IsBadRow : List (List ℕ) → RowFault → Type 0
-IsBadRow fields NoKind = (key : List ℕ) × (fields ≡ key ∷ [])
-IsBadRow fields NoKey = (key : List ℕ) × (rest : List (List ℕ)) × (fields ≡ key ∷ rest) × ((k : Key) → ¬ (IsKey key k))
 IsBadRow fields (Memory e) = Unit {0}
-IsBadRow fields fault = (key name : List ℕ) × (words : List (List ℕ)) × (fields ≡ key ∷ name ∷ words) × IsBadKind name words fault
+IsBadRow fields fault = ¬ (IsNoRow fields) × HasRowFault fields fault
 
 -- the lines of a text
 abbrev pub lines_of : List ℕ → List (List ℕ)
@@ -107,7 +114,17 @@ abbrev pub AddsRow : List ℕ → List Row → List Row → Type 0
 AddsRow line rows rows' = (IsNoRow (fields_of line) × (rows' ≡ rows)) ⊎ ((row : Row) × IsRow (fields_of line) row × (rows' ≡ rows ++ row ∷ []))
 
 -- these lines, in order
-pub data AddsRows : List (List ℕ) → List Row → List Row → Type 0 where
-  nothing : (rows : List Row) → AddsRows [] rows rows
-  next : (line : List ℕ) (lines : List (List ℕ)) (rows rows' rows'' : List Row) → AddsRow line rows rows' → AddsRows lines rows' rows''
-      → AddsRows (line ∷ lines) rows rows''
+abbrev pub AddsRows : List (List ℕ) → List Row → List Row → Type 0
+AddsRows [] rows rows' = rows' ≡ rows
+AddsRows (line ∷ lines) rows rows'' = (rows' : List Row) × AddsRow line rows rows' × AddsRows lines rows' rows''
+
+-- the first line that is no row has this number, from 1, and this fault
+pub record IsBadLine (text : List ℕ) (rows : List Row) (bad : BadRow) : Type 0 where
+  pub before : List (List ℕ)
+  pub line : List ℕ
+  pub behind : List (List ℕ)
+  pub rows' : List Row
+  pub parts : lines_of text ≡ before ++ line ∷ behind
+  pub numbered : bad.line ≡ length before + 1
+  pub added : AddsRows before rows rows'
+  pub fault : IsBadRow (fields_of line) bad.fault

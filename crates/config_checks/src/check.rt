@@ -21,7 +21,7 @@ use std::io::{self, BufRead, ErrorKind, Write};
 /// Why a check ended before the end of its input.
 #[derive(Drop)]
 pub enum CheckError {
-    /// A read failed, or the input did not end within 18446744073709551615 entries.
+    /// A read failed, or the input had not ended after 18446744073709551615 entries.
     Read(io::Error),
     /// A write or the flush at the end failed, or a write took no byte.
     Write(io::Error),
@@ -238,8 +238,12 @@ impl Progress {
 /// within an entry. An entry that no NUL ends is judged too, where something stands in its setting.
 ///
 /// `Read` is an error of a read, and an input that has not ended after 18446744073709551615 entries: the lines of all entries
-/// that were read are then written. `Write` is an error of a write or of the flush at the end, and a write that takes no byte;
-/// `Memory` is answered where there is no memory for a line. After these what was written is a beginning of the lines.
+/// that were read are then written, but for one that was begun when the read failed. `Write` is an error of a write or of the
+/// flush at the end, and a write that takes no byte; `Memory` is answered where there is no memory for a line. After these what
+/// was written is a beginning of the lines.
+///
+/// The clauses speak of bytes that the prover knows a reader to have and a writer to hold. Of standard input and output it
+/// knows none: there they say what `check` does with any reader and any writer.
 pub fn check<R: BufRead, W: Write>(
     alloc: Global,
     rows: &[Row<'_>],

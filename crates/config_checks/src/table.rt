@@ -2,7 +2,7 @@
 ghost use Rattle.std.specs.Prelude.{◌≡◌, ◌≢◌, Bool, Some, ◌∷◌, ◌++◌, ◌<◌, [], length, ℕ, List, map, IfOk, IfErr, OnOk, MatchOption, IfSome};
 ghost use Rattle.std.specs.List.{slice_split};
 ghost use Rattle.config_checks.specs.declared.kind.SettingKind as kinds;
-ghost use Rattle.config_checks.specs.Rows.{fields_of, field_if_some, is_blank, IsNoRow, IsRow, IsKind, IsBadKind, IsBadRow, plain_name, words_name, lines_of, AddsRow, AddsRows};
+ghost use Rattle.config_checks.specs.Rows.{fields_of, field_if_some, is_blank, IsNoRow, IsRow, IsKind, IsBadKind, IsBadRow, plain_name, words_name, lines_of, AddsRow, AddsRows, IsBadLine};
 
 use crate::key::{Key, cut_first};
 use crate::kind::{SettingKind, WordList};
@@ -180,20 +180,23 @@ pub fn read_row<'t>(alloc: Global, line: &'t [u8]) -> Result<Option<Row<'t>>, Ro
 
 /// Puts the row that a line is, if it is one, behind others.
 fn push_row<'t>(alloc: Global, rows: &mut Vec<Row<'t>>, line: &'t [u8]) -> Result<(), RowFault>
-    ensures { OnOk result (AddsRow line.now rows.old.items rows.new.items) }
+    ensures adds { OnOk result (AddsRow line.now rows.old.items rows.new.items) }
+    ensures refused { IfErr result (IsBadRow (fields_of line.now)) }
 {
-    let Some(row) = read_row(alloc, line)? else {
-        return Ok(());
-    };
-    match rows.push(row) {
-        Ok(()) => Ok(()),
-        Err(_) => Err(RowFault::Memory(AllocError)),
+    match read_row(alloc, line) {
+        Ok(None) => Ok(()),
+        Ok(Some(row)) => match rows.push(row) {
+            Ok(()) => Ok(()),
+            Err(_) => Err(RowFault::Memory(AllocError)),
+        },
+        Err(fault) => Err(fault),
     }
 }
 
 /// Puts the rows of a text behind others, in the order of its lines. Ends at the first line that is no row.
 pub fn read_rows<'t>(alloc: Global, text: &'t [u8], rows: &mut Vec<Row<'t>>) -> Result<(), BadRow>
-    ensures { OnOk result (AddsRows (lines_of text.now) rows.old.items rows.new.items) }
+    ensures adds { OnOk result (AddsRows (lines_of text.now) rows.old.items rows.new.items) }
+    ensures refused { IfErr result (IsBadLine text.now rows.old.items) }
 {
     let mut rest = text;
     let mut number = 1;
