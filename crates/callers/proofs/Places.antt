@@ -9,7 +9,7 @@ use Rattle.std.proofs.lemmas.List.Sums.{position_or_len_is}
 use Rattle.std.proofs.lemmas.Str.Ascii.{trim_ascii_is}
 use Rattle.std.proofs.Math.Seq.{take-length}
 use Rattle.callers.specs.Lines.{file_lines}
-use Rattle.callers.specs.Entries.{trimmed, line_entry}
+use Rattle.callers.specs.Entries.{is_comment, trimmed, line_entry}
 
 differs : (a b : ℕ) → a ≢ b → (a == b) ≡ false
 differs a b n = told (a == b) refl where
@@ -55,15 +55,22 @@ cut_nowhere text none = slice_split_none _ text (All-from_get_or (λ b. (b == 10
 pub trimmed_is : (s r : List ℕ) → IsTrimAscii s r → r ≡ trimmed s
 trimmed_is s r is = trim_ascii_is s r _ refl is
 
-pub entry_at : (line : List ℕ) (at : ℕ) (name value : List ℕ) → IsFirstAt 61 line at
-    → IsTrimAscii (take at line) name → IsTrimAscii (take (length line - (at + 1)) (drop (at + 1) line)) value
-    → line_entry line ≡ Some (name, value)
-entry_at line at name value first is_name is_value =
-    let some : list_any (λ b. b == 61) line ≡ true = list_any_at (λ b. b == 61) line at 0 first.within (eq-eqb _ 61 first.here) in
-    rw (some, trimmed_is _ _ is_name, trimmed_is _ _ is_value, before_place 61 line at first, behind_place 61 line at first)
+-- an empty line and a comment set nothing
+pub entry_of_comment : (line bare : List ℕ) → IsTrimAscii line bare → is_comment bare ≡ true → line_entry line ≡ None
+entry_of_comment line bare is_bare comment = rw (← trimmed_is _ _ is_bare, comment)
 
-pub entry_nowhere : (line : List ℕ) → ((k : ℕ) → k < length line → get_or line k 0 ≢ 61) → line_entry line ≡ None
-entry_nowhere line none =
+pub entry_at : (line bare : List ℕ) (at : ℕ) (name value : List ℕ) → IsTrimAscii line bare → is_comment bare ≡ false
+    → IsFirstAt 61 line at → IsTrimAscii (take at line) name
+    → IsTrimAscii (take (length line - (at + 1)) (drop (at + 1) line)) value
+    → line_entry line ≡ Some (name, Some value)
+entry_at line bare at name value is_bare no_comment first is_name is_value =
+    let some : list_any (λ b. b == 61) line ≡ true = list_any_at (λ b. b == 61) line at 0 first.within (eq-eqb _ 61 first.here) in
+    rw (← trimmed_is _ _ is_bare, no_comment, some, trimmed_is _ _ is_name, trimmed_is _ _ is_value,
+        before_place 61 line at first, behind_place 61 line at first)
+
+pub entry_nowhere : (line bare : List ℕ) → IsTrimAscii line bare → is_comment bare ≡ false
+    → ((k : ℕ) → k < length line → get_or line k 0 ≢ 61) → line_entry line ≡ Some (bare, None)
+entry_nowhere line bare is_bare no_comment none =
     let no : list_any (λ b. b == 61) line ≡ false
     = list_any_none (λ b. b == 61) line (All-from_get_or (λ b. (b == 61) ≡ false) line 0 (λ k below. differs _ _ (none k below))) in
-    rw no
+    rw (← trimmed_is _ _ is_bare, no_comment, no)

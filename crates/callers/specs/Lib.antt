@@ -4,3 +4,5 @@ pub mod Precedence
 pub mod Checker
 pub mod Theme
 pub mod Paths
+pub mod PushDefault
+pub mod Laws

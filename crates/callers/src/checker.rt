@@ -1,58 +1,91 @@
-//! Which lines of a file are not in canonical form, and what they should be.
+//! Which lines of a file are not in canonical form, and what they should be, or why they have no value.
 ghost use Rattle.std.specs.Prelude.{◌≡◌, Some, IfOk, OnOk, MatchOption};
-ghost use Rattle.gix_config_value.specs.Kinds.{KindCanonical};
+ghost use Rattle.gix_config_value.specs.Kinds.{KindGrammar, KindCanonical};
 ghost use Rattle.callers.specs.Lines.{counted_lines};
-ghost use Rattle.callers.specs.Checker.{IsFinding, FindingsFrom, GoesOn, finding_shown};
+ghost use Rattle.callers.specs.Checker.{ByFault, Refuses, KindRefusal, IsProblem, FindingsFrom, GoesOn, finding_shown};
 
 use crate::lines::cut_line;
 use bstr::BStr;
+use config_text::readers::TryRead;
 use gix_config_value::canonical::{Kind, normalize};
+use gix_config_value::color::{Attribute, Name};
+use gix_config_value::integer::{Amount, Suffix};
+use gix_config_value::{Boolean, Color, Fault, Integer};
 use std::alloc::{AllocError, Global};
 use std::fmt;
+
+/// What is wrong with a line.
+#[derive(Drop)]
+pub enum Problem {
+    /// It is none of the six suffix texts. A suffix is refused without a fault.
+    NoSuffix,
+    /// It has no value of the kind, and this is why.
+    Refused(Fault),
+    /// It has a value, whose canonical text is this one.
+    ShouldBe(String),
+}
 
 /// A line that is not in canonical form.
 #[derive(Drop)]
 pub struct Finding {
     /// The number of the line, from 1.
     pub line: usize,
-    /// What the line should be, or `None` where it has no value of the kind.
-    pub canonical: Option<String>,
+    /// What is wrong with it.
+    pub problem: Problem,
 }
 
 impl fmt::Display for Finding {
     ghost output = { λ f. Some (finding_shown f) };
 
     fn fmt<W: fmt::Write>(&self, f: &mut fmt::Formatter<W>) -> fmt::Result {
-        match &self.canonical {
-            Some(text) => write!(f, "line {}: should be `{}`", self.line, text.as_str()),
-            None => write!(f, "line {}: has no value", self.line),
+        match &self.problem {
+            Problem::NoSuffix => write!(f, "line {}: no suffix", self.line),
+            Problem::Refused(fault) => write!(f, "line {}: {}", self.line, fault.text()),
+            Problem::ShouldBe(text) => write!(f, "line {}: should be `{}`", self.line, text.as_str()),
         }
     }
 }
 
-/// What is found at one line: nothing where it is canonical.
-fn check_line(
-    alloc: Global,
-    kind: Kind,
-    number: usize,
-    line: &[u8],
-) -> Result<Option<Finding>, AllocError>
-    ensures { IfOk result (λ f. MatchOption f (KindCanonical kind line.now) (IsFinding kind number line.now)) }
+/// Why the reader of a type refuses a text, or `None` where it has a value.
+fn refusal_as<V: TryRead>(text: &[u8]) -> Option<Problem>
+    ensures { Refuses V.grammar (ByFault (V.refusal text.now)) text.now result }
+{
+    match V::try_read(text) {
+        Ok(_) => None,
+        Err(fault) => Some(Problem::Refused(fault)),
+    }
+}
+
+/// Why the reader of a kind refuses a text, or `None` where it has a value.
+fn refusal(kind: Kind, text: &[u8]) -> Option<Problem>
+    ensures { Refuses (KindGrammar kind) (KindRefusal kind text.now) text.now result }
+{
+    match kind {
+        Kind::Suffix => match Suffix::try_from(BStr::new(text)) {
+            Ok(_) => None,
+            Err(()) => Some(Problem::NoSuffix),
+        },
+        Kind::Integer => refusal_as::<Integer>(text),
+        Kind::Amount => refusal_as::<Amount>(text),
+        Kind::Boolean => refusal_as::<Boolean>(text),
+        Kind::Name => refusal_as::<Name>(text),
+        Kind::Attribute => refusal_as::<Attribute>(text),
+        Kind::Color => refusal_as::<Color>(text),
+    }
+}
+
+/// What is wrong with a line: nothing where it is canonical.
+fn line_problem(alloc: Global, kind: Kind, line: &[u8]) -> Result<Option<Problem>, AllocError>
+    ensures { IfOk result (λ p. MatchOption p (KindCanonical kind line.now) (IsProblem kind line.now)) }
 {
     let Some(text) = normalize(kind, BStr::new(line)) else {
-        return Ok(Some(Finding {
-            line: number,
-            canonical: None,
-        }));
+        return Ok(refusal(kind, line));
     };
     if text.as_str().as_bytes() == line {
         return Ok(None);
     }
     let canonical = String::from_str(alloc, text.as_str())?;
-    Ok(Some(Finding {
-        line: number,
-        canonical: Some(canonical),
-    }))
+    Ok(Some(Problem::ShouldBe(canonical)))
 }
 
 /// Puts what is found at one line behind the other findings.
@@ -65,8 +98,11 @@ fn push_line(
 ) -> Result<(), AllocError>
     ensures { OnOk result (GoesOn kind number line.now findings.old.items findings.new.items) }
 {
-    if let Some(finding) = check_line(alloc, kind, number, line)? {
-        findings.push(finding)?;
+    if let Some(problem) = line_problem(alloc, kind, line)? {
+        findings.push(Finding {
+            line: number,
+            problem,
+        })?;
     }
     Ok(())
 }

@@ -16,5 +16,6 @@ pub mod json;
 mod lines;
 pub mod paths;
 pub mod precedence;
+pub mod push_default;
 pub mod theme;
 pub mod words;

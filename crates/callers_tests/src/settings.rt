@@ -1,7 +1,11 @@
 //! Files read into entries, and settings resolved over three of them.
 
-use callers::entries::{read_file, read_line};
+use arrayvec::ArrayString;
+use bstr::BStr;
+use callers::entries::{Entry, read_file, read_line, texts};
 use callers::precedence::{RefusedIn, Source, resolve};
+use callers::push_default::{PushDefault, canonical_push_default, push_default};
+use gix_config_value::canonical::{Kind, normalize};
 use gix_config_value::integer::Suffix;
 use gix_config_value::settings::{Refused, lookup};
 use gix_config_value::{Boolean, Integer};
@@ -11,27 +15,88 @@ use testing::equal;
 /// The file of the machine.
 const SYSTEM: &str = "pack.threads = 1\npack.windowMemory=512M\ncore.abbrev = 12\n";
 
-/// The file of the user: with comments, an empty line, white space of several kinds, and a number that is none.
+/// The file of the user: with comments, an empty line, white space of several kinds, a number that is none, and a key
+/// alone.
 const USER: &str =
-    "# what I like best\n\n\tcore.abbrev = 08\r\n  pager = yes \ncore.abbrev\npager.options = -F -X=2";
+    "# = like best\n\n\tcore.abbrev = 08\r\n  pager = yes \n ;core.abbrev=9\nshow\npager.options = -F -X=2";
 
 /// The file of the repository.
-const REPOSITORY: &str = "core.abbrev = 0x10\nbare =\n";
+const REPOSITORY: &str = "core.abbrev = 0x10\nbare =\n\t shallow\r\n";
+
+/// An entry of this name and value.
+fn entry(name: &'static [u8], value: Option<&'static [u8]>) -> Entry<'static> {
+    Entry { name, value }
+}
 
 #[test]
 fn reads_entries(rt: HostRuntime) -> Result<(), Fail> {
     let entries = read_file(rt.alloc(), USER.as_bytes())?;
-    let wanted: [(&[u8], &[u8]); 3] = [
-        (b"core.abbrev", b"08"),
-        (b"pager", b"yes"),
-        (b"pager.options", b"-F -X=2"),
+    let wanted = [
+        entry(b"core.abbrev", Some(b"08")),
+        entry(b"pager", Some(b"yes")),
+        entry(b"show", None),
+        entry(b"pager.options", Some(b"-F -X=2")),
     ];
     equal(entries.as_slice(), wanted.as_slice(), "entries")?;
-    equal(read_line(b"# no entry"), None, "a comment")?;
-    equal(read_file(rt.alloc(), b"")?.len(), 0, "no file")?;
-    let repository = read_file(rt.alloc(), REPOSITORY.as_bytes())?;
-    let bare = lookup(&repository, b"bare", Boolean(true));
-    equal(bare, Ok(Boolean(false)), "bare")
+    for line in [b"# no entry".as_slice(), b" \t\r", b"", b"\t;a = b"] {
+        equal(read_line(line), None, BStr::new(line))?;
+    }
+    equal(read_line(b" = x"), Some(entry(b"", Some(b"x"))), "no name")?;
+    equal(read_line(b"a#b"), Some(entry(b"a#b", None)), "no comment")?;
+    equal(read_file(rt.alloc(), b"")?.len(), 0, "no file")
+}
+
+/// Git takes a key without `=` for true, and one with nothing behind its `=` for false.
+#[test]
+fn a_key_alone_is_true(rt: HostRuntime) -> Result<(), Fail> {
+    let entries = read_file(rt.alloc(), REPOSITORY.as_bytes())?;
+    let settings = texts(rt.alloc(), &entries)?;
+    for (name, wanted) in [("bare", false), ("shallow", true), ("show", true)] {
+        let given = lookup(&settings, name.as_bytes(), Boolean(true));
+        equal(given, Ok(Boolean(wanted)), name)?;
+    }
+    let refused = Refused {
+        index: 2,
+        input: b"true",
+    };
+    let size = lookup(&settings, b"shallow", integer(7, None));
+    equal(size, Err(refused), "no size")?;
+    // so no other kind takes a key alone for a value
+    for kind in Kind::ALL {
+        let is_text = normalize(kind, BStr::from("true")).is_some();
+        equal(is_text, kind == Kind::Boolean, kind)?;
+    }
+    Ok(())
+}
+
+#[test]
+fn reads_a_kind_of_its_own(rt: HostRuntime) -> Result<(), Fail> {
+    for (text, canonical) in [
+        ("nothing", Some("nothing")),
+        ("current", Some("current")),
+        ("upstream", Some("upstream")),
+        ("tracking", Some("upstream")),
+        ("simple", Some("simple")),
+        ("matching", Some("matching")),
+        ("Simple", None),
+        ("", None),
+        ("true", None),
+    ] {
+        let given = canonical_push_default(text.as_bytes());
+        let given = given.as_ref().map(ArrayString::as_str);
+        equal(given, canonical, text)?;
+    }
+    let entries = read_file(rt.alloc(), b"push.default = current\npush.default=tracking")?;
+    let settings = texts(rt.alloc(), &entries)?;
+    equal(push_default(&settings), Ok(PushDefault::Upstream), "the last")?;
+    equal(push_default(&[]), Ok(PushDefault::Simple), "none")?;
+    let entries = read_file(rt.alloc(), b"push.default")?;
+    let settings = texts(rt.alloc(), &entries)?;
+    let refused = Refused {
+        index: 0,
+        input: b"true",
+    };
+    equal(push_default(&settings), Err(refused), "a key alone")
 }
 
 /// An integer of these parts.
@@ -51,9 +116,9 @@ fn refuses(
 
 #[test]
 fn resolves_over_three_sources(rt: HostRuntime) -> Result<(), Fail> {
-    let system = read_file(rt.alloc(), SYSTEM.as_bytes())?;
-    let user = read_file(rt.alloc(), USER.as_bytes())?;
-    let repository = read_file(rt.alloc(), REPOSITORY.as_bytes())?;
+    let system = texts(rt.alloc(), &read_file(rt.alloc(), SYSTEM.as_bytes())?)?;
+    let user = texts(rt.alloc(), &read_file(rt.alloc(), USER.as_bytes())?)?;
+    let repository = texts(rt.alloc(), &read_file(rt.alloc(), REPOSITORY.as_bytes())?)?;
     let seven = integer(7, None);
     for (name, wanted) in [
         ("core.abbrev", Ok(integer(16, None))),
@@ -62,6 +127,7 @@ fn resolves_over_three_sources(rt: HostRuntime) -> Result<(), Fail> {
         ("pack.depth", Ok(seven)),
         ("pager", refuses(Source::User, 1, b"yes")),
         ("bare", refuses(Source::Repository, 1, b"")),
+        ("shallow", refuses(Source::Repository, 2, b"true")),
     ] {
         let given = resolve(&system, &user, &repository, name.as_bytes(), seven);
         equal(given, wanted, name)?;

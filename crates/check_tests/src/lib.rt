@@ -1,4 +1,4 @@
-//! Tests of the checker of settings: the texts of faults, and what is written where a read, a write or a request for memory
+//! Tests of the checker of settings: the texts of refusals, and what is written where a read, a write or a request for memory
 //! fails. Rows for each kind and each reason stand in `crates/config_check/tests`, with a second reader.
 #![tactic(auto)]
 

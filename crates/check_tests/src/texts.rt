@@ -1,4 +1,4 @@
-//! Texts that stand in two places.
+//! The text of a refusal is the one that its fault displays, of which no contract speaks.
 
 use config_checks::finding::push_reason;
 use config_checks::kind::SettingKind;

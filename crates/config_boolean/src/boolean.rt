@@ -6,7 +6,7 @@ ghost use Rattle.std.specs.Cow.{cow_slice_items};
 ghost use Rattle.std.proofs.Common.{rules};
 ghost use Rattle.config_text.specs.declared.errors.Fault.TheVariants as faults;
 ghost use Rattle.config_text.specs.Value.{Reads};
-ghost use Rattle.config_text.specs.Refusals.{Always, ReadsBytes, ReadsText, ReadsOwned};
+ghost use Rattle.config_text.specs.Refusals.{Always, ReadsFault, ReadsBytes, ReadsText, ReadsOwned};
 ghost use Rattle.config_boolean.specs.Laws.Boolean.{boolean_one_value, boolean_one_text, boolean_canonical_reads, boolean_shown_is_text, boolean_decided};
 ghost use Rattle.config_boolean.specs.Boolean.{Affirms, Denies, BooleanText, CanonicalBoolean, boolean_shown};
 ghost use Rattle.serde_json.specs.Data.{boolean};
@@ -23,6 +23,7 @@ use serde_json::Value as JsonValue;
 use std::alloc::Global;
 use std::borrow::CowSlice;
 use std::fmt;
+use std::str::FromStr;
 
 /// A truth value.
 ///
@@ -110,6 +111,17 @@ impl TryRead for Boolean {
     /// The boolean that the text writes, or `Fault::Boolean` where it writes none.
     fn try_read(text: &[u8]) -> Result<Boolean, Fault> {
         truth(text).ok_or(Fault::Boolean)
+    }
+}
+
+impl FromStr for Boolean {
+    type Err = Fault;
+
+    ghost from_str_gives = { ReadsFault BooleanText (Always faults.Boolean) };
+
+    /// The boolean that the text writes, or `Fault::Boolean` where it writes none.
+    fn from_str(text: &str) -> Result<Boolean, Fault> {
+        Boolean::try_read(text.as_bytes())
     }
 }
 

@@ -2,8 +2,7 @@
 use Rattle.std.specs.Prelude.{ℕ, zero, suc, ◌+◌, ◌-◌, ◌/◌, ◌%◌, ◌==◌, ◌&&◌, ◌||◌, nat_lt, List, [], ◌∷◌, ◌++◌, take, flat_map, codes, Bool, true, false, Option, None, Some, if◌then◌else◌}
 use denote.Ref.{Bor}
 use Rattle.bstr.specs.Utf8.{decoded}
-use Rattle.config_text.specs.declared.errors.Fault.{Fault}
-use Rattle.config_text.specs.declared.errors.Fault.TheVariants as faults
+use Rattle.config_text.specs.Faults.{fault_text}
 use Rattle.config_checks.specs.declared.kind.SettingKind.{SettingKind}
 use Rattle.config_checks.specs.declared.kind.SettingKind.TheVariants as kinds
 use Rattle.config_checks.specs.declared.reason.Reason.{Reason}
@@ -47,13 +46,6 @@ shown = shown_past 0
 
 -- ---- the text of a reason
 
-abbrev pub fault_text : Fault → List ℕ
-fault_text faults.Boolean = codes "Booleans need to be 'no', 'off', 'false', '' or 'yes', 'on', 'true' or any number"
-fault_text faults.Integer = codes "Integers needs to be positive or negative numbers which may have a suffix like 1k, 42, or 50G"
-fault_text faults.Overflow = codes "integer suffix multiplication overflows `i64`"
-fault_text faults.OutOfRange = codes "integer is out of range"
-fault_text faults.Color = codes "Colors are specific color values and their attributes, like 'brightred', or 'blue'"
-
 abbrev pub range_text : SettingKind → List ℕ
 range_text kinds.Size = codes "out of range: not from 0 to 9223372036854775807"
 range_text _ = codes "out of range: not from -2147483648 to 2147483647"
@@ -86,11 +78,6 @@ reason_text kind (OtherCase word) = codes "should be " ++ shown word.now
 
 abbrev pub tab : ℕ
 tab = 9
-
--- a field that may not be there, with the tab before it
-abbrev pub field : Option (List ℕ) → List ℕ
-field None = []
-field (Some t) = tab ∷ shown t
 
 -- a value, and nothing where there is none
 abbrev pub value_shown : Option (List ℕ) → List ℕ

@@ -1,11 +1,10 @@
 //! The line of a finding.
 ghost use Rattle.std.specs.Prelude.{◌≡◌, ◌<◌, ◌++◌, [], length, flat_map, OnOk, MatchOption, IfSome};
-ghost use Rattle.config_checks.specs.Findings.{digit, hex, is_control, piece_shown, shown, fault_text, range_text, listed, words_text, no_word_text, reason_text, tab, field, value_shown, painted};
+ghost use Rattle.config_checks.specs.Findings.{digit, hex, is_control, piece_shown, shown, range_text, listed, words_text, no_word_text, reason_text, tab, value_shown, painted};
 
 use crate::kind::SettingKind;
 use crate::reason::Reason;
 use bstr::decode_utf8;
-use gix_config_value::Fault;
 use std::alloc::AllocError;
 
 /// The hexadecimal digit of a number below 16.
@@ -76,25 +75,6 @@ pub fn push_shown(out: &mut Vec<u8>, text: &[u8]) -> Result<(), AllocError>
     Ok(())
 }
 
-/// The text of a fault.
-fn fault_text(fault: Fault) -> &'static str
-    ensures { result.now ≡ fault_text fault }
-{
-    match fault {
-        Fault::Boolean => {
-            "Booleans need to be 'no', 'off', 'false', '' or 'yes', 'on', 'true' or any number"
-        }
-        Fault::Integer => {
-            "Integers needs to be positive or negative numbers which may have a suffix like 1k, 42, or 50G"
-        }
-        Fault::Overflow => "integer suffix multiplication overflows `i64`",
-        Fault::OutOfRange => "integer is out of range",
-        Fault::Color => {
-            "Colors are specific color values and their attributes, like 'brightred', or 'blue'"
-        }
-    }
-}
-
 /// What a number of a kind has to be.
 fn range_text(kind: &SettingKind<'_>) -> &'static str
     ensures { result.now ≡ range_text kind.now }
@@ -145,7 +125,7 @@ pub fn push_reason(
 {
     match reason {
         Reason::NoValue => out.extend_from_slice(b"no value"),
-        Reason::Refused(fault) => out.extend_from_slice(fault_text(*fault).as_bytes()),
+        Reason::Refused(fault) => out.extend_from_slice(fault.text().as_bytes()),
         Reason::OutOfRange => out.extend_from_slice(range_text(kind).as_bytes()),
         Reason::EmptyPath => out.extend_from_slice(b"an empty path"),
         Reason::IllFormedPath => out.extend_from_slice(b"a path of ill-formed UTF-8"),

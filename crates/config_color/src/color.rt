@@ -9,7 +9,7 @@ ghost use Rattle.config_color.specs.Laws.Color.{color_one_value, color_decided};
 ghost use Rattle.config_color.specs.Reading.Color.{next_name, with_item, read_from, names_shown, ArePlain};
 ghost use Rattle.config_color.specs.Laws.ColorShown.{color_equal, color_canonical_reads, color_one_text, color_shown_is_text};
 ghost use Rattle.std.proofs.Common.{rules};
-ghost use Rattle.config_text.specs.Refusals.{Always, ReadsBytes, ReadsText, ReadsOwned};
+ghost use Rattle.config_text.specs.Refusals.{Always, ReadsFault, ReadsBytes, ReadsText, ReadsOwned};
 ghost use Rattle.config_color.specs.Space.{Space};
 ghost use Rattle.config_text.specs.Value.{HasText, Reads};
 ghost use Rattle.config_color.specs.Split.{IsWithoutSpace, piece, words};
@@ -25,6 +25,7 @@ use config_word::item::{Item, word};
 use config_word::name::{Name, numbers_fit};
 use std::borrow::CowSlice;
 use std::fmt;
+use std::str::FromStr;
 
 /// What text is drawn with: a foreground, a background and attributes.
 #[derive(Clone, Copy, PartialEq, Eq, PartialOrd, Ord, Hash, Debug)]
@@ -295,6 +296,17 @@ impl TryRead for Color {
     /// The color of the text, or `Fault::Color` where it is no color text.
     fn try_read(text: &[u8]) -> Result<Color, Fault> {
         color_of(text).ok_or(Fault::Color)
+    }
+}
+
+impl FromStr for Color {
+    type Err = Fault;
+
+    ghost from_str_gives = { ReadsFault ColorText (Always faults.Color) };
+
+    /// The color of the text, or `Fault::Color` where it is no color text.
+    fn from_str(text: &str) -> Result<Color, Fault> {
+        Color::try_read(text.as_bytes())
     }
 }
 

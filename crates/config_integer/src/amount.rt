@@ -5,7 +5,7 @@ ghost use Rattle.bstr.specs.Owned.{bstring_bytes};
 ghost use Rattle.std.specs.Cow.{cow_slice_items};
 ghost use Rattle.std.proofs.Common.{rules};
 ghost use Rattle.config_text.specs.Value.{Reads};
-ghost use Rattle.config_text.specs.Refusals.{ReadsBytes, ReadsText, ReadsOwned};
+ghost use Rattle.config_text.specs.Refusals.{ReadsFault, ReadsBytes, ReadsText, ReadsOwned};
 ghost use Rattle.config_integer.specs.Amount.{AmountText, AmountRefusal, CanonicalAmount, amount_shown};
 ghost use Rattle.config_integer.specs.Laws.Amount.{amount_one_value, amount_one_text, amount_canonical_reads, amount_shown_is_text, amount_decided};
 
@@ -17,6 +17,7 @@ use config_text::value::{Text, Value};
 use itoa::Buffer;
 use std::borrow::CowSlice;
 use std::fmt;
+use std::str::FromStr;
 
 /// The number that an integer text has as its product: `1k` and `1024` are one amount.
 #[derive(Clone, Copy, PartialEq, Eq, PartialOrd, Ord, Hash, Debug, Default)]
@@ -35,6 +36,18 @@ impl TryRead for Amount {
             Some(product) => Ok(Amount(product)),
             None => Err(Fault::Overflow),
         }
+    }
+}
+
+impl FromStr for Amount {
+    type Err = Fault;
+
+    ghost from_str_gives = { ReadsFault AmountText AmountRefusal };
+
+    /// The amount that the text writes, or `Fault::Integer` where it is no integer, and else `Fault::Overflow` where
+    /// the product leaves `i64`.
+    fn from_str(text: &str) -> Result<Amount, Fault> {
+        Amount::try_read(text.as_bytes())
     }
 }
 

@@ -6,7 +6,7 @@ ghost use Rattle.std.specs.Cow.{cow_slice_items};
 ghost use Rattle.std.proofs.Common.{rules};
 ghost use Rattle.config_text.specs.declared.errors.Fault.TheVariants as faults;
 ghost use Rattle.config_text.specs.Value.{Reads};
-ghost use Rattle.config_text.specs.Refusals.{Always, ReadsBytes, ReadsText, ReadsOwned};
+ghost use Rattle.config_text.specs.Refusals.{Always, ReadsFault, ReadsBytes, ReadsText, ReadsOwned};
 ghost use Rattle.config_integer.specs.Integer.{IntegerText, CanonicalInteger, integer_shown, product, ProductInRange, Refusal};
 ghost use Rattle.config_text.specs.Numerals.{IsInI64};
 ghost use Rattle.std.specs.Option.{option_map};
@@ -27,6 +27,7 @@ use serde_json::Value as JsonValue;
 use std::alloc::Global;
 use std::borrow::CowSlice;
 use std::fmt;
+use std::str::FromStr;
 
 /// A number and the suffix that it was written with, kept apart: `1k` and `1024` are two integers.
 #[derive(Clone, Copy, PartialEq, Eq, PartialOrd, Ord, Hash, Debug, Default)]
@@ -95,6 +96,17 @@ impl TryRead for Integer {
     /// The integer that the text writes, or `Fault::Integer` where it writes none.
     fn try_read(text: &[u8]) -> Result<Integer, Fault> {
         scan(text).ok_or(Fault::Integer)
+    }
+}
+
+impl FromStr for Integer {
+    type Err = Fault;
+
+    ghost from_str_gives = { ReadsFault IntegerText (Always faults.Integer) };
+
+    /// The integer that the text writes, or `Fault::Integer` where it writes none.
+    fn from_str(text: &str) -> Result<Integer, Fault> {
+        Integer::try_read(text.as_bytes())
     }
 }
 

@@ -2,6 +2,7 @@ pub mod Bytes
 pub mod Numerals
 pub mod SameWord
 pub mod Value
+pub mod Faults
 pub mod Refusals
 pub mod Orders
 pub mod OneOf

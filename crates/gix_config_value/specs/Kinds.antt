@@ -1,5 +1,5 @@
 -- The kinds of value: for each its name, its values, its grammar and its canonical grammar.
-use Rattle.std.specs.Prelude.{ℕ, List, codes, Bool, Option}
+use Rattle.std.specs.Prelude.{◌≡◌, ◌≢◌, ℕ, List, codes, Bool, Option, Result, Ok, Err}
 use Rattle.arrayvec.specs.ArrayString.{ArrayString}
 use Rattle.gix_config_value.specs.declared.kind.Kind.{Kind}
 use Rattle.gix_config_value.specs.declared.kind.Kind.TheVariants as kinds
@@ -28,6 +28,11 @@ kind_name kinds.Boolean = codes "boolean"
 kind_name kinds.Name = codes "name"
 kind_name kinds.Attribute = codes "attribute"
 kind_name kinds.Color = codes "color"
+
+-- the kind of that name, or a refusal where no kind has it
+abbrev pub NamesKind : {E : Type 0} → List ℕ → Result Kind E → Type 0
+NamesKind t (Ok kind) = kind_name kind ≡ t
+NamesKind t (Err e) = (kind : Kind) → kind_name kind ≢ t
 
 -- the values of a kind
 abbrev pub KindValue : Kind → Type 0

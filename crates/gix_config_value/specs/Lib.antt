@@ -3,6 +3,7 @@ pub mod Answers
 pub mod Reading
 pub mod Orders
 pub use Rattle.config_text.specs.Value
+pub use Rattle.config_text.specs.Faults
 pub use Rattle.config_text.specs.Refusals
 pub use Rattle.config_text.specs.Numerals
 pub use Rattle.config_text.specs.SameWord

@@ -1,9 +1,10 @@
 //! The kinds of value, as a choice made at run time.
-ghost use Rattle.std.specs.Prelude.{◌≡◌, ◌≢◌, MatchOption, IsSomeAnd};
+ghost use Rattle.std.specs.Prelude.{◌≡◌, ◌≢◌, Some, Contains, MatchOption, IsSomeAnd};
 ghost use Rattle.bstr.specs.BStr.{bstr_bytes};
-ghost use Rattle.gix_config_value.specs.Kinds.{kind_name, KindGrammar, KindCanonical, KindJoins, KindComparesWords};
+ghost use Rattle.gix_config_value.specs.Kinds.{kind_name, NamesKind, KindGrammar, KindCanonical, KindJoins, KindComparesWords};
 ghost use Rattle.config_text.specs.Value.{Normalizes, Fills, IsOnlyText, Compares};
 ghost use Rattle.gix_config_value.specs.declared.kind.Kind as kind;
+ghost use Rattle.gix_config_value.specs.declared.kind.TheConstants.Kind.{ALL};
 
 use bstr::BStr;
 use config_boolean::boolean::Boolean;
@@ -14,6 +15,9 @@ use config_integer::suffix::Suffix;
 use config_text::value::{Text, normalize_as, normalize_into_as, same_as};
 use config_word::attribute::Attribute;
 use config_word::name::Name;
+use std::fmt;
+use std::str::FromStr;
+use thiserror::Error;
 
 /// A kind of value.
 #[derive(Clone, Copy, PartialEq, Eq, Debug)]
@@ -33,6 +37,65 @@ pub enum Kind {
     /// Colors: names of a foreground and a background, and attributes.
     Color,
 }
+
+impl Kind {
+    /// All kinds, each once.
+    pub const ALL: [Kind; 7] = [
+        Kind::Suffix,
+        Kind::Integer,
+        Kind::Amount,
+        Kind::Boolean,
+        Kind::Name,
+        Kind::Attribute,
+        Kind::Color,
+    ];
+
+    /// The name of the kind, as a line of the program begins with it.
+    pub fn name(self) -> &'static str
+        ensures { result.now ≡ kind_name self }
+    {
+        match self {
+            Kind::Suffix => "suffix",
+            Kind::Integer => "integer",
+            Kind::Amount => "amount",
+            Kind::Boolean => "boolean",
+            Kind::Name => "name",
+            Kind::Attribute => "attribute",
+            Kind::Color => "color",
+        }
+    }
+}
+
+impl fmt::Display for Kind {
+    ghost output = { λ kind. Some (kind_name kind) };
+
+    /// The name of the kind.
+    fn fmt<W: fmt::Write>(&self, f: &mut fmt::Formatter<W>) -> fmt::Result {
+        f.write_str(self.name())
+    }
+}
+
+/// A text that is the name of no kind.
+#[derive(Clone, Copy, PartialEq, Eq, Debug, Error)]
+#[error("Kinds are suffix, integer, amount, boolean, name, attribute and color")]
+pub struct UnknownKind;
+
+impl FromStr for Kind {
+    type Err = UnknownKind;
+
+    ghost from_str_gives = { NamesKind };
+
+    /// The kind of exactly this name, in lower case, or `UnknownKind` where no kind has it.
+    fn from_str(text: &str) -> Result<Kind, UnknownKind> {
+        kind_by_name(text.as_bytes()).ok_or(UnknownKind)
+    }
+}
+
+/// Each kind stands in [`Kind::ALL`], and no two kinds have one name: so the name of a kind reads back.
+pub fn every_kind()
+    ensures every { (k : kind.Kind) → Contains ALL k }
+    ensures one_name { (k l : kind.Kind) → kind_name k ≡ kind_name l → k ≡ l }
+{}
 
 /// The kind of exactly this name.
 pub(crate) fn kind_by_name(name: &[u8]) -> Option<Kind>

@@ -40,7 +40,7 @@ pub use config_text::{errors, json, settings};
 
 /// One canonical text for each value.
 pub mod canonical {
-    pub use crate::kind::{Kind, normalize, normalize_into, same};
+    pub use crate::kind::{Kind, UnknownKind, normalize, normalize_into, same};
     pub use config_color::composition::compose;
     pub use config_text::value::{Text, Value, normalize_as, normalize_into_as};
 }
@@ -74,9 +74,14 @@ pub mod laws {
     pub use config_text::laws::settings;
     pub use config_word::laws::attributes;
 
+    /// What tells the kinds apart.
+    pub mod kinds {
+        pub use crate::kind::every_kind;
+    }
+
     /// What `==` and `clone` answer for the types that have no order: kinds, faults, refusals, errors.
     pub mod equality {
-        pub use crate::equality::{kinds, outcomes, run_errors};
+        pub use crate::equality::{kinds, outcomes, run_errors, unknown_kinds};
         pub use config_path::laws::equality::{classes, contexts, path_errors, places};
         pub use config_text::laws::equality::{errors, faults, json_errors, refused, returned};
         pub use config_word::laws::equality::items;

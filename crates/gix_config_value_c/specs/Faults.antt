@@ -1,5 +1,7 @@
 -- The numbers and texts of faults in C.
 use Rattle.std.specs.Prelude.{◌≡◌, ◌==◌, ℕ, List, Option, None, Some, codes, if◌then◌else◌}
+use Rattle.config_text.specs.Faults.{fault_text}
+use Rattle.config_text.specs.declared.errors.Fault.TheVariants as faults
 use Rattle.config_path.specs.declared.interpolate.Error.{Error}
 use Rattle.config_path.specs.declared.interpolate.Error.TheVariants.{PathMissing, InstallDirMissing, HomeMissing, LookupMissing, UserNotFound, IllFormed, Memory}
 use Rattle.config_path.specs.declared.interpolate.Place.{Place}
@@ -26,13 +28,13 @@ path_fault_number (IllFormed place input) = place_number place
 path_fault_number (Memory e) = 0
 
 -- the text of the fault of this number
-abbrev pub fault_text : ℕ → Option (List ℕ)
-fault_text number =
-    if number == 1 then Some (codes "Booleans need to be 'no', 'off', 'false', '' or 'yes', 'on', 'true' or any number")
-    else if number == 2 then Some (codes "Integers needs to be positive or negative numbers which may have a suffix like 1k, 42, or 50G")
-    else if number == 3 then Some (codes "integer suffix multiplication overflows `i64`")
-    else if number == 4 then Some (codes "integer is out of range")
-    else if number == 5 then Some (codes "Colors are specific color values and their attributes, like 'brightred', or 'blue'")
+abbrev pub numbered_text : ℕ → Option (List ℕ)
+numbered_text number =
+    if number == 1 then Some (fault_text faults.Boolean)
+    else if number == 2 then Some (fault_text faults.Integer)
+    else if number == 3 then Some (fault_text faults.Overflow)
+    else if number == 4 then Some (fault_text faults.OutOfRange)
+    else if number == 5 then Some (fault_text faults.Color)
     else if number == 6 then Some (codes "path is missing")
     else if number == 7 then Some (codes "git install dir is missing")
     else if number == 8 then Some (codes "home dir is missing")
@@ -47,5 +49,5 @@ fault_text number =
 
 -- the text of the fault is put into the buffer, or no fault has the number
 abbrev pub TellsFault : ℕ → List ℕ → List ℕ → ℕ → ℕ → ℕ → Type 0
-TellsFault number buffer buffer' size size' status = AnswersText (λ text. fault_text number ≡ Some text)
-    (λ reason. (reason ≡ UNKNOWN_FAULT) × (fault_text number ≡ None)) buffer buffer' size size' status
+TellsFault number buffer buffer' size size' status = AnswersText (λ text. numbered_text number ≡ Some text)
+    (λ reason. (reason ≡ UNKNOWN_FAULT) × (numbered_text number ≡ None)) buffer buffer' size size' status

@@ -1,7 +1,7 @@
 //! Why a text or a path is refused, as a number and as a text.
 ghost use Rattle.std.specs.Prelude.{◌≡◌, option_copied};
 ghost use Rattle.gix_config_value_c.specs.Numbers.{fault_number};
-ghost use Rattle.gix_config_value_c.specs.Faults.{place_number, path_fault_number, fault_text, TellsFault};
+ghost use Rattle.gix_config_value_c.specs.Faults.{place_number, path_fault_number, numbered_text, TellsFault};
 
 use crate::buffer::put;
 use crate::status::UNKNOWN_FAULT;
@@ -50,21 +50,15 @@ pub(crate) fn path_fault_number(error: Error<'_>) -> u32
 }
 
 /// The text of the fault of this number.
-fn fault_text(number: u32) -> Option<&'static str>
-    ensures { option_copied result ≡ fault_text number }
+fn numbered_text(number: u32) -> Option<&'static str>
+    ensures { option_copied result ≡ numbered_text number }
 {
     match number {
-        1 => Some(
-            "Booleans need to be 'no', 'off', 'false', '' or 'yes', 'on', 'true' or any number",
-        ),
-        2 => Some(
-            "Integers needs to be positive or negative numbers which may have a suffix like 1k, 42, or 50G",
-        ),
-        3 => Some("integer suffix multiplication overflows `i64`"),
-        4 => Some("integer is out of range"),
-        5 => Some(
-            "Colors are specific color values and their attributes, like 'brightred', or 'blue'",
-        ),
+        1 => Some(Fault::Boolean.text()),
+        2 => Some(Fault::Integer.text()),
+        3 => Some(Fault::Overflow.text()),
+        4 => Some(Fault::OutOfRange.text()),
+        5 => Some(Fault::Color.text()),
         6 => Some("path is missing"),
         7 => Some("git install dir is missing"),
         8 => Some("home dir is missing"),
@@ -85,7 +79,7 @@ fn fault_text(number: u32) -> Option<&'static str>
 pub extern "C" fn gcv_raw_fault_text(fault: u32, buffer: &mut [u8], length: &mut usize) -> u32
     ensures { TellsFault fault buffer.old buffer.new length.old length.new result }
 {
-    match fault_text(fault) {
+    match numbered_text(fault) {
         Some(text) => put(text.as_bytes(), buffer, length),
         None => UNKNOWN_FAULT,
     }

@@ -1,6 +1,6 @@
 //! Texts of one byte, beginnings of a text, and bytes that are no UTF-8.
 
-use crate::every_reader::{KINDS, Wanted, is_read, refused};
+use crate::every_reader::{Wanted, is_read, refused};
 use bstr::BStr;
 use gix_config_value::canonical::{Kind, normalize};
 use std::test::Fail;
@@ -74,7 +74,7 @@ fn accepted_text(kind: Kind) -> &'static [u8] {
 #[test]
 fn refuses_ill_formed_bytes(rt: HostRuntime) -> Result<(), Fail> {
     let alloc = rt.alloc();
-    for kind in KINDS {
+    for kind in Kind::ALL {
         let text = accepted_text(kind);
         for bytes in ILL_FORMED {
             is_read(alloc, kind, bytes, refused(kind))?;

@@ -14,17 +14,6 @@ use std::str::FromStr;
 use std::test::Fail;
 use testing::equal;
 
-/// The seven kinds.
-pub const KINDS: [Kind; 7] = [
-    Kind::Suffix,
-    Kind::Integer,
-    Kind::Amount,
-    Kind::Boolean,
-    Kind::Name,
-    Kind::Attribute,
-    Kind::Color,
-];
-
 /// The canonical text of a text's value, or the fault with which it is refused.
 pub type Wanted = Result<&'static str, Fault>;
 
@@ -161,6 +150,29 @@ fn words_are_parsed() -> Result<(), Fail> {
     let reset = Attribute::try_from(BStr::from("RESET"));
     equal(reset, Ok(Attribute::RESET), "RESET")?;
     equal(Attribute::from_str("Bold"), Err(Fault::Color), "Bold")
+}
+
+#[test]
+fn values_are_parsed() -> Result<(), Fail> {
+    equal(Boolean::from_str("On"), Ok(Boolean(true)), "On")?;
+    equal(Boolean::from_str(""), Ok(Boolean(false)), "empty")?;
+    equal(Boolean::from_str("tru"), Err(Fault::Boolean), "tru")?;
+    let sixteen = Integer {
+        value: 16,
+        suffix: Some(Suffix::Kibi),
+    };
+    equal(Integer::from_str("0x10k"), Ok(sixteen), "0x10k")?;
+    equal(Integer::from_str("08"), Err(Fault::Integer), "08")?;
+    equal(Amount::from_str("0x10k"), Ok(Amount(16384)), "0x10k")?;
+    equal(Amount::from_str("08"), Err(Fault::Integer), "08")?;
+    equal(Amount::from_str("8589934592g"), Err(Fault::Overflow), "8589934592g")?;
+    let color = Color {
+        foreground: Some(Name::Red),
+        background: None,
+        attributes: Attribute::BOLD,
+    };
+    equal(Color::from_str("bold red"), Ok(color), "bold red")?;
+    equal(Color::from_str("bold rde"), Err(Fault::Color), "bold rde")
 }
 
 #[test]

@@ -14,6 +14,8 @@ mod bytes;
 #[cfg(test)]
 mod colors;
 #[cfg(test)]
+mod conversions;
+#[cfg(test)]
 mod every_reader;
 #[cfg(test)]
 mod integers;

@@ -1,7 +1,10 @@
 use Rattle.callers.proofs.checker.FindingDisplay.fmt.Goals as goal
 
-pub returns-in-Some-clause-writes : goal.returns-in-Some-clause-writes
-returns-in-Some-clause-writes g c = rw c.in-Some.is (rw c.as_str.ensures.value at c.write.ensures.writes)
+pub returns-in-ShouldBe-clause-writes : goal.returns-in-ShouldBe-clause-writes
+returns-in-ShouldBe-clause-writes g c = rw c.in-ShouldBe.is (rw c.as_str.ensures.value at c.write-in-ShouldBe.ensures.writes)
 
-pub returns-in-None-clause-writes : goal.returns-in-None-clause-writes
-returns-in-None-clause-writes g c = rw c.in-None.is c.write-in-None.ensures.writes
+pub returns-in-Refused-clause-writes : goal.returns-in-Refused-clause-writes
+returns-in-Refused-clause-writes g c = rw c.in-Refused.is (rw c.text.ensures at c.write-in-Refused.ensures.writes)
+
+pub returns-in-NoSuffix-clause-writes : goal.returns-in-NoSuffix-clause-writes
+returns-in-NoSuffix-clause-writes g c = rw c.in-NoSuffix.is c.write.ensures.writes
