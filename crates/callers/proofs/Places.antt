@@ -1,13 +1,13 @@
 -- The place of the first byte of a text, and what stands before and behind it.
-use Rattle.std.proofs.Common.{◌≡◌, ◌≢◌, ◌<◌, ◌+◌, ◌-◌, ◌==◌, ℕ, List, [], ◌∷◌, Bool, true, false, Some, None, length, take, drop, get_or, refl, sym, ap, ◌∙◌, arith, eq-eqb, eqb-true, length-drop}
+use Rattle.std.proofs.Common.{◌≡◌, ◌≢◌, ◌<◌, ◌+◌, ◌-◌, ◌==◌, ℕ, List, [], ◌∷◌, Bool, true, false, Some, None, length, take, drop, get_or, refl, sym, ap, ◌∙◌, arith, eq-eqb, eqb-true}
 use Rattle.std.specs.List.{position_or_len, before_first, after_first, list_any}
 use Rattle.std.specs.Str.{IsTrimAscii}
+use Rattle.std.proofs.lemmas.List.{take_rest}
 use Rattle.std.proofs.lemmas.List.Elements.{All-from_get_or}
 use Rattle.std.proofs.lemmas.List.Folds.{list_any_at, list_any_none}
 use Rattle.std.proofs.lemmas.List.Splits.{slice_split_none, slice_split_first}
 use Rattle.std.proofs.lemmas.List.Sums.{position_or_len_is}
 use Rattle.std.proofs.lemmas.Str.Ascii.{trim_ascii_is}
-use Rattle.std.proofs.Math.Seq.{take-length}
 use Rattle.callers.specs.Lines.{file_lines}
 use Rattle.callers.specs.Entries.{is_comment, trimmed, line_entry}
 
@@ -27,16 +27,12 @@ first_place : (byte : ℕ) (text : List ℕ) (at : ℕ) → IsFirstAt byte text 
 first_place byte text at first =
     position_or_len_is (λ b. b == byte) text at 0 (omega (arith, first.within)) (λ k below. differs _ _ (first.before k below)) (λ _. eq-eqb _ byte first.here)
 
--- the rest of a slice, as a range to its end
-rest_of : (n : ℕ) (xs : List ℕ) → take (length xs - n) (drop n xs) ≡ drop n xs
-rest_of n xs = rw (← length-drop n xs) (take-length (drop n xs))
-
 before_place : (byte : ℕ) (text : List ℕ) (at : ℕ) → IsFirstAt byte text at → take at text ≡ before_first (λ b. b == byte) text
 before_place byte text at first = ap (λ n. take n text) (sym (first_place byte text at first))
 
 behind_place : (byte : ℕ) (text : List ℕ) (at : ℕ) → IsFirstAt byte text at
     → take (length text - (at + 1)) (drop (at + 1) text) ≡ after_first (λ b. b == byte) text
-behind_place byte text at first = rest_of (at + 1) text ∙ ap (λ n. drop (n + 1) text) (sym (first_place byte text at first))
+behind_place byte text at first = take_rest text (at + 1) ∙ ap (λ n. drop (n + 1) text) (sym (first_place byte text at first))
 
 -- ---- lines
 

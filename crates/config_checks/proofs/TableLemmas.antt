@@ -8,7 +8,7 @@ use Rattle.config_checks.specs.declared.row.Row.{Row}
 use Rattle.config_checks.specs.declared.table.BadRow.{BadRow}
 use Rattle.config_checks.specs.Keys.{IsWithout}
 use Rattle.config_checks.specs.Rows.{lines_of, fields_of, IsBadRow, IsBadLine, AddsRow, AddsRows}
-use Rattle.config_checks.proofs.WriteLemmas.{take_rest}
+use Rattle.std.proofs.lemmas.List.{take_rest}
 
 -- the first byte that passes stands at this place
 pub split_at : (test : ℕ → Bool) (t : List ℕ) (at : ℕ) → at < length t → test (get_or t at 0) ≡ true
@@ -18,7 +18,7 @@ split_at test t at inside here before =
     let place : position_or_len test t ≡ at = position_or_len_is test t at 0 (omega (arith, inside)) (λ k below. before k below) (λ _. here) in
     let within : position_or_len test t < length t = omega (arith, place, inside) in
     let front : take at t ≡ before_first test t = ap (λ n. take n t) (sym place) in
-    let behind : take (length t - (at + 1)) (drop (at + 1) t) ≡ after_first test t = take_rest (at + 1) t ∙ ap (λ n. drop (n + 1) t) (sym place) in
+    let behind : take (length t - (at + 1)) (drop (at + 1) t) ≡ after_first test t = take_rest t (at + 1) ∙ ap (λ n. drop (n + 1) t) (sym place) in
     rw (front, behind) (slice_split_first test t 0 within)
 
 -- no byte passes

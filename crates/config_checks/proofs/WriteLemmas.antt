@@ -1,6 +1,5 @@
 -- Bytes, write by write.
-use Rattle.std.proofs.Common.{◌≡◌, ℕ, List, ◌++◌, length, take, drop, Option, sym, ap, subst, ◌∙◌, append_assoc, append-nil, take-append-drop, ◌==◌, ◌-◌, true, length-drop}
-use Rattle.std.proofs.Math.Seq.{take-length}
+use Rattle.std.proofs.Common.{◌≡◌, ℕ, List, ◌++◌, length, take, drop, Option, sym, ap, subst, ◌∙◌, append_assoc, append-nil, take-append-drop, ◌==◌, true}
 use Rattle.std.specs.Io.KnownBytes.{Appends, Keeps}
 use Rattle.std.proofs.KnownBytes.{Appends-trans, Appends-kept}
 use Rattle.config_checks.specs.Reading.Steps.{WritesPart}
@@ -32,6 +31,3 @@ written_part u v w bytes rest so_far kept = record {
   parts = so_far.parts;
 }
 
--- the rest of a slice, as a range to its end
-pub take_rest : (n : ℕ) (t : List ℕ) → take (length t - n) (drop n t) ≡ drop n t
-take_rest n t = rw (← length-drop n t) (take-length (drop n t))

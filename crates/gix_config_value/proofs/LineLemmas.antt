@@ -1,8 +1,8 @@
 -- Lines: where the first LF or the first space of a list of bytes stands.
-use Rattle.std.proofs.Common.{◌-◌, length-drop, suc, eq-eqb, eqb-true, ◌≡◌, ◌≢◌, ℕ, ◌+◌, ◌<◌, ◌==◌, List, [], ◌∷◌, ◌++◌, Bool, true, false, length, take, drop, get_or, refl, sym, ap, ◌∙◌, arith, append_assoc, add-one, drop-cons, length-take, take-append-drop}
+use Rattle.std.proofs.Common.{◌-◌, suc, eq-eqb, eqb-true, ◌≡◌, ◌≢◌, ℕ, ◌+◌, ◌<◌, ◌==◌, List, [], ◌∷◌, ◌++◌, Bool, true, false, length, take, drop, get_or, refl, sym, ap, ◌∙◌, arith, append_assoc, add-one, drop-cons, length-take, take-append-drop}
 use Rattle.std.specs.List.{AllByRecursion, position_or_len}
 use Rattle.std.proofs.lemmas.List.Sums.{position_or_len_is}
-use Rattle.std.proofs.lemmas.List.{get_or-take}
+use Rattle.std.proofs.lemmas.List.{take_rest, get_or-take}
 use Rattle.bstr.specs.Find.{Passes, Nowhere, NoneBefore, is_byte}
 use Rattle.std.proofs.Math.Seq.{take-length}
 use Rattle.std.proofs.Math.ListN.{drop_of_length-le}
@@ -49,10 +49,6 @@ cuts_first bytes i first passes = record {
       first.before k (omega arith) before (eq-eqb _ line_feed (sym (get_or-take i bytes k 0 before) ∙ is)));
 }
 
--- the rest of a slice, as a range to its end
-pub take_rest : (n : ℕ) (xs : List ℕ) → take (length xs - n) (drop n xs) ≡ drop n xs
-take_rest n xs = rw (← length-drop n xs) (take-length (drop n xs))
-
 -- ---- the head of a line and what follows it
 
 pub head_first : (line : List ℕ) (i : ℕ) → position_or_len (λ b. b == space) line ≡ i → take i line ≡ line_head line
@@ -63,7 +59,7 @@ head_nowhere line at = sym (ap (λ n. take n line) at ∙ take-length line)
 
 pub value_first : (line : List ℕ) (i : ℕ) → position_or_len (λ b. b == space) line ≡ i
     → take (length line - (i + 1)) (drop (i + 1) line) ≡ line_value line
-value_first line i at = take_rest (i + 1) line ∙ ap (λ n. drop (n + 1) line) (sym at)
+value_first line i at = take_rest line (i + 1) ∙ ap (λ n. drop (n + 1) line) (sym at)
 
 pub value_nowhere : (line : List ℕ) → position_or_len (λ b. b == space) line ≡ length line → [] ≡ line_value line
 value_nowhere line at = sym (ap (λ n. drop (n + 1) line) at ∙ drop_of_length-le line (omega arith))

@@ -1,4 +1,5 @@
-use Rattle.config_checks.proofs.WriteLemmas.{written_more, take_rest}
+use Rattle.std.proofs.lemmas.List.{take_rest}
+use Rattle.config_checks.proofs.WriteLemmas.{written_more}
 use Rattle.config_checks.proofs.check.write_out.Goals as goal
 
 pub loop-rest-preserved : goal.loop-rest-preserved

@@ -1,5 +1,4 @@
-use Rattle.std.proofs.Common.{rules, ◌≡◌, ◌<◌, ℕ, Contains, refl}
-use Rattle.gix_config_value.specs.declared.kind.Kind.{Kind}
+use Rattle.std.proofs.Common.{rules, Contains, refl}
 use Rattle.gix_config_value.specs.declared.kind.Kind.TheVariants as kinds
 use Rattle.gix_config_value.specs.declared.kind.TheConstants.Kind.{ALL}
 use Rattle.gix_config_value.proofs.kind.every_kind.Goals as goal

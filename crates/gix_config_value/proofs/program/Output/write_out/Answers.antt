@@ -1,6 +1,6 @@
 use Rattle.std.proofs.Common.{refl, sym, ◌∙◌, eqb-true}
 use Rattle.std.proofs.KnownBytes.{Appends-nil, Appends-kept}
-use Rattle.gix_config_value.proofs.LineLemmas.{take_rest}
+use Rattle.std.proofs.lemmas.List.{take_rest}
 use Rattle.gix_config_value.proofs.StepLemmas.{Sends-nil, Sends-write, Sends-cleared, Breaks-write}
 use Rattle.gix_config_value.proofs.program.Output.write_out.Goals as goal
 

@@ -1,4 +1,4 @@
-use Rattle.gix_config_value.proofs.LineLemmas.{take_rest}
+use Rattle.std.proofs.lemmas.List.{take_rest}
 use Rattle.gix_config_value.proofs.StepLemmas.{AnswersUpTo-start, AnswersUpTo-more, Stops-in_lines, passed_on}
 use Rattle.gix_config_value.proofs.program.Progress.answer_lines.Goals as goal
 

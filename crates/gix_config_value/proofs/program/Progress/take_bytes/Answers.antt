@@ -1,4 +1,4 @@
-use Rattle.gix_config_value.proofs.LineLemmas.{take_rest}
+use Rattle.std.proofs.lemmas.List.{take_rest}
 use Rattle.gix_config_value.proofs.StepLemmas.{Stops-first, passed_on, begun_on, stopped_first, taken_after, stopped_after}
 use Rattle.gix_config_value.proofs.program.Progress.take_bytes.Goals as goal
 
