@@ -28,6 +28,7 @@ impl TryRead for Amount {
 
     /// The amount that the text writes, or `Fault::Integer` where it is no integer, and else `Fault::Overflow` where
     /// the product leaves `i64`.
+    #[inline(always)]
     fn try_read(text: &[u8]) -> Result<Amount, Fault> {
         let Some(integer) = scan(text) else {
             return Err(Fault::Integer);

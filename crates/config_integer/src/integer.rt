@@ -40,6 +40,7 @@ pub struct Integer {
 
 /// The integer that the input writes, or `None` where it writes none. The input is read once, from its
 /// first byte on, and no further than to the byte that refuses it.
+#[inline(always)]
 pub fn scan(input: &[u8]) -> Option<Integer>
     ensures { Reads IntegerText input.now result }
 {
@@ -47,6 +48,7 @@ pub fn scan(input: &[u8]) -> Option<Integer>
 }
 
 /// The integer that a text writes, with a sign or without one.
+#[inline(always)]
 fn signed(input: &[u8]) -> Option<Integer>
     ensures { result ≡ integer_of input.now }
 {
