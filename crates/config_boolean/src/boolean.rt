@@ -67,16 +67,26 @@ fn word(text: &[u8]) -> Option<bool>
     }
 }
 
+/// The boolean of a text that is no word: whether the number of an amount is not zero.
+#[inline(never)]
+fn counted(text: &[u8]) -> Option<Boolean>
+    requires affirms { ¬ (Affirms text.now) }
+    requires denies { ¬ (Denies text.now) }
+    ensures { Reads BooleanText text.now result }
+{
+    match Amount::try_read(text) {
+        Ok(Amount(number)) => Some(Boolean(number != 0)),
+        Err(_) => None,
+    }
+}
+
 /// The boolean that a text writes: a word's truth value, or whether the number of an amount is not zero.
 fn truth(text: &[u8]) -> Option<Boolean>
     ensures { Reads BooleanText text.now result }
 {
-    if let Some(value) = word(text) {
-        return Some(Boolean(value));
-    }
-    match Amount::try_read(text) {
-        Ok(Amount(number)) => Some(Boolean(number != 0)),
-        Err(_) => None,
+    match word(text) {
+        Some(value) => Some(Boolean(value)),
+        None => counted(text),
     }
 }
 

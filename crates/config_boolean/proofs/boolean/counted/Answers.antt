@@ -4,7 +4,7 @@ use Rattle.std.proofs.lemmas.Bool.Decides.{nat_tests}
 use Rattle.config_text.specs.Numerals.{IsInI64}
 use Rattle.config_boolean.specs.Boolean.BooleanText.{counted}
 use Rattle.config_boolean.specs.Laws.Boolean.{boolean_refused}
-use Rattle.config_boolean.proofs.boolean.truth.Goals as goal
+use Rattle.config_boolean.proofs.boolean.counted.Goals as goal
 
 -- the bits of a number in range are zero where the number is
 truth_of : (z : ℤ) → IsInI64 z → IsTrue (not (nat_eq (of_z w64 z) 0)) ↔ (z ≢ pos 0)
@@ -17,4 +17,4 @@ returns-in-Ok c = counted c.in-Ok.field-0 c.in-Ok.ensures (truth_of c.in-Ok.fiel
 
 pub returns-in-Err : goal.returns-in-Err
 returns-in-Err c =
-    boolean_refused c.args.text.now c.in_default.ensures.0 c.in_default.ensures.1 c.in-Err.ensures.1
+    boolean_refused c.args.text.now c.requires.affirms c.requires.denies c.in-Err.ensures.1
