@@ -99,18 +99,18 @@ fn of_five(text: &[u8]) -> Option<Item>
 fn of_six(text: &[u8]) -> Option<Item>
     ensures { result ≡ found (of_length 6 word_table) text.now }
 {
-    if is_in_any_case(text, b"normal") {
-        Some(Item::Name(Name::Normal))
-    } else if is_in_any_case(text, b"yellow") {
-        Some(Item::Name(Name::Yellow))
+    if is(text, b"no-dim") {
+        Some(Item::Attribute(Attribute::NO_DIM))
+    } else if is(text, b"nobold") {
+        Some(Item::Attribute(Attribute::NO_BOLD))
     } else if is(text, b"italic") {
         Some(Item::Attribute(Attribute::ITALIC))
     } else if is(text, b"strike") {
         Some(Item::Attribute(Attribute::STRIKE))
-    } else if is(text, b"no-dim") {
-        Some(Item::Attribute(Attribute::NO_DIM))
-    } else if is(text, b"nobold") {
-        Some(Item::Attribute(Attribute::NO_BOLD))
+    } else if is_in_any_case(text, b"normal") {
+        Some(Item::Name(Name::Normal))
+    } else if is_in_any_case(text, b"yellow") {
+        Some(Item::Name(Name::Yellow))
     } else {
         None
     }
