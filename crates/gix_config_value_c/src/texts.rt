@@ -1,11 +1,26 @@
 //! Texts of a kind that is chosen at run time.
+ghost use Rattle.gix_config_value.specs.declared.kind.Kind.TheVariants as kinds;
+ghost use Rattle.gix_config_value_c.specs.Numbers.{kind_number};
 ghost use Rattle.gix_config_value_c.specs.Texts.{NormalizesInto, ComparesInto};
 
 use crate::buffer::put;
 use crate::numbers::{flag_number, kind_of};
 use crate::status::{OK, REFUSED, UNKNOWN_KIND};
 use bstr::BStr;
-use gix_config_value::canonical::{Text, normalize_into, same};
+use gix_config_value::canonical::{Kind, Text, Value, normalize_into, same};
+use gix_config_value::integer::Suffix;
+
+/// Puts the letter of the suffix that a text names. `REFUSED` where it names none.
+#[inline(never)]
+#[tactic(auto, using(config_integer::specs::Laws::Suffix::suffix_has_text))]
+fn put_suffix(text: &[u8], buffer: &mut [u8], length: &mut usize) -> u32
+    ensures { NormalizesInto (kind_number kinds.Suffix) text.now buffer.old buffer.new length.old length.new result }
+{
+    match Suffix::try_from(BStr::new(text)) {
+        Ok(suffix) => put(suffix.text().as_str().as_bytes(), buffer, length),
+        Err(()) => REFUSED,
+    }
+}
 
 /// Puts the canonical text of the value of a text into the buffer, and its length into `length`. `REFUSED` where the
 /// text has no value of the kind, `UNKNOWN_KIND` where no kind has the number, and `SHORT_BUFFER` where the buffer is
@@ -22,6 +37,9 @@ pub extern "C" fn gcv_raw_normalize(
     let Some(kind) = kind_of(kind) else {
         return UNKNOWN_KIND;
     };
+    if let Kind::Suffix = kind {
+        return put_suffix(text, buffer, length);
+    }
     let mut canonical = Text::new();
     if !normalize_into(kind, BStr::new(text), &mut canonical) {
         return REFUSED;
