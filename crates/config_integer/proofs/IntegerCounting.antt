@@ -5,8 +5,9 @@ use Rattle.std.proofs.lemmas.List.{take_all, take_rest}
 use Rattle.std.specs.Option.{option_map}
 use Rattle.std.specs.Char.{digit_value}
 use Rattle.config_integer.specs.declared.suffix.Suffix.{Suffix}
-use Rattle.config_integer.specs.Reading.Integer.{counted, counted_from, suffix_of, suffix_of_is}
+use Rattle.config_integer.specs.Reading.Integer.{counted, counted_from, suffix_of}
 use Rattle.config_integer.specs.Suffix.{SuffixText}
+use Rattle.config_integer.specs.Laws.Suffix.{suffix_of_is}
 use Rattle.config_text.specs.Value.{Reads}
 use Rattle.config_text.specs.Laws.Value.{read_by}
 

@@ -17,12 +17,13 @@ use Rattle.config_text.specs.Laws.Value.{one_value_by, decided_by}
 use Rattle.config_text.specs.Numerals.{place_sum, IsInI64}
 use Rattle.config_text.specs.Laws.Numerals.{digits_value_after_ge, place_sum_is, range_told}
 use Rattle.config_integer.specs.Suffix.{SuffixText}
+use Rattle.config_integer.specs.Laws.Suffix.{suffix_of_is}
 use Rattle.config_integer.specs.Integer.{Magnitude, SignedText, IntegerText, SuffixIfAny, product, ProductText, ProductInRange, Refusal}
 use Rattle.config_text.specs.declared.errors.Fault.{Fault}
 use Rattle.config_text.specs.declared.errors.Fault.TheVariants as faults
 use Rattle.config_integer.specs.Integer.Magnitude.{nought, decimal, octal, hexadecimal, binary}
 use Rattle.config_integer.specs.Integer.SignedText.{plain, plus, minus}
-use Rattle.config_integer.specs.Reading.Integer.{suffix_of, suffix_of_is, counted_from, counted, base_of, digits_of, unsigned_of, plain_integer, negative_integer, integer_of}
+use Rattle.config_integer.specs.Reading.Integer.{suffix_of, counted_from, counted, base_of, digits_of, unsigned_of, plain_integer, negative_integer, integer_of}
 
 -- a suffix text is one letter, no digit in any base, and no `x`
 pub record IsLetter (back : List ℕ) (c : ℕ) : Type 0 where

@@ -1,12 +1,16 @@
 -- The laws of `Value` for suffixes.
-use Rattle.std.proofs.Common.{◌≡◌, ℕ, ◌⊎◌, inl, inr, List, [], ◌∷◌, refl, codes, arith, lit≤}
+use Rattle.std.proofs.Common.{◌≡◌, ℕ, ◌⊎◌, inl, inr, Bool, true, false, cond, List, [], ◌∷◌, Some, None, refl, ap, subst, codes, arith, lit≤}
+use Rattle.std.specs.Prelude.{◌==◌, ◌||◌}
+use Rattle.std.proofs.lemmas.Bool.Decides.{nat_tests}
+use Rattle.std.proofs.lemmas.Option.{none-some, same_Some}
 use Rattle.config_integer.specs.declared.suffix.Suffix.{Suffix}
 use Rattle.config_integer.specs.declared.suffix.Suffix.TheVariants.{Kibi, Mebi, Gibi}
-use Rattle.config_text.specs.Value.{IsAccepted, IsRefused, HasText, IsTextOf}
+use Rattle.config_text.specs.Value.{IsAccepted, IsRefused, HasText, IsTextOf, IsValueOf}
 use Rattle.config_text.specs.OneOf.{OneOf}
 use Rattle.config_text.specs.Laws.Value.{text_told, Told, either_told}
 use Rattle.config_text.specs.Laws.OneOf.{decided_among}
 use Rattle.config_integer.specs.Suffix.{SuffixText, CanonicalSuffix, suffix_shown}
+use Rattle.config_integer.specs.Reading.Integer.{unit_of, suffix_of}
 
 pub suffix_one_value : (t : List ℕ) (v w : Suffix) → SuffixText t v → SuffixText t w → v ≡ w
 suffix_one_value t Kibi Kibi p q = refl
@@ -58,3 +62,36 @@ suffix_has_text v = (suffix_shown v, (suffix_shown_is v)) where
   suffix_shown_is Kibi = inl refl
   suffix_shown_is Mebi = inl refl
   suffix_shown_is Gibi = inl refl
+
+-- `suffix_of` is the grammar of suffixes
+suffix_found : (t : List ℕ) (v : Suffix) → SuffixText t v → suffix_of t ≡ Some v
+unfolding suffix_of
+suffix_found t Kibi (inl e) = rw e refl
+suffix_found t Kibi (inr e) = rw e refl
+suffix_found t Mebi (inl e) = rw e refl
+suffix_found t Mebi (inr e) = rw e refl
+suffix_found t Gibi (inl e) = rw e refl
+suffix_found t Gibi (inr e) = rw e refl
+
+unit_derived : (c : ℕ) (v : Suffix) → unit_of c ≡ Some v → SuffixText (c ∷ []) v
+unit_derived c v e = told (c == 107 || c == 75) (c == 109 || c == 77) (c == 103 || c == 71) refl refl refl e where
+  one_of : (x y : ℕ) → (c == x || c == y) ≡ true → (c ∷ [] ≡ x ∷ []) ⊎ (c ∷ [] ≡ y ∷ [])
+  one_of x y h = elim (either x y h) [ inl e ↦ inl (ap (λ n. n ∷ []) e) | inr e ↦ inr (ap (λ n. n ∷ []) e) ] where
+    either : (x y : ℕ) → (c == x || c == y) ≡ true → (c ≡ x) ⊎ (c ≡ y)
+    either x y h = grind (arith, nat_tests)
+
+  told : (k m g : Bool) → (c == 107 || c == 75) ≡ k → (c == 109 || c == 77) ≡ m → (c == 103 || c == 71) ≡ g
+      → cond k (Some Kibi) (cond m (Some Mebi) (cond g (Some Gibi) None)) ≡ Some v → SuffixText (c ∷ []) v
+  told true m g p q r e = subst (SuffixText (c ∷ [])) (same_Some _ v e) (one_of 107 75 p)
+  told false true g p q r e = subst (SuffixText (c ∷ [])) (same_Some _ v e) (one_of 109 77 q)
+  told false false true p q r e = subst (SuffixText (c ∷ [])) (same_Some _ v e) (one_of 103 71 r)
+  told false false false p q r e = absurd (none-some v e)
+
+suffix_derived : (t : List ℕ) (v : Suffix) → suffix_of t ≡ Some v → SuffixText t v
+unfolding suffix_of
+suffix_derived [] v e = absurd (none-some v e)
+suffix_derived (c ∷ []) v e = unit_derived c v e
+suffix_derived (c ∷ d ∷ cs) v e = absurd (none-some v e)
+
+pub suffix_of_is : IsValueOf SuffixText suffix_of
+suffix_of_is = record { found = suffix_found; derived = suffix_derived }

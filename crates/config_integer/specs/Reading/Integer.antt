@@ -4,17 +4,19 @@ use Rattle.std.specs.Option.{option_map}
 use Rattle.std.specs.Char.{digit_value}
 use Rattle.config_integer.specs.declared.integer.Integer.{Integer}
 use Rattle.config_integer.specs.declared.suffix.Suffix.{Suffix}
-use Rattle.config_integer.specs.Suffix.{SuffixText}
-use Rattle.config_integer.specs.Laws.Suffix.{suffix_decided, suffix_one_value}
-use Rattle.config_text.specs.Laws.Value.{told_value, told_value_is}
-use Rattle.config_text.specs.Value.{IsValueOf}
+use Rattle.config_integer.specs.declared.suffix.Suffix.TheVariants.{Kibi, Mebi, Gibi}
 
--- the suffix that a text names
-abbrev pub suffix_of : List ℕ → Option Suffix
-suffix_of t = told_value suffix_decided t
+-- the suffix that a letter names: `k`, `m` or `g` of either case
+abbrev pub unit_of : ℕ → Option Suffix
+unit_of c =
+    cond (c == 107 || c == 75) (Some Kibi)
+    (cond (c == 109 || c == 77) (Some Mebi)
+    (cond (c == 103 || c == 71) (Some Gibi) None))
 
-pub suffix_of_is : IsValueOf SuffixText suffix_of
-suffix_of_is = told_value_is suffix_decided suffix_one_value
+-- the suffix that a text names, of one letter
+unfoldable pub suffix_of : List ℕ → Option Suffix
+suffix_of (c ∷ []) = unit_of c
+suffix_of _ = None
 
 -- the number of the digits behind which `number` was read, and the suffix behind them
 abbrev pub counted_from : ℕ → ℕ → ℕ → List ℕ → Option (ℕ × Option Suffix)

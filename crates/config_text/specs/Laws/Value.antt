@@ -1,6 +1,5 @@
 -- From a grammar as a function: one value a text, and that each text is accepted or refused.
-use Rattle.std.proofs.Common.{◌≡◌, ℕ, ◌⊎◌, inl, inr, List, Option, Some, None, Bool, true, false, refl, sym, ap, ◌∙◌, subst}
-use Rattle.std.proofs.lemmas.Option.{same_Some, none-some}
+use Rattle.std.proofs.Common.{◌≡◌, ℕ, ◌⊎◌, inl, inr, List, Option, Some, None, Bool, true, false, refl, sym, ap, ◌∙◌}
 use Rattle.std.specs.Str.{bytes_eq}
 use Rattle.std.proofs.lemmas.Slice.Eq.{bytes_eq-Decides}
 use Rattle.std.specs.Bool.{Decides}
@@ -37,25 +36,6 @@ pub reads_by : {V : Type 0} {grammar : List ℕ → V → Type 0} {value_of : Li
     → (t : List ℕ) (r : Option V) → r ≡ value_of t → Reads grammar t r
 reads_by law t (Some v) e = law.derived t v (cc (e))
 reads_by law t None e = λ v h. cc (e, law.found t v h)
-
--- a grammar that gives a text one value at most, and of which each text is told to be accepted or refused, as a function
-pub told_value : {V : Type 0} {grammar : List ℕ → V → Type 0} → ((t : List ℕ) → IsAccepted grammar t ⊎ IsRefused grammar t) → List ℕ → Option V
-told_value decided t = elim (decided t) [ inl a ↦ Some a.0 | inr r ↦ None ]
-
-pub told_value_is : {V : Type 0} {grammar : List ℕ → V → Type 0} (decided : (t : List ℕ) → IsAccepted grammar t ⊎ IsRefused grammar t)
-    → ((t : List ℕ) (v w : V) → grammar t v → grammar t w → v ≡ w) → IsValueOf grammar (told_value decided)
-unfolding told_value
-told_value_is {V} {grammar} decided one = record { found = λ t. found t (decided t); derived = λ t. derived t (decided t) } where
-  choose : (t : List ℕ) → IsAccepted grammar t ⊎ IsRefused grammar t → Option V
-  choose t d = elim d [ inl a ↦ Some a.0 | inr r ↦ None ]
-
-  found : (t : List ℕ) (d : IsAccepted grammar t ⊎ IsRefused grammar t) (v : V) → grammar t v → elim d [ inl a ↦ Some a.0 | inr r ↦ None ] ≡ Some v
-  found t (inl a) v h = ap Some (one t a.0 v a.1 h)
-  found t (inr r) v h = absurd (r v h)
-
-  derived : (t : List ℕ) (d : IsAccepted grammar t ⊎ IsRefused grammar t) (v : V) → elim d [ inl a ↦ Some a.0 | inr r ↦ None ] ≡ Some v → grammar t v
-  derived t (inl a) v h = subst (grammar t) (same_Some a.0 v h) a.1
-  derived t (inr r) v h = absurd (none-some v h)
 
 -- what each canonical text tells: the value that it has, as which it is shown
 pub record IsShown {V : Type 0} (grammar : List ℕ → V → Type 0) (shown : V → List ℕ) (t : List ℕ) : Type 0 where
