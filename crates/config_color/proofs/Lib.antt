@@ -1,1 +1,2 @@
 pub mod ColorOrder
+pub mod OnLiterals

@@ -1,1 +1,2 @@
 pub mod IntegerCounting
+pub mod OnLiterals

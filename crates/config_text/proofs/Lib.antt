@@ -2,3 +2,4 @@ pub mod SettingsLemmas
 pub mod ReplacedValues
 pub mod OneAnswer
 mod DigitRows
+pub mod OnLiterals

@@ -1,2 +1,3 @@
 pub mod NameOrder
 pub mod SeveralAttributes
+pub mod OnLiterals

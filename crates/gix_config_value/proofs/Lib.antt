@@ -2,3 +2,4 @@ pub mod LineLemmas
 pub mod KindLemmas
 pub mod StepLemmas
 pub mod RunLemmas
+pub mod OnLiterals

@@ -110,7 +110,8 @@ nonzero (pos zero) = false
 nonzero (pos (suc n)) = true
 nonzero (negsuc n) = true
 
-nonzero_is : (z : ℤ) → IsTrue (nonzero z) ↔ (z ≢ pos 0)
+-- it tells whether the number is not zero
+pub nonzero_is : (z : ℤ) → IsTrue (nonzero z) ↔ (z ≢ pos 0)
 nonzero_is (pos zero) = (λ h. absurd (cc (h)), λ h. absurd (h refl))
 nonzero_is (pos (suc n)) = (λ h e. cc (e), λ h. refl)
 nonzero_is (negsuc n) = (λ h e. cc (e), λ h. refl)

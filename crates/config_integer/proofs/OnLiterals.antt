@@ -1,0 +1,94 @@
+-- Integers and amounts on a literal: what computes them, and from what is computed to the grammars.
+use Rattle.std.proofs.Common.{◌≡◌, ℕ, ℤ, pos, negsuc, Bool, true, false, List, Option, Some, None, nat_lt, refl, ap, subst, sym, arith}
+use Rattle.std.specs.Prelude.{⊤}
+use Rattle.std.specs.Option.{option_and_then}
+use Rattle.std.proofs.lemmas.Bool.Decides.{nat_tests}
+use Rattle.std.proofs.lemmas.Int.{ints}
+use Rattle.std.proofs.lemmas.Option.{none-some, same_Some}
+use Rattle.config_integer.specs.declared.integer.Integer.{Integer}
+use Rattle.config_integer.specs.declared.amount.Amount.{Amount}
+use Rattle.config_integer.specs.Integer.{IntegerText, ProductInRange, Refusal, product}
+use Rattle.config_integer.specs.Amount.{AmountText}
+use Rattle.config_integer.specs.Reading.Integer.{suffix_of, integer_of}
+use Rattle.config_integer.specs.Laws.Integer.{integer_of_is}
+use Rattle.config_text.specs.declared.errors.Fault.TheVariants as faults
+use Rattle.config_text.specs.Numerals.{IsInI64}
+use Rattle.config_text.specs.Value.{IsRefused, IsValueOf}
+use Rattle.config_text.proofs.OnLiterals.{refused_by}
+
+-- what a proof unfolds to compute `suffix_of`, `integer_of` and `amount_of` on a literal
+unfoldable pub integer_on_literals : ⊤
+unfolding suffix_of
+integer_on_literals = tt
+
+-- a text of which `integer_of` answers an integer is its text, and one of which it answers none is refused
+pub integer_text : (t : List ℕ) (v : Integer) → integer_of t ≡ Some v → IntegerText t v
+integer_text = integer_of_is.derived
+
+pub integer_refused : (t : List ℕ) → integer_of t ≡ None → IsRefused IntegerText t
+integer_refused = refused_by integer_of_is
+
+-- whether a number is in range
+abbrev pub is_in_range : ℤ → Bool
+is_in_range (pos n) = nat_lt n 9223372036854775808
+is_in_range (negsuc n) = nat_lt n 9223372036854775808
+
+abbrev amount_in : Integer → Bool → Option Amount
+amount_in v true = Some (record { 0 = product v })
+amount_in v false = None
+
+-- the product of an integer, where it is in range
+abbrev pub amount_from : Integer → Option Amount
+amount_from v = amount_in v (is_in_range (product v))
+
+-- amount texts as a function: the product of the integer that is read
+abbrev pub amount_of : List ℕ → Option Amount
+amount_of t = option_and_then amount_from (integer_of t)
+
+in_range_told : (z : ℤ) → is_in_range z ≡ true → IsInI64 z
+in_range_told (pos n) e = record { low = omega (arith, ints); high = grind (arith, nat_tests, ints) }
+in_range_told (negsuc n) e = record { low = grind (arith, nat_tests, ints); high = omega (arith, ints) }
+
+out_of_range_told : (z : ℤ) → is_in_range z ≡ false → ¬ (IsInI64 z)
+out_of_range_told (pos n) e r = grind (arith, nat_tests, ints, r.high)
+out_of_range_told (negsuc n) e r = grind (arith, nat_tests, ints, r.low)
+
+in_range_product : (t : List ℕ) (v : Integer) → IntegerText t v → is_in_range (product v) ≡ true → ProductInRange t (product v)
+in_range_product t v text r = record {
+  product_text = record { integer = v; text = text; number = refl };
+  in_range = in_range_told (product v) r;
+}
+
+amount_found : (t : List ℕ) (a : Amount) → AmountText t a → amount_of t ≡ Some a
+amount_found t a p = at p.product_text.integer p.product_text.text p.product_text.number where
+  at : (v : Integer) → IntegerText t v → a.0 ≡ product v → amount_of t ≡ Some a
+  at v text e = rw (integer_of_is.found t v text) (told (is_in_range (product v)) refl) where
+    told : (b : Bool) → is_in_range (product v) ≡ b → amount_in v b ≡ Some a
+    told true r = ap (λ z. Some (let w : Amount = record { 0 = z } in w)) (sym e)
+    told false r = absurd (out_of_range_told (product v) r (subst IsInI64 e p.in_range))
+
+amount_derived : (t : List ℕ) (a : Amount) → amount_of t ≡ Some a → AmountText t a
+amount_derived t a e = told (integer_of t) refl e where
+  told : (o : Option Integer) → integer_of t ≡ o → option_and_then amount_from o ≡ Some a → AmountText t a
+  told None p e = absurd (none-some a e)
+  told (Some v) p e = ranged (is_in_range (product v)) refl e where
+    ranged : (b : Bool) → is_in_range (product v) ≡ b → amount_in v b ≡ Some a → AmountText t a
+    ranged true r e = subst (AmountText t) (same_Some _ a e) (in_range_product t v (integer_text t v p) r)
+    ranged false r e = absurd (none-some a e)
+
+-- `amount_of` is the grammar of amounts
+pub amount_of_is : IsValueOf AmountText amount_of
+amount_of_is = record { found = amount_found; derived = amount_derived }
+
+-- an integer text whose product is out of range is refused for that
+pub product_overflows : (refuses : ℤ → Type 0) (t : List ℕ) (v : Integer) → integer_of t ≡ Some v
+    → is_in_range (product v) ≡ false → Refusal refuses t faults.Overflow
+product_overflows refuses t v e out =
+    (product v, record { integer = v; text = integer_text t v e; number = refl }, out_of_range_told (product v) out)
+
+-- the same of amounts as of integers
+pub amount_text : (t : List ℕ) (v : Amount) → amount_of t ≡ Some v → AmountText t v
+amount_text = amount_of_is.derived
+
+pub amount_refused : (t : List ℕ) → amount_of t ≡ None → IsRefused AmountText t
+amount_refused = refused_by amount_of_is
