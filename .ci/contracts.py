@@ -10,7 +10,7 @@ DIGEST = ROOT / "docs/CONTRACTS.md"
 # the libraries, lowest first, and below the front door the one of the checker
 CRATES = ("config_text", "config_integer", "config_boolean", "config_word", "config_color", "config_path",
           "gix_config_value", "config_checks")
-# the pages whose blocks of Rust and of definitions are quotations
+# the pages whose blocks of Rust, of definitions and of proofs are quotations
 PAGES = ("CALLING.md", "docs/READING.md")
 HEAD = """# The public contracts
 
@@ -92,7 +92,7 @@ def digest():
 
 
 def quotations(page):
-    """The blocks of a page that quote Rust or definitions."""
+    """The blocks of a page that quote Rust, definitions or proofs."""
     text = (ROOT / page).read_text(encoding="utf-8")
     return re.findall(r"^```(?:rust|antt)\n(.*?)^```$", text, re.MULTILINE | re.DOTALL)
 
@@ -106,7 +106,7 @@ def main():
         passed += 1
     else:
         faults.append("docs/CONTRACTS.md is not what --write writes")
-    sources = [file.read_text(encoding="utf-8") for kind in ("src/**/*.rt", "specs/**/*.antt")
+    sources = [file.read_text(encoding="utf-8") for kind in ("src/**/*.rt", "specs/**/*.antt", "proofs/**/*.antt")
                for file in ROOT.glob(f"crates/*/{kind}")]
     for page in PAGES:
         for block in quotations(page):

@@ -1,2 +1,3 @@
 pub mod ColorOrder
 pub mod OnLiterals
+mod StandardFacts

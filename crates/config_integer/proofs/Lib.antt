@@ -1,2 +1,3 @@
 pub mod IntegerCounting
 pub mod OnLiterals
+mod StandardFacts

@@ -1,3 +1,4 @@
 pub mod NameOrder
 pub mod SeveralAttributes
 pub mod OnLiterals
+mod StandardFacts

@@ -1,0 +1,50 @@
+-- What git-config(1) says of booleans, on its own examples: a definition with a wrong word does not check.
+use Rattle.std.proofs.Common.{ℕ, Bool, true, false, List, [], ◌∷◌, codes, refl}
+use Rattle.config_boolean.specs.declared.boolean.Boolean.{Boolean}
+use Rattle.config_boolean.specs.Boolean.{BooleanText}
+use Rattle.config_boolean.proofs.OnLiterals.{boolean_on_literals, boolean_of_is}
+use Rattle.config_text.proofs.OnLiterals.{AreRead, AreRefused, all_read, all_refused}
+
+abbrev boolean : Bool → Boolean
+boolean b = record { 0 = b }
+
+-- "Boolean true literals are yes, on, true, and 1", and "these are all case-insensitive"
+abbrev literals_of_true : List (List ℕ × Boolean)
+literals_of_true =
+    (codes "yes", boolean true)
+    ∷ (codes "on", boolean true)
+    ∷ (codes "true", boolean true)
+    ∷ (codes "1", boolean true)
+    ∷ (codes "YES", boolean true)
+    ∷ (codes "On", boolean true)
+    ∷ (codes "tRuE", boolean true)
+    ∷ []
+
+pub true_is_read : AreRead BooleanText literals_of_true
+unfolding boolean_on_literals
+true_is_read = all_read boolean_of_is literals_of_true refl
+
+-- "Boolean false literals are no, off, false, 0 and the empty string"
+abbrev literals_of_false : List (List ℕ × Boolean)
+literals_of_false =
+    (codes "no", boolean false)
+    ∷ (codes "off", boolean false)
+    ∷ (codes "false", boolean false)
+    ∷ (codes "0", boolean false)
+    ∷ (codes "", boolean false)
+    ∷ (codes "NO", boolean false)
+    ∷ (codes "Off", boolean false)
+    ∷ (codes "fAlSe", boolean false)
+    ∷ []
+
+pub false_is_read : AreRead BooleanText literals_of_false
+unfolding boolean_on_literals
+false_is_read = all_read boolean_of_is literals_of_false refl
+
+-- near misses
+abbrev no_booleans : List (List ℕ)
+no_booleans = codes "y" ∷ codes "of" ∷ codes "truee" ∷ codes " true" ∷ []
+
+pub no_booleans_are_refused : AreRefused BooleanText no_booleans
+unfolding boolean_on_literals
+no_booleans_are_refused = all_refused boolean_of_is no_booleans refl

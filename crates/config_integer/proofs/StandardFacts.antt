@@ -1,0 +1,66 @@
+-- What git-config(1) says of integers, on examples: a definition with a wrong letter, factor or base does not check.
+use Rattle.std.proofs.Common.{ℕ, ℤ, pos, negsuc, List, [], ◌∷◌, codes, Option, Some, None, refl}
+use Rattle.config_integer.specs.declared.integer.Integer.{Integer}
+use Rattle.config_integer.specs.declared.suffix.Suffix.{Suffix}
+use Rattle.config_integer.specs.declared.suffix.Suffix.TheVariants.{Kibi, Mebi, Gibi}
+use Rattle.config_integer.specs.declared.amount.Amount.{Amount}
+use Rattle.config_integer.specs.Integer.{IntegerText}
+use Rattle.config_integer.specs.Amount.{AmountText, AmountRefusal}
+use Rattle.config_integer.specs.Laws.Integer.{integer_of_is}
+use Rattle.config_integer.proofs.OnLiterals.{integer_on_literals, amount_of_is, product_overflows}
+use Rattle.config_text.specs.declared.errors.Fault.TheVariants as faults
+use Rattle.config_text.proofs.OnLiterals.{AreRead, AreRefused, all_read, all_refused}
+
+abbrev integer : ℤ → Option Suffix → Integer
+integer z s = record { value = z; suffix = s }
+
+abbrev amount : ℤ → Amount
+amount z = record { 0 = z }
+
+-- a number and its suffix, kept apart; as in C, `0x` marks hexadecimal digits and a leading `0` octal ones
+abbrev integers : List (List ℕ × Integer)
+integers =
+    (codes "0", integer (pos 0) None)
+    ∷ (codes "1k", integer (pos 1) (Some Kibi))
+    ∷ (codes "10M", integer (pos 10) (Some Mebi))
+    ∷ (codes "1g", integer (pos 1) (Some Gibi))
+    ∷ (codes "0x10k", integer (pos 16) (Some Kibi))
+    ∷ (codes "010", integer (pos 8) None)
+    ∷ (codes "-1", integer (negsuc 0) None)
+    ∷ (codes "9223372036854775807k", integer (pos 9223372036854775807) (Some Kibi))
+    ∷ []
+
+pub integers_are_read : AreRead IntegerText integers
+unfolding integer_on_literals
+integers_are_read = all_read integer_of_is integers refl
+
+-- `k`, `M`, .. "to mean scale the number by 1024, by 1024x1024", in either case
+abbrev amounts : List (List ℕ × Amount)
+amounts =
+    (codes "1k", amount (pos 1024))
+    ∷ (codes "1K", amount (pos 1024))
+    ∷ (codes "1m", amount (pos 1048576))
+    ∷ (codes "10M", amount (pos 10485760))
+    ∷ (codes "1g", amount (pos 1073741824))
+    ∷ (codes "2G", amount (pos 2147483648))
+    ∷ (codes "0x10k", amount (pos 16384))
+    ∷ (codes "-1", amount (negsuc 0))
+    ∷ []
+
+pub amounts_are_read : AreRead AmountText amounts
+unfolding integer_on_literals
+amounts_are_read = all_read amount_of_is amounts refl
+
+-- no such suffix, two of them, a space, a suffix alone, and nothing
+abbrev no_integers : List (List ℕ)
+no_integers = codes "10x" ∷ codes "1kb" ∷ codes "1 k" ∷ codes "k" ∷ codes "" ∷ []
+
+pub no_integers_are_refused : AreRefused IntegerText no_integers
+unfolding integer_on_literals
+no_integers_are_refused = all_refused integer_of_is no_integers refl
+
+-- the product leaves the range of the number
+pub too_large : AmountRefusal (codes "9223372036854775807k") faults.Overflow
+unfolding integer_on_literals
+too_large =
+    product_overflows (λ _. ⊥) (codes "9223372036854775807k") (integer (pos 9223372036854775807) (Some Kibi)) refl refl

@@ -1,0 +1,115 @@
+-- What git-config(1) says of the words of colors: a definition with a wrong word, number or bit does not check. Each of
+-- the 41 words stands here, and each attribute beside the constant that the code gives its name.
+use Rattle.std.proofs.Common.{ℕ, List, [], ◌∷◌, codes, refl}
+use Rattle.config_word.specs.declared.attribute.Attribute.{Attribute}
+use Rattle.config_word.specs.declared.attribute.TheConstants.Attribute.{BOLD, DIM, UL, BLINK, REVERSE, ITALIC, STRIKE, RESET, NO_BOLD, NO_DIM, NO_UL, NO_BLINK, NO_REVERSE, NO_ITALIC, NO_STRIKE}
+use Rattle.config_word.specs.declared.name.Name.{Name}
+use Rattle.config_word.specs.declared.name.Name.TheVariants.{Normal, Default, Black, BrightBlack, Red, BrightRed, Green, BrightGreen, Yellow, BrightYellow, Blue, BrightBlue, Magenta, BrightMagenta, Cyan, BrightCyan, White, BrightWhite, Ansi, Rgb}
+use Rattle.config_word.specs.Attribute.{AttributeText}
+use Rattle.config_word.specs.Item.{ItemText}
+use Rattle.config_word.specs.Name.{NameText}
+use Rattle.config_word.specs.Laws.Item.{item-law, name-law, attribute-law}
+use Rattle.config_word.proofs.OnLiterals.{item_on_literals}
+use Rattle.config_text.proofs.OnLiterals.{AreRead, AreRefused, all_read, all_refused}
+
+-- "The basic colors accepted are normal, black, red, green, yellow, blue, magenta, cyan, white and default"
+abbrev basic_colors : List (List ℕ × Name)
+basic_colors =
+    (codes "normal", Normal)
+    ∷ (codes "black", Black)
+    ∷ (codes "red", Red)
+    ∷ (codes "green", Green)
+    ∷ (codes "yellow", Yellow)
+    ∷ (codes "blue", Blue)
+    ∷ (codes "magenta", Magenta)
+    ∷ (codes "cyan", Cyan)
+    ∷ (codes "white", White)
+    ∷ (codes "default", Default)
+    ∷ []
+
+pub basic_colors_are_read : AreRead NameText basic_colors
+unfolding item_on_literals
+basic_colors_are_read = all_read name-law basic_colors refl
+
+-- "All the basic colors except normal and default have a bright variant .., like brightred"
+abbrev bright_colors : List (List ℕ × Name)
+bright_colors =
+    (codes "brightblack", BrightBlack)
+    ∷ (codes "brightred", BrightRed)
+    ∷ (codes "brightgreen", BrightGreen)
+    ∷ (codes "brightyellow", BrightYellow)
+    ∷ (codes "brightblue", BrightBlue)
+    ∷ (codes "brightmagenta", BrightMagenta)
+    ∷ (codes "brightcyan", BrightCyan)
+    ∷ (codes "brightwhite", BrightWhite)
+    ∷ []
+
+pub bright_colors_are_read : AreRead NameText bright_colors
+unfolding item_on_literals
+bright_colors_are_read = all_read name-law bright_colors refl
+
+-- "numbers between 0 and 255", and "24-bit RGB values as hex, like #ff0ab3"; since Git 2.46 also "12-bit RGB values
+-- like #f1b", which is "equivalent to the 24-bit color #ff11bb"; and `-1`, which Git reads as normal
+abbrev numbered_colors : List (List ℕ × Name)
+numbered_colors =
+    (codes "0", Ansi 0)
+    ∷ (codes "255", Ansi 255)
+    ∷ (codes "#ff0ab3", Rgb 255 10 179)
+    ∷ (codes "#f1b", Rgb 255 17 187)
+    ∷ (codes "#ff11bb", Rgb 255 17 187)
+    ∷ (codes "-1", Normal)
+    ∷ []
+
+pub numbered_colors_are_read : AreRead NameText numbered_colors
+unfolding item_on_literals
+numbered_colors_are_read = all_read name-law numbered_colors refl
+
+-- "The accepted attributes are bold, dim, ul, blink, reverse, italic, and strike", and the "pseudo-attribute reset"
+abbrev attributes_set : List (List ℕ × Attribute)
+attributes_set =
+    (codes "bold", BOLD)
+    ∷ (codes "dim", DIM)
+    ∷ (codes "ul", UL)
+    ∷ (codes "blink", BLINK)
+    ∷ (codes "reverse", REVERSE)
+    ∷ (codes "italic", ITALIC)
+    ∷ (codes "strike", STRIKE)
+    ∷ (codes "reset", RESET)
+    ∷ []
+
+pub attributes_set_are_read : AreRead AttributeText attributes_set
+unfolding item_on_literals
+attributes_set_are_read = all_read attribute-law attributes_set refl
+
+-- "turned off by prefixing them with no or no- (e.g., noreverse, no-ul, etc)"
+abbrev attributes_unset : List (List ℕ × Attribute)
+attributes_unset =
+    (codes "nobold", NO_BOLD)
+    ∷ (codes "no-bold", NO_BOLD)
+    ∷ (codes "nodim", NO_DIM)
+    ∷ (codes "no-dim", NO_DIM)
+    ∷ (codes "noul", NO_UL)
+    ∷ (codes "no-ul", NO_UL)
+    ∷ (codes "noblink", NO_BLINK)
+    ∷ (codes "no-blink", NO_BLINK)
+    ∷ (codes "noreverse", NO_REVERSE)
+    ∷ (codes "no-reverse", NO_REVERSE)
+    ∷ (codes "noitalic", NO_ITALIC)
+    ∷ (codes "no-italic", NO_ITALIC)
+    ∷ (codes "nostrike", NO_STRIKE)
+    ∷ (codes "no-strike", NO_STRIKE)
+    ∷ []
+
+pub attributes_unset_are_read : AreRead AttributeText attributes_unset
+unfolding item_on_literals
+attributes_unset_are_read = all_read attribute-law attributes_unset refl
+
+-- "except normal and default"; a number above 255; five digits; no bright attribute, and no `reset` to turn off
+abbrev no_words : List (List ℕ)
+no_words =
+    codes "brightnormal" ∷ codes "brightdefault" ∷ codes "256" ∷ codes "#ff0ab" ∷ codes "brightbold" ∷ codes "noreset"
+    ∷ codes "" ∷ []
+
+pub no_words_are_refused : AreRefused ItemText no_words
+unfolding item_on_literals
+no_words_are_refused = all_refused item-law no_words refl
