@@ -10,6 +10,7 @@
 //! | `words` | reads color names and attributes, one word at a time | `word`, `Name::from_str`, sets of attributes |
 //! | `json` | gives a size as a JSON number | `to_json`, and why it needs no memory |
 //! | `paths` | interpolates paths without users, with those of a passwd text, and with a function | `Path::interpolate`, the path table at a context |
+//! | `literals` | has defaults that are written as texts, with what they are | a reader computed on a literal |
 //! | `push_default` | reads what `push.default` may be | a kind of value of one's own |
 //!
 //! `crates/callers_tests` runs each.
@@ -19,6 +20,7 @@ pub mod checker;
 pub mod entries;
 pub mod json;
 mod lines;
+pub mod literals;
 pub mod paths;
 pub mod precedence;
 pub mod push_default;

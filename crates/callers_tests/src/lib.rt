@@ -4,6 +4,8 @@
 #[cfg(test)]
 mod checker;
 #[cfg(test)]
+mod literals;
+#[cfg(test)]
 mod paths;
 #[cfg(test)]
 mod settings;
