@@ -7,8 +7,8 @@ ghost use Rattle.config_integer.specs.declared.amount.Amount.{Amount as AnAmount
 ghost use Rattle.gix_config_value.specs.Amount.{AmountText};
 ghost use Rattle.gix_config_value.specs.Value.{IsRefused};
 
-use gix_config_value::Color;
 use gix_config_value::integer::Amount;
+use gix_config_value::{Color, Integer};
 
 /// The size of a window where no setting says another: the amount that `10m` writes.
 pub fn default_window() -> Amount
@@ -26,6 +26,13 @@ pub fn window(text: &str) -> Amount
         Ok(size) => size,
         Err(_) => default_window(),
     }
+}
+
+/// The most bytes of an object that is shown, as the caller's own type of integers: the product that `10m` writes.
+pub fn default_limit() -> usize
+    ensures { result ≡ 10485760 }
+{
+    Integer::from_bytes::<usize>(b"10m").unwrap()
 }
 
 /// The color of a warning where the theme has none: that of `bold brightred`.

@@ -1,6 +1,6 @@
 //! Defaults that are written as texts.
 
-use callers::literals::{default_warning, default_window, window};
+use callers::literals::{default_limit, default_warning, default_window, window};
 use gix_config_value::Color;
 use gix_config_value::color::{Attribute, Name};
 use gix_config_value::integer::Amount;
@@ -10,6 +10,7 @@ use testing::equal;
 #[test]
 fn reads_its_defaults() -> Result<(), Fail> {
     equal(default_window(), Amount(10_485_760), "10m")?;
+    equal(default_limit(), 10_485_760, "10m")?;
     let warning = Color {
         foreground: Some(Name::BrightRed),
         background: None,

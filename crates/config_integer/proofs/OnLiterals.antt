@@ -1,6 +1,6 @@
 -- Integers and amounts on a literal: what computes them, and from what is computed to the grammars.
 use Rattle.std.proofs.Common.{◌≡◌, ℕ, ℤ, pos, negsuc, Bool, true, false, List, Option, Some, None, nat_lt, refl, ap, subst, sym, arith}
-use Rattle.std.specs.Prelude.{⊤}
+use Rattle.std.specs.Prelude.{⊤, Result, Ok, Err, IfOk, IfErr}
 use Rattle.std.specs.Option.{option_and_then}
 use Rattle.std.proofs.lemmas.Bool.Decides.{nat_tests}
 use Rattle.std.proofs.lemmas.Int.{ints}
@@ -10,7 +10,9 @@ use Rattle.config_integer.specs.declared.amount.Amount.{Amount}
 use Rattle.config_integer.specs.Integer.{IntegerText, ProductInRange, Refusal, product}
 use Rattle.config_integer.specs.Amount.{AmountText}
 use Rattle.config_integer.specs.Reading.Integer.{suffix_of, integer_of}
-use Rattle.config_integer.specs.Laws.Integer.{integer_of_is}
+use Rattle.config_integer.specs.Laws.Integer.{integer_of_is, product_one_value}
+use Rattle.config_text.specs.declared.errors.Error.{Error}
+use Rattle.config_text.specs.declared.errors.Fault.{Fault}
 use Rattle.config_text.specs.declared.errors.Fault.TheVariants as faults
 use Rattle.config_text.specs.Numerals.{IsInI64}
 use Rattle.config_text.specs.Value.{IsRefused, IsValueOf}
@@ -85,6 +87,24 @@ pub product_overflows : (refuses : ℤ → Type 0) (t : List ℕ) (v : Integer) 
     → is_in_range (product v) ≡ false → Refusal refuses t faults.Overflow
 product_overflows refuses t v e out =
     (product v, record { integer = v; text = integer_text t v e; number = refl }, out_of_range_told (product v) out)
+
+-- a text with a product in range is refused only where the caller's type refuses that product
+refused_product : (refuses : ℤ → Type 0) (t : List ℕ) (f : Fault) (z : ℤ) → ProductInRange t z → Refusal refuses t f → refuses z
+refused_product refuses t faults.Integer z p r = absurd (r p.product_text.integer p.product_text.text)
+refused_product refuses t faults.Overflow z p r =
+    absurd (r.2 (subst IsInI64 (product_one_value t z r.0 p.product_text r.1) p.in_range))
+refused_product refuses t faults.OutOfRange z p r =
+    subst refuses (product_one_value t r.0 z r.1.product_text p.product_text) r.2
+refused_product refuses t faults.Boolean z p r = absurd r
+refused_product refuses t faults.Color z p r = absurd r
+
+-- of a text whose product the caller's type does not refuse, `Integer::from_bytes` answers what the type makes of it
+pub converts : {T : Type 0} (accepts : ℤ → T → Type 0) (refuses : ℤ → Type 0) (t : List ℕ) (z : ℤ) (r : Result T Error)
+    → ProductInRange t z → ¬ (refuses z) → IfOk r (λ x. (y : ℤ) × ProductInRange t y × accepts y x)
+    → IfErr r (λ e. Refusal refuses t e.fault) → (x : T) × (r ≡ Ok x) × accepts z x
+converts accepts refuses t z (Ok x) p takes ok err =
+    (x, refl, subst (λ y. accepts y x) (product_one_value t ok.0 z ok.1.product_text p.product_text) ok.2)
+converts accepts refuses t z (Err e) p takes ok err = absurd (takes (refused_product refuses t e.fault z p err))
 
 -- the same of amounts as of integers
 pub amount_text : (t : List ℕ) (v : Amount) → amount_of t ≡ Some v → AmountText t v

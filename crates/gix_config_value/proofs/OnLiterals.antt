@@ -3,7 +3,7 @@
 -- refused (`amount_refused`). Then `read_ok` and the others beside it say what a reader answered.
 pub use Rattle.config_text.proofs.OnLiterals.{OneValue, read_some, read_none, read_ok, read_err}
 unfoldable pub use Rattle.config_integer.proofs.OnLiterals.{integer_on_literals}
-pub use Rattle.config_integer.proofs.OnLiterals.{integer_text, integer_refused, amount_of, amount_text, amount_refused, product_overflows}
+pub use Rattle.config_integer.proofs.OnLiterals.{integer_text, integer_refused, amount_of, amount_text, amount_refused, product_overflows, converts}
 pub use Rattle.config_integer.specs.Reading.Integer.{integer_of}
 unfoldable pub use Rattle.config_boolean.proofs.OnLiterals.{boolean_on_literals}
 pub use Rattle.config_boolean.proofs.OnLiterals.{boolean_of, boolean_text, boolean_refused}
