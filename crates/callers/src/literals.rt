@@ -3,7 +3,6 @@
 ghost use Rattle.std.specs.Prelude.{◌≡◌, None, Some, pos};
 ghost use Rattle.config_word.specs.declared.attribute.TheConstants.Attribute.{BOLD};
 ghost use Rattle.config_word.specs.declared.name.Name.TheVariants as names;
-ghost use Rattle.config_integer.specs.declared.amount.Amount.{Amount as AnAmount};
 ghost use Rattle.gix_config_value.specs.Amount.{AmountText};
 ghost use Rattle.gix_config_value.specs.Value.{IsRefused};
 
@@ -19,7 +18,7 @@ pub fn default_window() -> Amount
 
 /// The size that the text writes, and that of a default window where the text writes none.
 pub fn window(text: &str) -> Amount
-    ensures written { (a : AnAmount) → AmountText text.now a → result ≡ a }
+    ensures written { (a : Amount) → AmountText text.now a → result ≡ a }
     ensures default { IsRefused AmountText text.now → result.0 ≡ pos 10485760 }
 {
     match Amount::try_from(text) {

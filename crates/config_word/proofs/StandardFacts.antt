@@ -48,8 +48,8 @@ pub bright_colors_are_read : AreRead NameText bright_colors
 unfolding item_on_literals
 bright_colors_are_read = all_read name-law bright_colors refl
 
--- "numbers between 0 and 255", and "24-bit RGB values as hex, like #ff0ab3"; since Git 2.46 also "12-bit RGB values
--- like #f1b", which is "equivalent to the 24-bit color #ff11bb"; and `-1`, which Git reads as normal
+-- "numbers between 0 and 255", and "24-bit RGB values as hex, like #ff0ab3". Beyond that page: `#f1b` is `#ff11bb`, since
+-- Git 2.46, and `-1` is normal.
 abbrev numbered_colors : List (List ℕ × Name)
 numbered_colors =
     (codes "0", Ansi 0)
