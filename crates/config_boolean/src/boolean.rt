@@ -25,11 +25,23 @@ use std::borrow::CowSlice;
 use std::fmt;
 use std::str::FromStr;
 
-/// A truth value.
+/// A truth value. **In Git a key without `=` is true, and one with the empty text behind its `=` is false.**
 ///
-/// The words are `yes`, `on`, `true` and `no`, `off`, `false`, in any case of their letters. The
-/// empty text is false, and an amount is true where its number is not zero. In Git a key without
-/// `=` is true: that is decided from the line, before a value is read.
+/// A reader sees the text alone. So whoever reads a file decides the first from the line, before a value is read, and
+/// hands in `true` there; `callers::entries` shows how.
+///
+/// The words are `yes`, `on`, `true` and `no`, `off`, `false`, in any case of their letters. The empty text is false,
+/// and an amount is true where its number is not zero. Any other text is refused with `Fault::Boolean`, and so is an
+/// integer text whose product leaves `i64`. Canonical are `true` and `false`. The source: docs/GRAMMAR.md, Booleans.
+///
+/// ```rust
+/// use gix_config_value::{Boolean, Fault};
+/// use std::str::FromStr;
+///
+/// assert_eq!(rt; Boolean::from_str("Yes"), Ok(Boolean(true)));
+/// assert_eq!(rt; Boolean::from_str(""), Ok(Boolean(false))); // `bare =`; for `bare` alone hand in `true`
+/// assert_eq!(rt; Boolean::from_str("maybe"), Err(Fault::Boolean));
+/// ```
 #[derive(Clone, Copy, PartialEq, Eq, PartialOrd, Ord, Hash, Debug, Default)]
 pub struct Boolean(pub bool);
 
@@ -191,6 +203,7 @@ impl Boolean {
 impl fmt::Display for Boolean {
     ghost output = { λ v. Some (boolean_shown v) };
 
+    /// Writes `true` or `false`.
     fn fmt<W: fmt::Write>(&self, f: &mut fmt::Formatter<W>) -> fmt::Result {
         f.write_str(self.shown())
     }
@@ -203,14 +216,17 @@ impl Value for Boolean {
 
     ghost displayed = { boolean_shown };
 
+    /// The boolean that the input writes, and `None` where it writes none.
     fn read(input: BStr<'_>) -> Option<Boolean> {
         truth(input.as_bytes())
     }
 
+    /// Both booleans have a text.
     fn has_text(&self) -> bool {
         true
     }
 
+    /// Writes `true` or `false`.
     fn write_to(&self, text: &mut Text) {
         if self.0 {
             text.push_str("true");

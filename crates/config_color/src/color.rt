@@ -28,6 +28,24 @@ use std::fmt;
 use std::str::FromStr;
 
 /// What text is drawn with: a foreground, a background and attributes.
+///
+/// A text is names and attributes in any order, with white space between them, which is Unicode's. The first name is
+/// the foreground, the second the background. The empty text reads to the default color.
+///
+/// A text with a third name, or with a word that is neither, is refused with `Fault::Color`. The canonical text has the
+/// names first and then the attributes, in at most 127 bytes. A color with an unknown bit has none, nor has one with a
+/// background alone. The source: docs/GRAMMAR.md, Colors.
+///
+/// ```rust
+/// use gix_config_value::color::{Attribute, Name};
+/// use gix_config_value::{Color, Fault};
+/// use std::str::FromStr;
+///
+/// let color = Color::try_from("bold brightred")?;
+/// assert_eq!(rt; color.foreground, Some(Name::BrightRed));
+/// assert_eq!(rt; color.attributes, Attribute::BOLD);
+/// assert_eq!(rt; Color::from_str("red green blue"), Err(Fault::Color)); // a third name
+/// ```
 #[derive(Clone, Copy, PartialEq, Eq, PartialOrd, Ord, Hash, Debug)]
 pub struct Color {
     /// The color of the text, if one is named.
@@ -143,7 +161,7 @@ impl Color {
             && (self.background.is_none() || self.foreground.is_some())
     }
 
-    /// The color as it is shown, of any set of attributes.
+    /// The color as it is shown, of any set of attributes, in at most 127 bytes.
     pub fn shown(&self) -> Text
         ensures { result.bytes ≡ color_shown self.now }
     {
@@ -359,6 +377,7 @@ impl<'a> TryFrom<CowSlice<'a, u8>> for Color {
 impl fmt::Display for Color {
     ghost output = { λ c. Some (color_shown c) };
 
+    /// Writes the names and then the attributes, with one space between, in at most 127 bytes.
     fn fmt<W: fmt::Write>(&self, f: &mut fmt::Formatter<W>) -> fmt::Result {
         f.write_str(self.shown().as_str())
     }
@@ -371,14 +390,17 @@ impl Value for Color {
 
     ghost displayed = { color_shown };
 
+    /// The color of the input, and `None` where it is no color text.
     fn read(input: BStr<'_>) -> Option<Color> {
         color_of(input.as_bytes())
     }
 
+    /// Whether each set bit has a constant, and a background stands only beside a foreground.
     fn has_text(&self) -> bool {
         self.is_readable()
     }
 
+    /// Writes the names and then the attributes, with one space between, in at most 127 bytes.
     fn write_to(&self, text: &mut Text) {
         self.show(text);
     }

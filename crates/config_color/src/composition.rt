@@ -27,10 +27,22 @@ fn places(a: Color, b: Color) -> Option<(Option<Name>, Option<Name>)>
     }
 }
 
-/// The color that a text of `a`, white space and a text of `b` reads to: the names of `a` and then
-/// those of `b` as foreground and background, and the attributes of both. `None` where the names
-/// are more than two. Both colors must have a text, as
-/// [`Value::has_text`](config_text::value::Value::has_text) tells, and the answer has one.
+/// The color that a text of `a`, white space and a text of `b` reads to: docs/GRAMMAR.md, Colors. The names of `a` and
+/// then those of `b` are its foreground and background, and it has the attributes of both. `None` where the names are
+/// more than two.
+///
+/// Both colors must have a text, as [`Value::has_text`](config_text::value::Value::has_text) tells, and the answer has
+/// one. A color that was read has a text.
+///
+/// ```rust
+/// use gix_config_value::Color;
+/// use gix_config_value::canonical::compose;
+///
+/// let (base, over) = (Color::try_from("bold red")?, Color::try_from("ul blue")?);
+/// let both = Color::try_from("bold red ul blue")?;
+/// assert_eq!(rt; compose(base, over), Some(both));
+/// assert_eq!(rt; compose(base, both), None); // three names
+/// ```
 pub fn compose(a: Color, b: Color) -> Option<Color>
     requires first { HasText ColorText a }
     requires second { HasText ColorText b }

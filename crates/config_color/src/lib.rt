@@ -1,8 +1,8 @@
 //! Git's colors: what text is drawn with, as a value like `bold red #1e1e1e` says it.
 //!
 //! [`color::Color`] is a foreground, a background and a set of attributes. It is read from a text
-//! or from bytes, borrowed or owned, by `TryFrom`: the words of the text are names and attributes
-//! in any order, the first name is the foreground, the second the background, and a third is
+//! or from bytes, borrowed or owned, by `TryFrom`. The words of the text are names and attributes
+//! in any order. The first name is the foreground, the second the background, and a third is
 //! refused. A refusal holds the whole input. A color is shown by `Display`, and as a [`Value`] it
 //! has one canonical text, where any text reads to it.
 //!

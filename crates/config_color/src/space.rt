@@ -53,9 +53,17 @@ fn space_length(bytes: &[u8]) -> usize
     }
 }
 
-/// The length in bytes of the white space that stands in the input at the byte `at`, or 0 where
-/// none stands there: 1 to 3, for the 25 code points of Unicode that are white space as UTF-8
-/// spells them. `at` is at most `input.len()`.
+/// The length in bytes of the white space that stands in the input at the byte `at`, or 0 where none stands there.
+/// White space is 25 code points of Unicode, which UTF-8 spells in 1 to 3 bytes. `at` is at most `input.len()`. The
+/// source: docs/GRAMMAR.md, White space and words.
+///
+/// ```rust
+/// use gix_config_value::color::space_at;
+///
+/// let text = b"red\xe3\x80\x80blue"; // U+3000 between two words
+/// assert_eq!(rt; space_at(text, 3), 3);
+/// assert_eq!(rt; space_at(text, 4), 0);
+/// ```
 pub fn space_at(input: &[u8], at: usize) -> usize
     requires { at ≤ length input.now }
     ensures none { result ≡ 0

@@ -20,6 +20,17 @@ use std::fmt;
 use std::str::FromStr;
 
 /// The number that an integer text has as its product: `1k` and `1024` are one amount.
+///
+/// It is from -9223372036854775808 to 9223372036854775807. A text that is no integer text is refused with
+/// `Fault::Integer`, and one whose product is out of this range with `Fault::Overflow`. The canonical text is the
+/// number in decimal. The source: docs/GRAMMAR.md, Amounts.
+///
+/// ```rust
+/// use gix_config_value::integer::Amount;
+///
+/// assert_eq!(rt; Amount::try_from("16k")?, Amount(16384));
+/// assert_eq!(rt; Amount::try_from("040000")?, Amount(16384)); // a leading 0 means base 8
+/// ```
 #[derive(Clone, Copy, PartialEq, Eq, PartialOrd, Ord, Hash, Debug, Default)]
 pub struct Amount(pub i64);
 
@@ -103,6 +114,7 @@ impl<'a> TryFrom<CowSlice<'a, u8>> for Amount {
 impl fmt::Display for Amount {
     ghost output = { λ v. Some (amount_shown v) };
 
+    /// Writes the number in decimal.
     fn fmt<W: fmt::Write>(&self, f: &mut fmt::Formatter<W>) -> fmt::Result {
         f.write_str(Buffer::new().format(self.0))
     }
@@ -115,16 +127,19 @@ impl Value for Amount {
 
     ghost displayed = { amount_shown };
 
+    /// The amount of the input, and `None` where it is no integer text or its product leaves `i64`.
     fn read(input: BStr<'_>) -> Option<Amount> {
         Amount::try_read(input.as_bytes()).ok()
     }
 
+    /// Every amount has a text.
     fn has_text(&self) -> bool {
         // The prover knows the range of a field that is read.
         let _number = self.0;
         true
     }
 
+    /// Writes the number in decimal, in at most 20 bytes.
     fn write_to(&self, text: &mut Text) {
         text.push_str(Buffer::new().format(self.0));
     }

@@ -30,9 +30,25 @@ use std::fmt;
 use std::str::FromStr;
 
 /// A number and the suffix that it was written with, kept apart: `1k` and `1024` are two integers.
+///
+/// A text has at most one sign and at most one suffix. Its number is decimal, or hexadecimal behind `0x`, binary behind
+/// `0b`, octal behind `0`. The letters are read in either case. The number is from -9223372036854775808 to
+/// 9223372036854775807; the product with its suffix may leave that range.
+///
+/// Any other text is refused with `Fault::Integer`, and so is one with white space or `_`. The canonical text is the
+/// number in decimal and the suffix in lower case. The source: docs/GRAMMAR.md, Integers.
+///
+/// ```rust
+/// use gix_config_value::Integer;
+/// use gix_config_value::integer::Suffix;
+///
+/// let integer = Integer::try_from("-0x10K")?;
+/// assert_eq!(rt; integer.value, -16);
+/// assert_eq!(rt; integer.suffix, Some(Suffix::Kibi));
+/// ```
 #[derive(Clone, Copy, PartialEq, Eq, PartialOrd, Ord, Hash, Debug, Default)]
 pub struct Integer {
-    /// The number before the suffix.
+    /// The number before the suffix, with its sign.
     pub value: i64,
     /// The unit that multiplies the number, if it was written with one.
     pub suffix: Option<Suffix>,
@@ -172,6 +188,7 @@ impl Integer {
 impl fmt::Display for Integer {
     ghost output = { λ v. Some (integer_shown v) };
 
+    /// Writes the number in decimal, and the letter of its suffix.
     fn fmt<W: fmt::Write>(&self, f: &mut fmt::Formatter<W>) -> fmt::Result {
         let mut text = Text::new();
         self.show(&mut text);
@@ -181,6 +198,13 @@ impl fmt::Display for Integer {
 
 impl Integer {
     /// The number times the factor of its suffix, or `None` where that leaves `i64`.
+    ///
+    /// ```rust
+    /// use gix_config_value::Integer;
+    ///
+    /// assert_eq!(rt; Integer::try_from("-16k")?.to_decimal(), Some(-16384));
+    /// assert_eq!(rt; Integer::try_from("8589934592g")?.to_decimal(), None); // 2 to the power of 63
+    /// ```
     pub fn to_decimal(&self) -> Option<i64>
         ensures { SomeIff result (IsInI64 (product self.now)) (product self.now) }
     {
@@ -190,9 +214,20 @@ impl Integer {
         }
     }
 
-    /// The product of the integer that the input writes, as a `T`. Refuses, with the whole input, first with
-    /// `Fault::Integer` where the input writes no integer, then with `Fault::Overflow` where its product leaves
-    /// `i64`, then with `Fault::OutOfRange` where the conversion of the product to `T` fails.
+    /// The product of the integer that the input writes, as a `T`. A refusal has the whole input, and the first fault
+    /// that fits: docs/GRAMMAR.md, Integers.
+    ///
+    /// - `Fault::Integer`: the input writes no integer.
+    /// - `Fault::Overflow`: its product leaves `i64`.
+    /// - `Fault::OutOfRange`: the conversion of the product to `T` fails.
+    ///
+    /// ```rust
+    /// use gix_config_value::{Fault, Integer};
+    ///
+    /// assert_eq!(rt; Integer::from_bytes::<usize>(b"10m")?, 10 * 1024 * 1024);
+    /// let fault = Integer::from_bytes::<u16>(b"64k").map_err(|error| error.fault);
+    /// assert_eq!(rt; fault, Err(Fault::OutOfRange)); // 65536 is no u16
+    /// ```
     pub fn from_bytes<T: TryFrom<i64>>(input: &[u8]) -> Result<T, Error<'_>>
     where
         T::Error: Drop,
@@ -230,16 +265,19 @@ impl Value for Integer {
 
     ghost displayed = { integer_shown };
 
+    /// The integer that the input writes, and `None` where it writes none.
     fn read(input: BStr<'_>) -> Option<Integer> {
         scan(input.as_bytes())
     }
 
+    /// Every integer has a text.
     fn has_text(&self) -> bool {
         // The prover knows the range of a field that is read.
         let _value = self.value;
         true
     }
 
+    /// Writes the number in decimal, and the letter of its suffix, in at most 21 bytes.
     fn write_to(&self, text: &mut Text) {
         self.show(text);
     }

@@ -18,6 +18,18 @@ use std::fmt;
 use std::str::FromStr;
 
 /// A unit: 1024, 1024 * 1024 or 1024 * 1024 * 1024.
+///
+/// The texts are `k`, `m` and `g` in either case, and the lower-case ones are canonical. Any other text is refused
+/// with `()`, and so is the empty one. The source: docs/GRAMMAR.md, Suffixes.
+///
+/// ```rust
+/// use gix_config_value::integer::Suffix;
+/// use std::str::FromStr;
+///
+/// assert_eq!(rt; Suffix::from_str("K"), Ok(Suffix::Kibi));
+/// assert_eq!(rt; Suffix::from_str("kb"), Err(()));
+/// assert_eq!(rt; Suffix::Kibi.bitwise_offset(), 10); // 1024 is 2 to the power of 10
+/// ```
 #[derive(Clone, Copy, PartialEq, Eq, PartialOrd, Ord, Hash, Debug)]
 pub enum Suffix {
     /// `k`, the factor 1024.
@@ -110,6 +122,7 @@ impl Suffix {
 impl fmt::Display for Suffix {
     ghost output = { λ s. Some (suffix_shown s) };
 
+    /// Writes `k`, `m` or `g`.
     fn fmt<W: fmt::Write>(&self, f: &mut fmt::Formatter<W>) -> fmt::Result {
         f.write_str(self.letter())
     }
@@ -122,14 +135,17 @@ impl Value for Suffix {
 
     ghost displayed = { suffix_shown };
 
+    /// The suffix that one of the six suffix texts names, and `None` for any other input.
     fn read(input: BStr<'_>) -> Option<Suffix> {
         suffix_of(input.as_bytes())
     }
 
+    /// Every suffix has a text.
     fn has_text(&self) -> bool {
         true
     }
 
+    /// Writes `k`, `m` or `g`.
     fn write_to(&self, text: &mut Text) {
         text.push_str(self.letter());
     }

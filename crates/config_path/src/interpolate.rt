@@ -10,7 +10,21 @@ use std::alloc::{AllocError, Global};
 use std::fmt;
 use thiserror::Error as ThisError;
 
-/// What a path value may refer to.
+/// What a path value may refer to. A directory or a lookup that is `None` is missing only to a value that needs it.
+///
+/// ```rust
+/// use gix_config_value::Path;
+/// use gix_config_value::path::interpolate::{Context, absent};
+///
+/// let context = Context {
+///     git_install_dir: Some("/usr"),
+///     home_dir: None,
+///     home_for_user: absent(|_name: &str| None),
+/// };
+/// let path = Path::from_text(alloc, "%(prefix)/etc/gitconfig")?;
+/// let whole = path.interpolate(alloc, context)?;
+/// assert_eq!(rt; whole.as_str(), "/usr/etc/gitconfig");
+/// ```
 #[derive(Clone, Copy)]
 pub struct Context<'a, F> {
     /// The directory that Git is installed in, for `%(prefix)`.
@@ -22,6 +36,21 @@ pub struct Context<'a, F> {
 }
 
 /// Which part of a path value is not UTF-8.
+///
+/// ```rust
+/// use bstr::BStr;
+/// use gix_config_value::Path;
+/// use gix_config_value::path::interpolate::{Context, Error, Place, absent};
+///
+/// let context = Context {
+///     home_for_user: absent(|_name: &str| None),
+///     ..Context::default()
+/// };
+/// let path = Path::from_bstr(alloc, BStr::new(b"x\xff"))?;
+/// let refused = path.interpolate(alloc, context).err();
+/// let (place, input) = (Place::Whole, b"x\xff".as_slice());
+/// assert_eq!(rt; refused, Some(Error::IllFormed { place, input }));
+/// ```
 #[derive(Clone, Copy, PartialEq, Eq, Debug)]
 pub enum Place {
     /// What follows `%(prefix)/`.
@@ -37,6 +66,14 @@ pub enum Place {
 }
 
 /// What kind of refusal an `Error` is.
+///
+/// ```rust
+/// use gix_config_value::path::interpolate::{Class, Error};
+/// use std::alloc::AllocError;
+///
+/// assert_eq!(rt; Error::UserNotFound.class(), Class::NotFound);
+/// assert_eq!(rt; Error::Memory(AllocError).class(), Class::Memory);
+/// ```
 #[derive(Clone, Copy, PartialEq, Eq, Debug)]
 pub enum Class {
     /// Something that the value refers to is missing.
@@ -47,7 +84,20 @@ pub enum Class {
     Memory,
 }
 
-/// Why a path value is refused.
+/// Why a path value is refused. The table of paths says which value is refused with which: docs/GRAMMAR.md, Paths.
+///
+/// ```rust
+/// use gix_config_value::Path;
+/// use gix_config_value::path::interpolate::{Context, Error, absent};
+///
+/// let context = Context {
+///     home_for_user: absent(|_name: &str| None),
+///     ..Context::default()
+/// };
+/// let path = Path::from_text(alloc, "~bob/x")?;
+/// let refused = path.interpolate(alloc, context).err();
+/// assert_eq!(rt; refused, Some(Error::LookupMissing));
+/// ```
 #[derive(Clone, Copy, PartialEq, Eq, Debug, ThisError)]
 pub enum Error<'p> {
     /// The value is empty.
@@ -81,6 +131,7 @@ pub enum Error<'p> {
 impl fmt::Display for Place {
     ghost output = { λ place. Some (place_shown place) };
 
+    /// Writes the words for the part, as they stand in the text of `IllFormed`.
     fn fmt<W: fmt::Write>(&self, f: &mut fmt::Formatter<W>) -> fmt::Result {
         f.write_str(match self {
             Place::PastPrefix => "path past %(prefix)",
@@ -205,12 +256,19 @@ fn home_in_line<'a>(line: &'a str, name: &str) -> Option<&'a str>
     }
 }
 
-/// The home directory of the user of that name in a passwd text: the sixth field of the first line
-/// of exactly seven fields whose first field is the name. `None` where no line fits, and for a name
-/// that holds a NUL.
+/// The home directory of the user of that name in a passwd text. It is the sixth field of the first line of exactly
+/// seven fields whose first field is the name. `None` where no line fits, and for a name that holds a NUL.
 ///
 /// Fields are separated by `:`. Lines end at LF, the last line may lack its LF, a CR is part of its
-/// field, and there are no comments.
+/// field, and there are no comments. The source: docs/GRAMMAR.md, Paths.
+///
+/// ```rust
+/// use gix_config_value::path::interpolate::home_for_user;
+///
+/// let passwd = "root:x:0:0::/root:/bin/sh\nann:x:1000:1000::/home/ann:/bin/sh\n";
+/// assert_eq!(rt; home_for_user(passwd, "ann"), Some("/home/ann"));
+/// assert_eq!(rt; home_for_user(passwd, "Ann"), None);
+/// ```
 pub fn home_for_user<'a>(passwd: &'a str, name: &str) -> Option<&'a str>
     ensures { option_copied result ≡ home_in passwd.now name.now }
 {

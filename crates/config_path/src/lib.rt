@@ -7,16 +7,15 @@
 //! [`path::Path::interpolate`] replaces what the path begins with: `%(prefix)/` by the directory
 //! that Git is installed in, `~` and `~/` by the home directory, `~user` and `~user/` by that
 //! user's home. The caller hands in these directories as an [`interpolate::Context`], with a lookup
-//! for users; for one there is [`interpolate::home_for_user`], which reads the text of a passwd
-//! file.
+//! for users. One such lookup is [`interpolate::home_for_user`], over the text of a passwd file.
 //!
 //! [`parts`] answers the same in parts that are borrowed, for callers that have a buffer of their own.
 //!
 //! What fails says why: [`interpolate::Error`], by [`interpolate::Class`]. Results are allocated,
 //! so each call that makes one takes the allocator.
 //!
-//! [`laws`] states what holds of paths beside their calls: a text stands for one path, how paths
-//! compare, and that each path has just one form in the table of `interpolate`.
+//! [`laws`] states what holds of paths beside their calls: a text stands for one path, and how paths
+//! compare. Each path has just one form in the table of `interpolate`.
 #![tactic(auto)]
 
 pub mod interpolate;

@@ -1,6 +1,7 @@
 //! What a path value stands for, as parts that are borrowed: a directory, a `/` and a rest.
 //!
-//! No memory is asked for. `Path::interpolate` makes one text of the parts, and a caller with a buffer writes them there.
+//! No memory is asked for. `Path::interpolate` makes one text of the parts, and a caller with a buffer writes them
+//! there.
 ghost use Rattle.std.specs.Prelude.{◌≡◌, [], None, IsUtf8, MatchResult, codes, if◌then◌else◌, option_copied};
 ghost use Rattle.std.specs.Option.{ForSome};
 ghost use Rattle.config_path.specs.Interpolation.{Interpolated, LooksUp, IsOneName, below, join, IsIllFormed, GivesBelow, GivesBelowGiven, GivesBelowUser, GivesValue};
@@ -13,7 +14,22 @@ use bstr::ByteSlice;
 /// What a value begins with where it refers to the install directory.
 const PREFIX: &[u8] = b"%(prefix)/";
 
-/// A text in parts, one behind the other.
+/// A text in parts, one behind the other. Any of them may be empty.
+///
+/// ```rust
+/// use config_path::parts::parts_of;
+/// use gix_config_value::path::interpolate::{Context, absent};
+///
+/// let context = Context {
+///     git_install_dir: None,
+///     home_dir: Some("/home/ann"),
+///     home_for_user: absent(|_name: &str| None),
+/// };
+/// let parts = parts_of(b"~/x", context)?;
+/// assert_eq!(rt; parts.dir, "/home/ann");
+/// assert_eq!(rt; parts.slash(), "/");
+/// assert_eq!(rt; parts.rest, "x");
+/// ```
 #[derive(Clone, Copy)]
 pub struct Parts<'a, 'p> {
     /// The directory, of the context.
@@ -147,8 +163,8 @@ fn unchanged<'a, 'p>(value: &'p [u8]) -> Result<Parts<'a, 'p>, Error<'p>>
     })
 }
 
-/// The parts of what a value stands for: each string of their text is what the path table gives, and so is each refusal.
-/// It refuses as `Path::interpolate` does, and never with `Memory`.
+/// The parts of what a value stands for: each string of their text is what the path table gives, and so is each
+/// refusal. It refuses as `Path::interpolate` does, and never with `Memory`.
 pub fn parts_of<'p, 'a, F>(
     value: &'p [u8],
     context: Context<'a, F>,

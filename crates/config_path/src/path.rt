@@ -16,6 +16,18 @@ use std::borrow::CowSlice;
 const MARK: &[u8] = b":(optional)";
 
 /// A path, and whether it may be missing.
+///
+/// Any bytes are a path, and none are refused; a call that copies them fails only if memory runs out. One leading
+/// `:(optional)`, in exactly these bytes, marks a path as optional and is cut off. What a path refers to is put in by
+/// [`Path::interpolate`]. The source: docs/GRAMMAR.md, Paths.
+///
+/// ```rust
+/// use gix_config_value::Path;
+///
+/// let path = Path::from_text(alloc, ":(optional)~/.gitignore")?;
+/// assert!(rt; path.is_optional);
+/// assert_eq!(rt; path.as_bytes(), b"~/.gitignore".as_slice());
+/// ```
 #[derive(PartialEq, Eq, PartialOrd, Ord, Hash, Debug, Drop)]
 pub struct Path {
     /// The bytes of the path, without the mark.
@@ -127,6 +139,22 @@ impl Path {
     /// - `IllFormed`: the rest, the name or, in any other value, the whole is not UTF-8. The error
     ///   lends those bytes.
     /// - `Memory`: out of memory.
+    ///
+    /// The first row of the table in docs/GRAMMAR.md, Paths, that fits the path decides.
+    ///
+    /// ```rust
+    /// use gix_config_value::Path;
+    /// use gix_config_value::path::interpolate::{Context, home_for_user};
+    ///
+    /// let passwd = "ann:x:1000:1000::/home/ann:/bin/sh\n";
+    /// let context = Context {
+    ///     home_for_user: Some(|name: &str| home_for_user(passwd, name)),
+    ///     ..Context::default()
+    /// };
+    /// let path = Path::from_text(alloc, "~ann/.gitignore")?;
+    /// let whole = path.interpolate(alloc, context)?;
+    /// assert_eq!(rt; whole.as_str(), "/home/ann/.gitignore");
+    /// ```
     #[tactic(auto, using(crate::specs::Laws::Interpolation::at_form))]
     pub fn interpolate<'p, 'a, F>(
         &'p self,

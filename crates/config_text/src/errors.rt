@@ -5,40 +5,73 @@ ghost use Rattle.config_text.specs.Faults.{fault_text};
 use bstr::BStr;
 use thiserror::Error as ThisError;
 
-/// Why a reader refuses a text. Each is a fault of the text that was handed in.
+/// Why a reader refuses a text. Each is a fault of the text that was handed in, and none is of memory.
+///
+/// Booleans are refused with `Boolean`, and names, attributes and colors with `Color`. Integers are refused with
+/// `Integer`, and amounts with `Integer` first and `Overflow` second. `Integer::from_bytes` answers `OutOfRange` third.
+/// The texts of each kind: docs/GRAMMAR.md.
+///
+/// ```rust
+/// use gix_config_value::Fault;
+/// use gix_config_value::integer::Amount;
+/// use std::str::FromStr;
+///
+/// assert_eq!(rt; Amount::from_str("1kk"), Err(Fault::Integer));
+/// assert_eq!(rt; Amount::from_str("8589934592g"), Err(Fault::Overflow)); // 2 to the power of 63
+/// ```
 #[derive(Clone, Copy, PartialEq, Eq, Debug, ThisError)]
 #[error("{}", self.text())]
 pub enum Fault {
-    /// The text is no boolean text.
+    /// The text is no boolean text: docs/GRAMMAR.md, Booleans.
     Boolean,
-    /// The text is no integer text.
+    /// The text is no integer text: docs/GRAMMAR.md, Integers.
     Integer,
-    /// The product of number and suffix leaves `i64`.
+    /// The text is an integer text, but the product of number and suffix leaves `i64`: docs/GRAMMAR.md, Amounts.
     Overflow,
-    /// The conversion of the product to the caller's type refuses it.
+    /// The product fits `i64`, but its conversion to the caller's type refuses it.
     OutOfRange,
-    /// The text is no name, attribute or color text.
+    /// The text is no name, attribute or color text: docs/GRAMMAR.md, Colors.
     Color,
 }
 
 impl Fault {
-    /// What `Display` prints: the text of the Rust crate.
+    /// What `Display` prints: the text of the Rust crate, another one for each fault.
+    ///
+    /// ```rust
+    /// use gix_config_value::Fault;
+    ///
+    /// assert_eq!(rt; Fault::OutOfRange.text(), "integer is out of range");
+    /// ```
     pub fn text(self) -> &'static str
         ensures { result.now ≡ fault_text self }
     {
         match self {
-            Fault::Boolean => "Booleans need to be 'no', 'off', 'false', '' or 'yes', 'on', 'true' or any number",
+            Fault::Boolean =>
+                "Booleans need to be 'no', 'off', 'false', '' or 'yes', 'on', 'true' or any number",
             Fault::Integer => {
                 "Integers needs to be positive or negative numbers which may have a suffix like 1k, 42, or 50G"
             }
             Fault::Overflow => "integer suffix multiplication overflows `i64`",
             Fault::OutOfRange => "integer is out of range",
-            Fault::Color => "Colors are specific color values and their attributes, like 'brightred', or 'blue'",
+            Fault::Color =>
+                "Colors are specific color values and their attributes, like 'brightred', or 'blue'",
         }
     }
 }
 
 /// A refusal of a borrowed text: the fault, and the whole input.
+///
+/// The readers of `&str` and `BStr` answer it, of every kind but suffixes, and so does `Integer::from_bytes`. It is no
+/// error type and has no text. Its [`Fault`] is one, and `?` turns it into that.
+///
+/// ```rust
+/// use bstr::BStr;
+/// use gix_config_value::{Color, Error, Fault};
+///
+/// let input = BStr::from("bold rde");
+/// let fault = Fault::Color;
+/// assert_eq!(rt; Color::try_from("bold rde"), Err(Error { fault, input }));
+/// ```
 #[derive(Clone, Copy, PartialEq, Eq, Debug)]
 pub struct Error<'a> {
     /// Why the text is refused.
@@ -48,7 +81,20 @@ pub struct Error<'a> {
 }
 
 /// A refusal of a text that is handed back, since it is or may be owned: the fault, and the input as
-/// it was handed in.
+/// handed in.
+///
+/// The readers of `BString` and `CowSlice` answer it, and copy nothing. It is no error type and has no text. Its
+/// [`Fault`] is one, and `?` turns it into that; the input is then dropped.
+///
+/// ```rust
+/// use bstr::BString;
+/// use gix_config_value::{Color, Fault};
+///
+/// let text = BString::from_slice(alloc, b"bold rde")?;
+/// let returned = Color::try_from(text).err().ok_or("a color")?;
+/// assert_eq!(rt; returned.fault, Fault::Color);
+/// assert_eq!(rt; returned.input.as_bytes(), b"bold rde".as_slice()); // the text, handed back
+/// ```
 #[derive(PartialEq, Eq, Debug, Drop)]
 pub struct Returned<V> {
     /// Why the text is refused.

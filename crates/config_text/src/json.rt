@@ -5,7 +5,18 @@ use serde_json::Value;
 use std::alloc::{AllocError, Global};
 use thiserror::Error;
 
-/// Why a value has no JSON value.
+/// Why a value has no JSON value: docs/GRAMMAR.md, JSON values.
+///
+/// Integers are refused with `Overflow` alone. Names, attributes and suffixes are refused with `Memory` alone, and
+/// booleans never.
+///
+/// ```rust
+/// use gix_config_value::Integer;
+/// use gix_config_value::json::JsonError;
+///
+/// let past = Integer::try_from("8589934592g")?; // an integer, whose product is 2 to the power of 63
+/// assert_eq!(rt; past.to_json(alloc).err(), Some(JsonError::Overflow));
+/// ```
 #[derive(Clone, Copy, PartialEq, Eq, Debug, Error)]
 pub enum JsonError {
     /// The product of an integer leaves `i64`.

@@ -1,7 +1,7 @@
 //! What it means for a text to be read as a value, whatever the kind of value.
 //!
 //! - [`value`]: the trait `Value`, with what a kind owes: exact reading, one canonical text for each
-//!   value, and the laws that make the two fit; the normalizer and the comparison, written once over it.
+//!   value, and the laws that make the two fit. The normalizer and the comparison are written once over it.
 //! - [`errors`]: why a text is refused, and the input that is given back with it.
 //! - [`readers`]: the readers of a type over borrowed and owned inputs, written once.
 //! - [`digits`]: what a byte is worth as a digit.

@@ -10,7 +10,15 @@ use crate::value::Value;
 use bstr::{BStr, BString};
 use std::borrow::CowSlice;
 
-/// A value whose reader says why it refuses a text.
+/// A value whose reader says why it refuses a text. Six of the seven kinds do; a suffix is refused with no fault.
+///
+/// ```rust
+/// use config_text::readers::TryRead;
+/// use gix_config_value::{Boolean, Fault};
+///
+/// assert_eq!(rt; Boolean::try_read(b"off"), Ok(Boolean(false)));
+/// assert_eq!(rt; Boolean::try_read(b"off "), Err(Fault::Boolean));
+/// ```
 pub trait TryRead: Value {
     /// Which texts are refused with which faults.
     ghost refusal: { List ℕ → Fault → Type 0 };
@@ -20,7 +28,7 @@ pub trait TryRead: Value {
         ensures { ReadsFault Self.grammar refusal text.now result };
 }
 
-/// The value of a byte string, or a refusal that lends it.
+/// The value of a byte string, or a refusal that lends it whole, with the fault of `try_read`.
 pub fn read_bytes<V: TryRead>(input: BStr<'_>) -> Result<V, Error<'_>>
     ensures { ReadsBytes V.grammar V.refusal input.entry result }
 {
@@ -30,14 +38,14 @@ pub fn read_bytes<V: TryRead>(input: BStr<'_>) -> Result<V, Error<'_>>
     }
 }
 
-/// The value of a text, or a refusal that lends it.
+/// The value of a text, or a refusal that lends it whole, with the fault of `try_read`.
 pub fn read_text<V: TryRead>(input: &str) -> Result<V, Error<'_>>
     ensures { ReadsText V.grammar V.refusal input.now result }
 {
     read_bytes(BStr::from(input))
 }
 
-/// The value of an owned byte string, or a refusal that hands it back.
+/// The value of an owned byte string, or a refusal that hands it back with the fault of `try_read`.
 pub fn read_owned<V: TryRead>(input: BString) -> Result<V, Returned<BString>>
     ensures { ReadsOwned V.grammar V.refusal (bstring_bytes input) input result }
 {
@@ -47,7 +55,7 @@ pub fn read_owned<V: TryRead>(input: BString) -> Result<V, Returned<BString>>
     }
 }
 
-/// The value of a byte slice that is borrowed or owned, or a refusal that hands it back.
+/// The value of a byte slice that is borrowed or owned, or a refusal that hands it back with the fault of `try_read`.
 pub fn read_cow<V: TryRead>(input: CowSlice<'_, u8>) -> Result<V, Returned<CowSlice<'_, u8>>>
     ensures { ReadsOwned V.grammar V.refusal (cow_slice_items input.entry) input.entry result }
 {

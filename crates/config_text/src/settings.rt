@@ -5,7 +5,19 @@ ghost use Rattle.config_text.specs.Settings.{entry_texts, Finds, Refuses};
 use crate::value::Value;
 use bstr::BStr;
 
-/// A setting whose deciding entry has a text without a value.
+/// A setting whose deciding entry has a text without a value: docs/GRAMMAR.md, Settings. The fault is what the reader
+/// of the type answers for that text.
+///
+/// ```rust
+/// use gix_config_value::Boolean;
+/// use gix_config_value::settings::lookup;
+///
+/// let entries: [(&[u8], &[u8]); 2] = [(b"core.bare", b"yes"), (b"core.bare", b"maybe")];
+/// let answer = lookup(&entries, b"core.bare", Boolean(false));
+/// let refused = answer.err().ok_or("a boolean")?;
+/// assert_eq!(rt; refused.index, 1);
+/// assert_eq!(rt; refused.input, b"maybe".as_slice());
+/// ```
 #[derive(Clone, Copy, PartialEq, Eq, Debug)]
 pub struct Refused<'a> {
     /// The index of the deciding entry, from 0.
@@ -16,7 +28,21 @@ pub struct Refused<'a> {
 
 /// The value of a setting. An entry is a name and a text. The last entry with exactly this name
 /// decides, and the entries before it are not read; without one the default is the answer. The text of
-/// the deciding entry is refused where the type gives it no value.
+/// the deciding entry is refused where the type gives it no value. The source: docs/GRAMMAR.md, Settings.
+///
+/// Names are compared byte by byte, so their case counts. For a key that stands without `=`, which Git takes for true,
+/// hand in the text `true`.
+///
+/// ```rust
+/// use gix_config_value::Boolean;
+/// use gix_config_value::settings::lookup;
+///
+/// let entries: [(&[u8], &[u8]); 2] = [(b"core.bare", b"no"), (b"core.bare", b"yes")];
+/// let is_bare = lookup(&entries, b"core.bare", Boolean(false));
+/// assert_eq!(rt; is_bare, Ok(Boolean(true))); // the last entry decides
+/// let default = lookup(&entries, b"core.Bare", Boolean(false));
+/// assert_eq!(rt; default, Ok(Boolean(false))); // no entry has this name
+/// ```
 pub fn lookup<'a, V: Value>(
     entries: &[(&[u8], &'a [u8])],
     name: &[u8],

@@ -10,11 +10,24 @@ use bstr::BStr;
 /// between.
 pub const LONGEST_TEXT: usize = 127;
 
-/// A canonical text, which has room for the longest.
+/// A canonical text, which has room for the longest, of 127 bytes.
 pub type Text = ArrayString<LONGEST_TEXT>;
 
 /// A kind of value that has texts: which texts read to which value, and which one of them is
 /// canonical. A type of the caller's own may be one too.
+///
+/// `read` takes any bytes, and answers `None` where they are no text of the kind: docs/GRAMMAR.md has a section for
+/// each. It tells no fault; a type's `FromStr` and [`TryRead`](crate::readers::TryRead) do.
+///
+/// ```rust
+/// use bstr::BStr;
+/// use gix_config_value::Boolean;
+/// use gix_config_value::canonical::Value;
+///
+/// let on = Boolean::read(BStr::from("ON")).ok_or("no boolean")?;
+/// assert!(rt; on.has_text());
+/// assert_eq!(rt; on.text().as_str(), "true"); // the canonical text
+/// ```
 pub trait Value: Copy + Eq {
     /// Which texts read to which values.
     ghost grammar: { List ℕ → Self → Type 0 };
@@ -76,6 +89,15 @@ pub trait Value: Copy + Eq {
 
 /// The canonical text that reads to the value of the input, or `None` where the input has no value.
 /// A canonical input is answered byte for byte.
+///
+/// ```rust
+/// use bstr::BStr;
+/// use gix_config_value::Color;
+/// use gix_config_value::canonical::normalize_as;
+///
+/// let text = normalize_as::<Color>(BStr::from("bold red ul blue")).ok_or("no color")?;
+/// assert_eq!(rt; text.as_str(), "red blue bold ul");
+/// ```
 pub fn normalize_as<V: Value>(input: BStr<'_>) -> Option<Text>
     ensures answer { Normalizes V.grammar V.canonical (bstr_bytes input.entry) result }
     ensures only { IsOnlyText V.grammar V.canonical (bstr_bytes input.entry) result }
@@ -88,8 +110,8 @@ pub fn normalize_as<V: Value>(input: BStr<'_>) -> Option<Text>
     }
 }
 
-/// Puts the canonical text that reads to the value of the input in place of what the text holds, and answers whether
-/// the input has a value. Where it has none the text is left empty.
+/// Puts the canonical text that reads to the value of the input in place of what the text holds. Answers whether the
+/// input has a value; where it has none the text is left empty.
 pub fn normalize_into_as<V: Value>(input: BStr<'_>, text: &mut Text) -> bool
     ensures { Fills V.grammar V.canonical (bstr_bytes input.entry) text.new.bytes result }
 {

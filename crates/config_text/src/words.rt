@@ -19,7 +19,7 @@ pub fn is<const N: usize>(text: &[u8], word: &[u8; N]) -> bool
     true
 }
 
-/// Whether the text is this word, in any case of its letters.
+/// Whether the text is this word, ignoring ASCII case.
 #[inline(always)]
 pub fn is_in_any_case<const N: usize>(text: &[u8], word: &[u8; N]) -> bool
     ensures { result ≡ bytes_eq (map to_ascii_lowercase text.now) (map to_ascii_lowercase word.now) }

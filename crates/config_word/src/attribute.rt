@@ -24,6 +24,23 @@ use std::str::FromStr;
 
 /// A set of attributes, such as bold or not underlined. Each attribute is one bit; bits that have
 /// no constant are kept.
+///
+/// A text is one word, as `bold`, `noul` or `no-ul`, and reads to the set of its bit. Words are read in lower case
+/// only, but `reset` in any case. Any other text is refused with `Fault::Color`, and so are two words.
+///
+/// A set is shown as the words of its known bits. It has a text exactly where one known bit is set, and no other: then
+/// that word is canonical. The source: docs/GRAMMAR.md, Attributes.
+///
+/// ```rust
+/// use gix_config_value::Fault;
+/// use gix_config_value::color::Attribute;
+/// use std::str::FromStr;
+///
+/// assert_eq!(rt; Attribute::from_str("no-ul"), Ok(Attribute::NO_UL));
+/// assert_eq!(rt; Attribute::from_str("Bold"), Err(Fault::Color)); // of these words only `reset` is read in any case
+/// let set = Attribute::BOLD | Attribute::UL;
+/// assert_eq!(rt; set.shown().as_str(), "bold ul");
+/// ```
 #[derive(Clone, Copy, PartialEq, Eq, PartialOrd, Ord, Hash, Debug, Default)]
 pub struct Attribute(u32);
 
@@ -71,14 +88,17 @@ impl Flags for Attribute {
 
     ghost set_of = { λ a. a.0 };
 
+    /// The constants, each with its name, by rising bit.
     fn flags<'a>() -> &'a [Flag<Attribute>] {
         Attribute::FLAGS
     }
 
+    /// The set as a number, of which each bit is an attribute.
     fn bits(&self) -> u32 {
         self.0
     }
 
+    /// The set of these bits, with those that have no constant.
     fn from_bits_retain(bits: u32) -> Attribute {
         Attribute(bits)
     }
@@ -145,8 +165,8 @@ impl Attribute {
         }
     }
 
-    /// Appends the words of the known bits that are set, by rising bit, with one space between, in
-    /// at most 99 bytes, for which there must be room. Colors append their attributes by it.
+    /// Appends the words of the known bits that are set, by rising bit, with one space between. There must be room for
+    /// them, at most 99 bytes. Colors append their attributes by it.
     pub fn push_to(self, text: &mut Text)
         requires { length text.old.bytes + 99 ≤ LONGEST_TEXT }
         ensures { text.new.bytes ≡ text.old.bytes ++ attribute_shown self.0 }
@@ -163,7 +183,7 @@ impl Attribute {
         }
     }
 
-    /// The set as it is shown.
+    /// The set as it is shown: the words of its known bits, by rising bit, with one space between, in at most 99 bytes.
     pub fn shown(self) -> Text
         ensures bytes { result.bytes ≡ attribute_shown self.0 }
         ensures text { HasText AttributeText self
@@ -229,8 +249,7 @@ impl<'a> TryFrom<BStr<'a>> for Attribute {
 }
 
 impl Attribute {
-    /// The text that the set is shown as, as a JSON string: the words of the known bits that are
-    /// set, by rising bit, with one space between. Answers `JsonError::Memory` where there is no
+    /// The text that the set is shown as, as a JSON string. Answers `JsonError::Memory` where there is no
     /// memory for the text; an empty text takes none.
     pub fn to_json(&self, alloc: Global) -> Result<JsonValue, JsonError>
         ensures { GivesJsonText (attribute_shown self.now.0) result }
@@ -243,6 +262,7 @@ impl Attribute {
 impl fmt::Display for Attribute {
     ghost output = { λ a. Some (attribute_shown a.0) };
 
+    /// Writes the words of the known bits that are set, by rising bit, with one space between.
     fn fmt<W: fmt::Write>(&self, f: &mut fmt::Formatter<W>) -> fmt::Result {
         f.write_str(self.shown().as_str())
     }
@@ -255,14 +275,17 @@ impl Value for Attribute {
 
     ghost displayed = { λ a. attribute_shown a.0 };
 
+    /// The attribute that the input is a text of, and `None` where it is a text of none.
     fn read(input: BStr<'_>) -> Option<Attribute> {
         attribute_of(input.as_bytes())
     }
 
+    /// Whether exactly one bit is set, and that bit has a constant.
     fn has_text(&self) -> bool {
         self.is_constant()
     }
 
+    /// Writes the word of the one bit that is set.
     fn write_to(&self, text: &mut Text) {
         self.push_to(text);
     }

@@ -10,7 +10,14 @@ use crate::name::Name;
 use config_text::digits::digit_of;
 use config_text::words::{is, is_in_any_case};
 
-/// What a word of a color text stands for.
+/// What a word of a color text stands for. The source: docs/GRAMMAR.md, Attributes.
+///
+/// ```rust
+/// use gix_config_value::color::{Attribute, Item, Name, word};
+///
+/// assert_eq!(rt; word(b"red"), Some(Item::Name(Name::Red)));
+/// assert_eq!(rt; word(b"ul"), Some(Item::Attribute(Attribute::UL)));
+/// ```
 #[derive(Clone, Copy, PartialEq, Eq, Debug)]
 pub enum Item {
     /// A color name.
@@ -329,7 +336,14 @@ fn read_item(input: &[u8]) -> Option<Item>
 }
 
 /// The name or the attribute that the input is a text of, or `None` where it is neither's. No text
-/// is both.
+/// is both. The source: docs/GRAMMAR.md, Attributes.
+///
+/// ```rust
+/// use gix_config_value::color::{Item, Name, word};
+///
+/// assert_eq!(rt; word(b"-1"), Some(Item::Name(Name::Normal)));
+/// assert_eq!(rt; word(b"red "), None); // white space is no part of a word
+/// ```
 #[inline(always)]
 pub fn word(input: &[u8]) -> Option<Item>
     ensures { Reads ItemText input.now result }

@@ -23,6 +23,23 @@ use std::fmt;
 use std::str::FromStr;
 
 /// A color's name: a word, a palette number, or red, green and blue.
+///
+/// The eighteen words are read in any case of their letters, and `-1` as `normal`. A palette number is 0 to 255; a `+`
+/// and zeros may stand before it. Red, green and blue are `#` and six hexadecimal digits, or three, each taken twice.
+///
+/// Any other text is refused with `Fault::Color`. The canonical text is the word in lower case, the number in decimal,
+/// or `#` and six lower-case digits. The source: docs/GRAMMAR.md, Color names.
+///
+/// ```rust
+/// use gix_config_value::Fault;
+/// use gix_config_value::color::Name;
+/// use std::str::FromStr;
+///
+/// assert_eq!(rt; Name::from_str("BrightRed"), Ok(Name::BrightRed));
+/// assert_eq!(rt; Name::from_str("208"), Ok(Name::Ansi(208)));
+/// assert_eq!(rt; Name::from_str("#f80"), Ok(Name::Rgb(0xff, 0x88, 0x00)));
+/// assert_eq!(rt; Name::from_str("256"), Err(Fault::Color));
+/// ```
 #[derive(Clone, Copy, PartialEq, Eq, PartialOrd, Ord, Hash, Debug)]
 pub enum Name {
     /// `normal` or `-1`: the color is left as it is.
@@ -143,7 +160,7 @@ impl Name {
         text.push_str(word);
     }
 
-    /// The name as it is shown.
+    /// The name as it is shown, which is its canonical text, of at most 13 bytes.
     pub fn shown(self) -> Text
         ensures bytes { result.bytes ≡ name_shown self }
         ensures text { IsTextOf NameText CanonicalName self result.bytes }
@@ -155,9 +172,8 @@ impl Name {
     }
 }
 
-/// Does nothing when it runs. It tells a proof that each number of a name is a byte, which is known
-/// of a name that is passed by value, and not of one inside another value: so colors call it for
-/// the names that they hold.
+/// Does nothing when it runs. It tells a proof that each number of a name is a byte. That is known of a name that is
+/// passed by value, and not of one inside another value. So colors call it for the names that they hold.
 pub fn numbers_fit(name: Name)
     ensures { NameFits name }
 {}
@@ -218,6 +234,7 @@ impl Name {
 impl fmt::Display for Name {
     ghost output = { λ n. Some (name_shown n) };
 
+    /// Writes the canonical text of the name.
     fn fmt<W: fmt::Write>(&self, f: &mut fmt::Formatter<W>) -> fmt::Result {
         f.write_str(self.shown().as_str())
     }
@@ -230,17 +247,20 @@ impl Value for Name {
 
     ghost displayed = { name_shown };
 
+    /// The name that the input is a text of, and `None` where it is a text of none.
     #[inline(always)]
     fn read(input: BStr<'_>) -> Option<Name> {
         name_of(input.as_bytes())
     }
 
+    /// Every name has a text.
     #[tactic(auto, using(crate::specs::Laws::Name::name_has_text))]
     fn has_text(&self) -> bool {
         numbers_fit(*self);
         true
     }
 
+    /// Writes the name as it is shown, in at most 13 bytes.
     fn write_to(&self, text: &mut Text) {
         self.push_to(text);
     }

@@ -19,7 +19,14 @@ use std::fmt;
 use std::str::FromStr;
 use thiserror::Error;
 
-/// A kind of value.
+/// A kind of value, chosen at run time. Paths are none, since they have no canonical text.
+///
+/// ```rust
+/// use gix_config_value::canonical::Kind;
+///
+/// assert_eq!(rt; Kind::ALL.len(), 7);
+/// assert_eq!(rt; Kind::Color.name(), "color");
+/// ```
 #[derive(Clone, Copy, PartialEq, Eq, Debug)]
 pub enum Kind {
     /// The units `k`, `m` and `g`.
@@ -75,7 +82,14 @@ impl fmt::Display for Kind {
     }
 }
 
-/// A text that is the name of no kind.
+/// A text that is the name of no kind. The names are the seven that [`Kind::name`] answers, in lower case.
+///
+/// ```rust
+/// use gix_config_value::canonical::{Kind, UnknownKind};
+/// use std::str::FromStr;
+///
+/// assert_eq!(rt; Kind::from_str("path"), Err(UnknownKind)); // a path has no canonical text
+/// ```
 #[derive(Clone, Copy, PartialEq, Eq, Debug, Error)]
 #[error("Kinds are suffix, integer, amount, boolean, name, attribute and color")]
 pub struct UnknownKind;
@@ -86,6 +100,14 @@ impl FromStr for Kind {
     ghost from_str_gives = { NamesKind };
 
     /// The kind of exactly this name, in lower case, or `UnknownKind` where no kind has it.
+    ///
+    /// ```rust
+    /// use gix_config_value::canonical::{Kind, UnknownKind};
+    /// use std::str::FromStr;
+    ///
+    /// assert_eq!(rt; Kind::from_str("color"), Ok(Kind::Color));
+    /// assert_eq!(rt; Kind::from_str("Color"), Err(UnknownKind));
+    /// ```
     fn from_str(text: &str) -> Result<Kind, UnknownKind> {
         kind_by_name(text.as_bytes()).ok_or(UnknownKind)
     }
@@ -114,10 +136,20 @@ pub(crate) fn kind_by_name(name: &[u8]) -> Option<Kind>
     }
 }
 
-/// The canonical text of this kind that reads to the value of the input, or `None` exactly where
-/// the kind's grammar gives the input no value. A canonical input is answered byte for byte. A
-/// color text in which white space stands is answered by what stands before it and what follows
-/// it: with the canonical text of their composition.
+/// The canonical text of this kind that reads to the value of the input. `None` exactly where the kind's grammar gives
+/// the input no value. A canonical input is answered byte for byte. White space in a color text parts it into two: the
+/// answer is the canonical text of their composition.
+///
+/// It tells no fault; the `FromStr` of the kind's type does. docs/GRAMMAR.md has a section for each kind.
+///
+/// ```rust
+/// use bstr::BStr;
+/// use gix_config_value::canonical::{Kind, normalize};
+///
+/// let text = normalize(Kind::Integer, BStr::from("0x10K")).ok_or("no integer")?;
+/// assert_eq!(rt; text.as_str(), "16k");
+/// assert_eq!(rt; normalize(Kind::Integer, BStr::from("0x10kb")), None);
+/// ```
 pub fn normalize(kind: Kind, input: BStr<'_>) -> Option<Text>
     ensures answer { Normalizes (KindGrammar kind) (KindCanonical kind)
         (bstr_bytes input.entry) result }
@@ -138,9 +170,9 @@ pub fn normalize(kind: Kind, input: BStr<'_>) -> Option<Text>
     }
 }
 
-/// Puts the canonical text of this kind that reads to the value of the input in place of what the
-/// text holds, and answers whether the kind's grammar gives the input a value. Where it gives none
-/// the text is left empty. It answers as `normalize` does, and hands no text from call to call.
+/// Puts the canonical text of this kind that reads to the value of the input in place of what the text holds. Answers
+/// whether the kind's grammar gives the input a value; where it gives none the text is left empty. It answers as
+/// `normalize` does, and hands no text from call to call.
 pub fn normalize_into(kind: Kind, input: BStr<'_>, text: &mut Text) -> bool
     ensures { Fills (KindGrammar kind) (KindCanonical kind) (bstr_bytes input.entry) text.new.bytes result }
 {
@@ -158,6 +190,15 @@ pub fn normalize_into(kind: Kind, input: BStr<'_>, text: &mut Text) -> bool
 /// Whether two texts of this kind mean the same, or `None` exactly where the kind's grammar gives
 /// one of them no value. For colors that is whether their words have the same names in the same
 /// order, and attributes of the same bits.
+///
+/// ```rust
+/// use bstr::BStr;
+/// use gix_config_value::canonical::{Kind, same};
+///
+/// let (a, b) = (BStr::from("red ul"), BStr::from("ul RED"));
+/// assert_eq!(rt; same(Kind::Color, a, b), Some(true));
+/// assert_eq!(rt; same(Kind::Color, a, BStr::from("rde ul")), None);
+/// ```
 pub fn same(kind: Kind, a: BStr<'_>, b: BStr<'_>) -> Option<bool>
     ensures answer { Compares (KindGrammar kind) (KindCanonical kind)
         (bstr_bytes a.entry) (bstr_bytes b.entry) result }

@@ -16,7 +16,14 @@ use std::alloc::{AllocError, Global};
 use std::io::{Read, Write};
 use thiserror::Error;
 
-/// Why a run ended before the end of its input.
+/// Why a run ended before the end of its input. Its exit status is 2: docs/GRAMMAR.md, Lines and answers.
+///
+/// ```rust
+/// use gix_config_value::program::{RunError, status};
+///
+/// assert_eq!(rt; status(&Err(RunError::Read)), 2);
+/// assert_eq!(rt; status(&Ok(false)), 1); // some line was refused, or began with no kind
+/// ```
 #[derive(Clone, Copy, PartialEq, Eq, Debug, Error)]
 pub enum RunError {
     /// A read failed, or the input did not end within 18446744073709551615 reads.
@@ -31,7 +38,14 @@ pub enum RunError {
 }
 
 /// What a line is answered. A line is the name of a kind, one space, and the text of a value;
-/// without a space the text is empty.
+/// without a space the text is empty. The source: docs/GRAMMAR.md, Lines and answers.
+///
+/// ```rust
+/// use gix_config_value::program::{Outcome, answer};
+///
+/// assert_eq!(rt; answer(b"boolean maybe"), Outcome::Refused);
+/// assert_eq!(rt; answer(b"Boolean yes"), Outcome::UnknownKind);
+/// ```
 #[derive(Clone, Copy, PartialEq, Eq, Debug)]
 pub enum Outcome {
     /// The kind's grammar gives the text a value: the canonical text of that value.
@@ -65,8 +79,17 @@ fn split_line(line: &[u8]) -> (&[u8], &[u8])
 
 /// What a line is answered, with no reader and no writer. `Accepted` holds the canonical text of
 /// the line's value. `Refused` is answered exactly where the grammar of the line's kind gives its
-/// text no value, and `UnknownKind` exactly where the line begins with the name of no kind.
+/// text no value. `UnknownKind` is answered exactly where the line begins with the name of no kind.
 /// Pass the line without the LF that ends it, since an LF would count as part of the text.
+///
+/// ```rust
+/// use gix_config_value::canonical::Text;
+/// use gix_config_value::program::{Outcome, answer};
+///
+/// let text = Text::from("16k")?;
+/// assert_eq!(rt; answer(b"integer 0x10K"), Outcome::Accepted(text));
+/// assert_eq!(rt; answer(b"integer 0x10kb"), Outcome::Refused);
+/// ```
 pub fn answer(line: &[u8]) -> Outcome
     ensures { LineOutcome line.now result }
 {
@@ -311,6 +334,17 @@ impl Progress {
 /// write or of the flush at the end, and a write that takes no byte. `Memory` is answered where
 /// there is no memory for a line that crosses the end of a read: some first lines are then
 /// answered. After any error what was written is a beginning of the answers.
+///
+/// ```rust
+/// use gix_config_value::program::run;
+/// use std::io::Cursor;
+///
+/// let mut input = Cursor::new(b"integer 0x10K\nsuffix kb\n".as_slice());
+/// let mut output = Vec::new(alloc);
+/// let all_accepted = run(alloc, &mut input, &mut output)?;
+/// assert!(rt; !all_accepted);
+/// assert_eq!(rt; output.as_slice(), b"ok 16k\nrefused\n".as_slice());
+/// ```
 pub fn run<R: Read, W: Write>(
     alloc: Global,
     reader: &mut R,

@@ -51,8 +51,8 @@ pub fn joined_colors()
         → (ColorText (front ++ space ++ back) c) ↔ (Joined front back c) }
 {}
 
-/// Texts whose words are the same but for one whole attribute word, which stands at another place or
-/// once more, have the same color, or none.
+/// Texts whose words are the same but for one whole attribute word have the same color, or none. That word stands at
+/// another place or once more.
 pub fn moved_words()
     ensures { (t u : List ℕ) (c : Color) → Moves (words t) (words u)
         → (ColorText t c) ↔ (ColorText u c) }

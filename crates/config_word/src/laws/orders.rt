@@ -21,7 +21,7 @@ pub fn attribute_order()
 {}
 
 /// Names are ordered by their places, the words before palette numbers and these before red, green
-/// and blue, and then by their numbers; equal names hash equally.
+/// and blue. Where the places are one, the numbers decide. Equal names hash equally.
 pub fn name_order()
     ensures order { HasOrder (◌≡◌) name_order
         ⟦<Name as PartialEq>⟧.eq ⟦<Name as Ord>⟧.cmp
