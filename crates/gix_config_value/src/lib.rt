@@ -21,8 +21,10 @@
 //! | [`color`]: `Name`, `Attribute`, `Item`, `word` | `config_word` | the words of colors |
 //! | [`color`]: `Color`, `space_at`; [`canonical::compose`] | `config_color` | white space, colors, composition |
 //! | [`path`] | `config_path` | paths, interpolation, the passwd text |
-//! | [`canonical::Kind`], [`canonical::normalize`], [`canonical::same`], [`program`] | here | a kind chosen at run time, lines |
+//! | [`canonical::Kind`], [`canonical::normalize`], [`canonical::same`] | here | a kind chosen at run time |
+//! | [`program`] | here | lines and their answers |
 //!
+//! Each public type, and each call that a user meets first, has an example in its comment.
 //! The grammar of a kind stands on top of its crate's `specs/`, and docs/GRAMMAR.md says it in words.
 #![tactic(auto)]
 
