@@ -61,8 +61,15 @@ pub entry_at : (line bare : List ℕ) (at : ℕ) (name value : List ℕ) → IsT
     → line_entry line ≡ Some (name, Some value)
 entry_at line bare at name value is_bare no_comment first is_name is_value =
     let some : list_any (λ b. b == 61) line ≡ true = list_any_at (λ b. b == 61) line at 0 first.within (eq-eqb _ 61 first.here) in
-    rw (← trimmed_is _ _ is_bare, no_comment, some, trimmed_is _ _ is_name, trimmed_is _ _ is_value,
-        before_place 61 line at first, behind_place 61 line at first)
+    rw (
+      ← trimmed_is _ _ is_bare,
+      no_comment,
+      some,
+      trimmed_is _ _ is_name,
+      trimmed_is _ _ is_value,
+      before_place 61 line at first,
+      behind_place 61 line at first,
+    )
 
 pub entry_nowhere : (line bare : List ℕ) → IsTrimAscii line bare → is_comment bare ≡ false
     → ((k : ℕ) → k < length line → get_or line k 0 ≢ 61) → line_entry line ≡ Some (bare, None)

@@ -41,7 +41,12 @@ impl fmt::Display for Finding {
         match &self.problem {
             Problem::NoSuffix => write!(f, "line {}: no suffix", self.line),
             Problem::Refused(fault) => write!(f, "line {}: {}", self.line, fault.text()),
-            Problem::ShouldBe(text) => write!(f, "line {}: should be `{}`", self.line, text.as_str()),
+            Problem::ShouldBe(text) => write!(
+                f,
+                "line {}: should be `{}`",
+                self.line,
+                text.as_str()
+            ),
         }
     }
 }

@@ -88,7 +88,11 @@ fn reads_a_kind_of_its_own(rt: HostRuntime) -> Result<(), Fail> {
     }
     let entries = read_file(rt.alloc(), b"push.default = current\npush.default=tracking")?;
     let settings = texts(rt.alloc(), &entries)?;
-    equal(push_default(&settings), Ok(PushDefault::Upstream), "the last")?;
+    equal(
+        push_default(&settings),
+        Ok(PushDefault::Upstream),
+        "the last",
+    )?;
     equal(push_default(&[]), Ok(PushDefault::Simple), "none")?;
     let entries = read_file(rt.alloc(), b"push.default")?;
     let settings = texts(rt.alloc(), &entries)?;

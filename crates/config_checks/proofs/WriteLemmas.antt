@@ -30,4 +30,3 @@ written_part u v w bytes rest so_far kept = record {
   appended = Appends-kept u v w so_far.written so_far.appended kept;
   parts = so_far.parts;
 }
-

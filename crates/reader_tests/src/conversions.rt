@@ -35,7 +35,11 @@ fn refusals_become_faults(rt: HostRuntime) -> Result<(), Fail> {
     equal(truth("yess"), Err(Fault::Boolean), "yess")?;
     equal(size("1k"), Ok(1024), "1k")?;
     equal(size("1kk"), Err(Fault::Integer), "1kk")?;
-    equal(size("9007199254740992k"), Err(Fault::Overflow), "too large a product")?;
+    equal(
+        size("9007199254740992k"),
+        Err(Fault::Overflow),
+        "too large a product",
+    )?;
     equal(size("64k"), Err(Fault::OutOfRange), "64k")?;
     let owned = |text: &[u8]| BString::from_slice(rt.alloc(), text);
     equal(is_color(owned(b"red")?), Ok(true), "red")?;

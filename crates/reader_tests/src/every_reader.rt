@@ -165,7 +165,11 @@ fn values_are_parsed() -> Result<(), Fail> {
     equal(Integer::from_str("08"), Err(Fault::Integer), "08")?;
     equal(Amount::from_str("0x10k"), Ok(Amount(16384)), "0x10k")?;
     equal(Amount::from_str("08"), Err(Fault::Integer), "08")?;
-    equal(Amount::from_str("8589934592g"), Err(Fault::Overflow), "8589934592g")?;
+    equal(
+        Amount::from_str("8589934592g"),
+        Err(Fault::Overflow),
+        "8589934592g",
+    )?;
     let color = Color {
         foreground: Some(Name::Red),
         background: None,
