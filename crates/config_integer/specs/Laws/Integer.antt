@@ -423,5 +423,4 @@ pub refusal_tells : (refuses : ℤ → Type 0) → ((z : ℤ) → IsInI64 z → 
 refusal_tells refuses never t faults.Integer r z p = r p.product_text.integer p.product_text.text
 refusal_tells refuses never t faults.Overflow r z p = r.2 (subst IsInI64 (product_one_value t z r.0 p.product_text r.1) p.in_range)
 refusal_tells refuses never t faults.OutOfRange r z p = never r.0 r.1.in_range r.2
-refusal_tells refuses never t faults.Boolean r z p = r
-refusal_tells refuses never t faults.Color r z p = r
+refusal_tells refuses never t _ r z p = r
