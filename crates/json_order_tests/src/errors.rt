@@ -65,15 +65,7 @@ fn different_values_are_unequal() -> Result<(), Fail> {
         Fault::OutOfRange,
         Fault::Color,
     ])?;
-    differ(&[
-        Kind::Suffix,
-        Kind::Integer,
-        Kind::Boolean,
-        Kind::Name,
-        Kind::Attribute,
-        Kind::Color,
-        Kind::Amount,
-    ])?;
+    differ(&Kind::ALL)?;
     differ(&[Class::NotFound, Class::Validation, Class::Memory])?;
     differ(&[
         Place::PastPrefix,

@@ -6,24 +6,23 @@ use gix_config_value::canonical::{Kind, normalize};
 use std::test::Fail;
 use testing::equal;
 
-/// The bytes that each kind accepts alone: six letters, ten digits, no attribute, and ten digits with the six white
-/// spaces of ASCII.
-static ALONE: [(Kind, &[u8]); 7] = [
-    (Kind::Suffix, b"kKmMgG"),
-    (Kind::Integer, b"0123456789"),
-    (Kind::Amount, b"0123456789"),
-    (Kind::Boolean, b"0123456789"),
-    (Kind::Name, b"0123456789"),
-    (Kind::Attribute, b""),
-    (Kind::Color, b"0123456789\t\n\x0b\x0c\r "),
-];
+/// The bytes that a kind accepts alone: six letters, ten digits, no attribute, and ten digits with the six white spaces
+/// of ASCII.
+fn alone(kind: Kind) -> &'static [u8] {
+    match kind {
+        Kind::Suffix => b"kKmMgG",
+        Kind::Integer | Kind::Amount | Kind::Boolean | Kind::Name => b"0123456789",
+        Kind::Attribute => b"",
+        Kind::Color => b"0123456789\t\n\x0b\x0c\r ",
+    }
+}
 
 #[test]
 fn reads_each_byte_alone() -> Result<(), Fail> {
-    for (kind, accepted) in &ALONE {
+    for kind in Kind::ALL {
         for byte in 0..=255u8 {
-            let is_accepted = normalize(*kind, BStr::new(&[byte])).is_some();
-            equal(is_accepted, accepted.contains(&byte), (*kind, byte))?;
+            let is_accepted = normalize(kind, BStr::new(&[byte])).is_some();
+            equal(is_accepted, alone(kind).contains(&byte), (kind, byte))?;
         }
     }
     Ok(())

@@ -61,6 +61,7 @@ static NAMES: [(Kind, &str); 7] = [
 
 #[test]
 fn kinds_have_names(rt: HostRuntime) -> Result<(), Fail> {
+    equal(NAMES.len(), Kind::ALL.len(), "a row for each kind")?;
     for (at, (kind, name)) in NAMES.iter().enumerate() {
         equal(Kind::ALL[at], *kind, name)?;
         equal(kind.name(), *name, kind)?;
@@ -72,5 +73,9 @@ fn kinds_have_names(rt: HostRuntime) -> Result<(), Fail> {
         equal(Kind::from_str(text), Err(UnknownKind), text)?;
     }
     let text = "Kinds are suffix, integer, amount, boolean, name, attribute and color";
-    equal(UnknownKind.to_string(rt.alloc())?.as_str(), text, "text")
+    equal(UnknownKind.to_string(rt.alloc())?.as_str(), text, "text")?;
+    for (_, name) in &NAMES {
+        equal(text.contains(*name), true, name)?;
+    }
+    Ok(())
 }
