@@ -10,11 +10,11 @@ DIGEST = ROOT / "docs/CONTRACTS.md"
 # the libraries, lowest first, and below the front door the one of the checker
 CRATES = ("config_text", "config_integer", "config_boolean", "config_word", "config_color", "config_path",
           "gix_config_value", "config_checks")
-# the pages whose blocks of Rust, of definitions and of proofs are quotations
-PAGES = ("CALLING.md", "docs/READING.md")
+# the pages whose blocks of Rust, of definitions and of proofs are quotations, and how many such blocks each has
+PAGES = {"CALLING.md": 13, "docs/READING.md": 2}
 HEAD = """# The public contracts
 
-Each public call with its clauses, and the ghost members of each public trait and `impl`, as they stand in `src/`.
+Each public call of the library and of the checker with its clauses, and the ghost members of each public trait and `impl`, as they stand in `src/`.
 `.ci/contracts.py --write` writes this page, and the gate compares it. The words of the clauses are defined on top of
 each crate's `specs/`; docs/PROOFS.md says which promise each clause carries.
 """
@@ -108,8 +108,11 @@ def main():
         faults.append("docs/CONTRACTS.md is not what --write writes")
     sources = [file.read_text(encoding="utf-8") for kind in ("src/**/*.rt", "specs/**/*.antt", "proofs/**/*.antt")
                for file in ROOT.glob(f"crates/*/{kind}")]
-    for page in PAGES:
-        for block in quotations(page):
+    for page, count in PAGES.items():
+        blocks = quotations(page)
+        if len(blocks) != count:
+            faults.append(f"{page} has {len(blocks)} quotations, and not {count}")
+        for block in blocks:
             if any(block.strip("\n") in source for source in sources):
                 passed += 1
             else:

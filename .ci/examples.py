@@ -2,8 +2,8 @@
 """The examples of the libraries' comments and of README.md stand in the tests of crates/example_tests, which the gate
 runs. An example is a fenced block of a `///` or `//!` comment, or README.md's first block of Rust. Its lines have to
 stand in one test, in order, with nothing between them but assertions of the test's own. Indentation, blank lines and
-the spaces before a trailing comment make no difference. Each public type and each call of CALLS has to have an example,
-and each test has to hold one. A section of docs/GRAMMAR.md that a comment cites has to be there. The last line is
+the spaces before a trailing comment make no difference. Each public struct, enum and trait and each call of CALLS has
+to have an example, and each test has to hold one. A section of docs/GRAMMAR.md that a comment cites has to be there. The last line is
 'N passed, M failed'."""
 import pathlib
 import re
@@ -88,6 +88,15 @@ def library():
                 yield str(file.relative_to(ROOT / "crates")), comment, item
 
 
+def types():
+    """Each public type of the libraries, with its file below crates/."""
+    for crate in CRATES:
+        for file in sorted((ROOT / "crates" / crate / "src").rglob("*.rt")):
+            for line in file.read_text(encoding="utf-8").split("\n"):
+                if TYPE.match(line):
+                    yield str(file.relative_to(ROOT / "crates")), TYPE.match(line).group(1)
+
+
 def named(item):
     """The name of the item on a line, and whether it is a public type."""
     found = TYPE.match(item) or CALL.match(item)
@@ -114,7 +123,14 @@ def checks():
             yield f"{file} cites what docs/GRAMMAR.md has no section for: {section}", is_there
     for file, name in sorted(missing):
         yield f"{file} has no call {name}", False
+    seen = {(file, named(item)[0]) for file, _, item in library()}
+    for file, name in types():
+        yield f"{file}: {name} has no comment", (file, name) in seen
+    declared = (TESTS / "lib.rt").read_text(encoding="utf-8")
+    for file in sorted(TESTS.glob("*.rt")):
+        yield f"{file.stem} is no module of the tests", file.stem == "lib" or f"mod {file.stem};" in declared
     for label, block in examples:
+        yield f"{label}: an example of no lines", bool(block)
         yield f"{label}: no test holds the example", any(holds(body, block) for body in tests.values())
     for name, body in tests.items():
         yield f"{name} holds no example", any(holds(body, block) for _, block in examples)

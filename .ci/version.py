@@ -19,7 +19,9 @@ PLACES = [
 
 
 def said(path, pattern):
-    """What a file says, first of all."""
+    """What a file says, first of all, or None where there is no such file."""
+    if not path.exists():
+        return None
     found = re.search(pattern, path.read_text(encoding="utf-8"), re.MULTILINE)
     return found.group(1) if found else None
 
@@ -38,7 +40,8 @@ def built(prefix, version):
 
 def main():
     version = (CRATE / "VERSION").read_text(encoding="utf-8").strip()
-    rows = [(str(path.relative_to(ROOT)), said(path, pattern), version) for path, pattern in PLACES if path.exists()]
+    rows = [(str(path.relative_to(ROOT)), said(path, pattern), version) for path, pattern in PLACES
+            if path.exists() or path == PLACES[0][0]]
     if len(sys.argv) > 1:
         rows += built(sys.argv[1], version)
     wrong = [f"{place} says {given}, and not {wanted}" for place, given, wanted in rows if given != wanted]

@@ -3,3 +3,4 @@ pub mod Joined
 pub mod CheckerLemmas
 pub mod ThemeLemmas
 pub mod PathRows
+mod EntryFacts

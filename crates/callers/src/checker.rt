@@ -2,7 +2,7 @@
 ghost use Rattle.std.specs.Prelude.{◌≡◌, Some, IfOk, OnOk, MatchOption};
 ghost use Rattle.gix_config_value.specs.Kinds.{KindGrammar, KindCanonical};
 ghost use Rattle.callers.specs.Lines.{counted_lines};
-ghost use Rattle.callers.specs.Checker.{ByFault, Refuses, KindRefusal, IsProblem, FindingsFrom, GoesOn, finding_shown};
+ghost use Rattle.callers.specs.Checker.{ByFault, Refuses, KindRefusal, IsProblem, FindingsFrom, GoesOn, problem_shown, finding_shown};
 
 use crate::lines::cut_line;
 use bstr::BStr;
@@ -25,6 +25,18 @@ pub enum Problem {
     ShouldBe(String),
 }
 
+impl fmt::Display for Problem {
+    ghost output = { λ p. Some (problem_shown p) };
+
+    fn fmt<W: fmt::Write>(&self, f: &mut fmt::Formatter<W>) -> fmt::Result {
+        match self {
+            Problem::NoSuffix => f.write_str("no suffix"),
+            Problem::Refused(fault) => f.write_str(fault.text()),
+            Problem::ShouldBe(text) => write!(f, "should be `{}`", text.as_str()),
+        }
+    }
+}
+
 /// A line that is not in canonical form.
 #[derive(Drop)]
 pub struct Finding {
@@ -38,16 +50,7 @@ impl fmt::Display for Finding {
     ghost output = { λ f. Some (finding_shown f) };
 
     fn fmt<W: fmt::Write>(&self, f: &mut fmt::Formatter<W>) -> fmt::Result {
-        match &self.problem {
-            Problem::NoSuffix => write!(f, "line {}: no suffix", self.line),
-            Problem::Refused(fault) => write!(f, "line {}: {}", self.line, fault.text()),
-            Problem::ShouldBe(text) => write!(
-                f,
-                "line {}: should be `{}`",
-                self.line,
-                text.as_str()
-            ),
-        }
+        write!(f, "line {}: {}", self.line, self.problem)
     }
 }
 
@@ -62,7 +65,7 @@ fn refusal_as<V: TryRead>(text: &[u8]) -> Option<Problem>
 }
 
 /// Why the reader of a kind refuses a text, or `None` where it has a value.
-fn refusal(kind: Kind, text: &[u8]) -> Option<Problem>
+pub fn refusal(kind: Kind, text: &[u8]) -> Option<Problem>
     ensures { Refuses (KindGrammar kind) (KindRefusal kind text.now) text.now result }
 {
     match kind {

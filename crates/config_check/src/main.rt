@@ -1,4 +1,4 @@
-//! Reports the settings whose values Git would refuse, of those that `git config --list --null` prints.
+//! Reports the settings whose values are none that Git documents, of those that `git config --list --null` prints.
 #![tactic(auto)]
 
 use clap::{Arg, ArgAction, ArgMatches, Command};
@@ -38,7 +38,7 @@ fn command<'a>(alloc: Global) -> Result<Command<'a>, AllocError> {
     Command::new(alloc, "config_check")
         .version("0.1.0")
         .about(
-            "Reports the settings whose values Git would refuse: git config --list --null | config_check",
+            "Reports the settings whose values are none that Git documents: git config --list --null | config_check",
         )
         .arg(scope)?
         .arg(origin)?

@@ -1,4 +1,6 @@
 -- What git-config(1) says of integers, on examples: a definition with a wrong letter, factor or base does not check.
+-- Beyond that page, as Git and C read them, stand `0x`, `0b`, a leading `0`, `g`, signs, both ends of the range, and the
+-- refused rows.
 use Rattle.std.proofs.Common.{ℕ, ℤ, pos, negsuc, List, [], ◌∷◌, codes, Option, Some, None, refl}
 use Rattle.config_integer.specs.declared.integer.Integer.{Integer}
 use Rattle.config_integer.specs.declared.suffix.Suffix.{Suffix}
@@ -26,7 +28,13 @@ integers =
     ∷ (codes "1g", integer (pos 1) (Some Gibi))
     ∷ (codes "0x10k", integer (pos 16) (Some Kibi))
     ∷ (codes "010", integer (pos 8) None)
+    ∷ (codes "0Xff", integer (pos 255) None)
+    ∷ (codes "0xFF", integer (pos 255) None)
+    ∷ (codes "0b11", integer (pos 3) None)
+    ∷ (codes "0B1", integer (pos 1) None)
+    ∷ (codes "+1", integer (pos 1) None)
     ∷ (codes "-1", integer (negsuc 0) None)
+    ∷ (codes "-9223372036854775808", integer (negsuc 9223372036854775807) None)
     ∷ (codes "9223372036854775807k", integer (pos 9223372036854775807) (Some Kibi))
     ∷ []
 
@@ -51,9 +59,11 @@ pub amounts_are_read : AreRead AmountText amounts
 unfolding integer_on_literals
 amounts_are_read = all_read amount_of_is amounts refl
 
--- no such suffix, two of them, a space, a suffix alone, and nothing
+-- no such suffix, two of them, a space, a suffix alone, and nothing; no digit of the base, no digit, and one beyond each
+-- end of the range
 abbrev no_integers : List (List ℕ)
-no_integers = codes "10x" ∷ codes "1kb" ∷ codes "1 k" ∷ codes "k" ∷ codes "" ∷ []
+no_integers = codes "10x" ∷ codes "1kb" ∷ codes "1 k" ∷ codes "k" ∷ codes "" ∷ codes "08" ∷ codes "0x" ∷ codes "0b2" ∷ codes "--1"
+    ∷ codes "9223372036854775808" ∷ codes "-9223372036854775809" ∷ []
 
 pub no_integers_are_refused : AreRefused IntegerText no_integers
 unfolding integer_on_literals

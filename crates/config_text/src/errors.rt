@@ -35,7 +35,8 @@ pub enum Fault {
 }
 
 impl Fault {
-    /// What `Display` prints: the text of the Rust crate, another one for each fault.
+    /// What `Display` prints, another text for each fault. It is that of the Rust crate, but for `OutOfRange`, which
+    /// names no type here. It names the kind, and not what in the text is wrong.
     ///
     /// ```rust
     /// use gix_config_value::Fault;

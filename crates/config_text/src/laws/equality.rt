@@ -1,5 +1,6 @@
 //! What `==` and `clone` answer for faults, refusals and errors.
 ghost use Rattle.std.specs.Prelude.{◌≡◌};
+ghost use Rattle.config_text.specs.Faults.{fault_text};
 ghost use Rattle.config_text.specs.Orders.{Equates, IsCopied};
 ghost use Rattle.config_text.specs.Refusals.{IsSameError, IsSameReturned};
 ghost use Rattle.config_text.specs.Settings.{IsSameRefused};
@@ -13,10 +14,11 @@ use crate::errors::{Error, Fault, Returned};
 use crate::json::JsonError;
 use crate::settings::Refused;
 
-/// Faults are equal exactly where they are the same.
+/// Faults are equal exactly where they are the same, and no two of them have one text.
 pub fn faults()
     ensures equality { Equates (◌≡◌) ⟦<Fault as PartialEq>⟧.eq }
     ensures clones { IsCopied ⟦<Fault as Clone>⟧.is_clone ⟦<Fault as Clone>⟧.is_infallible }
+    ensures texts { (f g : Fault) → fault_text f ≡ fault_text g → f ≡ g }
 {}
 
 /// Refusals of borrowed texts are equal exactly where their faults are, and the bytes of their inputs.
