@@ -9,8 +9,8 @@ use Rattle.config_path.specs.Path.{Marked}
 abbrev HaveForms : List (List ℕ × Form) → Type 0
 HaveForms rows = AllByRecursion (λ (row : List ℕ × Form). HasForm row.0 row.1) rows
 
--- "begins with ~/ or ~user/": the home directory, and that of a user; "If a path starts with %(prefix)/, the remainder
--- is interpreted as a path relative to Git's runtime prefix"
+-- "begins with ~/ or ~user/": the home directory, and that of a user; beyond that page, `~` alone. "If a path starts
+-- with %(prefix)/, the remainder is interpreted as a path relative to Git's runtime prefix"
 abbrev expanded : List (List ℕ × Form)
 expanded =
     (codes "~/x", below_home (Some (codes "x")))
@@ -40,7 +40,8 @@ literal_path = (
 pub optional_path : Marked (codes ":(optional)~/x") true (codes "~/x")
 optional_path = refl
 
--- "~/ is expanded to the value of $HOME"
+-- a directory and a rest are joined by one slash, as in "~/ is expanded to the value of $HOME"; which directory it is,
+-- the path table says
 pub joined : (join (codes "/home/user") (codes "x") ≡ codes "/home/user/x")
     × (join (codes "/home/user/") (codes "x") ≡ codes "/home/user/x")
 joined = (refl, refl)
