@@ -1,5 +1,5 @@
 """Calls of path interpolation, in the lines that the program path_answers reads: value, install directory, home
-directory and what the lookup knows, between tabs and in hexadecimal digits. `crates/path_calls` says more.
+directory and what the lookup knows, between tabs and in hexadecimal digits. `crates/path_answers` says more.
 """
 PREFIX = b"%(prefix)/"
 MARK = b":(optional)"

@@ -1,7 +1,7 @@
 """Asks the Rust crate again what is stored: python3 again.py.
 
-Those are the lines of replay/lines.txt and the calls of crates/path_replay/stdin. Prints the first differences, and last
-'N passed, M failed'. Where the crate cannot be had it says `skipped` and why, and nothing has passed.
+Those are the lines of replay/lines.txt and the calls of crates/path_answers/stdin. Prints the first differences, and
+last 'N passed, M failed'. Where the crate cannot be had it says `skipped` and why, and nothing has passed.
 """
 import pathlib
 import sys
@@ -15,7 +15,6 @@ import calls  # noqa: E402
 from programs import Wrong, answers  # noqa: E402
 
 SHOWN = 20
-FIELDS_OF_A_CALL = 4
 
 
 def rows(file):
@@ -27,10 +26,9 @@ def asked_again(upstream):
     """Each line and each call that is stored, with its stored answer and the crate's."""
     lines = rows(HERE / "lines.txt")
     yield from zip(lines, rows(HERE / "answers.txt"), answers([upstream], lines), strict=True)
-    stored = [row.split(b"\t", FIELDS_OF_A_CALL) for row in rows(ROOT / "crates/path_replay/stdin")]
-    asked = [b"\t".join(row[:FIELDS_OF_A_CALL]) for row in stored]
+    asked = rows(ROOT / "crates/path_answers/stdin")
     by_rule = map(calls.by_rule, answers([upstream, "paths"], asked))
-    yield from zip(asked, [row[FIELDS_OF_A_CALL] for row in stored], by_rule, strict=True)
+    yield from zip(asked, rows(ROOT / "crates/path_answers/stdout"), by_rule, strict=True)
 
 
 def main():

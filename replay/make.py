@@ -2,11 +2,11 @@
 
 python3 make.py FOLDER [--seed N] [--lines N] [--calls N]
 
-Writes into FOLDER lines.txt and answers.txt, which `replay.py PROGRAM FOLDER` replays, and calls.tsv, calls of
-interpolation with their answers, which the program path_replay reads. The lines are mutated as in fuzz/fuzz.py, short
-texts in full and long ones among them; of each kind as many are drawn as of another, half of them accepted where there
-are so many. The same seed and numbers give the same files. A path that is no UTF-8 is answered by the rule of
-diff/calls.py where the crate keeps it.
+Writes into FOLDER lines.txt and answers.txt, which `replay.py PROGRAM FOLDER` replays, and calls.txt and
+call_answers.txt: calls of interpolation, which the program path_answers reads, and what it has to write. The lines are
+mutated as in fuzz/fuzz.py, short texts in full and long ones among them; of each kind as many are drawn as of another,
+half of them accepted where there are so many. The same seed and numbers give the same files. A path that is no UTF-8 is
+answered by the rule of diff/calls.py where the crate keeps it.
 """
 import argparse
 import pathlib
@@ -68,7 +68,7 @@ def answered_calls(draw, upstream, count):
     while len(asked) < count:
         asked[calls.line(*calls.drawn(draw))] = None
     given = answers([upstream, "paths"], list(asked))
-    return [line + b"\t" + calls.by_rule(answer) for line, answer in zip(asked, given)]
+    return [(line, calls.by_rule(answer)) for line, answer in zip(asked, given)]
 
 
 def write(file, rows):
@@ -92,7 +92,8 @@ def main():
     write(arguments.folder / "lines.txt", [line for line, _ in chosen])
     write(arguments.folder / "answers.txt", [answer for _, answer in chosen])
     paths = answered_calls(draw, upstream, arguments.calls)
-    write(arguments.folder / "calls.tsv", paths)
+    write(arguments.folder / "calls.txt", [call for call, _ in paths])
+    write(arguments.folder / "call_answers.txt", [answer for _, answer in paths])
     accepted = sum(answer.startswith(b"ok ") for _, answer in chosen)
     print(f"{len(chosen):,} lines, {accepted:,} of them accepted, and {len(paths):,} calls, seed {arguments.seed}")
 

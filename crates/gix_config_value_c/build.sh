@@ -3,7 +3,8 @@
 #
 # It proves the crate and those below it, and then puts the header into PREFIX/include, a static archive and a shared
 # library into PREFIX/lib, what pkg-config reads into PREFIX/lib/pkgconfig, and the Python package into PREFIX/python.
-# It needs `rt`, a C compiler (CC, or cc) and binutils.
+# It needs `rt`, a C compiler (CC, or cc) and binutils. Where GCV_ARCHIVE names a static library that `rt` has built
+# already, it takes that one and proves nothing.
 set -eu
 if [ $# -ne 1 ]; then
     echo "usage: sh $0 PREFIX" >&2
@@ -27,12 +28,16 @@ fi
 work=$(mktemp -d)
 trap 'rm -rf -- "$work"' EXIT
 
-(cd "$here" && rt lib)
+archive=${GCV_ARCHIVE:-}
+if [ -z "$archive" ]; then
+    (cd "$here" && rt lib)
+    archive=$here/out/libgix_config_value_c.a
+fi
 
 # one object, which shows nothing but what the header declares
 cc=${CC:-cc}
 "$cc" -r -nostdlib -o "$work/gix_config_value.o" \
-    -Wl,--whole-archive "$here/out/libgix_config_value_c.a" "$heap" -Wl,--no-whole-archive
+    -Wl,--whole-archive "$archive" "$heap" -Wl,--no-whole-archive
 objcopy --wildcard --keep-global-symbol='gcv_raw_*' "$work/gix_config_value.o"
 rm -f -- "$prefix/lib/libgix_config_value.a"
 ar rcs "$prefix/lib/libgix_config_value.a" "$work/gix_config_value.o"

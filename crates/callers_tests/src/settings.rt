@@ -9,6 +9,7 @@ use gix_config_value::canonical::{Kind, normalize};
 use gix_config_value::integer::Suffix;
 use gix_config_value::settings::{Refused, lookup};
 use gix_config_value::{Boolean, Integer};
+use std::alloc::{AllocError, Global};
 use std::test::Fail;
 use testing::equal;
 
@@ -118,27 +119,43 @@ fn refuses(
     Err(RefusedIn { source, refused })
 }
 
+/// What the three files say of an integer of this name, which is 7 by default.
+fn resolved(
+    alloc: Global,
+    files: [&'static str; 3],
+    name: &str,
+) -> Result<Result<Integer, RefusedIn<'static>>, AllocError> {
+    let system = texts(alloc, &read_file(alloc, files[0].as_bytes())?)?;
+    let user = texts(alloc, &read_file(alloc, files[1].as_bytes())?)?;
+    let repository = texts(alloc, &read_file(alloc, files[2].as_bytes())?)?;
+    let seven = integer(7, None);
+    Ok(resolve(&system, &user, &repository, name.as_bytes(), seven))
+}
+
 #[test]
 fn resolves_over_three_sources(rt: HostRuntime) -> Result<(), Fail> {
-    let system = texts(rt.alloc(), &read_file(rt.alloc(), SYSTEM.as_bytes())?)?;
-    let user = texts(rt.alloc(), &read_file(rt.alloc(), USER.as_bytes())?)?;
-    let repository = texts(rt.alloc(), &read_file(rt.alloc(), REPOSITORY.as_bytes())?)?;
-    let seven = integer(7, None);
-    for (name, wanted) in [
-        ("core.abbrev", Ok(integer(16, None))),
-        ("pack.threads", Ok(integer(1, None))),
-        ("pack.windowMemory", Ok(integer(512, Some(Suffix::Mebi)))),
-        ("pack.depth", Ok(seven)),
-        ("pager", refuses(Source::User, 1, b"yes")),
-        ("bare", refuses(Source::Repository, 1, b"")),
-        ("shallow", refuses(Source::Repository, 2, b"true")),
+    let all = [SYSTEM, USER, REPOSITORY];
+    for (files, name, wanted) in [
+        (all, "core.abbrev", Ok(integer(16, None))),
+        (all, "pack.threads", Ok(integer(1, None))),
+        (
+            all,
+            "pack.windowMemory",
+            Ok(integer(512, Some(Suffix::Mebi))),
+        ),
+        (all, "pack.depth", Ok(integer(7, None))),
+        (all, "pager", refuses(Source::User, 1, b"yes")),
+        (all, "bare", refuses(Source::Repository, 1, b"")),
+        (all, "shallow", refuses(Source::Repository, 2, b"true")),
+        // without the repository's file the user's refuses, though the machine's has a number
+        (
+            [SYSTEM, USER, ""],
+            "core.abbrev",
+            refuses(Source::User, 0, b"08"),
+        ),
+        ([SYSTEM, "", ""], "core.abbrev", Ok(integer(12, None))),
     ] {
-        let given = resolve(&system, &user, &repository, name.as_bytes(), seven);
-        equal(given, wanted, name)?;
+        equal(resolved(rt.alloc(), files, name)?, wanted, name)?;
     }
-    // without the repository's file the user's refuses, though the machine's has a number
-    let given = resolve(&system, &user, &[], b"core.abbrev", seven);
-    equal(given, refuses(Source::User, 0, b"08"), "two sources")?;
-    let given = resolve(&system, &[], &[], b"core.abbrev", seven);
-    equal(given, Ok(integer(12, None)), "one source")
+    Ok(())
 }

@@ -16,34 +16,51 @@ use thiserror::Error;
 /// The most bytes that one read takes.
 const READ: usize = 65536;
 
-/// What the program was asked for by its arguments.
-fn command<'a>(alloc: Global) -> Result<Command<'a>, AllocError> {
-    let scope = Arg::new(alloc, "show-scope")
-        .long("show-scope")
+/// An argument that stands alone.
+fn flag<'a>(alloc: Global, name: &'a str, help: &'a str) -> Arg<'a> {
+    Arg::new(alloc, name)
+        .long(name)
         .action(ArgAction::SetTrue)
-        .help("A scope stands before each entry, as `git config --show-scope` puts it there");
-    let origin = Arg::new(alloc, "show-origin")
-        .long("show-origin")
-        .action(ArgAction::SetTrue)
-        .help("An origin stands before each entry, as `git config --show-origin` puts it there");
-    let canonical = Arg::new(alloc, "canonical")
-        .long("canonical")
-        .action(ArgAction::SetTrue)
-        .help("Report right values too that are not spelled canonically");
-    let settings = Arg::new(alloc, "settings")
-        .long("settings")
-        .value_name("FILE")
+        .help(help)
+}
+
+/// An argument with a value of this name.
+fn option<'a>(alloc: Global, name: &'a str, value: &'a str, help: &'a str) -> Arg<'a> {
+    Arg::new(alloc, name)
+        .long(name)
+        .value_name(value)
         .action(ArgAction::Set)
-        .help("Rows of further settings, which win over the built-in ones");
+        .help(help)
+}
+
+/// What the program may be asked for by its arguments.
+fn command<'a>(alloc: Global) -> Result<Command<'a>, AllocError> {
     Command::new(alloc, "config_check")
         .version("0.1.0")
         .about(
             "Reports the settings whose values are none that Git documents: git config --list --null | config_check",
         )
-        .arg(scope)?
-        .arg(origin)?
-        .arg(canonical)?
-        .arg(settings)
+        .arg(flag(
+            alloc,
+            "show-scope",
+            "A scope stands before each entry, as `git config --show-scope` puts it there",
+        ))?
+        .arg(flag(
+            alloc,
+            "show-origin",
+            "An origin stands before each entry, as `git config --show-origin` puts it there",
+        ))?
+        .arg(flag(
+            alloc,
+            "canonical",
+            "Report right values too that are not spelled canonically",
+        ))?
+        .arg(option(
+            alloc,
+            "settings",
+            "FILE",
+            "Rows of further settings, which win over the built-in ones",
+        ))
 }
 
 /// Why a run ends with status 2.

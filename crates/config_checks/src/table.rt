@@ -114,12 +114,16 @@ fn words_kind(name: &[u8]) -> Option<(bool, bool)>
     ensures { MatchOption result ((a b : Bool) → words_name a b ≢ name.now)
         (λ p. words_name p.0 p.1 ≡ name.now) }
 {
-    match name {
-        b"word" => Some((false, false)),
-        b"word-any-case" => Some((true, false)),
-        b"bool-or-word" => Some((false, true)),
-        b"bool-or-word-any-case" => Some((true, true)),
-        _ => None,
+    if is(name, b"word") {
+        Some((false, false))
+    } else if is(name, b"word-any-case") {
+        Some((true, false))
+    } else if is(name, b"bool-or-word") {
+        Some((false, true))
+    } else if is(name, b"bool-or-word-any-case") {
+        Some((true, true))
+    } else {
+        None
     }
 }
 

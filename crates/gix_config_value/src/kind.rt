@@ -13,6 +13,7 @@ use config_integer::amount::Amount;
 use config_integer::integer::Integer;
 use config_integer::suffix::Suffix;
 use config_text::value::{Text, normalize_as, normalize_into_as, same_as};
+use config_text::words::is;
 use config_word::attribute::Attribute;
 use config_word::name::Name;
 use std::fmt;
@@ -124,15 +125,22 @@ pub(crate) fn kind_by_name(name: &[u8]) -> Option<Kind>
     ensures { MatchOption result ((k : kind.Kind) → kind_name k ≢ name.now)
         (λ k. kind_name k ≡ name.now) }
 {
-    match name {
-        b"suffix" => Some(Kind::Suffix),
-        b"integer" => Some(Kind::Integer),
-        b"amount" => Some(Kind::Amount),
-        b"boolean" => Some(Kind::Boolean),
-        b"name" => Some(Kind::Name),
-        b"attribute" => Some(Kind::Attribute),
-        b"color" => Some(Kind::Color),
-        _ => None,
+    if is(name, b"suffix") {
+        Some(Kind::Suffix)
+    } else if is(name, b"integer") {
+        Some(Kind::Integer)
+    } else if is(name, b"amount") {
+        Some(Kind::Amount)
+    } else if is(name, b"boolean") {
+        Some(Kind::Boolean)
+    } else if is(name, b"name") {
+        Some(Kind::Name)
+    } else if is(name, b"attribute") {
+        Some(Kind::Attribute)
+    } else if is(name, b"color") {
+        Some(Kind::Color)
+    } else {
+        None
     }
 }
 

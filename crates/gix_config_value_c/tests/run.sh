@@ -139,7 +139,8 @@ holds "memory by clang" clang -std=c99 $warnings $flags -Wl,--wrap=malloc,--wrap
 counted "each status" "$work/calls"
 counted "memory refused" "$work/memory"
 counted "upstream's answers" "$work/lines" "$root/replay/lines.txt" "$root/replay/answers.txt"
-counted "stored paths" "$work/paths" "$root/crates/path_replay/stdin"
+paste "$root/crates/path_answers/stdin" "$root/crates/path_answers/stdout" > "$work/calls_and_answers"
+counted "stored paths" "$work/paths" "$work/calls_and_answers"
 if [ -x "$program" ]; then
     holds "the fuzzer's lines are written" python3 "$tests/mutated.py" "$program" "$work/mutated" "$work/answers"
     counted "the fuzzer's lines" "$work/lines" "$work/mutated" "$work/answers"

@@ -1,12 +1,14 @@
 //! Answers calls of `Path::interpolate`: each line of the input is a call, and each line of the output what it gives.
 #![tactic(auto)]
 
+mod call;
+
 use anyhow::Context;
 
 fn main(rt: HostRuntime) -> anyhow::Result<()> {
     for line in rt.lines(rt.alloc()) {
         let line = line?;
-        let call = path_calls::parse(line.as_str()).context("too few fields")?;
+        let call = call::parse(line.as_str()).context("too few fields")?;
         println!(rt; "{}", call.answer(rt.alloc())?)?;
     }
     Ok(())

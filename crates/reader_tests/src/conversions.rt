@@ -1,10 +1,9 @@
-//! Refusals turned into faults by `?`, and kinds by their names.
+//! Refusals turned into faults by `?`, and the refusal of a name of no kind.
 
 use bstr::BString;
 use gix_config_value::canonical::{Kind, UnknownKind};
 use gix_config_value::{Boolean, Color, Fault, Integer};
 use std::borrow::CowSlice;
-use std::str::FromStr;
 use std::test::Fail;
 use testing::equal;
 
@@ -48,34 +47,12 @@ fn refusals_become_faults(rt: HostRuntime) -> Result<(), Fail> {
     equal(number(CowSlice::Borrowed(b"08")), Err(Fault::Integer), "08")
 }
 
-/// The kinds, and the names with which lines of the program begin.
-static NAMES: [(Kind, &str); 7] = [
-    (Kind::Suffix, "suffix"),
-    (Kind::Integer, "integer"),
-    (Kind::Amount, "amount"),
-    (Kind::Boolean, "boolean"),
-    (Kind::Name, "name"),
-    (Kind::Attribute, "attribute"),
-    (Kind::Color, "color"),
-];
-
 #[test]
-fn kinds_have_names(rt: HostRuntime) -> Result<(), Fail> {
-    equal(NAMES.len(), Kind::ALL.len(), "a row for each kind")?;
-    for (at, (kind, name)) in NAMES.iter().enumerate() {
-        equal(Kind::ALL[at], *kind, name)?;
-        equal(kind.name(), *name, kind)?;
-        let shown = kind.to_string(rt.alloc())?;
-        equal(shown.as_str(), *name, kind)?;
-        equal(Kind::from_str(name), Ok(*kind), name)?;
-    }
-    for text in ["", "Color", "colors", "colo", "path", " color"] {
-        equal(Kind::from_str(text), Err(UnknownKind), text)?;
-    }
+fn a_name_of_no_kind_is_told_the_names(rt: HostRuntime) -> Result<(), Fail> {
     let text = "Kinds are suffix, integer, amount, boolean, name, attribute and color";
     equal(UnknownKind.to_string(rt.alloc())?.as_str(), text, "text")?;
-    for (_, name) in &NAMES {
-        equal(text.contains(*name), true, name)?;
+    for kind in Kind::ALL {
+        equal(text.contains(kind.name()), true, kind)?;
     }
     Ok(())
 }

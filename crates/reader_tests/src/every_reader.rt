@@ -100,45 +100,6 @@ pub fn are_refused(alloc: Global, kind: Kind, texts: &[&[u8]]) -> Result<(), Fai
     Ok(())
 }
 
-/// The four readers of a type accept the one text and refuse the other.
-macro_rules! has_four_readers {
-    ($rt:expr, $type:ty, $accepted:expr, $refused:expr) => {{
-        for (text, is_accepted) in [($accepted, true), ($refused, false)] {
-            let owned = BString::from_slice($rt.alloc(), text.as_bytes())?;
-            let cow = CowSlice::Borrowed(text.as_bytes());
-            let bytes = BStr::from(text);
-            equal(<$type>::try_from(text).is_ok(), is_accepted, ("text", text))?;
-            equal(<$type>::try_from(bytes).is_ok(), is_accepted, ("bytes", text))?;
-            equal(<$type>::try_from(owned).is_ok(), is_accepted, ("owned", text))?;
-            equal(<$type>::try_from(cow).is_ok(), is_accepted, ("cow", text))?;
-        }
-    }};
-}
-
-#[test]
-fn integers_have_four_readers(rt: HostRuntime) -> Result<(), Fail> {
-    has_four_readers!(rt, Integer, "0x10k", "08");
-    Ok(())
-}
-
-#[test]
-fn amounts_have_four_readers(rt: HostRuntime) -> Result<(), Fail> {
-    has_four_readers!(rt, Amount, "0x10k", "8589934592g");
-    Ok(())
-}
-
-#[test]
-fn booleans_have_four_readers(rt: HostRuntime) -> Result<(), Fail> {
-    has_four_readers!(rt, Boolean, "On", "tru");
-    Ok(())
-}
-
-#[test]
-fn colors_have_four_readers(rt: HostRuntime) -> Result<(), Fail> {
-    has_four_readers!(rt, Color, "bold red", "red green blue");
-    Ok(())
-}
-
 #[test]
 fn words_are_parsed() -> Result<(), Fail> {
     equal(Suffix::from_str("K"), Ok(Suffix::Kibi), "K")?;

@@ -1,5 +1,4 @@
 //! Calls of `Path::interpolate` as lines write them, and what the library answers to them, as a line writes it.
-#![tactic(auto)]
 
 use bstr::BString;
 use gix_config_value::Path;
@@ -18,19 +17,16 @@ pub struct Call<'a> {
     home_dir: &'a str,
     /// What the lookup knows, as `user=directory` between commas, or `-` where there is no lookup.
     lookup: &'a str,
-    /// What stands behind the call: the answer that is known to be right, or nothing.
-    pub known: &'a str,
 }
 
 /// The call of a line, whose fields stand between tabs; `None` where there are fewer than four.
 pub fn parse(line: &str) -> Option<Call<'_>> {
-    let mut fields = line.splitn(5, '\t');
+    let mut fields = line.splitn(4, '\t');
     Some(Call {
         value: fields.next()?,
         git_install_dir: fields.next()?,
         home_dir: fields.next()?,
         lookup: fields.next()?,
-        known: fields.next().unwrap_or(""),
     })
 }
 
