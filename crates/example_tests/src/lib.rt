@@ -2,14 +2,6 @@
 //! lines word for word. `.ci/examples.py` compares the two, so what an example says is compiled, proved safe and run.
 #![tactic(auto)]
 
-/// `testing::equal` in place of std's macro of this name, which takes longer to prove.
-#[cfg(test)]
-macro_rules! assert_eq {
-    ($rt:expr; $left:expr, $right:expr) => {
-        testing::equal($left, $right, ())?
-    };
-}
-
 #[cfg(test)]
 mod colors;
 #[cfg(test)]
