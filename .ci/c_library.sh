@@ -1,5 +1,6 @@
 #!/bin/sh
 # Builds the static library of the C interface over the libraries that the gate has just proved: sh .ci/c_library.sh ARCHIVE
+# ARCHIVE is an absolute path.
 #
 # `rt lib` takes nothing that `rt ci` makes, so it would prove those libraries once more. In its place this calls what it
 # calls, `rattle build`: that proves the crate itself and compiles it. Where `rt ci` has put back what a session had proved
