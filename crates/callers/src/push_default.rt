@@ -10,6 +10,7 @@ ghost use Rattle.callers.specs.PushDefault.{PushDefaultText, CanonicalPushDefaul
 ghost use Rattle.callers.specs.Laws.PushDefault.{push_default_one_value, push_default_one_text, push_default_canonical_reads, push_default_shown_is_text, push_default_decided};
 
 use bstr::BStr;
+use config_text::words::is;
 use gix_config_value::canonical::{Text, Value, normalize_as};
 use gix_config_value::settings::{Refused, lookup};
 
@@ -32,13 +33,18 @@ pub enum PushDefault {
 fn push_default_of(text: &[u8]) -> Option<PushDefault>
     ensures { Reads PushDefaultText text.now result }
 {
-    match text {
-        b"nothing" => Some(PushDefault::Nothing),
-        b"current" => Some(PushDefault::Current),
-        b"upstream" | b"tracking" => Some(PushDefault::Upstream),
-        b"simple" => Some(PushDefault::Simple),
-        b"matching" => Some(PushDefault::Matching),
-        _ => None,
+    if is(text, b"nothing") {
+        Some(PushDefault::Nothing)
+    } else if is(text, b"current") {
+        Some(PushDefault::Current)
+    } else if is(text, b"upstream") || is(text, b"tracking") {
+        Some(PushDefault::Upstream)
+    } else if is(text, b"simple") {
+        Some(PushDefault::Simple)
+    } else if is(text, b"matching") {
+        Some(PushDefault::Matching)
+    } else {
+        None
     }
 }
 

@@ -51,12 +51,10 @@ impl<'t> WordList<'t> {
         ensures { MatchOption result (IsNoWord self.now text.now self.now.words.items)
             (IsFirstWord self.now text.now) }
     {
-        for word in &self.words {
-            if self.is_word(word, text) {
-                return Some(word);
-            }
-        }
-        None
+        self.words
+            .iter()
+            .find(|word| self.is_word(word, text))
+            .copied()
     }
 }
 

@@ -19,10 +19,5 @@ pub fn row_for<'r, 't>(rows: &'r [Row<'t>], key: &[u8]) -> Option<&'r Row<'t>>
     ensures { MatchOption result (IsUnknown rows.now key.now) (λ row. Decides rows.now key.now row.now) }
 {
     let key = Key::parse(key)?;
-    for row in rows {
-        if row.key.covers(&key) {
-            return Some(row);
-        }
-    }
-    None
+    rows.iter().find(|row| row.key.covers(&key))
 }

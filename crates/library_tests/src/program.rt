@@ -1,12 +1,7 @@
 //! Tests of the program: how it reads and writes, and its errors at each read, write and flush that can fail. What it
 //! answers to each line stands in `crates/config_value/stdin` and `stdout`.
-#![tactic(auto)]
 
-#[cfg(test)]
 mod batches;
-#[cfg(test)]
 mod outcome;
-#[cfg(test)]
 mod reads;
-#[cfg(test)]
 mod writes;

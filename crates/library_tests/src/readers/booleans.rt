@@ -1,6 +1,6 @@
 //! Booleans.
 
-use crate::every_reader::{are_read, are_refused};
+use crate::readers::every_reader::{are_read, are_refused};
 use gix_config_value::Boolean;
 use gix_config_value::canonical::Kind;
 use std::test::Fail;

@@ -1,6 +1,6 @@
 //! Colors.
 
-use crate::every_reader::{are_read, are_refused};
+use crate::readers::every_reader::{are_read, are_refused};
 use bitflags::Flags;
 use gix_config_value::Color;
 use gix_config_value::canonical::Kind;

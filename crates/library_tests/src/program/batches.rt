@@ -1,6 +1,6 @@
 //! Inputs that fill the buffers of a run, one with a line in it, and one with none.
 
-use crate::outcome::is_outcome;
+use crate::program::outcome::is_outcome;
 use gix_config_value::program::run;
 use std::io::Cursor;
 use std::test::Fail;

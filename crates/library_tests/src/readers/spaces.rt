@@ -1,6 +1,6 @@
 //! White space, and what only looks like it, as Unicode's property White_Space has it.
 
-use crate::every_reader::{is_read, refused};
+use crate::readers::every_reader::{is_read, refused};
 use gix_config_value::canonical::Kind;
 use gix_config_value::color::space_at;
 use std::test::Fail;

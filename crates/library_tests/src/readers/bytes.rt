@@ -1,6 +1,6 @@
 //! Texts of one byte, beginnings of a text, and bytes that are no UTF-8.
 
-use crate::every_reader::{Wanted, is_read, refused};
+use crate::readers::every_reader::{Wanted, is_read, refused};
 use bstr::BStr;
 use gix_config_value::canonical::{Kind, normalize};
 use std::test::Fail;

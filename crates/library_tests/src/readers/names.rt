@@ -1,6 +1,6 @@
 //! Color names.
 
-use crate::every_reader::{are_refused, is_read};
+use crate::readers::every_reader::{are_refused, is_read};
 use bstr::BStr;
 use gix_config_value::canonical::{Kind, Value};
 use gix_config_value::color::{Item, Name, word};

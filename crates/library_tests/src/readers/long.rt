@@ -1,6 +1,6 @@
 //! Long texts, of 100,000 repeated parts and of 5,000: no reader needs a stack, or a time, that grows faster than its text.
 
-use crate::every_reader::{Wanted, is_read};
+use crate::readers::every_reader::{Wanted, is_read};
 use gix_config_value::Fault;
 use gix_config_value::canonical::Kind;
 use std::alloc::{AllocError, Global};

@@ -1,7 +1,7 @@
 //! A writer that takes its bytes in pieces, and fails or takes no byte at each of its calls in turn, and one whose
 //! flush fails.
 
-use crate::outcome::is_outcome;
+use crate::program::outcome::is_outcome;
 use gix_config_value::program::{RunError, run};
 use std::alloc::Global;
 use std::test::Fail;

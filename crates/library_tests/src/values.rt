@@ -1,12 +1,7 @@
 //! Tests of JSON values, orders, defaults and hashes, and of how values and errors are shown. The rows come from
 //! gix-config-value 0.21.1, and where docs/DIFFERENCES.md says that this library differs, they are worked out by hand.
-#![tactic(auto)]
 
-#[cfg(test)]
 mod errors;
-#[cfg(test)]
 mod json;
-#[cfg(test)]
 mod orders;
-#[cfg(test)]
 mod shown;

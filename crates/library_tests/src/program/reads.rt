@@ -1,6 +1,6 @@
 //! A reader that gives its bytes in pieces, and fails at each of its calls in turn.
 
-use crate::outcome::is_outcome;
+use crate::program::outcome::is_outcome;
 use gix_config_value::program::{RunError, run};
 use std::io::ErrorKind;
 use std::test::Fail;

@@ -1,6 +1,6 @@
 //! Suffixes.
 
-use crate::every_reader::{are_read, are_refused};
+use crate::readers::every_reader::{are_read, are_refused};
 use gix_config_value::canonical::Kind;
 use gix_config_value::integer::Suffix;
 use std::test::Fail;

@@ -1,6 +1,6 @@
 //! Amounts.
 
-use crate::every_reader::{Wanted, is_read};
+use crate::readers::every_reader::{Wanted, is_read};
 use gix_config_value::Fault;
 use gix_config_value::canonical::Kind;
 use std::test::Fail;

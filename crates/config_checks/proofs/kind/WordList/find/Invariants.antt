@@ -1,6 +1,0 @@
-use Rattle.std.proofs.Common.{take}
-use Rattle.config_checks.specs.Reasons.{IsNoWord}
-use Rattle.config_checks.proofs.kind.WordList.find.Given as goal
-
-abbrev pub invariant-loop-word : goal.invariant-loop-word
-invariant-loop-word l = IsNoWord l.self l.text (take l.word-index l.self.words.items)
