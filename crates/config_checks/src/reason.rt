@@ -113,17 +113,10 @@ fn word_reason(list: &WordList<'_>, text: &[u8]) -> Option<Reason<'static>>
     }
 }
 
-/// Why a setting of a kind is wrong, or `None` where it is right. Its value is a text, or `None` where it has none.
-pub fn judge(kind: &SettingKind<'_>, value: Option<&[u8]>) -> Option<Reason<'static>>
-    ensures { HasReason kind.now (option_copied value.entry) result }
+/// Why a setting of a kind is wrong whose value is a text.
+fn text_reason(kind: &SettingKind<'_>, text: &[u8]) -> Option<Reason<'static>>
+    ensures { HasReason kind.now (Some text.now) result }
 {
-    let Some(text) = value else {
-        return if kind.takes_true() {
-            None
-        } else {
-            Some(Reason::NoValue)
-        };
-    };
     match kind {
         SettingKind::Bool => refusal_by::<Boolean>(text),
         SettingKind::Int => number_reason(text, INT.0, INT.1),
@@ -132,6 +125,17 @@ pub fn judge(kind: &SettingKind<'_>, value: Option<&[u8]>) -> Option<Reason<'sta
         SettingKind::Color => refusal_by::<Color>(text),
         SettingKind::Path => path_reason(text),
         SettingKind::Word(list) => word_reason(list, text),
+    }
+}
+
+/// Why a setting of a kind is wrong, or `None` where it is right. Its value is a text, or `None` where it has none.
+pub fn judge(kind: &SettingKind<'_>, value: Option<&[u8]>) -> Option<Reason<'static>>
+    ensures { HasReason kind.now (option_copied value.entry) result }
+{
+    match value {
+        Some(text) => text_reason(kind, text),
+        None if kind.takes_true() => None,
+        None => Some(Reason::NoValue),
     }
 }
 

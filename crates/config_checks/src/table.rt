@@ -144,12 +144,8 @@ fn kind_of<'t>(alloc: Global, name: &[u8], words: &[&'t [u8]]) -> Result<Setting
     if words.is_empty() {
         return Err(RowFault::NoWords);
     }
-    let words = match Vec::from_slice(alloc, words) {
-        Ok(words) => words,
-        Err(error) => return Err(RowFault::Memory(error)),
-    };
     Ok(SettingKind::Word(WordList {
-        words,
+        words: Vec::from_slice(alloc, words).map_err(RowFault::Memory)?,
         ignores_case,
         or_bool,
     }))
@@ -160,10 +156,7 @@ pub fn read_row<'t>(alloc: Global, line: &'t [u8]) -> Result<Option<Row<'t>>, Ro
     ensures row { IfOk result (λ r. MatchOption r (IsNoRow (fields_of line.now)) (IsRow (fields_of line.now))) }
     ensures refused { IfErr result (IsBadRow (fields_of line.now)) }
 {
-    let fields = match fields_of(alloc, line) {
-        Ok(fields) => fields,
-        Err(error) => return Err(RowFault::Memory(error)),
-    };
+    let fields = fields_of(alloc, line).map_err(RowFault::Memory)?;
     let Some((key, rest)) = fields.split_first() else {
         return Ok(None);
     };
@@ -176,10 +169,8 @@ pub fn read_row<'t>(alloc: Global, line: &'t [u8]) -> Result<Option<Row<'t>>, Ro
     let Some(key) = Key::parse(key) else {
         return Err(RowFault::NoKey);
     };
-    match kind_of(alloc, name, words) {
-        Ok(kind) => Ok(Some(Row { key, kind })),
-        Err(fault) => Err(fault),
-    }
+    let kind = kind_of(alloc, name, words)?;
+    Ok(Some(Row { key, kind }))
 }
 
 /// Puts the row that a line is, if it is one, behind others.
@@ -187,13 +178,12 @@ fn push_row<'t>(alloc: Global, rows: &mut Vec<Row<'t>>, line: &'t [u8]) -> Resul
     ensures adds { OnOk result (AddsRow line.now rows.old.items rows.new.items) }
     ensures refused { IfErr result (IsBadRow (fields_of line.now)) }
 {
-    match read_row(alloc, line) {
-        Ok(None) => Ok(()),
-        Ok(Some(row)) => match rows.push(row) {
-            Ok(()) => Ok(()),
-            Err(_) => Err(RowFault::Memory(AllocError)),
-        },
-        Err(fault) => Err(fault),
+    let Some(row) = read_row(alloc, line)? else {
+        return Ok(());
+    };
+    match rows.push(row) {
+        Ok(()) => Ok(()),
+        Err(_) => Err(RowFault::Memory(AllocError)),
     }
 }
 
