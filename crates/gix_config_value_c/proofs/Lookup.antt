@@ -16,7 +16,8 @@ use Rattle.gix_config_value_c.specs.Reading.Settings.{last_from, found_at}
 pub data Since (name : List ℕ) (found : Option GcvEntry) (index start : ℕ) (bytes : List ℕ) (es : List (List ℕ × List ℕ)) (f : Option GcvEntry) : Type 0 where
   kept : IsAbsent es name → f ≡ found → Since name found index start bytes es f
   here : (j k : ℕ) (t : List ℕ) → Decides es name j t → f ≡ Some (record { index = index + j; start = start + k; length = length t })
-      → k + length t ≤ length bytes → take (length t) (drop k bytes) ≡ t → Since name found index start bytes es f
+      → k ≡ length (entry_bytes (take j es)) + length name → k + length t ≤ length bytes → take (length t) (drop k bytes) ≡ t
+      → Since name found index start bytes es f
 
 abbrev pub Answers : List ℕ → Option GcvEntry → ℕ → ℕ → List ℕ → List ℕ → Option (Option GcvEntry) → Type 0
 Answers name found index start bytes lengths None = (es : List (List ℕ × List ℕ)) → ¬ (AreEntries bytes lengths es)
@@ -71,6 +72,11 @@ later_decides e es name j t decides = record { named = decides.named; last = lat
 
 -- ---- one entry more
 
+one_longer : (first second : List ℕ) (es : List (List ℕ × List ℕ)) (name : List ℕ) (n m k : ℕ) → length first ≡ n → length second ≡ m
+    → k ≡ length (entry_bytes es) + length name → n + (m + k) ≡ length (entry_bytes ((first, second) ∷ es)) + length name
+one_longer first second es name n m k is_n is_m behind =
+    omega (arith, is_n, is_m, behind, length-append first (second ++ entry_bytes es), length-append second (entry_bytes es))
+
 one_before : (name bytes : List ℕ) (n m : ℕ) (found f : Option GcvEntry) (index start : ℕ) (es : List (List ℕ × List ℕ))
     → n ≤ length bytes → m ≤ length (drop n bytes)
     → Since name (found_at name (take n bytes) index (start + n) m found) (index + 1) (start + (n + m)) (drop m (drop n bytes)) es f
@@ -78,14 +84,18 @@ one_before : (name bytes : List ℕ) (n m : ℕ) (found f : Option GcvEntry) (in
 one_before name bytes n m found f index start es first second (kept nowhere same) =
     let sized = length-take-le m (drop n bytes) second in
     elim (either (bytes_eq (take n bytes) name)) [
-      | inl named ↦ here 0 n (take m (drop n bytes)) (first_decides _ es name ((bytes_eq-Decides (take n bytes) name).0 named) nowhere)
-          (rw (add-zero, sized) (rw named at same)) (rw sized (omega (arith, length-drop n bytes))) (rw sized refl)
+      | inl named ↦
+          let is : take n bytes ≡ name = (bytes_eq-Decides (take n bytes) name).0 named in
+          let front : n ≡ 0 + length name = rw (← is) (omega (arith, length-take-le n bytes first)) in
+          here 0 n (take m (drop n bytes)) (first_decides _ es name is nowhere) (rw (add-zero, sized) (rw named at same)) front
+          (rw sized (omega (arith, length-drop n bytes))) (rw sized refl)
       | inr other ↦ kept (still_absent _ es name (not_from_Decides _ (bytes_eq-Decides (take n bytes) name) other) nowhere) (rw other at same)
     ]
-one_before name bytes n m found f index start es first second (here j k t decides is within stands) =
+one_before name bytes n m found f index start es first second (here j k t decides is behind within stands) =
     let place : index + 1 + j ≡ index + suc j = omega arith in
     let byte : start + (n + m) + k ≡ start + (n + (m + k)) = omega arith in
     here (suc j) (n + (m + k)) t (later_decides _ es name j t decides) (rw (place, byte) at is)
+    (one_longer (take n bytes) (take m (drop n bytes)) (take j es) name n m k (length-take-le n bytes first) (length-take-le m (drop n bytes) second) behind)
     (omega (arith, within, length-drop n bytes, length-drop m (drop n bytes))) (rw (drop-drop, drop-drop) at stands)
 
 onward : (name bytes : List ℕ) (n m : ℕ) (lengths : List ℕ) (found : Option GcvEntry) (index start : ℕ) (r : Option (Option GcvEntry))
@@ -138,22 +148,33 @@ IsLast name bytes lengths (Some (Some f)) = (es : List (List ℕ × List ℕ)) �
     × ((t : List ℕ) × IsDeciding bytes es name f t) × (f.start + f.length ≤ length bytes)
 
 placed : (name bytes : List ℕ) (es : List (List ℕ × List ℕ)) (f : GcvEntry) (j k : ℕ) (t : List ℕ) → Decides es name j t
-    → f ≡ record { index = 0 + j; start = 0 + k; length = length t } → k + length t ≤ length bytes → take (length t) (drop k bytes) ≡ t
+    → f ≡ record { index = 0 + j; start = 0 + k; length = length t } → k ≡ length (entry_bytes (take j es)) + length name
+    → k + length t ≤ length bytes → take (length t) (drop k bytes) ≡ t
     → ((t : List ℕ) × IsDeciding bytes es name f t) × (f.start + f.length ≤ length bytes)
-placed name bytes es f j k t decides is within stands =
+placed name bytes es f j k t decides is behind within stands =
     let index : f.index ≡ j = rw is (omega arith) in
     let start : f.start ≡ k = rw is (omega arith) in
     let size : f.length ≡ length t = rw is refl in
-    let span : (k + length t) - k ≡ length t = omega arith in
-    ((t, record { decides = rw index decides; stands = rw (start, size, span) stands; sized = size }), rw (start, size) within)
+    let span : (k + length t) - k ≡ length t = omega arith in (
+      (
+        t,
+        record {
+          decides = rw index decides;
+          placed = rw (start, index) behind;
+          stands = rw (start, size, span) stands;
+          sized = size;
+        },
+      ),
+      rw (start, size) within,
+    )
 
 since_last : (name bytes lengths : List ℕ) (es : List (List ℕ × List ℕ)) (f : Option GcvEntry) → AreEntries bytes lengths es
     → Since name None 0 0 bytes es f → IsLast name bytes lengths (Some f)
 since_last name bytes lengths es None are (kept nowhere same) = (es, are, nowhere)
-since_last name bytes lengths es None are (here j k t decides is within stands) = absurd (none-some _ is)
+since_last name bytes lengths es None are (here j k t decides is behind within stands) = absurd (none-some _ is)
 since_last name bytes lengths es (Some f) are (kept nowhere same) = absurd (none-some _ (sym same))
-since_last name bytes lengths es (Some f) are (here j k t decides is within stands) =
-    let found = placed name bytes es f j k t decides (same_Some _ _ is) within stands in
+since_last name bytes lengths es (Some f) are (here j k t decides is behind within stands) =
+    let found = placed name bytes es f j k t decides (same_Some _ _ is) behind within stands in
     (es, are, found.0, found.1)
 
 answers_last : (name bytes lengths : List ℕ) (r : Option (Option GcvEntry)) → Answers name None 0 0 bytes lengths r → IsLast name bytes lengths r

@@ -1,5 +1,5 @@
 -- Paths in C: the mark, and what stands in a path value for its directories.
-use Rattle.std.specs.Prelude.{◌≡◌, ◌⊎◌, ℕ, List, Bool, Option, None, Some, Result, Ok, Err, string_bytes, IsUtf8, drop}
+use Rattle.std.specs.Prelude.{◌≡◌, ◌≤◌, ◌⊎◌, ℕ, List, length, Bool, Option, None, Some, Result, Ok, Err, string_bytes, IsUtf8, drop}
 use Rattle.std.specs.declared.string.String.{String}
 use Rattle.std.specs.declared.alloc.Global.{Global}
 use Rattle.config_path.specs.declared.interpolate.Error.{Error}
@@ -17,7 +17,8 @@ use Rattle.gix_config_value_c.specs.Values.{IsNoValue}
 
 -- whether the mark stands at the front, and where the path begins behind it
 abbrev pub CutsMark : List ℕ → ℕ → ℕ → Type 0
-CutsMark t optional start = (is_optional : Bool) × (optional ≡ flag_number is_optional) × Marked t is_optional (drop start t)
+CutsMark t optional start =
+    (is_optional : Bool) × (optional ≡ flag_number is_optional) × Marked t is_optional (drop start t) × (start ≤ length t)
 
 -- ---- what a path may refer to: a flag, and the text that is there where it is 1
 

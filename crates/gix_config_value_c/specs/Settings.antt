@@ -1,5 +1,5 @@
 -- A setting among entries that stand in C as one byte string and the lengths of names and texts.
-use Rattle.std.specs.Prelude.{◌≡◌, ◌+◌, ℕ, List, [], ◌∷◌, ◌++◌, length, slice_range}
+use Rattle.std.specs.Prelude.{◌≡◌, ◌+◌, ℕ, List, [], ◌∷◌, ◌++◌, length, take, slice_range}
 use Rattle.gix_config_value.specs.declared.kind.Kind.{Kind}
 use Rattle.gix_config_value.specs.Kinds.{KindGrammar}
 use Rattle.gix_config_value.specs.Settings.{Decides, IsAbsent}
@@ -24,9 +24,11 @@ pub record AreEntries (bytes lengths : List ℕ) (es : List (List ℕ × List �
   pub bytes_are : bytes ≡ entry_bytes es
   pub lengths_are : lengths ≡ entry_lengths es
 
--- the entry that decides for the name, and where its text stands among the bytes
+-- the entry that decides for the name, and where its text stands among the bytes: behind the entries before it, and
+-- behind its name
 pub record IsDeciding (bytes : List ℕ) (es : List (List ℕ × List ℕ)) (name : List ℕ) (found : GcvEntry) (t : List ℕ) : Type 0 where
   pub decides : Decides es name found.index t
+  pub placed : found.start ≡ length (entry_bytes (take found.index es)) + length name
   pub stands : slice_range bytes found.start (found.start + found.length) ≡ t
   pub sized : found.length ≡ length t
 
