@@ -25,7 +25,8 @@ def build_wheel(wheel_directory, config_settings=None, metadata_directory=None):
     """The wheel's file name, once it is written."""
     package = HERE / "gix_config_value"
     if not (package / LIBRARY).exists():
-        raise SystemExit(f"no {package / LIBRARY}: run sh crates/gix_config_value_c/build.sh PREFIX, and install PREFIX/python")
+        build = "sh crates/gix_config_value_c/build.sh PREFIX"
+        raise SystemExit(f"no {package / LIBRARY}: run {build}, and install PREFIX/python")
     name, version = _said("name"), _said("version")
     tag = "py3-none-" + re.sub(r"[^A-Za-z0-9]", "_", sysconfig.get_platform())
     info = f"{name}-{version}.dist-info"

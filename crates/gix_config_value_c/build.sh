@@ -11,8 +11,18 @@ if [ $# -ne 1 ]; then
     exit 2
 fi
 here=$(CDPATH='' cd -- "$(dirname -- "$0")" && pwd)
-mkdir -p -- "$1/include" "$1/lib/pkgconfig"
+mkdir -p -- "$1"
 prefix=$(CDPATH='' cd -- "$1" && pwd)
+# the Python package is put anew: what it replaces has to be one, and not the source
+package=$(CDPATH='' cd -- "$here/../../python" && pwd -P)
+if [ -e "$prefix/python" ]; then
+    replaced=$(CDPATH='' cd -- "$prefix/python" && pwd -P)
+    if [ "$replaced" = "$package" ] || [ ! -f "$replaced/wheel_of_package.py" ]; then
+        echo "$prefix/python is no package of an earlier build: choose another PREFIX" >&2
+        exit 2
+    fi
+fi
+mkdir -p -- "$prefix/include" "$prefix/lib/pkgconfig"
 version=$(cat "$here/VERSION")
 soname=libgix_config_value.so.${version%%.*}
 if ! rt=$(command -v rt); then
@@ -27,6 +37,9 @@ if [ ! -f "$heap" ]; then
 fi
 work=$(mktemp -d)
 trap 'rm -rf -- "$work"' EXIT
+# where a shell runs no EXIT trap at a signal
+trap 'exit 130' INT
+trap 'exit 143' TERM
 
 archive=${GCV_ARCHIVE:-}
 if [ -z "$archive" ]; then
@@ -49,6 +62,6 @@ cp -- "$here/include/gix_config_value.h" "$prefix/include/"
 sed "s/@VERSION@/$version/" "$here/gix_config_value.pc.in" > "$prefix/lib/pkgconfig/gix_config_value.pc"
 # the Python package, with the shared library inside
 rm -rf -- "$prefix/python"
-cp -R -- "$here/../../python" "$prefix/python"
+cp -R -- "$package" "$prefix/python"
 cp -- "$prefix/lib/libgix_config_value.so.$version" "$prefix/python/gix_config_value/$soname"
 echo "gix_config_value $version is in $prefix"

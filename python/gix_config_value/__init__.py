@@ -5,7 +5,8 @@ Integer(value=16, suffix=<Suffix.KIBI: 1>)
 >>> normalize("boolean", "YES")
 'true'
 
-A text is a `str` or `bytes`. A refused one raises `Refused`, a `ValueError` with the fault and the input.
+A text is a `str` or `bytes`. A refused one raises `Refused`, a `ValueError` with the fault and the input. Anything else
+raises `TypeError`.
 """
 from __future__ import annotations
 
@@ -38,9 +39,17 @@ class Refused(ValueError):
         self.fault = fault
         self.input = input
 
+    def __reduce__(self) -> tuple[type[Refused], tuple[str, bytes]]:
+        """So that it passes between processes, as from the workers of a pool."""
+        return Refused, (self.fault, self.input)
+
 
 def _bytes(text: Text) -> bytes:
-    return text.encode() if isinstance(text, str) else bytes(text)
+    if isinstance(text, str):
+        return text.encode()
+    if isinstance(text, (bytes, bytearray, memoryview)):
+        return bytes(text)
+    raise TypeError(f"a text is a str or bytes, and not {text!r}")
 
 
 def _kind(kind: str) -> int:
@@ -105,7 +114,7 @@ class Integer:
     def _struct(self) -> CInteger:
         if not -(2**63) <= self.value < 2**63:
             raise OverflowError(f"{self.value} is no 64-bit number")
-        return CInteger(self.value, self.suffix or 0)
+        return CInteger(self.value, 0 if self.suffix is None else Suffix(self.suffix))
 
     def to_decimal(self) -> int:
         """The number times the factor of its suffix. OverflowError where that is no 64-bit number."""
@@ -118,7 +127,10 @@ class Integer:
         return self.to_decimal()
 
     def __str__(self) -> str:
-        return _written("show_integer", byref(self._struct())) or ""
+        text = _written("show_integer", byref(self._struct()))
+        if text is None:
+            raise ValueError(f"{self!r} has no text")
+        return text
 
 
 @dataclass(frozen=True)
@@ -275,8 +287,8 @@ class Color:
         return CColor(names[0], names[1], int(self.attributes))
 
     def compose(self, other: Color) -> Color:
-        """The color that a text of this one, white space and a text of the other one reads to. ValueError where they have more
-        than two names together, or no text reads to one of them."""
+        """The color that a text of this one, white space and a text of the other one reads to. ValueError where they
+        have more than two names together, or no text reads to one of them."""
         out = CColor()
         status = LIBRARY.gcv_raw_compose(byref(self._struct()), byref(other._struct()), byref(out))
         if status != _OK:
@@ -317,12 +329,15 @@ def same(kind: str, first: Text, second: Text) -> bool:
     return out.value == 1
 
 
-def lookup(kind: str, entries: Iterable[tuple[Text, Text]], name: Text, default: Optional[Value] = None) -> Optional[Value]:
+def lookup(
+    kind: str, entries: Iterable[tuple[Text, Text]], name: Text, default: Optional[Value] = None
+) -> Optional[Value]:
     """The value of a setting: of the last entry of exactly this name, or the default where none has it."""
-    parts = [_bytes(part) for entry in entries for part in entry]
+    parts = [_bytes(part) for key, text in entries for part in (key, text)]
     lengths = (c_size_t * len(parts))(*map(len, parts)) if parts else (c_size_t * 1)()
     data, wanted, out = b"".join(parts), _bytes(name), CEntry()
     status = LIBRARY.gcv_raw_lookup(_kind(kind), data, len(data), lengths, len(parts), wanted, len(wanted), byref(out))
     if status == _ABSENT:
         return default
+    # the reader tells the fault of a refused text
     return _READERS[kind].parse(data[out.start : out.start + out.length])

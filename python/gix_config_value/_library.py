@@ -47,25 +47,24 @@ def _places() -> Iterator[str]:
 
 
 def _load() -> ctypes.CDLL:
-    places = list(_places())
-    for place in places:
+    faults = []
+    for place in _places():
         try:
             return ctypes.CDLL(place)
-        except OSError:
-            pass
+        except OSError as error:
+            faults.append(f"{place}: {error}")
     raise ImportError(
-        f"no {_NAME}: looked at {' and '.join(places)} and in the system's library path; build it by "
-        "`sh crates/gix_config_value_c/build.sh PREFIX` and set GIX_CONFIG_VALUE_LIBRARY=PREFIX/lib/" + _NAME
+        f"no {_NAME} ({'; '.join(faults)}): build it by `sh crates/gix_config_value_c/build.sh PREFIX`, and set "
+        f"GIX_CONFIG_VALUE_LIBRARY=PREFIX/lib/{_NAME}"
     )
 
 
 def _declare(library: ctypes.CDLL) -> None:
-    """Says what each call takes. A text is a `bytes`, which is never at null."""
+    """Says what each call of the package takes. A text is a `bytes`, which is never at null."""
     text = [c_char_p, c_size_t]
     buffer = [c_char_p, c_size_t, POINTER(c_size_t)]
     outs = {"suffix": c_uint32, "integer": CInteger, "amount": c_int64, "boolean": c_uint32, "name": CName,
             "attribute": c_uint32, "color": CColor}
-    by_value = {"suffix", "amount", "boolean", "attribute"}
     calls: dict[str, list[object]] = {
         "product": [POINTER(CInteger), POINTER(c_int64)],
         "normalize": [c_uint32, *text, *buffer],
@@ -73,17 +72,17 @@ def _declare(library: ctypes.CDLL) -> None:
         "compose": [POINTER(CColor), POINTER(CColor), POINTER(CColor)],
         "lookup": [c_uint32, *text, POINTER(c_size_t), c_size_t, *text, POINTER(CEntry)],
         "fault_text": [c_uint32, *buffer],
-        "interpolate": [*text, *([c_uint32, *text] * 3), *buffer, POINTER(c_uint32)],
+        "show_integer": [POINTER(CInteger), *buffer],
+        "show_name": [POINTER(CName), *buffer],
+        "show_attribute": [c_uint32, *buffer],
+        "show_color": [POINTER(CColor), *buffer],
     }
     for kind, out in outs.items():
         calls[f"read_{kind}"] = [*text, POINTER(out), POINTER(c_uint32)]
-        calls[f"show_{kind}"] = [out if kind in by_value else POINTER(out), *buffer]
     for name, arguments in calls.items():
         call = getattr(library, f"gcv_raw_{name}")
         call.argtypes = arguments
         call.restype = c_uint32
-    library.gcv_raw_cut_mark.argtypes = [*text, POINTER(c_uint32), POINTER(c_size_t)]
-    library.gcv_raw_cut_mark.restype = None
 
 
 LIBRARY = _load()

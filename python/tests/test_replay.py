@@ -1,5 +1,10 @@
-"""The package over upstream's stored answers, and what the C calls do not have. Run: python -m unittest discover -s tests"""
+"""The package over the Rust crate's stored answers, and what the C calls do not have.
+
+Run: python -m unittest discover -s tests
+"""
+import os
 import pathlib
+import pickle
 import subprocess
 import sys
 import unittest
@@ -51,6 +56,10 @@ class Values(unittest.TestCase):
             Integer.parse("9223372036854775807k").to_decimal()
         with self.assertRaises(OverflowError):
             str(Integer(2**63))
+        for suffix in (0, 4, -1):
+            for call in (str, Integer.to_decimal):
+                with self.assertRaises(ValueError):
+                    call(Integer(1, suffix))
 
     def test_boolean(self):
         self.assertEqual([bool(Boolean.parse(text)) for text in ("yes", "0x10", "off", "")], [True, True, False, False])
@@ -81,6 +90,18 @@ class Values(unittest.TestCase):
             gcv.normalize("number", "1")
         with self.assertRaises(Refused):
             gcv.same("integer", "1", "x")
+        again = pickle.loads(pickle.dumps(caught.exception))
+        self.assertEqual((again.fault, again.input), (caught.exception.fault, b"maybe"))
+
+    def test_no_text(self):
+        calls = (Boolean.parse, Color.parse, lambda text: gcv.normalize("boolean", text),
+                 lambda text: gcv.same("boolean", "1", text), lambda text: gcv.lookup("boolean", [], text),
+                 lambda text: gcv.lookup("boolean", [("a", text)], "a"))
+        for text in (0, 3, None, ["1"], 1.0):
+            for call in calls:
+                with self.assertRaises(TypeError):
+                    call(text)
+        self.assertEqual([Boolean.parse(bytearray(b"1")), Boolean.parse(memoryview(b"1"))], [Boolean(True)] * 2)
 
     def test_lookup(self):
         entries = [("a", "1"), ("b", "x"), ("a", "2k"), ("", b""), ("b", "yes")]
@@ -91,12 +112,23 @@ class Values(unittest.TestCase):
         self.assertIsNone(gcv.lookup("boolean", [], "a"))
         with self.assertRaises(Refused):
             gcv.lookup("integer", entries, "b")
+        for entry in (("a",), ("a", "1", "2")):
+            with self.assertRaises(ValueError):
+                gcv.lookup("integer", [entry, ("a", "1")], "a")
 
     def test_command(self):
-        run = subprocess.run([sys.executable, "-m", "gix_config_value", "integer", "0x10k"], capture_output=True, text=True, check=False)
-        self.assertEqual((run.returncode, run.stdout), (0, "16k\n"))
-        run = subprocess.run([sys.executable, "-m", "gix_config_value", "integer", "x"], capture_output=True, text=True, check=False)
-        self.assertEqual((run.returncode, run.stdout), (1, ""))
+        for text, wanted in (("0x10k", (0, "16k\n")), ("x", (1, ""))):
+            command = [sys.executable, "-m", "gix_config_value", "integer", text]
+            run = subprocess.run(command, capture_output=True, text=True, check=False)
+            self.assertEqual((run.returncode, run.stdout), wanted)
+
+    def test_no_library(self):
+        environment = dict(os.environ, GIX_CONFIG_VALUE_LIBRARY="/no/such/library")
+        command = [sys.executable, "-c", "import gix_config_value"]
+        run = subprocess.run(command, env=environment, capture_output=True, text=True, check=False)
+        self.assertEqual(run.returncode, 1)
+        self.assertIn("ImportError", run.stderr)
+        self.assertIn("/no/such/library: ", run.stderr)
 
 
 if __name__ == "__main__":
