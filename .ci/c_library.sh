@@ -1,10 +1,10 @@
 #!/bin/sh
-# Builds the static library of the C interface over the libraries that the gate has just proved: sh .ci/c_library.sh ARCHIVE
-# ARCHIVE is an absolute path.
+# Builds the static library of the C interface over the libraries that the gate has just proved:
+# sh .ci/c_library.sh ARCHIVE, where ARCHIVE is an absolute path.
 #
-# `rt lib` takes nothing that `rt ci` makes, so it would prove those libraries once more. In its place this calls what it
-# calls, `rattle build`: that proves the crate itself and compiles it. Where `rt ci` has put back what a session had proved
-# before, `rt lib` takes that, and is called. The last line is 'N passed, M failed'.
+# `rt lib` takes nothing that `rt ci` makes, so it would prove those libraries once more. In its place this calls what
+# it calls, `rattle build`: that proves the crate itself and compiles it. Where `rt ci` has put back what earlier checks
+# had kept, `rt lib` takes that, and is called. The last line is 'N passed, M failed'.
 set -u
 crate=gix_config_value_c
 kit=$(dirname -- "$(dirname -- "$(readlink -f -- "$(command -v rt)")")")
@@ -29,7 +29,8 @@ build() {
     # shellcheck disable=SC2086
     (cd crates/$crate && "$kit/bin/rattle" build --crate-name $crate --crate-type staticlib src/lib.rt \
         $libraries -L dependency="$kit/rlibs" --antt-project "$kit/rattle/logic/antt-project.json" \
-        --logic-built "$kit/logic_built" --toolchain "$kit/toolchain" --links $crate= --jobs "${RT_JOBS:-$(nproc)}" -o "$1")
+        --logic-built "$kit/logic_built" --toolchain "$kit/toolchain" --links $crate= \
+        --jobs "${RT_JOBS:-$(nproc)}" -o "$1")
 }
 
 if build "$1"; then

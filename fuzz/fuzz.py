@@ -88,9 +88,13 @@ class Program:
 
     def end(self):
         """What is wrong with how the process ends, if anything."""
+        # a program that goes on at the end of its input would be waited for without end
+        watch = threading.Timer(SECONDS_FOR_A_BATCH, self.process.kill)
+        watch.start()
         self.process.stdin.close()
         more = self.process.stdout.read()
         status = self.process.wait()
+        watch.cancel()
         wanted = 0 if self.all_accepted else 1
         if more:
             return f"more answers than lines: {more[:80]!r}"
@@ -129,10 +133,11 @@ def mutated(draw, texts):
 
 
 def mutated_head(draw):
-    """A kind's name, spoilt or not."""
+    """A kind's name, spoiled or not."""
     head = bytearray(draw.choice(KINDS))
     at = draw.randrange(len(head) + 1)
-    head[at:at + draw.randrange(2)] = draw.choice((b"", b"\t", b"x", b"\0", b"\xff", b"\r", bytes(head[at:at + 1]).swapcase()))
+    other_case = bytes(head[at:at + 1]).swapcase()
+    head[at:at + draw.randrange(2)] = draw.choice((b"", b"\t", b"x", b"\0", b"\xff", b"\r", other_case))
     return bytes(head)
 
 
@@ -287,7 +292,8 @@ def main():
     if fuzzer:
         for what, count in fuzzer.tried.items():
             print(f"{count:>12,} {what}")
-    print(f"{program.answered:>12,} lines in all, seed {arguments.seed}, {len(faults)} faults, {time.monotonic() - start:.1f} s")
+    seconds = time.monotonic() - start
+    print(f"{program.answered:>12,} lines in all, seed {arguments.seed}, {len(faults)} faults, {seconds:.1f} s")
     print(f"{passed} passed, {failed} failed")
     return 1 if failed else 0
 

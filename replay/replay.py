@@ -1,5 +1,6 @@
-"""Replays upstream's answers: python3 replay.py PROGRAM [FOLDER]. Prints the first differences, and last 'N passed,
-M failed'. FOLDER, in place of this one, is one that make.py wrote.
+"""Replays the Rust crate's answers: python3 replay.py PROGRAM [FOLDER].
+
+Prints the first differences, and last 'N passed, M failed'. FOLDER, in place of this one, is one that make.py wrote.
 """
 import pathlib
 import subprocess
@@ -20,16 +21,15 @@ def main():
     run = subprocess.run([sys.argv[1]], input=lines, stdout=subprocess.PIPE, check=False)
     given = run.stdout.split(b"\n")
     ended = given.pop() == b"" and len(given) == len(wanted) and run.returncode == 1
-    failed = 0
-    for line, want, got in zip(inputs, wanted, given):
-        if want != got:
-            failed += 1
-            if failed <= SHOWN:
-                print(f"{line!r}: wanted {want!r}, got {got!r}")
+    differences = [found for found in zip(inputs, wanted, given) if found[1] != found[2]]
+    for line, want, got in differences[:SHOWN]:
+        print(f"{line!r}: wanted {want!r}, got {got!r}")
     if not ended:
-        failed += 1
         print(f"the program ended with status {run.returncode} after {len(given)} of {len(wanted)} answers")
-    print(f"{len(wanted) - failed} passed, {failed} failed")
+    # a line without an answer has failed, and so has an end that is not the one wanted
+    passed = min(len(given), len(wanted)) - len(differences)
+    failed = len(wanted) - passed + (not ended)
+    print(f"{passed} passed, {failed} failed")
     return 1 if failed else 0
 
 

@@ -18,7 +18,7 @@ import classes  # noqa: E402
 import texts  # noqa: E402
 from classes import Case, Question, amount  # noqa: E402
 from colors import escape_code  # noqa: E402
-from readers import NOT_SET, REFUSED, Git, Missing, c_library, user_of, users  # noqa: E402
+from readers import NOT_SET, REFUSED, Git, Missing, Wrong, c_library, user_of, users  # noqa: E402
 
 TEXTS = 400
 HOMES = [classes.HOME, None]
@@ -106,6 +106,8 @@ def by_git(git, name, asked):
     if run.returncode == 0 and len(given) == len(asked):
         return given
     if len(asked) == 1:
+        if run.returncode != REFUSED and (run.returncode != 1 or run.stdout):
+            raise Wrong(f"git ended with status {run.returncode} at {question}: {run.stderr!r}")
         return [None if run.returncode == REFUSED else NOT_SET]
     half = len(asked) // 2
     return by_git(git, name, asked[:half]) + by_git(git, name, asked[half:])

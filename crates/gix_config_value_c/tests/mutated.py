@@ -1,4 +1,7 @@
-"""Writes the first lines that the fuzzer feeds to the program, and its answers: mutated.py PROGRAM LINES ANSWERS [COUNT] [SEED]."""
+"""Writes the first lines that the fuzzer feeds to the program, and its answers.
+
+Run: mutated.py PROGRAM LINES ANSWERS [COUNT] [SEED]
+"""
 import pathlib
 import sys
 
@@ -30,9 +33,9 @@ def main():
     fuzzer = fuzz.Fuzzer(recorder, seed)
     while len(recorder.lines) < count:
         fuzzer.batch(1000)
-    recorder.end()
-    if fuzzer.faults:
-        sys.exit(f"the program is at fault: {fuzzer.faults[0]}")
+    wrong_end = recorder.end()
+    if fuzzer.faults or wrong_end:
+        sys.exit(f"the program is at fault: {[*fuzzer.faults, wrong_end][0]}")
     pathlib.Path(lines).write_bytes(b"".join(line + b"\n" for line in recorder.lines[:count]))
     pathlib.Path(answers).write_bytes(b"".join(answer + b"\n" for answer in recorder.given[:count]))
 

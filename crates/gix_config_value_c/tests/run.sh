@@ -1,9 +1,9 @@
 #!/bin/sh
 # The tests of the C interface: sh crates/gix_config_value_c/tests/run.sh PROGRAM [PREFIX]
 #
-# PROGRAM is the built crates/config_value, whose answers the fuzzer's lines are compared with. Without PREFIX, where build.sh
-# has put the library, it is built into a folder of its own. The last line is 'N passed, M failed'. Where a tool is not there,
-# what needs it says so, and counts nothing.
+# PROGRAM is the built crates/config_value, whose answers the fuzzer's lines are compared with. Without PREFIX, where
+# build.sh has put the library, it is built into a folder of its own. The last line is 'N passed, M failed'. Where a
+# tool is not there that build.sh does not need, what needs it says so, and counts nothing.
 set -u
 tests=$(CDPATH='' cd -- "$(dirname -- "$0")" && pwd)
 root=$(CDPATH='' cd -- "$tests/../../.." && pwd)
@@ -11,6 +11,9 @@ program=$1
 prefix=${2:-}
 work=$(mktemp -d)
 trap 'rm -rf -- "$work"' EXIT
+# where a shell runs no EXIT trap at a signal
+trap 'exit 130' INT
+trap 'exit 143' TERM
 passed=0
 failed=0
 
@@ -78,9 +81,18 @@ libs=$(pkg-config --libs gix_config_value)
 archive=$prefix/lib/libgix_config_value.a
 
 holds "the version" python3 "$root/.ci/version.py" "$prefix"
-holds "no symbol but those of the header" sh -c "nm -g --defined-only '$archive' | grep ' [A-Z] ' | grep -v ' gcv_raw_' | (! grep .)"
 
-# the examples, by each compiler as C99 and as C++, and over the archive alone
+# the calls that the header declares are the symbols that the library shows, and it needs none but those of docs/C.md
+grep -oE 'gcv_raw_[a-z0-9_]+' "$prefix/include/gix_config_value.h" | sort -u > "$work/declared"
+nm -g --defined-only "$archive" | sed -n 's/.* [A-Z] //p' | sort > "$work/shown"
+holds "the archive shows the calls of the header" diff "$work/declared" "$work/shown"
+nm -D --defined-only "$prefix/lib/libgix_config_value.so" | sed -n 's/.* [A-Z] //p' | sort > "$work/shown"
+holds "the shared library shows the calls of the header" diff "$work/declared" "$work/shown"
+printf '%s\n' free malloc memcpy memmove memset realloc > "$work/known"
+nm -u "$archive" | sed -n 's/^ *U //p' | sort -u > "$work/needed"
+holds "the archive needs memory and copies of it alone" diff "$work/known" "$work/needed"
+
+# the examples, by each compiler as C99 and as C++, over the shared library and over the archive
 warnings="-Wall -Wextra -Wconversion -Wpedantic -Werror"
 for compiler in gcc clang g++ clang++; do
     if ! command -v "$compiler" > /dev/null; then
@@ -93,15 +105,19 @@ for compiler in gcc clang g++ clang++; do
     esac
     for example in theme check setting; do
         # shellcheck disable=SC2086
-        holds "$example by $compiler" "$compiler" $language $warnings $flags -o "$work/$example" "$root/examples/c/$example.c" -x none $libs
+        holds "$example by $compiler, over the archive" \
+            "$compiler" $language $warnings $flags -o "$work/$example" "$root/examples/c/$example.c" -x none "$archive"
+        # shellcheck disable=SC2086
+        holds "$example by $compiler" \
+            "$compiler" $language $warnings $flags -o "$work/$example" "$root/examples/c/$example.c" -x none $libs
     done
     holds "theme by $compiler runs" sh -c "[ \"\$('$work/theme' 'bold red' 'ul #fff')\" = 'red #ffffff bold ul' ]"
-    holds "theme by $compiler refuses" sh -c "! '$work/theme' 'red blue' green"
+    holds "theme by $compiler refuses" sh -c "'$work/theme' 'red blue' green; [ \$? -eq 1 ]"
     holds "check by $compiler runs" sh -c "[ \"\$('$work/check' integer 0x10k)\" = 16k ]"
     holds "check by $compiler refuses" sh -c "'$work/check' boolean maybe | grep '^refused: Booleans need'"
     holds "setting by $compiler runs" sh -c "[ \"\$('$work/setting' core.limit)\" = '16384, by entry 1' ]"
     holds "setting by $compiler has a default" sh -c "[ \"\$('$work/setting' core.other)\" = '4096, by default' ]"
-    holds "setting by $compiler refuses" sh -c "! '$work/setting' core.pager"
+    holds "setting by $compiler refuses" sh -c "'$work/setting' core.pager; [ \$? -eq 1 ]"
 done
 
 # the Python package, where the library was built
@@ -116,7 +132,8 @@ if ! python3 -m pip --version > /dev/null 2>&1; then
 else
     holds "the Python package installs" python3 -m pip install --quiet --disable-pip-version-check --no-index \
         --no-build-isolation --target "$work/site" "$prefix/python"
-    holds "the installed package runs" env PYTHONPATH="$work/site" sh -c "[ \"\$(python3 -m gix_config_value integer 0x10k)\" = 16k ]"
+    holds "the installed package runs" env PYTHONPATH="$work/site" \
+        sh -c "[ \"\$(python3 -m gix_config_value integer 0x10k)\" = 16k ]"
 fi
 
 # the calls under sanitizers
@@ -135,7 +152,8 @@ for test in calls lines paths; do
     holds "$test by clang" clang -std=c99 $warnings $sanitizers $flags -o "$work/$test" "$tests/$test.c" "$archive"
 done
 # shellcheck disable=SC2086
-holds "memory by clang" clang -std=c99 $warnings $flags -Wl,--wrap=malloc,--wrap=realloc,--wrap=free -o "$work/memory" "$tests/memory.c" "$archive"
+holds "memory by clang" clang -std=c99 $warnings $flags -Wl,--wrap=malloc,--wrap=realloc,--wrap=free \
+    -o "$work/memory" "$tests/memory.c" "$archive"
 counted "each status" "$work/calls"
 counted "memory refused" "$work/memory"
 counted "upstream's answers" "$work/lines" "$root/replay/lines.txt" "$root/replay/answers.txt"
