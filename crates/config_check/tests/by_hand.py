@@ -44,7 +44,7 @@ def expect_values(group, program, how, key, values, reason):
 
 
 def values(group, program):
-    """Each kind and each reason, with and without a judgement of the spelling."""
+    """Each kind and each reason, with and without a judgment of the spelling."""
     settings = program.settings(rows.SETTINGS)
     how, canonical = arguments(settings), arguments(settings, canonical=True)
     for key, accepted in rows.ACCEPTED:
@@ -126,6 +126,10 @@ def wrong_and_other_arguments(group, program):
     for more in rows.WRONG_ARGUMENTS:
         came = program.run(more, b"")
         is_said = WRONG_USE.search(came.errors) is not None
+        group.expect((more, came.errors), (2, b"", True), (came.status, came.output, is_said))
+    for more in rows.ILL_FORMED_ARGUMENTS:
+        came = program.run(more, b"")
+        is_said = came.errors.startswith(CANNOT + b"read the arguments: ") and came.errors.count(b"\n") == 1
         group.expect((more, came.errors), (2, b"", True), (came.status, came.output, is_said))
     for more in (["--help"], ["--version"]):
         came = program.run(more, b"core.bare\nmaybe\0")

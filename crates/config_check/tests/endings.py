@@ -2,6 +2,8 @@
 import os
 import pathlib
 import pty
+import resource
+import tempfile
 
 import rows
 from checking import CANNOT, Ended, arguments, run, summary
@@ -9,6 +11,8 @@ from checking import CANNOT, Ended, arguments, run, summary
 FULL = pathlib.Path("/dev/full")
 FINDING = b"test.bool\nmaybe\0"
 MANY = 200_000
+# more than the addresses that a process has, in bytes
+LONG, ADDRESSES = 20_000_000, 16_000_000
 RED, PLAIN = b"\x1b[31m", b"\x1b[m"
 
 
@@ -57,6 +61,22 @@ def closed_files(group, program, how):
     expect_cannot(group, "a folder", came)
 
 
+def memory(group, program, how):
+    """There is no memory for an entry that is read: the lines of those before it are written."""
+    def starve():
+        resource.setrlimit(resource.RLIMIT_AS, (ADDRESSES, ADDRESSES))
+
+    line = b"1\ttest.bool\tmaybe\t" + rows.BOOLEAN_FAULT + b"\n"
+    with tempfile.TemporaryFile() as entries:
+        entries.write(FINDING + b"test.bool\n" + b"1" * LONG + b"\0")
+        entries.seek(0)
+        came = program.run(how, stdin=entries, preexec_fn=starve)
+    is_said = came.errors.startswith(CANNOT + b"read: ") and came.errors.count(b"\n") == 1
+    group.expect(("no memory", came.errors), (2, line, True), (came.status, came.output, is_said))
+    came = program.run(how, FINDING, preexec_fn=starve)
+    group.expect("memory enough", Ended(1, line, summary((1, 1, 0, 1))), came)
+
+
 def written_on_terminal(terminal):
     """What was written on a terminal whose other end is closed."""
     found = b""
@@ -91,5 +111,5 @@ def terminal(group, program, how):
 
 def check(group, program):
     how = arguments(program.settings(rows.SETTINGS))
-    for part in (closed_pipe, full_device, closed_files, terminal):
+    for part in (closed_pipe, full_device, closed_files, memory, terminal):
         part(group, program, how)

@@ -368,3 +368,6 @@ CUT_OFF = [
 WRONG_ARGUMENTS = [["--no-such-argument"], ["-x"], ["input"], ["--settings"], ["--show-scope=maybe"],
                    ["--canonical", "more"], ["--show-scope", "--show-scope"],
                    ["--settings", "/dev/null", "--settings", "/dev/null"]]
+
+# arguments that are no UTF-8
+ILL_FORMED_ARGUMENTS = [[b"--canonical\xff"], [b"--settings", b"\xff"], [b"\xc3"]]

@@ -3,7 +3,7 @@
 
 It prints what failed, a line for each group, the classes of differences from Git, and last
 'N passed, M failed'. The run is the same for the same seed and number of mutated entries.
-Without Git, what needs it says so and counts nothing.
+Without Git or its manual, what needs it says so and counts nothing.
 """
 import argparse
 import random
@@ -14,6 +14,7 @@ import by_hand
 import endings
 import git_types
 import inputs
+import page
 import repository
 from checking import Group, Program
 
@@ -24,6 +25,7 @@ def groups(program, seed, count):
         return random.Random(seed)
 
     return [
+        ("the pages of Git", page.check),
         ("rows, keys and arguments", lambda group: by_hand.check(group, program)),
         ("inputs that are cut off", lambda group: inputs.cut(group, program)),
         ("inputs that arrive in pieces", lambda group: inputs.pieces(group, program, draw())),
