@@ -1,6 +1,7 @@
 #!/usr/bin/env python3
-"""docs/CONTRACTS.md is the digest of all public contracts, and what the pages quote stands in the sources, word for word:
-contracts.py [--write]. With --write the digest is written anew. The last line is 'N passed, M failed'."""
+"""docs/CONTRACTS.md is the digest of the public contracts of the library and of the checker, and what the pages quote
+stands in the sources, word for word: contracts.py [--write]. With --write the digest is written anew. The last line is
+'N passed, M failed'."""
 import pathlib
 import re
 import sys
@@ -14,13 +15,13 @@ CRATES = ("config_text", "config_integer", "config_boolean", "config_word", "con
 PAGES = {"CALLING.md": 13, "docs/READING.md": 2}
 HEAD = """# The public contracts
 
-Each public call of the library and of the checker with its clauses, and the ghost members of each public trait and `impl`, as they stand in `src/`.
-`.ci/contracts.py --write` writes this page, and the gate compares it. The words of the clauses are defined on top of
-each crate's `specs/`; docs/PROOFS.md says which promise each clause carries.
+Each public call of the library and of the checker with its clauses, and the ghost members of each public trait and
+`impl`, as they stand in `src/`. `.ci/contracts.py --write` writes this page, and the gate compares it. The words of the
+clauses are defined on top of each crate's `specs/`; docs/PROOFS.md says which promise each clause carries.
 """
 # an item of a file, or a block that holds items
 CONTAINER = re.compile(r"^(?:pub trait|impl)\b")
-CALL = re.compile(r"^ *(?:pub (?:const )?(?:extern \"C\" )?fn|fn|final fn)\b")
+CALL = re.compile(r"^ *(?:pub (?:const )?fn|fn|final fn)\b")
 GHOST = re.compile(r"^ +ghost \w+(?: = \{|: \{)")
 
 

@@ -3,8 +3,8 @@
 runs. An example is a fenced block of a `///` or `//!` comment, or README.md's first block of Rust. Its lines have to
 stand in one test, in order, with nothing between them but assertions of the test's own. Indentation, blank lines and
 the spaces before a trailing comment make no difference. Each public struct, enum and trait and each call of CALLS has
-to have an example, and each test has to hold one. A section of docs/GRAMMAR.md that a comment cites has to be there. The last line is
-'N passed, M failed'."""
+to have an example, and each test has to hold one. A section of docs/GRAMMAR.md that a comment cites has to be there.
+The last line is 'N passed, M failed'."""
 import pathlib
 import re
 import sys

@@ -1,6 +1,7 @@
 #!/usr/bin/env python3
-"""The exit status of the built program: python3 statuses.py PROGRAM. It is 0 where each line has a value, 1 where some line
-has none, and 2 where the input cannot be read or the output cannot be written. The last line is 'N passed, M failed'."""
+"""The exit status of the built program: python3 statuses.py PROGRAM. It is 0 where each line has a value, 1 where some
+line has none, and 2 where the input cannot be read or the output cannot be written. The last line is
+'N passed, M failed'."""
 import os
 import pathlib
 import subprocess

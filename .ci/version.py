@@ -1,6 +1,7 @@
 #!/usr/bin/env python3
-"""crates/gix_config_value_c/VERSION is the one version: version.py [PREFIX]. The header says the same, and so do a CHANGELOG.md,
-the program config_check and the Python package where they are there, and the library that was built into PREFIX. The last line is 'N passed, M failed'."""
+"""crates/gix_config_value_c/VERSION is the one version: version.py [PREFIX]. The header says the same, and so do a
+CHANGELOG.md, the program config_check and the Python package where they are there, and the library that was built into
+PREFIX. The last line is 'N passed, M failed'."""
 import pathlib
 import re
 import subprocess
@@ -28,8 +29,9 @@ def said(path, pattern):
 
 def built(prefix, version):
     """What pkg-config and the shared library in the prefix say, and what they should."""
-    module = subprocess.run(["pkg-config", "--modversion", "gix_config_value"], capture_output=True, text=True, check=False,
-                            env={"PKG_CONFIG_PATH": f"{prefix}/lib/pkgconfig", "PATH": "/usr/local/bin:/usr/bin:/bin"})
+    environment = {"PKG_CONFIG_PATH": f"{prefix}/lib/pkgconfig", "PATH": "/usr/local/bin:/usr/bin:/bin"}
+    command = ["pkg-config", "--modversion", "gix_config_value"]
+    module = subprocess.run(command, env=environment, capture_output=True, text=True, check=False)
     yield "pkg-config", module.stdout.strip(), version
     soname = f"libgix_config_value.so.{version.split('.')[0]}"
     library = pathlib.Path(prefix) / "lib" / f"libgix_config_value.so.{version}"

@@ -47,8 +47,9 @@ uint32_t up_color_read(const uint8_t *text, size_t length, up_color *value);
 /* Writes what `Display` shows of a color, and answers its length. */
 size_t up_color_show(const up_color *value, uint8_t *text);
 
-/* kind: 1 suffix, 2 integer, 3 amount, 4 boolean, 5 name, 6 attribute, 7 color. Reads the text and writes what `Display`
-   shows of the value, and answers its length, or SIZE_MAX where the text is refused. The crate has no one call for it. */
+/* kind: 1 suffix, 2 integer, 3 amount, 4 boolean, 5 name, 6 attribute, 7 color. Reads the text and writes what
+ * `Display` shows of the value, and answers its length, or SIZE_MAX where the text is refused. The crate has no one
+ * call for it. */
 size_t up_normalize(uint32_t kind, const uint8_t *text, size_t length, uint8_t *shown);
 
 /* Makes a `Path` of the value and interpolates it: the install directory is /usr/lib/git, the home /home/bob, and the

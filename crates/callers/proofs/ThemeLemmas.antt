@@ -13,7 +13,7 @@ one_space : Space (32 ∷ [])
 unfolding spellings
 one_space = inr (inr (inr (inr (inr (inl refl)))))
 
--- the normalised text of both, joined by a space, is their style
+-- the normalized text of both, joined by a space, is their style
 spellings_agree : (base over : List ℕ) (composed joined : Option ArrayString)
     → ((front space back : List ℕ) (c : Color) → Space space → (ColorText (front ++ space ++ back) c) ↔ (Joined front back c))
     → IsStyleOf base over composed

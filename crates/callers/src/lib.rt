@@ -1,5 +1,5 @@
-//! Callers of `gix_config_value`, all of them, and proved: each rests on the public contracts alone, and says in its own
-//! contract what its user gets. Read `entries` first, and then what your task is nearest to.
+//! Callers of `gix_config_value`, all of them, and proved: each rests on the public contracts alone, and says in its
+//! own contract what its user gets. Read `entries` first, and then what your task is nearest to.
 //!
 //! | Module | What it does | What it shows |
 //! |---|---|---|

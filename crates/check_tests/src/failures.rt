@@ -1,4 +1,4 @@
-//! A check whose reads, writes or memory fail.
+//! A check whose reads, writes or flush fail.
 
 use config_checks::check::{CheckError, Summary, check};
 use config_checks::options::Options;

@@ -1,5 +1,5 @@
-//! Tests of the checker of settings: the texts of refusals, and what is written where a read, a write or a request for memory
-//! fails. Rows for each kind and each reason stand in `crates/config_check/tests`, with a second reader.
+//! Tests of the checker of settings: the texts of refusals, and what is written where a read, a write or a flush fails.
+//! Rows for each kind and each reason stand in `crates/config_check/tests`, with a second reader.
 #![tactic(auto)]
 
 #[cfg(test)]

@@ -29,7 +29,7 @@ pub enum CheckError {
     Memory(AllocError),
 }
 
-/// How many entries a check judged.
+/// What a check counted of its entries.
 #[derive(Clone, Copy)]
 pub struct Counts {
     /// The entries.
@@ -233,17 +233,20 @@ impl Progress {
     }
 }
 
-/// Checks all entries of an input, and writes a line for each that something is found of, in their order. The result says
-/// how many entries there were, how many of them no row covers, how many lines were written, and whether the input ended
-/// within an entry. An entry that no NUL ends is judged too, where something stands in its setting.
+/// Checks all entries of an input, and writes a line for each that something is found of, in their order. The result
+/// counts the entries, those that no row covers, and the lines. It says too whether the input ended within an entry. An
+/// entry that no NUL ends is judged as well, where something stands in its setting.
 ///
-/// `Read` is an error of a read, and an input that has not ended after 18446744073709551615 entries: the lines of all entries
-/// that were read are then written, but for one that was begun when the read failed. `Write` is an error of a write or of the
-/// flush at the end, and a write that takes no byte; `Memory` is answered where there is no memory for a line. After these what
-/// was written is a beginning of the lines.
+/// Errors:
+/// - `Read`: a read failed, or the input has not ended after 18446744073709551615 entries. The lines of all entries that
+///   were read are then written, but for one that was begun when the read failed.
+/// - `Write`: a write or the flush at the end failed, or a write took no byte.
+/// - `Memory`: there was no memory for a line.
 ///
-/// The clauses speak of bytes that the prover knows a reader to have and a writer to hold. Of standard input and output it
-/// knows none: there they say what `check` does with any reader and any writer.
+/// After the last two, what was written is a beginning of the lines.
+///
+/// The clauses speak of bytes that the prover knows a reader to have and a writer to hold. Of standard input and output
+/// it knows none: there they say what `check` does with any reader and any writer.
 pub fn check<R: BufRead, W: Write>(
     alloc: Global,
     rows: &[Row<'_>],

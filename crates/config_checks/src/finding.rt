@@ -48,8 +48,8 @@ fn push_piece(out: &mut Vec<u8>, character: Option<char>, bytes: &[u8]) -> Resul
     }
 }
 
-/// The character at the front of a text, if its bytes are one, these bytes, and what follows them. `None` where the text
-/// is empty.
+/// The character at the front of a text, if its bytes are one, these bytes, and what follows them. `None` where the
+/// text is empty.
 fn first_piece(text: &[u8]) -> Option<(Option<char>, &[u8], &[u8])>
     ensures shown { MatchOption result (text.now ≡ [])
         (λ p. shown text.now ≡ piece_shown p.0 p.1.now ++ shown p.2.now) }

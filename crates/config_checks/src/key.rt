@@ -82,8 +82,8 @@ impl<'k> Key<'k> {
         }
     }
 
-    /// Whether this key of a row covers a key. Sections and last parts are compared ignoring ASCII case, and what stands
-    /// between them by bytes. `*` covers any text between the dots, and any last part.
+    /// Whether this key of a row covers a key. Sections and last parts are compared ignoring ASCII case, and what
+    /// stands between them by bytes. `*` covers any text between the dots, and any last part.
     pub fn covers(&self, key: &Key<'_>) -> bool
         ensures { IsTrue result ↔ Covers self.now key.now }
     {

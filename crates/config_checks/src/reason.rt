@@ -192,8 +192,8 @@ fn respelled<'t>(kind: &SettingKind<'t>, text: &[u8]) -> Option<Reason<'t>>
     }
 }
 
-/// Why a setting is wrong, or, where it is right and canonical texts are wanted, what it should be. `None` where there is
-/// nothing to find.
+/// Why a setting is wrong, or, where it is right and canonical texts are wanted, what it should be. `None` where there
+/// is nothing to find.
 pub fn find<'t>(
     kind: &SettingKind<'t>,
     value: Option<&[u8]>,

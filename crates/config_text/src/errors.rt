@@ -62,8 +62,8 @@ impl Fault {
 
 /// A refusal of a borrowed text: the fault, and the whole input.
 ///
-/// The readers of `&str` and `BStr` answer it, of every kind but suffixes, and so does `Integer::from_bytes`. It is no
-/// error type and has no text. Its [`Fault`] is one, and `?` turns it into that.
+/// Each `TryFrom` of a `&str` or a `BStr` answers it, of every kind but suffixes, and so does `Integer::from_bytes`. It
+/// is no error type and has no text. Its [`Fault`] is one, and `?` turns it into that.
 ///
 /// ```rust
 /// use bstr::BStr;

@@ -17,7 +17,7 @@ pub type Text = ArrayString<LONGEST_TEXT>;
 /// canonical. A type of the caller's own may be one too.
 ///
 /// `read` takes any bytes, and answers `None` where they are no text of the kind: docs/GRAMMAR.md has a section for
-/// each. It tells no fault; a type's `FromStr` and [`TryRead`](crate::readers::TryRead) do.
+/// each. It tells no fault; a type's `FromStr` and [`TryRead`](crate::readers::TryRead) do, but a suffix has none.
 ///
 /// ```rust
 /// use bstr::BStr;

@@ -148,7 +148,8 @@ pub(crate) fn kind_by_name(name: &[u8]) -> Option<Kind>
 /// the input no value. A canonical input is answered byte for byte. White space in a color text parts it into two: the
 /// answer is the canonical text of their composition.
 ///
-/// It tells no fault; the `FromStr` of the kind's type does. docs/GRAMMAR.md has a section for each kind.
+/// It tells no fault; the `FromStr` of the kind's type does, but a suffix has none. docs/GRAMMAR.md has a section for
+/// each kind.
 ///
 /// ```rust
 /// use bstr::BStr;

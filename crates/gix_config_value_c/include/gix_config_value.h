@@ -1,22 +1,23 @@
 /* The readers of Git configuration values, for C99 and C++.
  *
  * A text is a pointer and a length, of any bytes, and needs no NUL behind it; where the length is 0 the pointer may be
- * null. Each call reads only the bytes that it is given, writes only where this page says, and keeps no pointer past its
- * end. Nothing is global, so threads may call at once, as long as no memory that one call writes is used by another.
+ * null. Each call reads only the bytes that it is given, writes only where this page says, and keeps no pointer past
+ * its end. Nothing is global, so threads may call at once, as long as no memory that one call writes is used by
+ * another.
  *
- * What a call writes must not overlap what it reads, and pointers to what it writes must not be null, but for `fault`,
- * which may be null everywhere, and a buffer of capacity 0. A length is at most PTRDIFF_MAX.
+ * What a call writes must not overlap what it reads, nor what else it writes. Pointers to what it writes must not be
+ * null, but for `fault`, which may be null everywhere, and a buffer of capacity 0. A length is at most PTRDIFF_MAX.
  *
- * A call answers GCV_OK, or another gcv_status that says why there is no answer. Unless its comment says otherwise, it has
- * then written nothing.
+ * A call answers GCV_OK, or another gcv_status that says why there is no answer. Unless its comment says otherwise, it
+ * has then written nothing.
  *
  * A call that writes a text takes a buffer, its capacity, and `size`. With GCV_OK the text stands at the front of the
  * buffer, the bytes behind it are as they were, no NUL is added, and `*size` is the length of the text. With
  * GCV_SHORT_BUFFER the buffer is as it was, and `*size` is the capacity that the text needs. With any other answer the
  * buffer and `*size` are as they were.
  *
- * The static inline calls are the ones to use. The calls with `gcv_raw_` in their names are what the library exports: they
- * take no null pointer, not even where the length is 0. Each of them is proved to keep what its contract says. */
+ * The static inline calls are the ones to use. The calls with `gcv_raw_` in their names are what the library exports:
+ * they take no null pointer, not even where the length is 0. Each of them is proved to keep what its contract says. */
 #ifndef GIX_CONFIG_VALUE_H
 #define GIX_CONFIG_VALUE_H
 
@@ -214,8 +215,8 @@ static inline const uint8_t *gcv_bytes(const char *text, size_t length)
     return (const uint8_t *)(length == 0 ? "" : text);
 }
 
-/* Readers. Each puts the value of the text into `*out`, or, with GCV_REFUSED, where the text has none, the number of the
- * fault into `*fault`. The other one is as it was. */
+/* Readers. Each puts the value of the text into `*out`, or, with GCV_REFUSED, where the text has none, the number of
+ * the fault into `*fault`. The other one is as it was. */
 
 /* Puts GCV_KIBI, GCV_MEBI or GCV_GIBI. The fault is GCV_FAULT_NONE. */
 static inline gcv_status gcv_read_suffix(const char *text, size_t length, uint32_t *out, uint32_t *fault)
@@ -267,8 +268,8 @@ static inline gcv_status gcv_read_color(const char *text, size_t length, gcv_col
     return gcv_raw_read_color(gcv_bytes(text, length), length, out, fault ? fault : &unused);
 }
 
-/* Puts the number times the factor of its suffix into `*out`. GCV_OVERFLOW where that leaves int64_t, and GCV_BAD_SUFFIX
- * where the suffix has no such number: then `*out` is as it was. */
+/* Puts the number times the factor of its suffix into `*out`. GCV_OVERFLOW where that leaves int64_t, and
+ * GCV_BAD_SUFFIX where the suffix has no such number: then `*out` is as it was. */
 static inline gcv_status gcv_product(const gcv_integer *value, int64_t *out)
 {
     return gcv_raw_product(value, out);
@@ -326,8 +327,8 @@ static inline gcv_status gcv_show_color(const gcv_color *value, char *buffer, si
     return gcv_raw_show_color(value, capacity == 0 ? none : (uint8_t *)buffer, capacity, size);
 }
 
-/* Values as JSON texts, without white space: a number, true or false, or the shown text as a string. These calls take memory
- * from malloc for the text and give it back before they end. GCV_NO_MEMORY where it is refused. */
+/* Values as JSON texts, without white space: a number, true or false, or the shown text as a string. These calls take
+ * memory from malloc for the text and give it back before they end. GCV_NO_MEMORY where it is refused. */
 
 /* GCV_BAD_SUFFIX where the number is not that of a suffix. */
 static inline gcv_status gcv_json_suffix(uint32_t suffix, char *buffer, size_t capacity, size_t *size)
@@ -366,35 +367,36 @@ static inline gcv_status gcv_json_attribute(uint32_t bits, char *buffer, size_t 
 
 /* Texts of a kind. */
 
-/* Writes the one canonical text of the value of a text, of at most GCV_LONGEST_TEXT bytes. GCV_REFUSED where the text has no
- * value of the kind (its reader tells the fault), and GCV_UNKNOWN_KIND where the number is not that of a kind. */
+/* Writes the one canonical text of the value of a text, of at most GCV_LONGEST_TEXT bytes. GCV_REFUSED where the text
+ * has no value of the kind (its reader tells the fault), and GCV_UNKNOWN_KIND where no kind has the number. */
 static inline gcv_status gcv_normalize(uint32_t kind, const char *text, size_t length, char *buffer, size_t capacity, size_t *size)
 {
     uint8_t none[1] = {0};
     return gcv_raw_normalize(kind, gcv_bytes(text, length), length, capacity == 0 ? none : (uint8_t *)buffer, capacity, size);
 }
 
-/* Puts into `*out` 1 where both texts mean the same, and else 0. GCV_REFUSED where one of them has no value of the kind, and
- * GCV_UNKNOWN_KIND where the number is not that of a kind: then `*out` is as it was. */
+/* Puts into `*out` 1 where both texts mean the same, and else 0. GCV_REFUSED where one of them has no value of the
+ * kind, and GCV_UNKNOWN_KIND where the number is not that of a kind: then `*out` is as it was. */
 static inline gcv_status gcv_same(uint32_t kind, const char *first, size_t first_length, const char *second, size_t second_length,
                                   uint32_t *out)
 {
     return gcv_raw_same(kind, gcv_bytes(first, first_length), first_length, gcv_bytes(second, second_length), second_length, out);
 }
 
-/* Puts into `*out` the color that a text of the first one, white space and a text of the second one reads to. GCV_BAD_NAME
- * where one of them has the struct of no name, GCV_NO_TEXT where no text reads to one of them (it has a bit without a word, or
- * a background alone), and GCV_TOO_MANY_NAMES where they have more than two names together: then `*out` is as it was. */
+/* Puts into `*out` the color that a text of the first one, white space and a text of the second one reads to.
+ * GCV_BAD_NAME where one of them has the struct of no name, GCV_NO_TEXT where no text reads to one of them (it has a
+ * bit without a word, or a background alone), and GCV_TOO_MANY_NAMES where they have more than two names together: then
+ * `*out` is as it was. */
 static inline gcv_status gcv_compose(const gcv_color *first, const gcv_color *second, gcv_color *out)
 {
     return gcv_raw_compose(first, second, out);
 }
 
-/* Looks for the last entry of exactly this name, which decides. `bytes` are the names and texts of all entries, one behind the
- * other, and `lengths` the lengths of name, text, name, text and so on.
+/* Looks for the last entry of exactly this name, which decides. `bytes` are the names and texts of all entries, one
+ * behind the other, and `lengths` the lengths of name, text, name, text and so on.
  *
- * With GCV_OK the text of that entry has a value of the kind, and with GCV_REFUSED it has none: `*out` is the entry, and the
- * kind's reader at `bytes + out->start` tells the value or the fault. GCV_ABSENT where no entry has the name,
+ * With GCV_OK the text of that entry has a value of the kind, and with GCV_REFUSED it has none: `*out` is the entry,
+ * and the kind's reader at `bytes + out->start` tells the value or the fault. GCV_ABSENT where no entry has the name,
  * GCV_BAD_LENGTHS where the lengths are odd in number or do not sum to `bytes_length`, and GCV_UNKNOWN_KIND where the
  * number is not that of a kind: then `*out` is as it was. */
 static inline gcv_status gcv_lookup(uint32_t kind, const char *bytes, size_t bytes_length, const size_t *lengths,
@@ -407,8 +409,8 @@ static inline gcv_status gcv_lookup(uint32_t kind, const char *bytes, size_t byt
 
 /* Paths. */
 
-/* Puts into `*optional` 1 where the path begins with the mark `:(optional)`, and else 0, and into `*start` where the path
- * begins behind that one mark. */
+/* Puts into `*optional` 1 where the path begins with the mark `:(optional)`, and else 0, and into `*start` where the
+ * path begins behind that one mark. */
 static inline void gcv_cut_mark(const char *text, size_t length, uint32_t *optional, size_t *start)
 {
     gcv_raw_cut_mark(gcv_bytes(text, length), length, optional, start);
@@ -417,9 +419,9 @@ static inline void gcv_cut_mark(const char *text, size_t length, uint32_t *optio
 /* Writes what a path stands for. One mark is cut off first. %(prefix)/ stands for the install directory, ~ for the home
  * directory, and ~user for the home directory of that user in the passwd text.
  *
- * GCV_REFUSED where it stands for nothing: `*fault` is one of the faults of paths, and is as it was after any other answer.
- * GCV_NOT_UTF8 where a text of the context is no UTF-8. The call takes no memory; GCV_NO_MEMORY where what the path stands for
- * is longer than PTRDIFF_MAX. */
+ * GCV_REFUSED where it stands for nothing: `*fault` is one of the faults of paths, and is as it was after any other
+ * answer. GCV_NOT_UTF8 where a text of the context is no UTF-8. The call takes no memory; GCV_NO_MEMORY where what the
+ * path stands for is longer than PTRDIFF_MAX. */
 static inline gcv_status gcv_interpolate(const char *text, size_t length, const gcv_context *context, char *buffer,
                                          size_t capacity, size_t *size, uint32_t *fault)
 {
@@ -435,8 +437,8 @@ static inline gcv_status gcv_interpolate(const char *text, size_t length, const 
                                capacity == 0 ? none : (uint8_t *)buffer, capacity, size, fault ? fault : &unused);
 }
 
-/* Writes the text of a fault, of at most GCV_LONGEST_TEXT bytes. GCV_UNKNOWN_FAULT where the number is not that of a fault;
- * GCV_FAULT_NONE has no text. */
+/* Writes the text of a fault, of at most GCV_LONGEST_TEXT bytes. GCV_UNKNOWN_FAULT where the number is not that of a
+ * fault; GCV_FAULT_NONE has no text. */
 static inline gcv_status gcv_fault_text(uint32_t fault, char *buffer, size_t capacity, size_t *size)
 {
     uint8_t none[1] = {0};

@@ -173,9 +173,9 @@ fn put_path(
 /// Puts what a path value stands for into the buffer, and its length into `length`. One mark of an optional path is
 /// cut off first. Each of the install directory, the home directory and the passwd text is there where its flag is 1.
 ///
-/// `BAD_FLAG` where a flag is neither 0 nor 1, and `NOT_UTF8` where a text that is there is no UTF-8. `REFUSED` where the
-/// path stands for nothing: the number of the fault is put into `fault`. `NO_MEMORY` where the text is longer than a block
-/// of memory can be; the call takes none. `SHORT_BUFFER` where the buffer is shorter than the text.
+/// `BAD_FLAG` where a flag is neither 0 nor 1, and `NOT_UTF8` where a text that is there is no UTF-8. `REFUSED` where
+/// the path stands for nothing: the number of the fault is put into `fault`. `NO_MEMORY` where the text is longer than
+/// a block of memory can be; the call takes none. `SHORT_BUFFER` where the buffer is shorter than the text.
 #[unsafe(no_mangle)]
 pub extern "C" fn gcv_raw_interpolate(
     text: &[u8],

@@ -23,7 +23,8 @@ pub struct GcvInteger {
 #[repr(C)]
 #[derive(Clone, Copy, PartialEq, Eq)]
 pub struct GcvName {
-    /// 0 for no name, 1 to 18 for the words in the order of `Name`, 19 for a palette number, 20 for red, green and blue.
+    /// 0 for no name, 1 to 18 for the words in the order of `Name`, 19 for a palette number, 20 for red, green and
+    /// blue.
     pub tag: u32,
     /// The palette number.
     pub palette: u8,

@@ -1,4 +1,5 @@
-/* Memory that is refused: each request of each call that takes some, in turn. Linked with malloc, realloc and free wrapped. */
+/* Memory that is refused: each request of each call that takes some, in turn. Linked with malloc, realloc and free
+ * wrapped. */
 #include "guarded.h"
 
 void *__real_malloc(size_t size);
@@ -90,7 +91,8 @@ static gcv_status normalize(const void *state, char *buffer, size_t capacity, si
     return gcv_normalize(GCV_INTEGER, "0x10k", 5, buffer, capacity, size);
 }
 
-/* How often the call asks for memory; with each request refused in turn it writes nothing, and gives back what it took. */
+/* How often the call asks for memory; with each request refused in turn it writes nothing, and gives back what it took.
+ * */
 static int asks(writer call, const char *text, unsigned long wanted)
 {
     size_t size;

@@ -1,8 +1,8 @@
 /* The calls of paths, over stored calls with known answers: paths FILE.
  *
- * Each line has, between tabs, the value, the install directory, the home directory, what a lookup knows, the flag, the value
- * behind the mark, how often the lookup was called, and the text or the error. Every text is written as hexadecimal digits. A
- * lookup is said by a passwd text with a line for each user. */
+ * Each line has, between tabs, the value, the install directory, the home directory, what a lookup knows, the flag, the
+ * value behind the mark, how often the lookup was called, and the text or the error. Every text is written as
+ * hexadecimal digits. A lookup is said by a passwd text with a line for each user. */
 #include "guarded.h"
 
 enum { LONGEST = 1 << 16 };

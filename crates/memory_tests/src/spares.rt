@@ -13,8 +13,8 @@ pub fn spares(alloc: Global, sizes: &[usize]) -> Result<Vec<Vec<u8>>, AllocError
     Ok(blocks)
 }
 
-/// Blocks of each size for a vector that grows: eight of each small size. The C library keeps the first seven freed blocks
-/// of a small size where a request finds them, but not a growth.
+/// Blocks of each size for a vector that grows: eight of each small size. The C library keeps the first seven freed
+/// blocks of a small size where a request finds them, but not a growth.
 pub fn spares_for_growths(alloc: Global, sizes: &[usize]) -> Result<Vec<Vec<u8>>, AllocError> {
     let mut blocks = Vec::new(alloc);
     for size in sizes {

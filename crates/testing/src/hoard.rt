@@ -13,8 +13,8 @@ pub struct Hoard {
 }
 
 impl Hoard {
-    /// Takes blocks, large ones first, until a request for a few bytes is refused, and small ones of each size, since the C
-    /// library keeps freed blocks by their sizes. Refused where there is no memory for the list of blocks.
+    /// Takes blocks, large ones first, until a request for a few bytes is refused, and small ones of each size, since
+    /// the C library keeps freed blocks by their sizes. Refused where there is no memory for the list of blocks.
     pub fn new(alloc: Global) -> Result<Hoard, AllocError> {
         let mut blocks = Vec::with_capacity(alloc, ROOM)?;
         for shift in 0..36u32 {

@@ -1,5 +1,5 @@
-//! What the tests stand on: the assertion of a row, and readers, writers and memory that fail when a test tells them to,
-//! with an input and its answers.
+//! What the tests stand on: the assertion of a row, and readers, writers and memory that fail when a test tells them
+//! to, with an input and its answers.
 #![tactic(auto)]
 
 mod hoard;

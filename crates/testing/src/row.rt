@@ -1,4 +1,5 @@
-//! What a row of a table asserts, written once: an assertion that formats a message of its own is proved anew each time.
+//! What a row of a table asserts, written once: an assertion that formats a message of its own is proved anew each
+//! time.
 
 use std::fmt::Debug;
 use std::test::Fail;

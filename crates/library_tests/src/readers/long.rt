@@ -1,4 +1,5 @@
-//! Long texts, of 100,000 repeated parts and of 5,000: no reader needs a stack, or a time, that grows faster than its text.
+//! Long texts, of 100,000 repeated parts and of 5,000: no reader needs a stack, or a time, that grows faster than its
+//! text.
 
 use crate::readers::every_reader::{Wanted, is_read};
 use gix_config_value::Fault;
