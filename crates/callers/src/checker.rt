@@ -1,5 +1,5 @@
 //! Which lines of a file are not in canonical form, and what they should be, or why they have no value.
-ghost use Rattle.std.specs.Prelude.{◌≡◌, Some, IfOk, OnOk, MatchOption};
+ghost use Rattle.std.specs.Prelude.{Some, IfOk, OnOk, MatchOption};
 ghost use Rattle.gix_config_value.specs.Kinds.{KindGrammar, KindCanonical};
 ghost use Rattle.callers.specs.Lines.{counted_lines};
 ghost use Rattle.callers.specs.Checker.{ByFault, Refuses, KindRefusal, IsProblem, FindingsFrom, GoesOn, problem_shown, finding_shown};

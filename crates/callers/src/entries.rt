@@ -1,5 +1,5 @@
 //! The entries of a file of `name = value` lines, where a key may stand without `=`.
-ghost use Rattle.std.specs.Prelude.{◌≡◌, ◌++◌, map, MatchOption, None, Some, IfOk, OnOk, option_to_list, IsTrue};
+ghost use Rattle.std.specs.Prelude.{◌≡◌, ◌++◌, map, MatchOption, None, Some, IfOk, OnOk, option_to_list};
 ghost use Rattle.gix_config_value.specs.Settings.{entry_texts};
 ghost use Rattle.callers.specs.Entries.{parts, is_comment, line_entry, file_entries, text_of, with_text};
 

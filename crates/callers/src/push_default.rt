@@ -2,7 +2,6 @@
 //! library by what it promises as a [`Value`].
 ghost use Rattle.std.specs.Prelude.{◌≡◌, codes, MatchResult};
 ghost use Rattle.std.proofs.Common.{rules};
-ghost use Rattle.bstr.specs.BStr.{bstr_bytes};
 ghost use Rattle.gix_config_value.specs.Value.{Reads, Normalizes};
 ghost use Rattle.gix_config_value.specs.Settings.{entry_texts, Finds, Refuses};
 ghost use Rattle.callers.specs.declared.push_default.PushDefault.TheVariants as values;

@@ -1,6 +1,5 @@
 //! Booleans: words in any case, and numbers.
 ghost use Rattle.std.specs.Prelude.{◌↔◌, IsTrue, ◌≡◌, Some, MatchOption, MatchBool};
-ghost use Rattle.bstr.specs.BStr.{bstr_bytes};
 ghost use Rattle.bstr.specs.Owned.{bstring_bytes};
 ghost use Rattle.std.specs.Cow.{cow_slice_items};
 ghost use Rattle.std.proofs.Common.{rules};

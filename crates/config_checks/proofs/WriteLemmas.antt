@@ -1,8 +1,7 @@
 -- Bytes, write by write.
 use Rattle.std.proofs.Common.{◌≡◌, ℕ, List, ◌++◌, length, take, drop, Option, sym, ap, subst, ◌∙◌, append_assoc, append-nil, take-append-drop, ◌==◌, true}
-use Rattle.std.specs.Io.KnownBytes.{Appends, Keeps}
-use Rattle.std.proofs.KnownBytes.{Appends-trans, Appends-kept}
-use Rattle.config_checks.specs.Reading.Steps.{WritesPart}
+use Rattle.std.specs.Io.KnownBytes.{Appends}
+use Rattle.std.proofs.KnownBytes.{Appends-trans}
 use Rattle.config_checks.proofs.EntryLemmas.{none_of}
 
 -- the bytes but for this rest were written
@@ -22,11 +21,3 @@ written_more u v w bytes rest n so_far more = record {
 pub written_all : (u v : Option (List ℕ)) (bytes rest : List ℕ) → true ≡ (length rest == 0) → IsWritten u v bytes rest → Appends u v bytes
 written_all u v bytes rest none so_far =
     subst (Appends u v) (sym (append-nil so_far.written) ∙ ap (λ l. so_far.written ++ l) (sym (none_of rest none)) ∙ sym so_far.parts) so_far.appended
-
-pub written_part : (u v w : Option (List ℕ)) (bytes rest : List ℕ) → IsWritten u v bytes rest → Keeps v w → WritesPart u w bytes
-written_part u v w bytes rest so_far kept = record {
-  written = so_far.written;
-  missing = rest;
-  appended = Appends-kept u v w so_far.written so_far.appended kept;
-  parts = so_far.parts;
-}

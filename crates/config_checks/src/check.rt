@@ -1,7 +1,6 @@
 //! The check of all settings that Git would read.
 ghost use Rattle.std.specs.Prelude.{◌≡◌, ◌++◌, OnOk, OnErr, IfOk, IfErr, option_copied, Some};
 ghost use Rattle.std.specs.Io.KnownBytes.{Appends, Keeps};
-ghost use Rattle.config_checks.specs.Entries.{IsSetting};
 ghost use Rattle.config_checks.specs.Findings.{value_shown, painted, reason_text};
 ghost use Rattle.config_checks.specs.Report.{field_shown, front_shown, setting_shown, finding_line, summary_shown, Completes, Fails};
 ghost use Rattle.config_checks.specs.Reading.Fields.{held};

@@ -1,6 +1,6 @@
 //! The line of a finding.
 ghost use Rattle.std.specs.Prelude.{◌≡◌, ◌<◌, ◌++◌, [], length, flat_map, OnOk, MatchOption, IfSome};
-ghost use Rattle.config_checks.specs.Findings.{digit, hex, is_control, piece_shown, shown, range_text, listed, words_text, no_word_text, reason_text, tab, value_shown, painted};
+ghost use Rattle.config_checks.specs.Findings.{digit, hex, is_control, piece_shown, shown, range_text, words_text, no_word_text, reason_text};
 
 use crate::kind::SettingKind;
 use crate::reason::Reason;

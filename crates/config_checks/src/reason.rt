@@ -1,12 +1,9 @@
 //! Why a setting is wrong.
 ghost use Rattle.std.specs.Prelude.{option_copied, None, Some};
 ghost use Rattle.config_text.specs.declared.errors.Fault.TheVariants as faults;
-ghost use Rattle.config_text.specs.Refusals.{Always};
-ghost use Rattle.gix_config_value.specs.Boolean.{BooleanText, CanonicalBoolean};
-ghost use Rattle.gix_config_value.specs.Color.{ColorText};
 ghost use Rattle.gix_config_value.specs.Kinds.{KindGrammar, KindCanonical};
 ghost use Rattle.config_text.specs.Value.{IsAccepted};
-ghost use Rattle.config_checks.specs.Reasons.{IsJudged, IsJudgedWithin, IsJudgedBool, IsJudgedBoolOrInt, IsJudgedPath, IsJudgedUnmarked, IsJudgedByWords, IsTaken, HasReason, IsRespelled, IsRespelledBoolOrInt, IsRespelledByWords, HasSpelling, HasFinding};
+ghost use Rattle.config_checks.specs.Reasons.{IsJudged, IsJudgedWithin, IsJudgedBoolOrInt, IsJudgedPath, IsJudgedUnmarked, IsJudgedByWords, IsTaken, HasReason, IsRespelled, IsRespelledBoolOrInt, IsRespelledByWords, HasSpelling, HasFinding};
 
 use crate::kind::{SettingKind, WordList};
 use arrayvec::ArrayString;

@@ -1,5 +1,5 @@
 //! Rows as they are written, a line each.
-ghost use Rattle.std.specs.Prelude.{◌≡◌, ◌≢◌, Bool, Some, ◌∷◌, ◌++◌, ◌<◌, [], length, ℕ, List, map, IfOk, IfErr, OnOk, MatchOption, IfSome};
+ghost use Rattle.std.specs.Prelude.{◌≡◌, ◌≢◌, Bool, Some, ◌∷◌, ◌++◌, ◌<◌, [], length, map, IfOk, IfErr, OnOk, MatchOption, IfSome};
 ghost use Rattle.std.specs.List.{slice_split};
 ghost use Rattle.config_checks.specs.declared.kind.SettingKind as kinds;
 ghost use Rattle.config_checks.specs.Rows.{fields_of, field_if_some, is_blank, IsNoRow, IsRow, IsKind, IsBadKind, IsBadRow, plain_name, words_name, lines_of, AddsRow, AddsRows, IsBadLine};

@@ -1,10 +1,8 @@
 //! Integer texts read as the number that is their product.
-ghost use Rattle.std.specs.Prelude.{◌≡◌, Some};
-ghost use Rattle.bstr.specs.BStr.{bstr_bytes};
+ghost use Rattle.std.specs.Prelude.{Some};
 ghost use Rattle.bstr.specs.Owned.{bstring_bytes};
 ghost use Rattle.std.specs.Cow.{cow_slice_items};
 ghost use Rattle.std.proofs.Common.{rules};
-ghost use Rattle.config_text.specs.Value.{Reads};
 ghost use Rattle.config_text.specs.Refusals.{ReadsFault, ReadsBytes, ReadsText, ReadsOwned};
 ghost use Rattle.config_integer.specs.Amount.{AmountText, AmountRefusal, CanonicalAmount, amount_shown};
 ghost use Rattle.config_integer.specs.Laws.Amount.{amount_one_value, amount_one_text, amount_canonical_reads, amount_shown_is_text, amount_decided};

@@ -1,8 +1,7 @@
 //! The unit that multiplies an integer.
 ghost use Rattle.std.specs.Prelude.{◌≡◌, ◌^◌, Some, pos};
-ghost use Rattle.std.specs.Prelude.{MatchOption, length, ◌≤◌};
 ghost use Rattle.bstr.specs.BStr.{bstr_bytes};
-ghost use Rattle.config_text.specs.Value.{Reads, IsRefused, HasText, IsTextOf};
+ghost use Rattle.config_text.specs.Value.{Reads};
 ghost use Rattle.config_text.specs.Refusals.{ReadsOr};
 ghost use Rattle.config_integer.specs.Suffix.{SuffixText, CanonicalSuffix, suffix_shown, factor, offset};
 ghost use Rattle.config_integer.specs.Laws.Suffix.{suffix_one_value, suffix_one_text, suffix_canonical_reads, suffix_shown_is_text, suffix_decided};

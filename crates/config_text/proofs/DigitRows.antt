@@ -1,5 +1,5 @@
 -- The table of digits: what each byte is worth in base 16, and 16 for a byte that is no digit.
-use Rattle.std.proofs.Common.{◌≡◌, ℕ, zero, suc, ◌+◌, ◌<◌, ◌==◌, nat_lt, List, [], ◌∷◌, length, get_or, Bool, true, ◌&&◌, ◌||◌, refl, subst, arith}
+use Rattle.std.proofs.Common.{◌≡◌, ℕ, zero, suc, ◌+◌, ◌<◌, ◌≤◌, ◌==◌, nat_lt, List, [], ◌∷◌, length, get_or, Bool, true, ◌&&◌, ◌||◌, refl, subst, arith}
 use Rattle.std.proofs.lemmas.Bool.Decides.{nat_tests}
 use Rattle.std.proofs.lemmas.Bool.{and_parts}
 use Rattle.std.specs.Char.{digit_value}
@@ -31,3 +31,6 @@ is_digit byte worth l e small = grind (arith, nat_tests, digit_at byte l)
 
 pub is_other : (byte worth : ℕ) → byte < 256 → worth ≡ get_or DIGITS byte 0 → ¬ (worth < 16) → ¬ (digit_value byte < 16)
 is_other byte worth l e large = λ small. grind (arith, nat_tests, digit_at byte l)
+
+pub is_most : (byte worth : ℕ) → byte < 256 → worth ≡ get_or DIGITS byte 0 → worth ≤ 16
+is_most byte worth l e = grind (arith, nat_tests, digit_at byte l)

@@ -1,5 +1,5 @@
 //! What a byte is worth as a digit.
-ghost use Rattle.std.specs.Prelude.{◌≡◌, ◌<◌};
+ghost use Rattle.std.specs.Prelude.{◌≡◌, ◌<◌, ◌≤◌};
 ghost use Rattle.std.specs.Char.{digit_value};
 
 /// What each byte is worth as a hexadecimal digit, and 16 where it is none.
@@ -28,6 +28,7 @@ const DIGITS: [u8; 256] = [
 pub fn digit_of(byte: u8) -> u8
     ensures digit { result < 16 → digit_value byte ≡ result }
     ensures other { ¬ (result < 16) → ¬ (digit_value byte < 16) }
+    ensures most { result ≤ 16 }
 {
     DIGITS[usize::from(byte)]
 }

@@ -1,5 +1,5 @@
 //! What it means for a text to be read as a value, and for a value to have one canonical text.
-ghost use Rattle.std.specs.Prelude.{◌≡◌, ℕ, ◌≤◌, ◌↔◌, ◌⊎◌, List, [], length, IfSome, IsSomeAnd, IsTrue};
+ghost use Rattle.std.specs.Prelude.{◌≡◌, ℕ, ◌↔◌, ◌⊎◌, List, [], IsSomeAnd, IsTrue};
 ghost use Rattle.bstr.specs.BStr.{bstr_bytes};
 ghost use Rattle.config_text.specs.Value.{IsRefused, IsAccepted, HasText, Reads, IsTextOf, Normalizes, Fills, IsOnlyText, Compares};
 

@@ -1,6 +1,5 @@
 //! Sets of text attributes.
 ghost use Rattle.std.specs.Prelude.{⊤, ◌≡◌, ◌+◌, ◌≤◌, ◌++◌, ◌↔◌, length, map, take, IsTrue, Some};
-ghost use Rattle.bstr.specs.BStr.{bstr_bytes};
 ghost use Rattle.config_text.specs.declared.errors.Fault.TheVariants as faults;
 ghost use Rattle.config_word.specs.Attribute.{AttributeText, CanonicalAttribute, attribute_flags, attribute_shown};
 ghost use Rattle.config_word.specs.Laws.Attribute.{attribute_canonical_reads, attribute_decided, attribute_one_text, attribute_one_value, attribute_shown_is_text};

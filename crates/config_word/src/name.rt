@@ -1,7 +1,6 @@
 //! The names of colors.
 ghost use Rattle.std.specs.Prelude.{◌≡◌, ◌+◌, ◌<◌, ◌≤◌, ◌∷◌, [], ◌++◌, length, Some};
 ghost use Rattle.std.specs.Char.{digit_char};
-ghost use Rattle.bstr.specs.BStr.{bstr_bytes};
 ghost use Rattle.config_text.specs.declared.errors.Fault.TheVariants as faults;
 ghost use Rattle.config_word.specs.Name.{NameText, CanonicalName, NameFits, hex_pair, name_shown};
 ghost use Rattle.config_word.specs.Laws.Name.{name_canonical_reads, name_decided, name_one_text, name_one_value, name_shown_is_text};

@@ -3,8 +3,7 @@
 //! Answers wait in a buffer, and are written out when it is full, before the next read and at the
 //! end. Lines that lie within one read are answered from its slice; only a line that crosses the
 //! end of a read is gathered.
-ghost use Rattle.std.specs.Prelude.{◌≡◌, ℕ, List, ◌+◌, ◌≤◌, ◌<◌, [], ◌++◌, length, take, drop, vec_len, MatchOption, OnOk, IfOk, IfErr, Option};
-ghost use Rattle.bstr.specs.BStr.{bstr_bytes};
+ghost use Rattle.std.specs.Prelude.{◌≡◌, ◌+◌, ◌≤◌, ◌<◌, [], length, MatchOption, OnOk, IfOk, IfErr, Option};
 ghost use Rattle.gix_config_value.specs.Answers.{ended, line_head, line_value, IsUnbroken, LineOutcome, Completes, Fails, status_of};
 ghost use Rattle.gix_config_value.specs.Reading.Steps.{CutsLine, PutsAnswer, sent, Sends, SendsAnswer, Breaks, going, with_more, Advances, Stops, AnswersUpTo, EndsAnswered, EndsEarly};
 

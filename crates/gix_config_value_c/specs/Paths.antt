@@ -54,14 +54,11 @@ PutsPath (Err (Memory e)) buffer buffer' size size' fault fault' status =
 PutsPath (Err e) buffer buffer' size size' fault fault' status =
     (buffer' ≡ buffer) × (size' ≡ size) × (fault' ≡ path_fault_number e) × (status ≡ REFUSED)
 
--- what the path without its mark is interpolated to is put; or something that was given is bad, or memory for the path
--- is wanted, and all is left alone
+-- what the path without its mark is interpolated to is put; or something that was given is bad, and all is left alone
 pub data InterpolatesInto (t : List ℕ) (install_dir home passwd : ℕ × List ℕ) (buffer buffer' : List ℕ) (size size' fault fault' status : ℕ) : Type 0 where
   interpolated : (i h p : Option (List ℕ)) (is_optional : Bool) (value : List ℕ) (r : Result (String Global) Error)
       → IsGiven install_dir i → IsGiven home h → IsGiven passwd p → Marked t is_optional value → InterpolatedIn i h p value r
       → PutsPath r buffer buffer' size size' fault fault' status
       → InterpolatesInto t install_dir home passwd buffer buffer' size size' fault fault' status
   bad : IsBad status install_dir ⊎ IsBad status home ⊎ IsBad status passwd → buffer' ≡ buffer → size' ≡ size → fault' ≡ fault
-      → InterpolatesInto t install_dir home passwd buffer buffer' size size' fault fault' status
-  no_memory : status ≡ NO_MEMORY → buffer' ≡ buffer → size' ≡ size → fault' ≡ fault
       → InterpolatesInto t install_dir home passwd buffer buffer' size size' fault fault' status

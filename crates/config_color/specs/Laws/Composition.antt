@@ -7,11 +7,11 @@ use Rattle.std.specs.Option.{option_to_list}
 use Rattle.config_color.specs.declared.color.Color.{Color}
 use Rattle.config_word.specs.declared.name.Name.{Name}
 use Rattle.config_color.specs.Color.{WordsRead, Placed, ColorText, CanonicalColor}
-use Rattle.config_color.specs.Laws.Color.{WordsRead-join, PartsRead, WordsRead-split, WordsRead-one, Placed-words, Placed-short, Placed-one, placing, same_color, color_one_value}
+use Rattle.config_color.specs.Laws.Color.{WordsRead-join, PartsRead, WordsRead-split, WordsRead-one, Placed-words, Placed-short, Placed-one, placing, same_color}
 use Rattle.config_color.specs.Reading.Color.{places_of}
 use Rattle.config_color.specs.Composition.{color_words, Composition, Composes, Joined, Joins, SameWords, ComparesWords}
 use Rattle.config_color.specs.Space.{Space}
-use Rattle.config_text.specs.Value.{HasText, IsRefused, Reads, Normalizes, Compares}
+use Rattle.config_text.specs.Value.{HasText, Normalizes, Compares}
 use Rattle.config_color.specs.Split.{words}
 use Rattle.config_color.specs.Laws.Split.{words_joined, space_byte}
 
@@ -124,20 +124,3 @@ pub places_refuse : (a b : Color) → HasText ColorText a → HasText ColorText 
 places_refuse a b (s, p) (t, q) e =
     let l = places_none a.foreground a.background b.foreground b.background (background_beside s a p) (background_beside t b q) e in
     (l, λ c k. absurd (omega (arith, Placed-short (color_words a ++ color_words b) c.foreground c.background k.placed)))
-
--- a text joined of one that is refused is refused
-pub refused_front : (front space back : List ℕ) → Space space → IsRefused ColorText front → IsRefused ColorText (front ++ space ++ back)
-refused_front front space back s h v k = let j = reads_joined front space back v s k in h j.0 j.2
-
-pub refused_back : (front space back : List ℕ) → Space space → IsRefused ColorText back → IsRefused ColorText (front ++ space ++ back)
-refused_back front space back s h v k = let j = reads_joined front space back v s k in h j.1 j.3
-
--- what `compose` answers for the colors of two texts is the reading of the text that is joined of them
-pub composed_reads : (front space back : List ℕ) (a b : Color) (r : Option Color) → Space space → ColorText front a → ColorText back b
-    → Composes a b r → Reads ColorText (front ++ space ++ back) r
-composed_reads front space back a b None s p q k = λ v h.
-    let j = reads_joined front space back v s h in
-    let e = color_one_value front j.0 a j.2 p in
-    let f = color_one_value back j.1 b j.3 q in
-    k.1 v (subst (λ (a : Color). Composition a b v) e (subst (λ (b : Color). Composition j.0 b v) f j.4))
-composed_reads front space back a b (Some c) s p q k = joined_reads front space back c s (a, b, p, q, k.0)

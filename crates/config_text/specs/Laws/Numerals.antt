@@ -34,10 +34,6 @@ digits_value_after_ge base h (c ∷ cs) n =
 pub in_range_from_fits : (z : ℤ) → FitsSigned w64 z → IsInI64 z
 in_range_from_fits z f = record { low = omega (arith, ints); high = omega (arith, ints) }
 
-pub fits_from_in_range : (z : ℤ) → IsInI64 z → FitsSigned w64 z
-fits_from_in_range (pos n) r = record { sfits = omega (arith, ints, r.high) }
-fits_from_in_range (negsuc n) r = record { sfits = omega (arith, ints, r.low) }
-
 -- a number is in range, or it is not
 pub range_told : (z : ℤ) → IsInI64 z ⊎ (¬ (IsInI64 z))
 range_told (pos n) =

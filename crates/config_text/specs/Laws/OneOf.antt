@@ -4,7 +4,7 @@ use Rattle.std.specs.List.{list_all}
 use Rattle.std.proofs.lemmas.Bool.{and_parts}
 use Rattle.config_text.specs.OneOf.{OneOf}
 use Rattle.config_text.specs.Value.{IsAccepted, IsRefused}
-use Rattle.config_text.specs.Laws.Value.{Told, either_told}
+use Rattle.config_text.specs.Laws.Value.{Told}
 
 pub OneOf-map : {X Y : Type 0} (f : X → Y) (xs : List X) (x : X) → OneOf xs x → OneOf (map f xs) (f x)
 OneOf-map f [] x h = absurd h
@@ -43,11 +43,6 @@ OneOf-from_flat_map f (x ∷ xs) y h =
       | inl a ↦ (x, inl refl, a)
       | inr b ↦ (let r = OneOf-from_flat_map f xs y b in (r.0, inr r.1, r.2))
     ]
-
--- where two values are told apart, it is told whether one is in a list
-pub OneOf-told : {X : Type 0} → ((x y : X) → Told (x ≡ y)) → (xs : List X) (x : X) → Told (OneOf xs x)
-OneOf-told told [] x = inr (λ h. h)
-OneOf-told told (y ∷ ys) x = either_told (told x y) (OneOf-told told ys x)
 
 -- where it is told of each of finitely many values whether a text has it, each text is accepted or refused
 pub decided_among : {V : Type 0} (grammar : List ℕ → V → Type 0) (vs : List V) → ((v : V) → OneOf vs v)
