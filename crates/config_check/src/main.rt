@@ -97,10 +97,7 @@ fn file_bytes<'m>(rt: &HostRuntime, file: Option<&'m str>) -> Result<Vec<u8>, Fa
     let Some(file) = file else {
         return Ok(Vec::new(rt.alloc()));
     };
-    match fs::read(rt, file) {
-        Ok(bytes) => Ok(bytes),
-        Err(error) => Err(Failure::File { file, error }),
-    }
+    fs::read(rt, file).map_err(|error| Failure::File { file, error })
 }
 
 /// Puts the rows of a text behind others.
@@ -110,10 +107,7 @@ fn add_rows<'m, 't>(
     text: &'t [u8],
     rows: &mut Vec<Row<'t>>,
 ) -> Result<(), Failure<'m>> {
-    match read_rows(alloc, text, rows) {
-        Ok(()) => Ok(()),
-        Err(bad) => Err(Failure::Row { file, bad }),
-    }
+    read_rows(alloc, text, rows).map_err(|bad| Failure::Row { file, bad })
 }
 
 /// Checks what stands on standard input.
