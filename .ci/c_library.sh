@@ -9,28 +9,25 @@ set -u
 crate=gix_config_value_c
 kit=$(dirname -- "$(dirname -- "$(readlink -f -- "$(command -v rt)")")")
 
-# the crates that crates.txt names for this one, in the toolchain or here
-libraries() {
-    for name in std $(sed -n "s/^$crate staticlib: //p" crates.txt); do
-        if [ -d "crates/$name" ]; then
-            echo "--extern $name=$PWD/crates/$name/out/rlib/$name.rlib -L dependency=$PWD/crates/$name/out/rlib"
-        else
-            echo "--extern $name=$kit/rlibs/$name.rlib"
-        fi
-    done
-}
-
 build() {
+    archive=$1
     if ls crates/*/out/rlib/stamp > /dev/null 2>&1; then
-        (cd crates/$crate && rt lib) && cp -- crates/$crate/out/lib$crate.a "$1"
+        (cd crates/$crate && rt lib) && cp -- crates/$crate/out/lib$crate.a "$archive"
         return
     fi
-    libraries=$(libraries)
-    # shellcheck disable=SC2086
+    # the crates that crates.txt names for this one, in the toolchain or here
+    set --
+    for name in std $(sed -n "s/^$crate staticlib: //p" crates.txt); do
+        if [ -d "crates/$name" ]; then
+            set -- "$@" --extern "$name=$PWD/crates/$name/out/rlib/$name.rlib" -L "dependency=$PWD/crates/$name/out/rlib"
+        else
+            set -- "$@" --extern "$name=$kit/rlibs/$name.rlib"
+        fi
+    done
     (cd crates/$crate && "$kit/bin/rattle" build --crate-name $crate --crate-type staticlib src/lib.rt \
-        $libraries -L dependency="$kit/rlibs" --antt-project "$kit/rattle/logic/antt-project.json" \
+        "$@" -L "dependency=$kit/rlibs" --antt-project "$kit/rattle/logic/antt-project.json" \
         --logic-built "$kit/logic_built" --toolchain "$kit/toolchain" --links $crate= \
-        --jobs "${RT_JOBS:-$(nproc)}" -o "$1")
+        --jobs "${RT_JOBS:-$(nproc)}" -o "$archive")
 }
 
 if build "$1"; then

@@ -1,7 +1,7 @@
 #!/usr/bin/env python3
-"""crates/gix_config_value_c/VERSION is the one version: version.py [PREFIX]. The header says the same, and so do a
-CHANGELOG.md, the program config_check and the Python package where they are there, and the library that was built into
-PREFIX. The last line is 'N passed, M failed'."""
+"""crates/gix_config_value_c/VERSION is the one version: version.py [PREFIX]. The header says the same, and so do
+CHANGELOG.md, the program config_check, the Python package, and the library that was built into PREFIX. The name of the
+shared library has the first number of it, in the Python package too. The last line is 'N passed, M failed'."""
 import pathlib
 import re
 import subprocess
@@ -9,7 +9,7 @@ import sys
 
 ROOT = pathlib.Path(__file__).resolve().parent.parent
 CRATE = ROOT / "crates/gix_config_value_c"
-# a file, and how it says the version; all but the first need not be there
+# a file, and how it says the version
 PLACES = [
     (CRATE / "include/gix_config_value.h", r'^#define GCV_VERSION "(.*)"$'),
     (ROOT / "CHANGELOG.md", r"^## \[?([0-9][^\s\]]*)"),
@@ -17,22 +17,23 @@ PLACES = [
     (ROOT / "python/pyproject.toml", r'^version = "(.*)"$'),
     (ROOT / "python/gix_config_value/__init__.py", r'^__version__ = "(.*)"$'),
 ]
+# a file, and how it says the first number
+FIRST_NUMBERS = [
+    (ROOT / "python/gix_config_value/_library.py", r'^_NAME = "libgix_config_value\.so\.(.*)"$'),
+    (ROOT / "python/wheel_of_package.py", r'^LIBRARY = "libgix_config_value\.so\.(.*)"$'),
+]
 
 
 def said(path, pattern):
-    """What a file says, first of all, or None where there is no such file."""
-    if not path.exists():
-        return None
+    """What a file says, first of all."""
     found = re.search(pattern, path.read_text(encoding="utf-8"), re.MULTILINE)
     return found.group(1) if found else None
 
 
 def built(prefix, version):
     """What pkg-config and the shared library in the prefix say, and what they should."""
-    environment = {"PKG_CONFIG_PATH": f"{prefix}/lib/pkgconfig", "PATH": "/usr/local/bin:/usr/bin:/bin"}
-    command = ["pkg-config", "--modversion", "gix_config_value"]
-    module = subprocess.run(command, env=environment, capture_output=True, text=True, check=False)
-    yield "pkg-config", module.stdout.strip(), version
+    module = pathlib.Path(prefix) / "lib/pkgconfig/gix_config_value.pc"
+    yield str(module), said(module, r"^Version: (.*)$"), version
     soname = f"libgix_config_value.so.{version.split('.')[0]}"
     library = pathlib.Path(prefix) / "lib" / f"libgix_config_value.so.{version}"
     dynamic = subprocess.run(["readelf", "-d", library], capture_output=True, text=True, check=False).stdout
@@ -42,8 +43,8 @@ def built(prefix, version):
 
 def main():
     version = (CRATE / "VERSION").read_text(encoding="utf-8").strip()
-    rows = [(str(path.relative_to(ROOT)), said(path, pattern), version) for path, pattern in PLACES
-            if path.exists() or path == PLACES[0][0]]
+    rows = [(str(path.relative_to(ROOT)), said(path, pattern), version) for path, pattern in PLACES]
+    rows += [(str(path.relative_to(ROOT)), said(path, pattern), version.split(".")[0]) for path, pattern in FIRST_NUMBERS]
     if len(sys.argv) > 1:
         rows += built(sys.argv[1], version)
     wrong = [f"{place} says {given}, and not {wanted}" for place, given, wanted in rows if given != wanted]

@@ -47,14 +47,16 @@ if [ -z "$archive" ]; then
     archive=$here/out/libgix_config_value_c.a
 fi
 
-# one object, which shows nothing but what the header declares
+# one object, which shows nothing but what the header declares; CC may be several words
 cc=${CC:-cc}
-"$cc" -r -nostdlib -o "$work/gix_config_value.o" \
+# shellcheck disable=SC2086
+$cc -r -nostdlib -o "$work/gix_config_value.o" \
     -Wl,--whole-archive "$archive" "$heap" -Wl,--no-whole-archive
 objcopy --wildcard --keep-global-symbol='gcv_raw_*' "$work/gix_config_value.o"
 rm -f -- "$prefix/lib/libgix_config_value.a"
 ar rcs "$prefix/lib/libgix_config_value.a" "$work/gix_config_value.o"
-"$cc" -shared -o "$prefix/lib/libgix_config_value.so.$version" -Wl,-soname,"$soname" -Wl,-z,defs -Wl,-z,noexecstack \
+# shellcheck disable=SC2086
+$cc -shared -o "$prefix/lib/libgix_config_value.so.$version" -Wl,-soname,"$soname" -Wl,-z,defs -Wl,-z,noexecstack \
     "$work/gix_config_value.o"
 ln -sf "libgix_config_value.so.$version" "$prefix/lib/$soname"
 ln -sf "$soname" "$prefix/lib/libgix_config_value.so"

@@ -5,8 +5,8 @@ Integer(value=16, suffix=<Suffix.KIBI: 1>)
 >>> normalize("boolean", "YES")
 'true'
 
-A text is a `str` or `bytes`. A refused one raises `Refused`, a `ValueError` with the fault and the input. Anything else
-raises `TypeError`.
+A text is a `str`, or `bytes` or another buffer of bytes. A refused one raises `Refused`, a `ValueError` with the fault
+and the input. Anything else raises `TypeError`.
 """
 from __future__ import annotations
 
@@ -22,12 +22,14 @@ __version__ = "0.1.0"
 __all__ = ["Amount", "Attribute", "Boolean", "Color", "Integer", "Name", "Refused", "Suffix", "Tag",
            "KINDS", "lookup", "normalize", "same"]
 
-Text = Union[str, bytes]
+Text = Union[str, bytes, bytearray, memoryview]
 
 #: The kinds of values, in the order of their numbers.
 KINDS = ("suffix", "integer", "amount", "boolean", "name", "attribute", "color")
 
-_OK, _REFUSED, _OVERFLOW, _NO_TEXT, _TOO_MANY_NAMES, _ABSENT = range(6)
+# statuses, and the fault that `to_decimal` has: those of gix_config_value.h
+_OK, _NO_TEXT, _TOO_MANY_NAMES, _ABSENT = 0, 3, 4, 5
+_OVERFLOW_FAULT = 3
 _LONGEST_TEXT = 127
 
 
@@ -46,7 +48,10 @@ class Refused(ValueError):
 
 def _bytes(text: Text) -> bytes:
     if isinstance(text, str):
-        return text.encode()
+        try:
+            return text.encode("utf-8", "surrogateescape")  # the bytes that os.fsdecode made the text of
+        except UnicodeEncodeError:
+            return text.encode("utf-8", "surrogatepass")  # ill-formed, so no kind has a value for it
     if isinstance(text, (bytes, bytearray, memoryview)):
         return bytes(text)
     raise TypeError(f"a text is a str or bytes, and not {text!r}")
@@ -57,6 +62,12 @@ def _kind(kind: str) -> int:
         return KINDS.index(kind) + 1
     except ValueError:
         raise ValueError(f"no kind {kind!r}: {', '.join(KINDS)}") from None
+
+
+def _in_64_bits(number: int) -> int:
+    if not -(2**63) <= number < 2**63:
+        raise OverflowError(f"{number} is no 64-bit number")
+    return number
 
 
 def _written(call: str, *arguments: object) -> Optional[str]:
@@ -112,15 +123,13 @@ class Integer:
         return cls(out.value, Suffix(out.suffix) if out.suffix else None)
 
     def _struct(self) -> CInteger:
-        if not -(2**63) <= self.value < 2**63:
-            raise OverflowError(f"{self.value} is no 64-bit number")
-        return CInteger(self.value, 0 if self.suffix is None else Suffix(self.suffix))
+        return CInteger(_in_64_bits(self.value), 0 if self.suffix is None else Suffix(self.suffix))
 
     def to_decimal(self) -> int:
         """The number times the factor of its suffix. OverflowError where that is no 64-bit number."""
         out = c_int64()
         if LIBRARY.gcv_raw_product(byref(self._struct()), byref(out)) != _OK:
-            raise OverflowError(_fault(3))
+            raise OverflowError(_fault(_OVERFLOW_FAULT))
         return out.value
 
     def __int__(self) -> int:
@@ -147,10 +156,10 @@ class Amount:
         return cls(out.value)
 
     def __int__(self) -> int:
-        return self.value
+        return _in_64_bits(self.value)
 
     def __str__(self) -> str:
-        return str(self.value)
+        return str(int(self))
 
 
 @dataclass(frozen=True)
@@ -223,7 +232,7 @@ class Name:
         for number in (self.palette, self.red, self.green, self.blue):
             if not 0 <= number <= 255:
                 raise ValueError(f"{number} is no byte")
-        return CName(self.tag, self.palette, self.red, self.green, self.blue)
+        return CName(Tag(self.tag), self.palette, self.red, self.green, self.blue)
 
     def __str__(self) -> str:
         text = _written("show_name", byref(self._struct()))
@@ -258,8 +267,13 @@ class Attribute(enum.IntFlag):
         _read("attribute", text, out)
         return cls(out.value)
 
+    def _bits(self) -> int:
+        if not 0 <= self < 2**32:
+            raise ValueError(f"{int(self)} is no set of 32 bits")
+        return int(self)
+
     def __str__(self) -> str:
-        return _written("show_attribute", int(self)) or ""
+        return _written("show_attribute", self._bits()) or ""
 
 
 @dataclass(frozen=True)
@@ -284,7 +298,7 @@ class Color:
 
     def _struct(self) -> CColor:
         names = [name._struct() if name else CName() for name in (self.foreground, self.background)]
-        return CColor(names[0], names[1], int(self.attributes))
+        return CColor(names[0], names[1], Attribute(self.attributes)._bits())
 
     def compose(self, other: Color) -> Color:
         """The color that a text of this one, white space and a text of the other one reads to. ValueError where they

@@ -1,4 +1,5 @@
 """`python -m gix_config_value KIND TEXT` prints the canonical text of a value."""
+import os
 import sys
 
 from . import KINDS, Refused, normalize
@@ -9,7 +10,7 @@ def main() -> int:
         print(f"usage: python -m gix_config_value {'|'.join(KINDS)} TEXT", file=sys.stderr)
         return 2
     try:
-        print(normalize(sys.argv[1], sys.argv[2].encode("utf-8", "surrogateescape")))
+        print(normalize(sys.argv[1], os.fsencode(sys.argv[2])))
     except Refused as refused:
         print(refused, file=sys.stderr)
         return 1

@@ -54,8 +54,11 @@ class Values(unittest.TestCase):
         self.assertEqual(Integer.parse("10m").to_decimal(), 10 * 1024 * 1024)
         with self.assertRaises(OverflowError):
             Integer.parse("9223372036854775807k").to_decimal()
-        with self.assertRaises(OverflowError):
-            str(Integer(2**63))
+        for value in (Integer(2**63), gcv.Amount(2**63), gcv.Amount(-(2**63) - 1)):
+            for call in (str, int):
+                with self.assertRaises(OverflowError):
+                    call(value)
+        self.assertEqual(str(gcv.Amount(-(2**63))), "-9223372036854775808")
         for suffix in (0, 4, -1):
             for call in (str, Integer.to_decimal):
                 with self.assertRaises(ValueError):
@@ -70,8 +73,13 @@ class Values(unittest.TestCase):
         self.assertEqual(str(Color.parse("red").compose(Color.parse("ul blue"))), "red blue ul")
         with self.assertRaises(ValueError):
             Color.parse("red blue").compose(Color.parse("green"))
+        beyond = 2**32
+        for value in (Name(Tag.RED, palette=1), Name(Tag.RED + beyond), Name(0), Color(Name(0)), Name(Tag.ANSI, 256),
+                      Attribute(beyond | Attribute.BOLD), Color(attributes=Attribute(beyond | Attribute.BOLD))):
+            with self.assertRaises(ValueError):
+                str(value)
         with self.assertRaises(ValueError):
-            str(Name(Tag.RED, palette=1))
+            Color.parse("red").compose(Color(attributes=Attribute(beyond)))
 
     def test_words(self):
         for tag in Tag:
@@ -103,6 +111,18 @@ class Values(unittest.TestCase):
                     call(text)
         self.assertEqual([Boolean.parse(bytearray(b"1")), Boolean.parse(memoryview(b"1"))], [Boolean(True)] * 2)
 
+    def test_same(self):
+        self.assertIs(gcv.same("amount", "1k", "1024"), True)
+        self.assertIs(gcv.same("integer", "1k", "1024"), False)
+        self.assertIs(gcv.same("boolean", "yes", "no"), False)
+
+    def test_surrogates(self):
+        for text, wanted in (("\udce9", b"\xe9"), ("\ud800", b"\xed\xa0\x80")):
+            for kind in gcv.KINDS:
+                with self.assertRaises(Refused) as caught:
+                    gcv.normalize(kind, text)
+                self.assertEqual(caught.exception.input, wanted)
+
     def test_lookup(self):
         entries = [("a", "1"), ("b", "x"), ("a", "2k"), ("", b""), ("b", "yes")]
         self.assertEqual(gcv.lookup("integer", entries, "a"), Integer(2, Suffix.KIBI))
@@ -121,6 +141,10 @@ class Values(unittest.TestCase):
             command = [sys.executable, "-m", "gix_config_value", "integer", text]
             run = subprocess.run(command, capture_output=True, text=True, check=False)
             self.assertEqual((run.returncode, run.stdout), wanted)
+        # A0 alone is no white space: the byte of an argument is read as it is
+        command = [sys.executable, "-m", "gix_config_value", "color", b"red\xa0blue"]
+        run = subprocess.run(command, capture_output=True, check=False)
+        self.assertEqual((run.returncode, run.stdout), (1, b""))
 
     def test_no_library(self):
         environment = dict(os.environ, GIX_CONFIG_VALUE_LIBRARY="/no/such/library")

@@ -16,7 +16,7 @@ fn digit_in(byte: u8, base: u64) -> Option<u64>
     if digit < base { Some(digit) } else { None }
 }
 
-/// Below this number one more digit neither overflows nor reaches a limit.
+/// Below this number one more digit neither overflows nor passes a limit.
 const UNCHECKED: u64 = 0x0800_0000_0000_0000;
 
 /// The number that one digit or more write in the base, where it is at most `limit`, and the suffix behind them.

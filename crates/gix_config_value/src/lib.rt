@@ -1,5 +1,6 @@
 //! The readers of Git configuration values: booleans, integers with the suffixes `k`, `m` and `g`, colors, color
-//! names, attributes and paths. Each reader is proved to accept exactly the texts of its kind's written grammar.
+//! names, attributes and paths. Each reader but that of paths is proved to accept exactly the texts of its kind's
+//! written grammar.
 //!
 //! ```
 //! use gix_config_value::canonical::{Kind, normalize};

@@ -5,8 +5,9 @@
  * its end. Nothing is global, so threads may call at once, as long as no memory that one call writes is used by
  * another.
  *
- * What a call writes must not overlap what it reads, nor what else it writes. Pointers to what it writes must not be
- * null, but for `fault`, which may be null everywhere, and a buffer of capacity 0. A length is at most PTRDIFF_MAX.
+ * What a call writes must not overlap what it reads, nor what else it writes. Pointers to what it writes, and to the
+ * structs that it reads, must not be null, but for `fault`, which may be null everywhere, and a buffer of capacity 0. A
+ * length, a capacity, and the size of an array of lengths are at most PTRDIFF_MAX bytes.
  *
  * A call answers GCV_OK, or another gcv_status that says why there is no answer. Unless its comment says otherwise, it
  * has then written nothing.

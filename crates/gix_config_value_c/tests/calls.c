@@ -158,6 +158,23 @@ static void compositions(void)
     count(gcv_compose(&unknown, &plain, &out) == GCV_NO_TEXT && memcmp(&out, &before, sizeof out) == 0, "an unknown bit");
 }
 
+/* Whether two texts of a kind mean the same. */
+static int compares(uint32_t kind, const char *first, const char *second, uint32_t wanted)
+{
+    uint32_t same = UNTOUCHED;
+    HOLDS(gcv_same(kind, first, strlen(first), second, strlen(second), &same) == GCV_OK);
+    HOLDS(same == wanted);
+    return 1;
+}
+
+static void comparisons(void)
+{
+    count(compares(GCV_INTEGER, "1k", "1024", 0), "integers with one product");
+    count(compares(GCV_AMOUNT, "1k", "1024", 1), "amounts with one product");
+    count(compares(GCV_BOOLEAN, "yes", "off", 0), "two booleans");
+    count(compares(GCV_COLOR, "bold red", "red bold", 1), "one color");
+}
+
 /* Entries, a name, and where the deciding text stands, or a status. */
 static int looks_up(uint32_t kind, const char *bytes, const size_t *lengths, size_t lengths_count, const char *name, gcv_status status,
                     size_t index, size_t start, size_t length)
@@ -326,6 +343,7 @@ int main(void)
     bad_names();
     shown_sets();
     compositions();
+    comparisons();
     lookups();
     contexts();
     fault_texts();

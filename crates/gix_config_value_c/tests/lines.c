@@ -244,6 +244,11 @@ static int begins(line with, const char *front)
     return with.length >= strlen(front) && memcmp(with.text, front, strlen(front)) == 0;
 }
 
+static int is(line with, const char *text)
+{
+    return with.length == strlen(text) && begins(with, text);
+}
+
 static int answers(line asked, line answer)
 {
     const char *space = (const char *)memchr(asked.text, ' ', asked.length);
@@ -253,10 +258,10 @@ static int answers(line asked, line answer)
     if (begins(answer, "ok ")) {
         return is_accepted(&in, answer.text + 3, answer.length - 3);
     }
-    if (begins(answer, "refused")) {
+    if (is(answer, "refused")) {
         return is_refused(&in);
     }
-    HOLDS(begins(answer, "unknown kind"));
+    HOLDS(is(answer, "unknown kind"));
     return is_unknown(&in);
 }
 

@@ -69,15 +69,9 @@ if [ -z "$prefix" ]; then
         finish
     fi
 fi
-if ! command -v pkg-config > /dev/null; then
-    echo "skipped: no pkg-config"
-    finish
-fi
 PKG_CONFIG_PATH=$prefix/lib/pkgconfig
 LD_LIBRARY_PATH=$prefix/lib
 export PKG_CONFIG_PATH LD_LIBRARY_PATH
-flags=$(pkg-config --cflags gix_config_value)
-libs=$(pkg-config --libs gix_config_value)
 archive=$prefix/lib/libgix_config_value.a
 
 holds "the version" python3 "$root/.ci/version.py" "$prefix"
@@ -92,8 +86,29 @@ printf '%s\n' free malloc memcpy memmove memset realloc > "$work/known"
 nm -u "$archive" | sed -n 's/^ *U //p' | sort -u > "$work/needed"
 holds "the archive needs memory and copies of it alone" diff "$work/known" "$work/needed"
 
+# what pkg-config says is enough to build and run an example
+if ! command -v pkg-config > /dev/null; then
+    echo "skipped: the flags of pkg-config, which is not there"
+else
+    # shellcheck disable=SC2016
+    holds "the flags of pkg-config" sh -c \
+        'eval "${CC:-cc} \"\$1\" $(pkg-config --cflags --libs gix_config_value) -o \"\$2\"" && "$2" red' \
+        - "$root/examples/c/theme.c" "$work/by_pkg_config"
+fi
+
 # the examples, by each compiler as C99 and as C++, over the shared library and over the archive
 warnings="-Wall -Wextra -Wconversion -Wpedantic -Werror"
+# a program that ends with this status, and whose output begins with this text: answers STATUS TEXT PROGRAM ARGUMENT..
+# shellcheck disable=SC2317
+answers() {
+    wanted=$1
+    text=$2
+    shift 2
+    "$@" > "$work/answer" 2>&1
+    status=$?
+    cat "$work/answer"
+    [ "$status" -eq "$wanted" ] && grep -q "^$text" "$work/answer"
+}
 for compiler in gcc clang g++ clang++; do
     if ! command -v "$compiler" > /dev/null; then
         echo "skipped: the examples by $compiler, which is not there"
@@ -103,21 +118,25 @@ for compiler in gcc clang g++ clang++; do
         *++) language="-x c++ -std=c++11" ;;
         *) language="-std=c99" ;;
     esac
-    for example in theme check setting; do
-        # shellcheck disable=SC2086
-        holds "$example by $compiler, over the archive" \
-            "$compiler" $language $warnings $flags -o "$work/$example" "$root/examples/c/$example.c" -x none "$archive"
-        # shellcheck disable=SC2086
-        holds "$example by $compiler" \
-            "$compiler" $language $warnings $flags -o "$work/$example" "$root/examples/c/$example.c" -x none $libs
+    for linked in archive shared; do
+        case $linked in
+            archive) set -- "$archive" ;;
+            *) set -- -L"$prefix/lib" -lgix_config_value ;;
+        esac
+        by="by $compiler, $linked"
+        for example in theme check setting; do
+            # shellcheck disable=SC2086
+            holds "$example $by" "$compiler" $language $warnings -I"$prefix/include" -o "$work/$example" \
+                "$root/examples/c/$example.c" -x none "$@"
+        done
+        holds "theme $by, runs" answers 0 'red #ffffff bold ul$' "$work/theme" 'bold red' 'ul #fff'
+        holds "theme $by, refuses" answers 1 '' "$work/theme" 'red blue' green
+        holds "check $by, runs" answers 0 '16k$' "$work/check" integer 0x10k
+        holds "check $by, refuses" answers 1 'refused: Booleans need' "$work/check" boolean maybe
+        holds "setting $by, runs" answers 0 '16384, by entry 1$' "$work/setting" core.limit
+        holds "setting $by, has a default" answers 0 '4096, by default$' "$work/setting" core.other
+        holds "setting $by, refuses" answers 1 '' "$work/setting" core.pager
     done
-    holds "theme by $compiler runs" sh -c "[ \"\$('$work/theme' 'bold red' 'ul #fff')\" = 'red #ffffff bold ul' ]"
-    holds "theme by $compiler refuses" sh -c "'$work/theme' 'red blue' green; [ \$? -eq 1 ]"
-    holds "check by $compiler runs" sh -c "[ \"\$('$work/check' integer 0x10k)\" = 16k ]"
-    holds "check by $compiler refuses" sh -c "'$work/check' boolean maybe | grep '^refused: Booleans need'"
-    holds "setting by $compiler runs" sh -c "[ \"\$('$work/setting' core.limit)\" = '16384, by entry 1' ]"
-    holds "setting by $compiler has a default" sh -c "[ \"\$('$work/setting' core.other)\" = '4096, by default' ]"
-    holds "setting by $compiler refuses" sh -c "'$work/setting' core.pager; [ \$? -eq 1 ]"
 done
 
 # the Python package, where the library was built
@@ -136,24 +155,24 @@ else
         sh -c "[ \"\$(python3 -m gix_config_value integer 0x10k)\" = 16k ]"
 fi
 
-# the calls under sanitizers
+# the calls, under sanitizers where clang has them
+compiler=clang
 sanitizers="-g -fsanitize=address,undefined -fno-sanitize-recover=all"
 echo 'int main(void) { return 0; }' > "$work/empty.c"
 # shellcheck disable=SC2086
-if ! command -v clang > /dev/null; then
-    echo "skipped: the calls under sanitizers, for want of clang"
-    finish
-elif ! clang $sanitizers -o "$work/empty" "$work/empty.c" 2> /dev/null || ! "$work/empty"; then
-    echo "skipped: the calls under sanitizers, which this clang does not have"
-    finish
+if ! clang $sanitizers -o "$work/empty" "$work/empty.c" 2> /dev/null || ! "$work/empty"; then
+    echo "skipped: the sanitizers, which no clang here has"
+    compiler=${CC:-cc}
+    sanitizers=
 fi
 for test in calls lines paths; do
     # shellcheck disable=SC2086
-    holds "$test by clang" clang -std=c99 $warnings $sanitizers $flags -o "$work/$test" "$tests/$test.c" "$archive"
+    holds "$test by $compiler" $compiler -std=c99 $warnings $sanitizers -I"$prefix/include" -o "$work/$test" \
+        "$tests/$test.c" "$archive"
 done
 # shellcheck disable=SC2086
-holds "memory by clang" clang -std=c99 $warnings $flags -Wl,--wrap=malloc,--wrap=realloc,--wrap=free \
-    -o "$work/memory" "$tests/memory.c" "$archive"
+holds "memory by $compiler" $compiler -std=c99 $warnings -I"$prefix/include" \
+    -Wl,--wrap=malloc,--wrap=realloc,--wrap=free -o "$work/memory" "$tests/memory.c" "$archive"
 counted "each status" "$work/calls"
 counted "memory refused" "$work/memory"
 counted "upstream's answers" "$work/lines" "$root/replay/lines.txt" "$root/replay/answers.txt"
