@@ -28,6 +28,7 @@ pub enum Problem {
 impl fmt::Display for Problem {
     ghost output = { λ p. Some (problem_shown p) };
 
+    /// Writes the text of the fault, or what the line should be.
     fn fmt<W: fmt::Write>(&self, f: &mut fmt::Formatter<W>) -> fmt::Result {
         match self {
             Problem::NoSuffix => f.write_str("no suffix"),
@@ -49,6 +50,7 @@ pub struct Finding {
 impl fmt::Display for Finding {
     ghost output = { λ f. Some (finding_shown f) };
 
+    /// Writes the number of the line, and the problem.
     fn fmt<W: fmt::Write>(&self, f: &mut fmt::Formatter<W>) -> fmt::Result {
         write!(f, "line {}: {}", self.line, self.problem)
     }

@@ -4,16 +4,15 @@ ghost use Rattle.gix_config_value.specs.Color.{ColorText};
 ghost use Rattle.gix_config_value.specs.Value.{Reads};
 ghost use Rattle.callers.specs.Theme.{IsStyleOf};
 
-use arrayvec::ArrayString;
 use bstr::BStr;
 use gix_config_value::Color;
-use gix_config_value::canonical::{Kind, Value, compose, normalize};
+use gix_config_value::canonical::{Kind, Text, Value, compose, normalize};
 use gix_config_value::laws::colors::joined_colors;
 use std::alloc::{AllocError, Global};
 
 /// The style of a base and an override: the names of both, in order, and the attributes of both. `None` where one of
 /// them is no color, or the names are more than two.
-pub fn style(base: &[u8], over: &[u8]) -> Option<ArrayString<127>>
+pub fn style(base: &[u8], over: &[u8]) -> Option<Text>
     ensures { IsStyleOf base.now over.now result }
 {
     let base = Color::read(BStr::new(base))?;
@@ -38,7 +37,7 @@ pub fn both_spellings(
     alloc: Global,
     base: &[u8],
     over: &[u8],
-) -> Result<(Option<ArrayString<127>>, Option<ArrayString<127>>), AllocError>
+) -> Result<(Option<Text>, Option<Text>), AllocError>
     ensures style { IfOk result (λ p. IsStyleOf base.now over.now p.0) }
     ensures agree { IfOk result (λ p. option_map (λ s. s.bytes) p.0 ≡ option_map (λ s. s.bytes) p.1) }
 {

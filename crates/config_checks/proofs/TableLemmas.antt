@@ -72,29 +72,27 @@ last_line text rest number before rows rows' none so_far adds =
     subst (λ lines. AddsRows lines before rows') (sym (so_far.parts ∙ ap (λ l. so_far.lines ++ l) (line_alone rest none)))
     (one_more so_far.lines rest before rows rows' so_far.added adds)
 
-pub bad_line : (text rest line tail : List ℕ) (bad : BadRow) (before rows : List Row) → rest ≡ line ++ 10 ∷ tail → IsWithout 10 line
-    → SoFar text rest bad.line before rows → IsBadRow (fields_of line) bad.fault → IsBadLine text before bad
-bad_line text rest line tail bad before rows parts none so_far fault = record {
+pub bad_line : (text rest line tail : List ℕ) (bad : BadRow) (before rows rows' : List Row) → rest ≡ line ++ 10 ∷ tail → IsWithout 10 line
+    → SoFar text rest bad.line before rows → IsBadRow (fields_of line) bad.fault → rows' ≡ rows → IsBadLine text before rows' bad
+bad_line text rest line tail bad before rows rows' parts none so_far fault kept = record {
   before = so_far.lines;
   line = line;
   behind = lines_of tail;
-  rows' = rows;
   parts = so_far.parts ∙ ap (λ l. so_far.lines ++ l) (ap lines_of parts ∙ line_cut line tail none);
   numbered = so_far.numbered;
-  added = so_far.added;
+  added = subst (AddsRows so_far.lines before) (sym kept) so_far.added;
   fault = fault;
 }
 
-pub bad_last_line : (text rest : List ℕ) (bad : BadRow) (before rows : List Row) → IsWithout 10 rest
-    → SoFar text rest bad.line before rows → IsBadRow (fields_of rest) bad.fault → IsBadLine text before bad
-bad_last_line text rest bad before rows none so_far fault = record {
+pub bad_last_line : (text rest : List ℕ) (bad : BadRow) (before rows rows' : List Row) → IsWithout 10 rest
+    → SoFar text rest bad.line before rows → IsBadRow (fields_of rest) bad.fault → rows' ≡ rows → IsBadLine text before rows' bad
+bad_last_line text rest bad before rows rows' none so_far fault kept = record {
   before = so_far.lines;
   line = rest;
   behind = [];
-  rows' = rows;
   parts = so_far.parts ∙ ap (λ l. so_far.lines ++ l) (line_alone rest none);
   numbered = so_far.numbered;
-  added = so_far.added;
+  added = subst (AddsRows so_far.lines before) (sym kept) so_far.added;
   fault = fault;
 }
 

@@ -118,12 +118,11 @@ abbrev pub AddsRows : List (List ℕ) → List Row → List Row → Type 0
 AddsRows [] rows rows' = rows' ≡ rows
 AddsRows (line ∷ lines) rows rows'' = (rows' : List Row) × AddsRow line rows rows' × AddsRows lines rows' rows''
 
--- the first line that is no row has this number, from 1, and this fault
-pub record IsBadLine (text : List ℕ) (rows : List Row) (bad : BadRow) : Type 0 where
+-- the first line that is no row has this number, from 1, and this fault; the rows of the lines before it are added
+pub record IsBadLine (text : List ℕ) (rows rows' : List Row) (bad : BadRow) : Type 0 where
   pub before : List (List ℕ)
   pub line : List ℕ
   pub behind : List (List ℕ)
-  pub rows' : List Row
   pub parts : lines_of text ≡ before ++ line ∷ behind
   pub numbered : bad.line ≡ length before + 1
   pub added : AddsRows before rows rows'

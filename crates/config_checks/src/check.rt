@@ -51,6 +51,7 @@ pub struct Summary {
 impl fmt::Display for Summary {
     ghost output = { λ s. Some (summary_shown s) };
 
+    /// Writes the line of counts that ends a run of `config_check`.
     fn fmt<W: fmt::Write>(&self, f: &mut fmt::Formatter<W>) -> fmt::Result {
         let Counts {
             entries,

@@ -12,8 +12,11 @@ use std::io::{self, BufRead};
 /// The fields of the entry that was read last. A field that is not shown is empty.
 #[derive(Drop)]
 pub(crate) struct Buffers {
+    /// Where the entry holds, as `local`.
     pub scope: Vec<u8>,
+    /// Where the entry stands, as `file:.git/config`.
     pub origin: Vec<u8>,
+    /// The key, and behind its first LF the value.
     pub setting: Vec<u8>,
 }
 

@@ -6,10 +6,9 @@ ghost use Rattle.config_text.specs.Value.{IsAccepted};
 ghost use Rattle.config_checks.specs.Reasons.{IsJudged, IsJudgedWithin, IsJudgedBoolOrInt, IsJudgedPath, IsJudgedUnmarked, IsJudgedByWords, IsTaken, HasReason, IsRespelled, IsRespelledBoolOrInt, IsRespelledByWords, HasSpelling, HasFinding};
 
 use crate::kind::{SettingKind, WordList};
-use arrayvec::ArrayString;
 use bstr::BStr;
 use config_text::readers::TryRead;
-use gix_config_value::canonical::{Kind, Value, normalize};
+use gix_config_value::canonical::{Kind, Text, Value, normalize};
 use gix_config_value::integer::Amount;
 use gix_config_value::{Boolean, Color, Fault};
 
@@ -29,7 +28,7 @@ pub enum Reason<'t> {
     /// It is no word of its kind's list.
     NoWord,
     /// It is right, and its canonical text is this one.
-    NotCanonical(ArrayString<127>),
+    NotCanonical(Text),
     /// It is right, and in its list the word is spelled like this.
     OtherCase(&'t [u8]),
 }

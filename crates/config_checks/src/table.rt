@@ -1,5 +1,5 @@
 //! Rows as they are written, a line each.
-ghost use Rattle.std.specs.Prelude.{◌≡◌, ◌≢◌, Bool, Some, ◌∷◌, ◌++◌, ◌<◌, [], length, map, IfOk, IfErr, OnOk, MatchOption, IfSome};
+ghost use Rattle.std.specs.Prelude.{◌≡◌, ◌≢◌, Bool, Some, ◌∷◌, ◌++◌, ◌<◌, [], length, map, IfOk, IfErr, OnOk, OnErr, MatchOption, IfSome};
 ghost use Rattle.std.specs.List.{slice_split};
 ghost use Rattle.config_checks.specs.declared.kind.SettingKind as kinds;
 ghost use Rattle.config_checks.specs.Rows.{fields_of, field_if_some, is_blank, IsNoRow, IsRow, IsKind, IsBadKind, IsBadRow, plain_name, words_name, lines_of, AddsRow, AddsRows, IsBadLine};
@@ -177,6 +177,7 @@ pub fn read_row<'t>(alloc: Global, line: &'t [u8]) -> Result<Option<Row<'t>>, Ro
 fn push_row<'t>(alloc: Global, rows: &mut Vec<Row<'t>>, line: &'t [u8]) -> Result<(), RowFault>
     ensures adds { OnOk result (AddsRow line.now rows.old.items rows.new.items) }
     ensures refused { IfErr result (IsBadRow (fields_of line.now)) }
+    ensures kept { OnErr result (rows.new.items ≡ rows.old.items) }
 {
     let Some(row) = read_row(alloc, line)? else {
         return Ok(());
@@ -187,10 +188,11 @@ fn push_row<'t>(alloc: Global, rows: &mut Vec<Row<'t>>, line: &'t [u8]) -> Resul
     }
 }
 
-/// Puts the rows of a text behind others, in the order of its lines. Ends at the first line that is no row.
+/// Puts the rows of a text behind others, in the order of its lines. Ends at the first line that is no row: the rows of
+/// the lines before it stand behind the others then.
 pub fn read_rows<'t>(alloc: Global, text: &'t [u8], rows: &mut Vec<Row<'t>>) -> Result<(), BadRow>
     ensures adds { OnOk result (AddsRows (lines_of text.now) rows.old.items rows.new.items) }
-    ensures refused { IfErr result (IsBadLine text.now rows.old.items) }
+    ensures refused { IfErr result (IsBadLine text.now rows.old.items rows.new.items) }
 {
     let mut rest = text;
     let mut number = 1;

@@ -1,8 +1,9 @@
 -- What the parts of a text make.
-use Rattle.std.specs.Prelude.{◌≡◌, ℕ, List, [], ◌++◌, codes, Result, Ok, Err, if◌then◌else◌}
+use Rattle.std.specs.Prelude.{◌≡◌, ℕ, List, [], ◌++◌, codes, Result, Ok, Err, ⊤, if◌then◌else◌}
 use Rattle.std.specs.declared.string.String.{String}
 use Rattle.std.specs.declared.alloc.Global.{Global}
 use Rattle.config_path.specs.declared.interpolate.Error.{Error}
+use Rattle.config_path.specs.declared.interpolate.Error.TheVariants.{Memory}
 use Rattle.config_path.specs.declared.parts.Parts.{Parts}
 use Rattle.config_path.specs.Interpolation.{GivesText}
 
@@ -14,6 +15,11 @@ parts_text p = p.dir.now ++ (if p.has_slash then codes "/" else []) ++ p.rest.no
 abbrev pub IsMadeOf : Result Parts Error → Result (String Global) Error → Type 0
 IsMadeOf (Ok p) r = GivesText (parts_text p) r
 IsMadeOf (Err e) r = r ≡ Err e
+
+-- a refusal for another reason than memory
+abbrev pub IsNotMemory : Error → Type 0
+IsNotMemory (Memory e) = ⊥
+IsNotMemory e = ⊤
 
 -- all that is made of the parts is an answer
 abbrev pub Makes : Result Parts Error → (Result (String Global) Error → Type 0) → Type 0

@@ -2,10 +2,10 @@
 //!
 //! No memory is asked for. `Path::interpolate` makes one text of the parts, and a caller with a buffer writes them
 //! there.
-ghost use Rattle.std.specs.Prelude.{◌≡◌, [], None, IsUtf8, MatchResult, codes, if◌then◌else◌, option_copied};
+ghost use Rattle.std.specs.Prelude.{◌≡◌, [], None, IsUtf8, MatchResult, IfErr, codes, if◌then◌else◌, option_copied};
 ghost use Rattle.std.specs.Option.{ForSome};
 ghost use Rattle.config_path.specs.Interpolation.{Interpolated, LooksUp, IsOneName, below, join, IsIllFormed, GivesBelow, GivesBelowGiven, GivesBelowUser, GivesValue};
-ghost use Rattle.config_path.specs.Parts.{parts_text, Makes};
+ghost use Rattle.config_path.specs.Parts.{parts_text, IsNotMemory, Makes};
 
 use crate::interpolate::{Context, Error, Place};
 use crate::path::past;
@@ -52,9 +52,10 @@ impl Parts<'_, '_> {
 
 /// The bytes as text. Fails with `IllFormed`, which holds the place and all the bytes.
 fn text_at<'p>(place: Place, bytes: &'p [u8]) -> Result<&'p str, Error<'p>>
-    ensures { MatchResult result
+    ensures text { MatchResult result
         (λ text. (text.now ≡ bytes.now) × IsUtf8 bytes.now)
         (λ e. ¬ (IsUtf8 bytes.now) × IsIllFormed place bytes.now e) }
+    ensures no_memory { IfErr result IsNotMemory }
 {
     match str::from_utf8(bytes) {
         Ok(text) => Ok(text),
@@ -91,7 +92,8 @@ fn below_dir<'a, 'p>(
     dir: &'a str,
     rest: Option<&'p [u8]>,
 ) -> Result<Parts<'a, 'p>, Error<'p>>
-    ensures { Makes result (GivesBelow place dir.now (option_copied rest.entry)) }
+    ensures made { Makes result (GivesBelow place dir.now (option_copied rest.entry)) }
+    ensures no_memory { IfErr result IsNotMemory }
 {
     match rest {
         None => Ok(Parts {
@@ -110,8 +112,9 @@ fn below_given<'a, 'p>(
     dir: Option<&'a str>,
     rest: Option<&'p [u8]>,
 ) -> Result<Parts<'a, 'p>, Error<'p>>
-    ensures { Makes result (GivesBelowGiven missing.entry place (option_copied dir.entry)
+    ensures made { Makes result (GivesBelowGiven missing.entry place (option_copied dir.entry)
         (option_copied rest.entry)) }
+    ensures no_memory { IsNotMemory missing.entry → IfErr result IsNotMemory }
 {
     match dir {
         None => Err(missing),
@@ -128,8 +131,9 @@ fn below_user<'p, 'a, F>(
 where
     F: FnOnce(&str) -> Option<&'a str> + Drop,
     requires { ForSome lookup (λ f. (name : _) → IsUtf8 name.now → F.pre f name) }
-    ensures { Makes result (GivesBelowUser (LooksUp F.FnOnce) lookup name.now
+    ensures made { Makes result (GivesBelowUser (LooksUp F.FnOnce) lookup name.now
         (option_copied rest.entry)) }
+    ensures no_memory { IfErr result IsNotMemory }
 {
     let Some(lookup) = lookup else {
         return Err(Error::LookupMissing);
@@ -154,7 +158,8 @@ fn name_and_rest(path: &[u8]) -> (&[u8], Option<&[u8]>)
 
 /// The value itself. Fails with `IllFormed` where it is not UTF-8.
 fn unchanged<'a, 'p>(value: &'p [u8]) -> Result<Parts<'a, 'p>, Error<'p>>
-    ensures { Makes result (GivesValue value.now) }
+    ensures made { Makes result (GivesValue value.now) }
+    ensures no_memory { IfErr result IsNotMemory }
 {
     Ok(Parts {
         dir: "",
@@ -172,7 +177,8 @@ pub fn parts_of<'p, 'a, F>(
 where
     F: FnOnce(&str) -> Option<&'a str> + Drop,
     requires { ForSome context.home_for_user (λ f. (name : _) → IsUtf8 name.now → F.pre f name) }
-    ensures { Makes result (Interpolated (LooksUp F.FnOnce) context.entry value.now) }
+    ensures made { Makes result (Interpolated (LooksUp F.FnOnce) context.entry value.now) }
+    ensures no_memory { IfErr result IsNotMemory }
 {
     let Context {
         git_install_dir,

@@ -18,10 +18,10 @@ returns-in-Ok-push_row-clause-adds c = last_line c.args.text.now c.loop-line.res
 
 pub returns-in-Err-clause-refused : goal.returns-in-Err-clause-refused
 returns-in-Err-clause-refused c = bad_line c.args.text.now c.loop-line.rest.now c.in-Some.line.now c.in-Some.tail.now
-    (record { line = c.loop-line.number; fault = c.in-Err.fault }) _ _ c.in-Some.ensures.parts c.in-Some.ensures.first
-    c.loop-line.invariant.so_far c.in-Err.ensures.refused
+    (record { line = c.loop-line.number; fault = c.in-Err.fault }) _ _ _ c.in-Some.ensures.parts c.in-Some.ensures.first
+    c.loop-line.invariant.so_far c.in-Err.ensures.refused c.in-Err.ensures.kept
 
 pub returns-in-Err-push_row-clause-refused : goal.returns-in-Err-push_row-clause-refused
 returns-in-Err-push_row-clause-refused c = bad_last_line c.args.text.now c.loop-line.rest.now
-    (record { line = c.loop-line.number; fault = c.in-Err-push_row.fault }) _ _ c.in_default.ensures.parts
-    c.loop-line.invariant.so_far c.in-Err-push_row.ensures.refused
+    (record { line = c.loop-line.number; fault = c.in-Err-push_row.fault }) _ _ _ c.in_default.ensures.parts
+    c.loop-line.invariant.so_far c.in-Err-push_row.ensures.refused c.in-Err-push_row.ensures.kept

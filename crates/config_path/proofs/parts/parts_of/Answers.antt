@@ -12,22 +12,22 @@ user_form : (value path name : List ℕ) (rest : Option (List ℕ)) → value �
 user_form value path [] rest v p n e = absurd (grind (arith, nat_tests))
 user_form value path (x ∷ xs) rest v p n e = (v ∙ ap (λ t. 126 ∷ t) p, (λ q. cc), n)
 
-pub returns-in-Some : goal.returns-in-Some
-returns-in-Some g c =
-    λ r made. record { form = below_prefix c.in-Some.rest.now; has_form = c.in-Some.ensures; gives = c.below_given.ensures r made }
+pub returns-in-Some-clause-made : goal.returns-in-Some-clause-made
+returns-in-Some-clause-made g c =
+    λ r made. record { form = below_prefix c.in-Some.rest.now; has_form = c.in-Some.ensures; gives = c.below_given.ensures.made r made }
 
-pub returns-then-is_empty-2 : goal.returns-then-is_empty-2
-returns-then-is_empty-2 g c =
+pub returns-then-is_empty-2-clause-made : goal.returns-then-is_empty-2-clause-made
+returns-then-is_empty-2-clause-made g c =
     λ r made. record {
       form = below_home _;
       has_form = home_form _ _ _ _ c.in-Some-past.ensures c.name_and_rest.ensures.whole c.if-is_empty-2.ensures;
-      gives = c.below_given-then-is_empty-2.ensures r made;
+      gives = c.below_given-then-is_empty-2.ensures.made r made;
     }
 
-pub returns : goal.returns
-returns g c =
+pub returns-clause-made : goal.returns-clause-made
+returns-clause-made g c =
     λ r made. record {
       form = below_user _ _;
       has_form = user_form _ _ _ _ c.in-Some-past.ensures c.name_and_rest.ensures.whole c.name_and_rest.ensures.name c.if-is_empty-2.ensures;
-      gives = c.below_user.ensures r made;
+      gives = c.below_user.ensures.made r made;
     }
