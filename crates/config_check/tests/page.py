@@ -1,7 +1,8 @@
 """What the rows of git.rt say, beside the pages of Git's manual that are installed.
 
 Each key has to be one that git-config(1), or a page of ELSEWHERE, documents. Each word of a row has to stand in the
-section of its key, or in what that section names: other pages, and other settings. Of kinds no more is compared.
+section of its key, in that of another setting which it names, or in that of the option of another page which has the
+same words (OPTIONS). Of kinds no more is compared.
 """
 import gzip
 import pathlib
@@ -12,6 +13,18 @@ MANUAL = pathlib.Path("/usr/share/man")
 VERSION = "Git 2.39.5"
 # keys that git-config(1) leaves to another page
 ELSEWHERE = {"filter.*.required": "gitattributes.5"}
+# settings whose words an option has, on another page that their section names
+OPTIONS = {
+    "apply.whitespace": ("apply", "--whitespace=*"),
+    "commit.cleanup": ("commit", "--cleanup=*"),
+    "diff.colorMoved": ("diff", "--color-moved[=*]"),
+    "diff.ignoreSubmodules": ("diff", "--ignore-submodules[=*]"),
+    "format.coverFromDescription": ("format-patch", "--cover-from-description=*"),
+    "log.diffMerges": (
+        "log",
+        "--diff-merges=(off|none|on|first-parent|1|separate|m|combined|c|dense-combined|cc|remerge|r)",
+    ),
+}
 # settings that a section of the page has for each `*` too: the beginning of their keys, and what the page says of them
 FAMILIES = {
     "credential.*.": "credential.<url>.*",
@@ -65,10 +78,17 @@ def section(key, text, known):
 
 
 def named(body, known):
-    """The pages and the sections of other settings that a section names."""
-    pages = [page(f"git-{name}.1") for name in set(re.findall(r"\bgit[ -]([a-z]+(?:-[a-z]+)*)", body))]
-    others = [known.get(key_of(term).rstrip("."), "") for term in set(re.findall(r"[A-Za-z]+\.[A-Za-z<>.*-]+", body))]
-    return "\n".join([*pages, *others])
+    """The sections of other settings that a section names."""
+    terms = set(re.findall(r"[A-Za-z]+\.[A-Za-z<>.*-]+", body))
+    return "\n".join(known.get(key_of(term).rstrip("."), "") for term in terms)
+
+
+def option(key, body):
+    """The section of the option that has the words of a setting, where the setting's own section names its page."""
+    command, term = OPTIONS.get(key, ("", ""))
+    if not command or re.search(rf"\bgit[ -]{command}\b", body) is None:
+        return ""
+    return sections(page(f"git-{command}.1")).get(term, "")
 
 
 def has_word(text, word):
@@ -93,5 +113,6 @@ def check(group):
         body = section(key.lower(), text, known)
         if not group.expect(key, True, body is not None):
             continue
+        said = "\n".join([body, named(body, known), option(key, body)])
         for word in words[1:]:
-            group.expect((key, word), True, has_word(body, word) or has_word(named(body, known), word))
+            group.expect((key, word), True, has_word(said, word))
