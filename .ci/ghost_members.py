@@ -1,11 +1,11 @@
-#!/usr/bin/env python3
-"""Each reader, conversion, default and shown text of the library states its promise in a ghost member. One that is left
-out promises nothing, and the prover says nothing of it: so here each `impl` of these traits is looked at, and fails
-where it has none, or one that is of no known form. The last line is 'N passed, M failed'."""
+"""Each reader, conversion, default and shown text of the library states its promise in a ghost member, and each type
+its equality, order and clone in a law. The prover says nothing of one that is left out: so each `impl` and `derive` of
+these traits is looked at here, and fails without a promise of a known form. The last line is 'N passed, M failed'."""
 import pathlib
 import re
 import sys
 
+CRATES = pathlib.Path(__file__).resolve().parent.parent / "crates"
 # the member of each trait, and the words of which it has to have one
 MEMBERS = {
     "TryFrom": ("try_from_gives", r"\bReads(?:Bytes|Text|Owned|Or)\b"),
@@ -14,38 +14,44 @@ MEMBERS = {
     "Default": ("is_default", r"≡"),
     "Display": ("output", r"\bSome \("),
 }
-# `impl`, type parameters, the path of the trait, its parameters, and the type
-IMPL = re.compile(
-    r"^impl(?:<[^>\n]*>)? (?:\w+::)*(\w+)(?:<[^\n]*>)? for ([^\n]*?)(?: \{|\nwhere\b)(.*?)^\}",
-    re.MULTILINE | re.DOTALL,
-)
-# the same by its first line alone, to see that no `impl` is missed
+# `impl`, type parameters, the path of the trait, its parameters, and the type; and the same by its first line alone
+IMPL = re.compile(r"^impl(?:<[^>\n]*>)? (?:\w+::)*(\w+)(?:<[^\n]*>)? for ([^\n]*?)(?: \{|\nwhere\b)(.*?)^\}",
+                  re.MULTILINE | re.DOTALL)
 FIRST_LINE = re.compile(r"^impl\b.*[ :](?:TryFrom|FromStr|From|Default|Display)\b.* for ", re.MULTILINE)
+# the traits that a public type derives, and its name; the words of a law, one of which names the trait of that type
+DERIVED = re.compile(r"^#\[derive\((.*)\)\]\n(?:#\[.*\]\n)*pub (?:struct|enum) (\w+)", re.MULTILINE)
+LAWS = {"PartialEq": "(?:HasOrder|Equates)", "Ord": "HasOrder", "Clone": "IsCopied"}
+
+
+def members(file, text):
+    """What would be missing of each `impl` of MEMBERS, and whether it is there."""
+    found = [(trait, of, body) for trait, of, body in IMPL.findall(text) if trait in MEMBERS]
+    for trait, of, body in found:
+        member, form = MEMBERS[trait]
+        promise = re.search(rf"^    ghost {member} = \{{(.*?)\}};$", body, re.MULTILINE | re.DOTALL)
+        yield f"{trait} for {of} has no `{member}` of a known form", promise and re.search(form, promise.group(1))
+    # no `impl` is missed
+    yield f"{file.name} has another count of such impls", len(found) == len(FIRST_LINE.findall(text))
+
+
+def laws(texts):
+    """What would be missing of each trait of LAWS that a type derives, if it can be compared."""
+    for traits, of in [found for text in texts for found in DERIVED.findall(text)]:
+        traits = set(traits.split(", "))
+        for trait in sorted(LAWS.keys() & traits) if "PartialEq" in traits else ():
+            law = rf"{LAWS[trait]}\b[^{{}}]*⟦<{of}(?:<[^⟧]*>)? as {trait}>⟧"
+            yield f"{trait} for {of} has no law", any(re.search(law, text) for text in texts)
 
 
 def main():
-    passed, missing = 0, []
-    seen, there = 0, 0
-    root = pathlib.Path(__file__).resolve().parent.parent / "crates"
-    for file in sorted(root.glob("*/src/**/*.rt")):
-        text = file.read_text(encoding="utf-8")
-        there += len(FIRST_LINE.findall(text))
-        for trait, of, body in IMPL.findall(text):
-            if trait not in MEMBERS:
-                continue
-            seen += 1
-            member, form = MEMBERS[trait]
-            found = re.search(rf"^    ghost {member} = \{{(.*?)\}};$", body, re.MULTILINE | re.DOTALL)
-            if found and re.search(form, found.group(1)):
-                passed += 1
-            else:
-                missing.append(f"{file.relative_to(root)}: {trait} for {of} has no `{member}` of a known form")
-    if seen != there:
-        missing.append(f"{there} impls by their first lines, of which {seen} were read")
-    for line in missing:
-        print(line)
-    print(f"{passed} passed, {len(missing)} failed")
-    return 1 if missing or passed == 0 else 0
+    told = []
+    for crate in sorted(CRATES.iterdir()):
+        texts = {file: file.read_text(encoding="utf-8") for file in sorted(crate.glob("src/**/*.rt"))}
+        told += [it for file, text in texts.items() for it in members(file, text)]
+        told += laws(texts.values()) if (crate / "src/laws").is_dir() else []
+    missing = [fault for fault, is_there in told if not is_there]
+    print(*missing, f"{len(told) - len(missing)} passed, {len(missing)} failed", sep="\n")
+    return 1 if missing or not told else 0
 
 
 sys.exit(main())

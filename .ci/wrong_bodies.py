@@ -1,25 +1,123 @@
-#!/usr/bin/env python3
-"""docs/PROOFS.md and the files of must-fail/ name the same wrong bodies. A name that stands in several crates is wanted
-as often on the page. The last line is 'N passed, M failed'."""
+"""Tries the wrong bodies: the prover has to refuse each, at the clauses that it names. wrong_bodies.py [CRATE..]
+
+CONTRIBUTING.md has the form of their files. As many as possible are laid into one copy of the crate, and the functions
+that they name are checked once, over the libraries that `rt check` or `rt ci` left. If that opens other goals, each is
+tried by itself, and the goals that it opens are printed. With WHILE=PID a crate waits for its proof while that process
+runs. The last line is 'N passed, M failed'.
+"""
 import collections
+import concurrent.futures
+import os
 import pathlib
 import re
+import shutil
+import subprocess
 import sys
+import tempfile
+import time
+
+ROOT = pathlib.Path(__file__).resolve().parent.parent
+KIT = pathlib.Path(os.path.realpath(shutil.which("rt") or "rt")).parent.parent
+# a function that is not proved; its open goals, or the answers that are refused; and a theorem that is refused
+OPEN = re.compile(r"^fn \w+::(\S+): (?!no holes|proved|it calls)(.*)$", re.MULTILINE)
+GOALS = re.compile(r"(?:did not prove|stands on) (`[^`]*`(?:, `[^`]*`)*)")
+REFUSED = re.compile(r"^(?:\./)?(?:proofs|specs)/(\S+)\.antt:\S+ error: `([^`]*)`", re.MULTILINE)
+LINES = [line.partition("#")[0].partition(":") for line in (ROOT / "crates.txt").read_text().splitlines()]
+# each crate, with the words before the colon of its line, and the libraries that it uses
+LISTED = {head.split()[0]: (head, deps.split()) for head, colon, deps in LINES if colon}
+Edit = collections.namedtuple("Edit", "name pairs expected is_alone")
+
+
+def edit_of(file):
+    text = file.read_text(encoding="utf-8")
+    files = [part.partition("\n") for part in re.split("^file: ", text, flags=re.MULTILINE)[1:]]
+    pairs = [(path, *it) for path, _, rest in files for it in re.findall("^old: (.*)\nnew: (.*)$", rest, re.MULTILINE)]
+    expected = set(re.findall(r"^expect: (\S+) (\S+)$", text, re.MULTILINE))
+    return Edit(f"{file.parts[-3]}/{file.stem}", pairs, expected, "\nalone:\n" in text)
+
+
+class Crate:
+    """A crate, and a copy of it in a room."""
+
+    def __init__(self, name, room):
+        self.folder, self.room = ROOT / "crates" / name, pathlib.Path(room)
+        rlibs = {dep: ROOT / "crates" / dep / "out/rlib" for dep in LISTED}
+        # as `rt check` calls the prover
+        self.words = [KIT / "bin/rattle", "check", "--crate-name", name, "src/lib.rt", "--links", f"{name}=",
+                      "--antt-project", KIT / "rattle/logic/antt-project.json", "--logic-built", KIT / "logic_built",
+                      "--allow-holes", "--incremental", "out/incremental", "-L", f"dependency={KIT}/rlibs"]
+        self.words += ["--crate-type", "staticlib"] * ("staticlib" in LISTED[name][0])
+        for dep in ["std", *LISTED[name][1]]:
+            self.words += ["--extern", f"{dep}={rlibs.get(dep, KIT / 'rlibs')}/{dep}.rlib"]
+        for rlib in rlibs.values():
+            self.words += ["-L", f"dependency={rlib}"]
+
+    def opened(self, edits):
+        """The goals that these edits open together, each a function and a clause."""
+        for part in ("src", "specs", "proofs"):
+            shutil.rmtree(self.room / part, ignore_errors=True)
+            shutil.copytree(self.folder / part, self.room / part)
+        for path, old, new in [pair for edit in edits for pair in edit.pairs]:
+            text = (self.room / path).read_text(encoding="utf-8")
+            if not old or text.count(old) != 1:
+                raise ValueError(f"{path} has the old text {text.count(old)} times, and not once: {old}")
+            (self.room / path).write_text(text.replace(old, new), encoding="utf-8")
+        functions = sorted({function for edit in edits for function, _ in edit.expected})
+        only = [f"--only={it}" for it in functions] if all("::" in it for it in functions) else []
+        said = subprocess.run([*self.words, *only], cwd=self.room, stdin=subprocess.DEVNULL, stdout=subprocess.PIPE,
+                              stderr=subprocess.STDOUT, text=True, errors="replace", check=False).stdout
+        if not re.search(r"^(only=\d+ )?holes=\d+\n\Z", said, re.MULTILINE):
+            raise ValueError("it does not reach the prover: " + (re.findall(".*error.*", said) or [said])[0][-300:])
+        goals = {(function, goal.rpartition(".")[2]) for function, why in OPEN.findall(said)
+                 for found in GOALS.findall(why) for goal in re.findall("`([^`]*)`", found)}
+        return goals | {one for one in REFUSED.findall(said) if one[1] not in {goal for _, goal in goals}}
+
+    def faults(self, edits):
+        """What is wrong with each of these edits, by its name."""
+        wanted = set().union(*(edit.expected for edit in edits))
+        try:
+            opened = self.opened(edits)
+            told = [f"does not open {' '.join(goal)}" for goal in sorted(wanted - opened)]
+            told += [f"opens {' '.join(goal)}" for goal in sorted(opened - wanted)] + ["names no goal"] * (not wanted)
+        except ValueError as fault:
+            told = [str(fault)]
+        if told and len(edits) > 1:
+            return {name: why for edit in edits for name, why in self.faults([edit]).items()}
+        return {edit.name: "; ".join(told) for edit in edits}
+
+
+def rounds(edits):
+    """The edits in groups that go into one copy, which are of different functions."""
+    made, numbers = collections.defaultdict(list), collections.Counter()
+    for edit in edits:
+        functions = {function for function, _ in edit.expected}
+        number = max((numbers[it] for it in functions), default=0)
+        made[edit.name if edit.is_alone else number].append(edit)
+        numbers |= collections.Counter(dict.fromkeys(() if edit.is_alone else functions, number + 1))
+    return made.values()
+
+
+def tried(name):
+    """What is wrong with each wrong body of a crate, by its name."""
+    gate, proof = pathlib.Path("/proc", os.environ.get("WHILE", "none")), ROOT / f"crates/{name}/out/rlib/{name}.rlib"
+    while gate.exists() and not proof.exists():
+        time.sleep(1)
+    with tempfile.TemporaryDirectory() as room:
+        crate = Crate(name, room)
+        edits = [edit_of(file) for file in sorted((crate.folder / "wrong_bodies").glob("*.edit"))]
+        return {name: why for some in rounds(edits) for name, why in crate.faults(some).items()}
 
 
 def main():
-    root = pathlib.Path(__file__).resolve().parent.parent
-    written = collections.Counter(file.stem for file in root.glob("crates/*/must-fail/*.edit"))
-    page = (root / "docs/PROOFS.md").read_text(encoding="utf-8")
-    # a wrong body is named by its function, and behind a dot by what it gets wrong
-    named = collections.Counter(re.findall(r"`((?:\w+\.)+\w+)`", page))
-    faults = [f"docs/PROOFS.md names {name}, which is not there" for name in sorted(set(named) - set(written))]
-    faults += [f"docs/PROOFS.md names {name} {named[name]} times, and {count} crates have it"
-               for name, count in sorted(written.items()) if named[name] < count]
-    for fault in faults:
-        print(fault)
-    print(f"{sum(written.values()) - len(faults)} passed, {len(faults)} failed")
-    return 1 if faults or not written else 0
+    # the lowest first
+    crates = sys.argv[1:] or [name for name in LISTED if any(ROOT.glob(f"crates/{name}/wrong_bodies/*.edit"))]
+    with concurrent.futures.ThreadPoolExecutor(int(os.environ.get("RT_JOBS") or len(os.sched_getaffinity(0)))) as pool:
+        faults = {name: why for found in pool.map(tried, crates) for name, why in found.items()}
+    for name, why in faults.items():
+        print(f"{name}: {why or 'refused'}")
+    failed = sum(map(bool, faults.values()))
+    print(f"{len(faults) - failed} passed, {failed} failed")
+    return 1 if failed or not faults else 0
 
 
 sys.exit(main())

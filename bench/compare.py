@@ -1,10 +1,18 @@
-"""Measures the calls of the C interface beside the Rust crate's and plain C.
+"""Measures the calls of the C interface beside the Rust crate's and plain C, and writes a Markdown table.
 
 python3 compare.py [--rounds N] [--milliseconds N] [--prefix PREFIX] [--only WORD]
 
-PREFIX is where crates/gix_config_value_c/build.sh has put the library; without it, the library is proved and built into
-a folder of its own. The rows are in rows.tsv, and README.md says how to read the table. Where the Rust crate cannot be
-had it says `skipped` and why. Answers that differ end it with status 1.
+Run it while the machine does nothing else. PREFIX is where crates/gix_config_value_c/build.sh has put the library;
+without it, the library is proved and built into a folder of its own. --only takes the rows of rows.tsv with that word.
+upstream/build.py builds the Rust crate's side, and says how to name its sources; where the crate cannot be had it says
+`skipped` and why. Answers that differ end it with status 1.
+
+The three libraries are linked into one process and called in batches, in turn, for as many rounds as --rounds says, in
+four layouts: the code of each library at its place, or 16 bytes further on. The nanoseconds are the least of all rounds,
+the call and its loop among them. A ratio of a layout is the middle one of its rounds' ratios; `This to Rust` is the
+middle of the layouts, and `Over the layouts` has the least and the greatest. limit.c is plain C without proofs: about
+how low the ratio beside it can get. `-` stands where a library has no such call. For `normalize` the Rust crate's reader
+and its `Display` are measured, and a refusal costs the Rust crate an error with a copy of the text.
 """
 import argparse
 import datetime

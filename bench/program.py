@@ -1,7 +1,8 @@
 """Measures builds of config_value beside the Rust crate's program: python3 program.py PROGRAM.. [--runs N].
 
-README.md says how to build it by each compiler and how to read the table. Where the Rust crate cannot be had it says
-`skipped` and why. Answers that differ end it with status 1.
+`rt ci` leaves the builds of both compilers, as out/config_value and out/config_value.by-rattle. The processor time is
+the least of the runs, which are taken in turn, and the ratio the middle one of the runs' ratios to the Rust crate's
+program. Where the Rust crate cannot be had it says `skipped` and why. Answers that differ end it with status 1.
 """
 import argparse
 import os

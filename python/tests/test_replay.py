@@ -19,8 +19,8 @@ READERS = {"suffix": Suffix, "integer": Integer, "amount": gcv.Amount, "boolean"
 def stored():
     """The folder of the stored answers, in the repository that this file stands in."""
     for folder in pathlib.Path(__file__).resolve().parents:
-        if (folder / "replay" / "lines.txt").exists():
-            return folder / "replay"
+        if (folder / "compare" / "lines.txt").exists():
+            return folder / "compare"
     return None
 
 

@@ -1,12 +1,12 @@
 //! Booleans: words in any case, and numbers.
-ghost use Rattle.std.specs.Prelude.{◌↔◌, IsTrue, ◌≡◌, Some, MatchOption, MatchBool};
+ghost use Rattle.std.specs.Prelude.{◌↔◌, IsTrue, ◌≡◌, Some};
 ghost use Rattle.bstr.specs.Owned.{bstring_bytes};
 ghost use Rattle.std.specs.Cow.{cow_slice_items};
 ghost use Rattle.std.proofs.Common.{rules};
 ghost use Rattle.config_text.specs.declared.errors.Fault.TheVariants as faults;
-ghost use Rattle.config_text.specs.Value.{Reads};
 ghost use Rattle.config_text.specs.Refusals.{Always, ReadsFault, ReadsBytes, ReadsText, ReadsOwned};
-ghost use Rattle.config_boolean.specs.Laws.Boolean.{boolean_one_value, boolean_one_text, boolean_canonical_reads, boolean_shown_is_text, boolean_decided};
+ghost use Rattle.config_boolean.specs.Laws.Boolean.{boolean_one_value, boolean_one_text, boolean_decided};
+ghost use Rattle.config_boolean.specs.Laws.Boolean.{boolean_canonical_reads, boolean_shown_is_text};
 ghost use Rattle.config_boolean.specs.Boolean.{Affirms, Denies, BooleanText, CanonicalBoolean, boolean_shown};
 ghost use Rattle.serde_json.specs.Data.{boolean};
 ghost use Rattle.config_text.specs.Json.{IsJson};
@@ -16,22 +16,23 @@ use config_integer::amount::Amount;
 use config_text::errors::{Error, Fault, Returned};
 use config_text::json::JsonError;
 use config_text::readers::{TryRead, read_bytes, read_cow, read_owned, read_text};
-use config_text::value::{Text, Value};
-use config_text::words::is_in_any_case;
+use config_text::value::{CanonicalText, Value};
+use config_text::words::equals_ignoring_case;
 use serde_json::Value as JsonValue;
 use std::alloc::Global;
 use std::borrow::CowSlice;
 use std::fmt;
 use std::str::FromStr;
 
-/// A truth value. **In Git a key without `=` is true, and one with the empty text behind its `=` is false.**
+/// A truth value. **In Git a key without `=` is true, and one with nothing after its `=` is false.**
 ///
-/// A reader sees the text alone. So whoever reads a file decides the first from the line, before a value is read, and
-/// hands in `true` there; `callers::entries` shows how.
+/// A reader sees only the text. So whoever reads a file tells a key without `=` from the line, and hands in
+/// `true` for it; `uses::entries` shows how.
 ///
-/// The words are `yes`, `on`, `true` and `no`, `off`, `false`, in any case of their letters. The empty text is false,
-/// and an amount is true where its number is not zero. Any other text is refused with `Fault::Boolean`, and so is an
-/// integer text whose product leaves `i64`. Canonical are `true` and `false`. The source: docs/GRAMMAR.md, Booleans.
+/// The words are `yes`, `on`, `true` and `no`, `off`, `false`, in any case of their letters. The empty text
+/// is false, and an amount is true if its number is not zero. Any other text is refused with
+/// `Fault::Boolean`, also an integer text whose product leaves `i64`. Canonical are `true` and `false`:
+/// docs/GRAMMAR.md, Booleans.
 ///
 /// ```rust
 /// use gix_config_value::{Boolean, Fault};
@@ -49,7 +50,9 @@ pub struct Boolean(pub bool);
 fn affirms(text: &[u8]) -> bool
     ensures { IsTrue result ↔ (Affirms text.now) }
 {
-    is_in_any_case(text, b"yes") || is_in_any_case(text, b"on") || is_in_any_case(text, b"true")
+    equals_ignoring_case(text, b"yes")
+        || equals_ignoring_case(text, b"on")
+        || equals_ignoring_case(text, b"true")
 }
 
 /// Whether the text is one of the words for false, in any case of its letters, or empty.
@@ -60,44 +63,21 @@ fn denies(text: &[u8]) -> bool
     if text.is_empty() {
         return true;
     }
-    is_in_any_case(text, b"no") || is_in_any_case(text, b"off") || is_in_any_case(text, b"false")
+    equals_ignoring_case(text, b"no")
+        || equals_ignoring_case(text, b"off")
+        || equals_ignoring_case(text, b"false")
 }
 
-/// The truth value that a word names, in any case of its letters; the empty text is false.
-#[inline(always)]
-fn word(text: &[u8]) -> Option<bool>
-    ensures { MatchOption result ((¬ Affirms text.now) × (¬ Denies text.now))
-        (λ b. MatchBool b (Affirms text.now) (Denies text.now)) }
-{
-    if affirms(text) {
-        Some(true)
-    } else if denies(text) {
-        Some(false)
-    } else {
-        None
-    }
-}
-
-/// The boolean of a text that is no word: whether the number of an amount is not zero.
+/// The boolean of a text that is no word: whether the amount that it writes is not zero.
 #[inline(never)]
-fn counted(text: &[u8]) -> Option<Boolean>
+fn read_amount(text: &[u8]) -> Result<Boolean, Fault>
     requires affirms { ¬ (Affirms text.now) }
     requires denies { ¬ (Denies text.now) }
-    ensures { Reads BooleanText text.now result }
+    ensures { ReadsFault BooleanText (Always faults.Boolean) text.now result }
 {
     match Amount::try_read(text) {
-        Ok(Amount(number)) => Some(Boolean(number != 0)),
-        Err(_) => None,
-    }
-}
-
-/// The boolean that a text writes: a word's truth value, or whether the number of an amount is not zero.
-fn truth(text: &[u8]) -> Option<Boolean>
-    ensures { Reads BooleanText text.now result }
-{
-    match word(text) {
-        Some(value) => Some(Boolean(value)),
-        None => counted(text),
+        Ok(Amount(number)) => Ok(Boolean(number != 0)),
+        Err(_) => Err(Fault::Boolean),
     }
 }
 
@@ -107,13 +87,6 @@ impl Boolean {
         ensures { result ≡ self.0 }
     {
         self.0
-    }
-
-    /// `true` or `false`.
-    fn shown(self) -> &'static str
-        ensures { result.now ≡ boolean_shown self }
-    {
-        if self.0 { "true" } else { "false" }
     }
 }
 
@@ -129,9 +102,15 @@ impl From<Boolean> for bool {
 impl TryRead for Boolean {
     ghost refusal = { Always faults.Boolean };
 
-    /// The boolean that the text writes, or `Fault::Boolean` where it writes none.
+    /// The boolean that the text writes, or `Fault::Boolean` if it writes none.
     fn try_read(text: &[u8]) -> Result<Boolean, Fault> {
-        truth(text).ok_or(Fault::Boolean)
+        if affirms(text) {
+            return Ok(Boolean(true));
+        }
+        if denies(text) {
+            return Ok(Boolean(false));
+        }
+        read_amount(text)
     }
 }
 
@@ -140,7 +119,7 @@ impl FromStr for Boolean {
 
     ghost from_str_gives = { ReadsFault BooleanText (Always faults.Boolean) };
 
-    /// The boolean that the text writes, or `Fault::Boolean` where it writes none.
+    /// The boolean that the text writes, or `Fault::Boolean` if it writes none.
     fn from_str(text: &str) -> Result<Boolean, Fault> {
         Boolean::try_read(text.as_bytes())
     }
@@ -151,7 +130,7 @@ impl<'a> TryFrom<BStr<'a>> for Boolean {
 
     ghost try_from_gives = { ReadsBytes BooleanText (Always faults.Boolean) };
 
-    /// Refuses with `Fault::Boolean` and the whole input where it writes no boolean.
+    /// The boolean of the input, or `Fault::Boolean` and the whole input.
     fn try_from(input: BStr<'a>) -> Result<Boolean, Error<'a>> {
         read_bytes(input)
     }
@@ -162,7 +141,7 @@ impl<'a> TryFrom<&'a str> for Boolean {
 
     ghost try_from_gives = { λ s r. ReadsText BooleanText (Always faults.Boolean) s.now r };
 
-    /// Refuses with `Fault::Boolean` and the whole input where it writes no boolean.
+    /// The boolean of the input, or `Fault::Boolean` and the whole input.
     fn try_from(input: &'a str) -> Result<Boolean, Error<'a>> {
         read_text(input)
     }
@@ -173,7 +152,7 @@ impl TryFrom<BString> for Boolean {
 
     ghost try_from_gives = { λ s r. ReadsOwned BooleanText (Always faults.Boolean) (bstring_bytes s) s r };
 
-    /// Refuses with `Fault::Boolean` where the input writes no boolean, and hands it back.
+    /// The boolean of the input, or `Fault::Boolean` and the input itself.
     fn try_from(input: BString) -> Result<Boolean, Returned<BString>> {
         read_owned(input)
     }
@@ -184,7 +163,7 @@ impl<'a> TryFrom<CowSlice<'a, u8>> for Boolean {
 
     ghost try_from_gives = { λ s r. ReadsOwned BooleanText (Always faults.Boolean) (cow_slice_items s) s r };
 
-    /// Refuses with `Fault::Boolean` where the input writes no boolean, and hands it back.
+    /// The boolean of the input, or `Fault::Boolean` and the input itself.
     fn try_from(input: CowSlice<'a, u8>) -> Result<Boolean, Returned<CowSlice<'a, u8>>> {
         read_cow(input)
     }
@@ -204,7 +183,7 @@ impl fmt::Display for Boolean {
 
     /// Writes `true` or `false`.
     fn fmt<W: fmt::Write>(&self, f: &mut fmt::Formatter<W>) -> fmt::Result {
-        f.write_str(self.shown())
+        f.write_str(if self.0 { "true" } else { "false" })
     }
 }
 
@@ -215,9 +194,9 @@ impl Value for Boolean {
 
     ghost displayed = { boolean_shown };
 
-    /// The boolean that the input writes, and `None` where it writes none.
+    /// The boolean that the input writes, or `None` if it writes none.
     fn read(input: BStr<'_>) -> Option<Boolean> {
-        truth(input.as_bytes())
+        Boolean::try_read(input.as_bytes()).ok()
     }
 
     /// Both booleans have a text.
@@ -226,7 +205,7 @@ impl Value for Boolean {
     }
 
     /// Writes `true` or `false`.
-    fn write_to(&self, text: &mut Text) {
+    fn write_to(&self, text: &mut CanonicalText) {
         if self.0 {
             text.push_str("true");
         } else {

@@ -1,4 +1,4 @@
-//! Reports the settings whose values are none that Git documents, of those that `git config --list --null` prints.
+//! Reports the settings whose values Git does not document, of those that `git config --list --null` prints.
 #![tactic(auto)]
 
 use clap::{Arg, ArgAction, ArgMatches, Command};
@@ -16,7 +16,7 @@ use thiserror::Error;
 /// The most bytes that one read takes.
 const READ: usize = 65536;
 
-/// An argument that stands alone.
+/// An argument without a value.
 fn flag<'a>(alloc: Global, name: &'a str, help: &'a str) -> Arg<'a> {
     Arg::new(alloc, name)
         .long(name)
@@ -24,7 +24,7 @@ fn flag<'a>(alloc: Global, name: &'a str, help: &'a str) -> Arg<'a> {
         .help(help)
 }
 
-/// An argument with a value of this name.
+/// An argument with a value, which the usage gives this name.
 fn option<'a>(alloc: Global, name: &'a str, value: &'a str, help: &'a str) -> Arg<'a> {
     Arg::new(alloc, name)
         .long(name)
@@ -33,12 +33,13 @@ fn option<'a>(alloc: Global, name: &'a str, value: &'a str, help: &'a str) -> Ar
         .help(help)
 }
 
-/// What the program may be asked for by its arguments.
+/// The command line of the program.
 fn command<'a>(alloc: Global) -> Result<Command<'a>, AllocError> {
     Command::new(alloc, "config_check")
         .version("0.1.0")
         .about(
-            "Reports the settings whose values are none that Git documents: git config --list --null | config_check",
+            "Reports the settings whose values are none that Git documents: \
+            git config --list --null | config_check",
         )
         .arg(flag(
             alloc,
@@ -64,6 +65,7 @@ fn command<'a>(alloc: Global) -> Result<Command<'a>, AllocError> {
 }
 
 /// Why a run ends with status 2.
+// A `match` makes them, and no `map_err`: that has no proof where the error names a lifetime.
 #[derive(Debug, Drop, Error)]
 enum Failure<'m> {
     #[error("cannot read the arguments: {0}")]
@@ -83,8 +85,8 @@ enum Failure<'m> {
 }
 
 impl Failure<'_> {
-    /// Whether it is told: not where the reader of the output has gone away.
-    fn is_told(&self) -> bool {
+    /// Whether it is printed: not if the reader of the output has gone away.
+    fn is_printed(&self) -> bool {
         match self {
             Failure::Write(error) => error.kind() != ErrorKind::BrokenPipe,
             _ => true,
@@ -92,7 +94,7 @@ impl Failure<'_> {
     }
 }
 
-/// The bytes of a file of settings, or none where no file is named.
+/// The bytes of a file of settings, empty if no file is named.
 fn file_bytes<'m>(rt: &HostRuntime, file: Option<&'m str>) -> Result<Vec<u8>, Failure<'m>> {
     let Some(file) = file else {
         return Ok(Vec::new(rt.alloc()));
@@ -100,7 +102,7 @@ fn file_bytes<'m>(rt: &HostRuntime, file: Option<&'m str>) -> Result<Vec<u8>, Fa
     fs::read(rt, file).map_err(|error| Failure::File { file, error })
 }
 
-/// Puts the rows of a text behind others.
+/// Appends the rows of a text.
 fn add_rows<'m, 't>(
     alloc: Global,
     file: &'m str,
@@ -110,7 +112,7 @@ fn add_rows<'m, 't>(
     read_rows(alloc, text, rows).map_err(|bad| Failure::Row { file, bad })
 }
 
-/// Checks what stands on standard input.
+/// Checks standard input by these rows.
 fn check_input<'m>(
     rt: &HostRuntime,
     rows: &[Row<'_>],
@@ -129,14 +131,16 @@ fn check_input<'m>(
     }
 }
 
-/// Checks standard input by the rows of a file and the built-in ones, and gives the exit status: 0 where nothing was
-/// found, and 1 where something was.
+/// Checks standard input by the rows of a file, if one is named, and the built-in ones. Returns the exit
+/// status: 1 if there are findings, and 0 otherwise.
 fn run<'m>(rt: &HostRuntime, matches: &ArgMatches<'m>) -> Result<u8, Failure<'m>> {
     let alloc = rt.alloc();
     let file = matches.get_str("settings");
     let text = file_bytes(rt, file)?;
     let mut rows = Vec::new(alloc);
-    add_rows(alloc, file.unwrap_or(""), &text, &mut rows)?;
+    if let Some(file) = file {
+        add_rows(alloc, file, &text, &mut rows)?;
+    }
     add_rows(
         alloc,
         "the built-in settings",
@@ -159,12 +163,12 @@ fn run<'m>(rt: &HostRuntime, matches: &ArgMatches<'m>) -> Result<u8, Failure<'m>
     Ok(if summary.counts.findings == 0 { 0 } else { 1 })
 }
 
-/// The exit status of an outcome, whose failure is told on standard error.
+/// The exit status of an outcome. Prints its failure on standard error.
 fn status(rt: &HostRuntime, outcome: Result<u8, Failure<'_>>) -> ExitCode {
     match outcome {
         Ok(status) => ExitCode::from(status),
         Err(failure) => {
-            if failure.is_told() {
+            if failure.is_printed() {
                 let _ = eprintln!(rt; "config_check: {failure}");
             }
             ExitCode::from(2)
@@ -172,19 +176,20 @@ fn status(rt: &HostRuntime, outcome: Result<u8, Failure<'_>>) -> ExitCode {
     }
 }
 
-/// The words of the command line.
-fn words(rt: &HostRuntime) -> Result<Vec<String>, Failure<'static>> {
-    match env::args(rt) {
-        Ok(words) => match words.collect(rt.alloc()) {
-            Ok(words) => Ok(words),
-            Err(error) => Err(Failure::Memory(error)),
-        },
-        Err(error) => Err(Failure::Arguments(error)),
+/// The arguments of the command line, with the name of the program.
+fn arguments(rt: &HostRuntime) -> Result<Vec<String>, Failure<'static>> {
+    let arguments = match env::args(rt) {
+        Ok(arguments) => arguments,
+        Err(error) => return Err(Failure::Arguments(error)),
+    };
+    match arguments.collect(rt.alloc()) {
+        Ok(arguments) => Ok(arguments),
+        Err(error) => Err(Failure::Memory(error)),
     }
 }
 
 /// Prints the usage, the version, or what is wrong with the arguments.
-fn tell(rt: &HostRuntime, error: &clap::Error) -> Result<u8, Failure<'static>> {
+fn print_usage(rt: &HostRuntime, error: &clap::Error) -> Result<u8, Failure<'static>> {
     match error.print(rt) {
         Ok(()) => Ok(error.exit_code() as u8),
         Err(error) => Err(Failure::Write(error)),
@@ -192,16 +197,16 @@ fn tell(rt: &HostRuntime, error: &clap::Error) -> Result<u8, Failure<'static>> {
 }
 
 fn main(rt: HostRuntime) -> ExitCode {
-    let words = match words(&rt) {
-        Ok(words) => words,
+    let arguments = match arguments(&rt) {
+        Ok(arguments) => arguments,
         Err(failure) => return status(&rt, Err(failure)),
     };
     let command = match command(rt.alloc()) {
         Ok(command) => command,
         Err(error) => return status(&rt, Err(Failure::Memory(error))),
     };
-    match command.try_get_matches_from(words.as_slice()) {
+    match command.try_get_matches_from(arguments.as_slice()) {
         Ok(matches) => status(&rt, run(&rt, &matches)),
-        Err(error) => status(&rt, tell(&rt, &error)),
+        Err(error) => status(&rt, print_usage(&rt, &error)),
     }
 }

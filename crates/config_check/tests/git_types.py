@@ -1,6 +1,6 @@
 """What Git refuses by `git config --type`, and what config_check reports, of the same texts.
 
-Each difference has to belong to exactly one class, of diff/classes.py or of those below.
+Each difference has to belong to exactly one class, of compare/classes.py or of those below.
 """
 import collections
 import concurrent.futures
@@ -12,13 +12,13 @@ import made
 import rows
 from checking import arguments
 
-sys.path.append(str(pathlib.Path(__file__).resolve().parents[3] / "diff"))
+sys.path.append(str(pathlib.Path(__file__).resolve().parents[3] / "compare"))
 
 import classes  # noqa: E402
 import texts  # noqa: E402
 from classes import Case, Question, amount  # noqa: E402
-from colors import escape_code  # noqa: E402
-from readers import NOT_SET, REFUSED, Git, Missing, Wrong, c_library, user_of, users  # noqa: E402
+from programs import Missing, Wrong  # noqa: E402
+from readers import NOT_SET, REFUSED, Git, c_library, escape_code, user_of, users  # noqa: E402
 
 TEXTS = 400
 HOMES = [classes.HOME, None]

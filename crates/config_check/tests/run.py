@@ -1,9 +1,9 @@
 #!/usr/bin/env python3
-"""The tests of the program config_check: python3 run.py PROGRAM [--seed N] [--inputs N]
+"""The tests of the program config_check: python3 run.py PROGRAM [--seed N] [--inputs N] [--seconds N]
 
 It prints what failed, a line for each group, the classes of differences from Git, and last
-'N passed, M failed'. The run is the same for the same seed and number of mutated entries.
-Without Git or its manual, what needs it says so and counts nothing.
+'N passed, M failed'. The run is the same for the same seed and number of mutated entries. A large
+input may take so many seconds. Without Git or its manual, what needs it says so and counts nothing.
 """
 import argparse
 import random
@@ -52,7 +52,9 @@ def main():
     arguments.add_argument("program")
     arguments.add_argument("--seed", type=int, default=1)
     arguments.add_argument("--inputs", type=int, default=100_000)
+    arguments.add_argument("--seconds", type=float, default=inputs.SECONDS_FOR_A_LARGE_INPUT)
     arguments = arguments.parse_args()
+    inputs.SECONDS_FOR_A_LARGE_INPUT = arguments.seconds
     passed = failed = 0
     with tempfile.TemporaryDirectory() as folder:
         program = Program(arguments.program, folder)

@@ -1,5 +1,7 @@
 -- A check, entry by entry.
-use Rattle.std.proofs.Common.{◌≡◌, ◌+◌, ◌≤◌, ℕ, List, [], ◌∷◌, ◌++◌, flat_map, true, false, Option, refl, sym, ap, subst, ◌∙◌, append_assoc, append-nil, arith, inl, inr, Result, Ok, Err, IfOk, IfErr}
+use Rattle.std.proofs.Common.{◌≡◌, ◌+◌, ◌≤◌, ℕ, List, [], ◌∷◌, ◌++◌, flat_map, true, false, Option, refl, sym}
+use Rattle.std.proofs.Common.{ap, subst, ◌∙◌, append_assoc, append-nil, arith, inl, inr, Result, Ok, Err}
+use Rattle.std.proofs.Common.{IfOk, IfErr, OnOk, OnErr, is_ok, IsErrAnd, Bool}
 use Rattle.std.specs.Io.KnownBytes.{Consumes, Keeps}
 use Rattle.std.proofs.KnownBytes.{Consumes-nil, Consumes-trans, Appends-nil, Appends-trans, Appends-kept}
 use Rattle.std.proofs.lemmas.List.Elements.{All-append, All-cons}
@@ -11,33 +13,44 @@ use Rattle.config_checks.specs.declared.check.Counts.{Counts}
 use Rattle.config_checks.specs.declared.check.Summary.{Summary}
 use Rattle.config_checks.specs.declared.check.CheckError.{CheckError}
 use Rattle.config_checks.specs.declared.check.CheckError.TheVariants.{Read, Write, Memory}
+use Rattle.config_checks.specs.declared.entry.EntryEnd.{EntryEnd}
 use Rattle.config_checks.specs.declared.entry.EntryEnd.TheVariants.{Nul, CutOff, CutBefore, Nothing}
-use Rattle.config_checks.specs.Entries.{Entry, IsEntry, IsCut, IsBegun, whole, cut_off, cut_before, entry_bytes}
-use Rattle.config_checks.specs.Report.{unknown, right, found, Report, nothing, next, Completes, Fails, WritesAfter, AreRead}
+use Rattle.config_checks.specs.Entries.{Entry, IsEntry, IsCut, IsBegun, whole, cut_off, cut_before}
+use Rattle.config_checks.specs.Entries.{entry_bytes}
+use Rattle.config_checks.specs.Report.{unknown, right, found, Report, nothing, next, Completes, Fails}
+use Rattle.config_checks.specs.Report.{WritesAfter, AreRead}
 use Rattle.config_checks.specs.Reading.Fields.{ReadsEntry, BreaksEntry}
-use Rattle.config_checks.specs.Reading.Steps.{SoFar, Judges, BreaksLine, IsNoRead}
+use Rattle.config_checks.specs.Reading.Steps.{IsCheckedTo, Reports, ReportsPart, IsNoRead}
 use Rattle.config_checks.proofs.EntryLemmas.{ends_both, without_none}
 
 module _ (rows : List Row) (options : Options) where
   no_entries : All IsEntry []
   no_entries k d below = absurd (omega arith)
 
+  nothing_counted : (a b c : ℕ) → a ≡ 0 → b ≡ 0 → c ≡ 0
+      → Report rows options [] [] (record { entries = a; unknown = b; findings = c })
+  nothing_counted a b c none_a none_b none_c = rw (none_a, none_b, none_c) nothing
+
   -- nothing was read yet
-  pub start : (u w : Option (List ℕ)) → SoFar rows options u u w w (record { entries = 0; unknown = 0; findings = 0 })
-  start u w = record {
+  pub start : (u w : Option (List ℕ)) (s : Counts) → s.entries ≡ 0 → s.unknown ≡ 0 → s.findings ≡ 0
+      → IsCheckedTo rows options u u w w s
+  start u w s entries none_unknown findings = record {
     input = [];
     output = [];
     entries = [];
     consumed = Consumes-nil u;
     cut = record { joined = refl; each = no_entries };
     appended = Appends-nil w;
-    report = nothing;
+    report = nothing_counted s.entries s.unknown s.findings entries none_unknown findings;
   }
 
-  one_more : (entries : List Entry) (entry : Entry) → All IsEntry entries → IsEntry entry → All IsEntry (entries ++ entry ∷ [])
-  one_more entries entry each is = All-append IsEntry entries (entry ∷ []) each (All-cons IsEntry entry [] is no_entries)
+  one_more : (entries : List Entry) (entry : Entry) → All IsEntry entries → IsEntry entry
+      → All IsEntry (entries ++ entry ∷ [])
+  one_more entries entry each is =
+      All-append IsEntry entries (entry ∷ []) each (All-cons IsEntry entry [] is no_entries)
 
-  joined_more : (input : List ℕ) (entries : List Entry) (entry : Entry) → input ≡ flat_map (entry_bytes options) entries ++ []
+  joined_more : (input : List ℕ) (entries : List Entry) (entry : Entry)
+      → input ≡ flat_map (entry_bytes options) entries ++ []
       → input ++ entry_bytes options entry ≡ flat_map (entry_bytes options) (entries ++ entry ∷ []) ++ []
   joined_more input entries entry joined =
       let bytes = flat_map (entry_bytes options) in
@@ -46,8 +59,10 @@ module _ (rows : List Row) (options : Options) where
       ∙ ap (λ l. bytes entries ++ l) (append-nil (entry_bytes options entry)))
 
   -- one more entry
-  pub more : (u v v' w x x' : Option (List ℕ)) (entry : Entry) (s s' : Counts) → SoFar rows options u v w x s
-      → ReadsEntry options v v' entry Nul → Judges rows options entry s s' x x' → SoFar rows options u v' w x' s'
+  pub more : (u v v' w x x' : Option (List ℕ)) (entry : Entry) (s s' : Counts)
+      → IsCheckedTo rows options u v w x s
+      → ReadsEntry options v v' entry Nul → Reports rows options entry s s' x x'
+      → IsCheckedTo rows options u v' w x' s'
   more u v v' w x x' entry s s' so_far read judged = record {
     input = so_far.input ++ entry_bytes options entry;
     output = so_far.output ++ judged.line;
@@ -59,7 +74,8 @@ module _ (rows : List Row) (options : Options) where
   }
 
   -- what was read so far, and then a rest
-  with_rest : (input : List ℕ) (entries : List Entry) (rest : List ℕ) → IsCut options input entries [] → IsCut options (input ++ rest) entries rest
+  with_rest : (input : List ℕ) (entries : List Entry) (rest : List ℕ) → IsCut options input entries []
+      → IsCut options (input ++ rest) entries rest
   with_rest input entries rest cut = record {
     joined = ap (λ l. l ++ rest) (cut.joined ∙ append-nil (flat_map (entry_bytes options) entries));
     each = cut.each;
@@ -67,8 +83,10 @@ module _ (rows : List Row) (options : Options) where
 
   -- ---- the input has ended
 
-  pub ends_whole : (u v v' w x x' : Option (List ℕ)) (entry : Entry) (s : Counts) (r : Summary) → SoFar rows options u v w x s
-      → ReadsEntry options v v' entry Nothing → Keeps x x' → r.counts ≡ s → r.is_cut_off ≡ false → Completes rows options u v' w x' r
+  pub ends_whole : (u v v' w x x' : Option (List ℕ)) (entry : Entry) (s : Counts) (r : Summary)
+      → IsCheckedTo rows options u v w x s
+      → ReadsEntry options v v' entry Nothing → Keeps x x' → r.counts ≡ s → r.is_cut_off ≡ false
+      → Completes rows options u v' w x' r
   ends_whole u v v' w x x' entry s r so_far read kept counts is = record {
     input = so_far.input ++ [];
     output = so_far.output;
@@ -80,8 +98,10 @@ module _ (rows : List Row) (options : Options) where
     report = rw counts so_far.report;
   }
 
-  pub ends_before : (u v v' w x x' : Option (List ℕ)) (entry : Entry) (s : Counts) (r : Summary) → SoFar rows options u v w x s
-      → ReadsEntry options v v' entry CutBefore → Keeps x x' → r.counts ≡ s → r.is_cut_off ≡ true → Completes rows options u v' w x' r
+  pub ends_before : (u v v' w x x' : Option (List ℕ)) (entry : Entry) (s : Counts) (r : Summary)
+      → IsCheckedTo rows options u v w x s
+      → ReadsEntry options v v' entry CutBefore → Keeps x x' → r.counts ≡ s → r.is_cut_off ≡ true
+      → Completes rows options u v' w x' r
   ends_before u v v' w x x' entry s r so_far read kept counts is = record {
     input = so_far.input ++ read.0;
     output = so_far.output;
@@ -93,8 +113,10 @@ module _ (rows : List Row) (options : Options) where
     report = rw counts so_far.report;
   }
 
-  pub ends_cut_off : (u v v' w x x' x'' : Option (List ℕ)) (entry : Entry) (s s' : Counts) (r : Summary) → SoFar rows options u v w x s
-      → ReadsEntry options v v' entry CutOff → Judges rows options entry s s' x x' → Keeps x' x'' → r.counts ≡ s' → r.is_cut_off ≡ true
+  pub ends_cut_off : (u v v' w x x' x'' : Option (List ℕ)) (entry : Entry) (s s' : Counts) (r : Summary)
+      → IsCheckedTo rows options u v w x s
+      → ReadsEntry options v v' entry CutOff → Reports rows options entry s s' x x' → Keeps x' x''
+      → r.counts ≡ s' → r.is_cut_off ≡ true
       → Completes rows options u v' w x'' r
   ends_cut_off u v v' w x x' x'' entry s s' r so_far read judged kept counts is = record {
     input = so_far.input ++ read.0;
@@ -112,11 +134,14 @@ module _ (rows : List Row) (options : Options) where
   written_after : (e : CheckError) (entries : List Entry) (output missing : List ℕ) (s : Counts) → IsNoRead e
       → Report rows options entries (output ++ missing) s → WritesAfter e rows options entries output
   written_after (Read e) entries output missing s no_read report = absurd no_read
-  written_after (Write e) entries output missing s no_read report = record { s = s; missing = missing; report = report }
-  written_after (Memory e) entries output missing s no_read report = record { s = s; missing = missing; report = report }
+  written_after (Write e) entries output missing s no_read report =
+      record { s = s; missing = missing; report = report }
+  written_after (Memory e) entries output missing s no_read report =
+      record { s = s; missing = missing; report = report }
 
   -- a flush, at the end of the input
-  pub fails_at_end : (u v w x : Option (List ℕ)) (r : Summary) (e : CheckError) → Completes rows options u v w x r → IsNoRead e
+  pub fails_at_end : (u v w x : Option (List ℕ)) (r : Summary) (e : CheckError)
+      → Completes rows options u v w x r → IsNoRead e
       → Fails rows options u v w x e
   fails_at_end u v w x r e complete no_read = record {
     input = complete.input;
@@ -129,8 +154,24 @@ module _ (rows : List Row) (options : Options) where
         (subst (λ l. Report rows options complete.entries l r.counts) (sym (append-nil complete.output)) complete.report);
   }
 
+  -- the flush at the end, after which the check is complete or has failed
+  pub ended : {u v w x : Option (List ℕ)} (s : Counts) (is_cut_off : Bool)
+      → ((m : Summary) → m.counts ≡ s → m.is_cut_off ≡ is_cut_off → Completes rows options u v w x m)
+      → (r : Result Summary CheckError) → IfOk r (λ m. m.counts ≡ s) → IfOk r (λ m. m.is_cut_off ≡ is_cut_off)
+      → IfOk r (Completes rows options u v w x)
+  ended s is_cut_off complete (Ok m) counts is = complete m counts is
+  ended s is_cut_off complete (Err e) counts is = tt
+
+  pub end_failed : {u v w x : Option (List ℕ)} (s : Counts) (is_cut_off : Bool)
+      → ((m : Summary) → m.counts ≡ s → m.is_cut_off ≡ is_cut_off → Completes rows options u v w x m)
+      → (r : Result Summary CheckError) → IfErr r IsNoRead → IfErr r (Fails rows options u v w x)
+  end_failed s is_cut_off complete (Ok m) no_read = tt
+  end_failed s is_cut_off complete (Err e) no_read =
+      fails_at_end _ _ _ _ _ e (complete (record { counts = s; is_cut_off = is_cut_off }) refl refl) no_read
+
   -- a read
-  pub fails_reading : (u v v' w x : Option (List ℕ)) (s : Counts) (e : CheckError) → SoFar rows options u v w x s → BreaksEntry options v v'
+  pub fails_reading : (u v v' w x : Option (List ℕ)) (s : Counts) (e : CheckError)
+      → IsCheckedTo rows options u v w x s → BreaksEntry options v v'
       → ¬ (IsNoRead e) → Fails rows options u v' w x e
   fails_reading u v v' w x s (Write e) so_far broken read = absurd (read tt)
   fails_reading u v v' w x s (Memory e) so_far broken read = absurd (read tt)
@@ -157,15 +198,16 @@ module _ (rows : List Row) (options : Options) where
   breaks_nowhere v = ([], Consumes-nil v, nothing_begun)
 
   -- the line of an entry
-  module _ (u v v' w x x' : Option (List ℕ)) (entry : Entry) (s : Counts) (e : CheckError) (so_far : SoFar rows options u v w x s)
-      (broken : BreaksLine rows options entry s x x') (no_read : IsNoRead e) where
+  module _ (u v v' w x x' : Option (List ℕ)) (entry : Entry) (s : Counts) (e : CheckError) (so_far : IsCheckedTo rows options u v w x s)
+      (broken : ReportsPart rows options entry s x x') (no_read : IsNoRead e) where
     begun : Report rows options (so_far.entries ++ entry ∷ []) ((so_far.output ++ broken.part.written) ++ broken.part.missing) broken.after
     begun =
         let all = ap (λ l. so_far.output ++ l) broken.part.parts ∙ sym (append_assoc so_far.output broken.part.written broken.part.missing) in
         subst (λ l. Report rows options (so_far.entries ++ entry ∷ []) l broken.after) all
         (next so_far.entries so_far.output s entry broken.key broken.value broken.line broken.after so_far.report broken.setting broken.adds)
 
-    fails_writing : (rest : List ℕ) → Consumes v v' rest → AreRead options u v' (so_far.input ++ rest) (so_far.entries ++ entry ∷ [])
+    fails_writing : (rest : List ℕ) → Consumes v v' rest
+        → AreRead options u v' (so_far.input ++ rest) (so_far.entries ++ entry ∷ [])
         → Fails rows options u v' w x' e
     fails_writing rest consumed read = record {
       input = so_far.input ++ rest;
@@ -193,7 +235,8 @@ module _ (rows : List Row) (options : Options) where
 
 -- ---- counts
 
-pub adds_one : (rows : List Row) (options : Options) (entry : Entry) (s s' : Counts) (x x' : Option (List ℕ)) → Judges rows options entry s s' x x'
+pub adds_one : (rows : List Row) (options : Options) (entry : Entry) (s s' : Counts) (x x' : Option (List ℕ))
+    → Reports rows options entry s s' x x'
     → (s'.entries ≡ s.entries + 1) × (s'.unknown ≤ s.unknown + 1) × (s'.findings ≤ s.findings + 1)
 adds_one rows options entry s s' x x' judged = elim judged.adds [
   | unknown is none after ↦ rw after (refl, omega arith, omega arith)
@@ -203,10 +246,31 @@ adds_one rows options entry s s' x x' judged = elim judged.adds [
 
 -- ---- results
 
-pub ok_from : {T E : Type 0} {P Q R : T → Type 0} (r : Result T E) → IfOk r P → IfOk r Q → ((v : T) → P v → Q v → R v) → IfOk r R
-ok_from (Ok v) p q so = so v p q
-ok_from (Err e) p q so = tt
+-- how an entry ended, by its name
+pub read_to : (options : Options) (v v' : Option (List ℕ)) (entry : Entry) {end named : EntryEnd} → end ≡ named
+    → ReadsEntry options v v' entry end → ReadsEntry options v v' entry named
+read_to options v v' entry is read = subst (ReadsEntry options v v' entry) is read
 
-pub err_from : {T E : Type 0} {P R : E → Type 0} (r : Result T E) → IfErr r P → ((e : E) → P e → R e) → IfErr r R
-err_from (Ok v) p so = tt
-err_from (Err e) p so = so e p
+-- what holds of an error that `?` passes on
+pub passed_on : {T E : Type 0} (Q : E → Type 0) (r : Result T E) (e : E) → IsErrAnd r (λ d. d ≡ e) → Q e
+    → IfErr r Q
+passed_on Q (Ok v) e is q = tt
+passed_on Q (Err d) e is q = subst Q (sym is) q
+
+-- what `map_err` keeps of a result
+pub ok_mapped : {T D E P R : Type 0} (r : Result T E) (m : Result T D) → is_ok m ≡ is_ok r → OnOk r P
+    → (P → R) → OnOk m R
+ok_mapped (Ok v) (Ok w) same p so = so p
+ok_mapped (Err e) (Ok w) same p so = absurd (cc (same))
+ok_mapped r (Err d) same p so = tt
+
+pub err_mapped : {T D E P R : Type 0} (r : Result T E) (m : Result T D) → is_ok m ≡ is_ok r → OnErr r P
+    → (P → R)
+    → OnErr m R
+err_mapped (Err e) (Err d) same p so = so p
+err_mapped (Ok v) (Err d) same p so = absurd (cc (same))
+err_mapped r (Ok w) same p so = tt
+
+pub any_err : {T E : Type 0} (r : Result T E) (P : Type 0) → P → OnErr r P
+any_err (Ok v) P p = tt
+any_err (Err e) P p = p

@@ -1,5 +1,7 @@
 -- Entries, field by field.
-use Rattle.std.proofs.Common.{◌≡◌, ◌≢◌, ◌⊎◌, inl, inr, ℕ, List, [], ◌∷◌, ◌++◌, Bool, true, false, Option, None, Some, refl, sym, ap, subst, ◌∙◌, append_assoc, append-nil, arith, eqb-true, length, ◌==◌, Result, Ok, Err, OnErr}
+use Rattle.std.proofs.Common.{◌≡◌, ◌≢◌, ◌⊎◌, inl, inr, ℕ, List, [], ◌∷◌, ◌++◌, Bool, true, false, Option}
+use Rattle.std.proofs.Common.{None, Some, refl, sym, ap, subst, ◌∙◌, append_assoc, append-nil, arith}
+use Rattle.std.proofs.Common.{eqb-true, length, ◌==◌, Result, Ok, Err, OnErr}
 use Rattle.std.specs.Io.KnownBytes.{Consumes}
 use Rattle.std.proofs.KnownBytes.{Consumes-nil, Consumes-trans}
 use Rattle.config_checks.specs.declared.options.Options.{Options}
@@ -20,18 +22,21 @@ pub record IsShown (is_shown : Bool) (u v : Option (List ℕ)) (field : List ℕ
   pub consumed : Consumes u v (shown_field is_shown field)
   pub without : IsWithout nul field
 
-pub shown_read : (is_shown : Bool) (u v : Option (List ℕ)) (field : List ℕ) → ReadsShown is_shown u v field true → IsShown is_shown u v field
+pub shown_read : (is_shown : Bool) (u v : Option (List ℕ)) (field : List ℕ)
+    → ReadsShown is_shown u v field true → IsShown is_shown u v field
 shown_read true u v field read = record { consumed = read.0; without = read.1 }
 shown_read false u v field read = record {
   consumed = subst (λ l. Consumes u l []) (sym read.0) (Consumes-nil u);
   without = subst (IsWithout nul) (sym read.1) (λ k d below. absurd (omega arith));
 }
 
-shown_cut : (is_shown : Bool) (u v : Option (List ℕ)) (field : List ℕ) → ReadsShown is_shown u v field false → (is_shown ≡ true) × ReadsField u v field false
+shown_cut : (is_shown : Bool) (u v : Option (List ℕ)) (field : List ℕ) → ReadsShown is_shown u v field false
+    → (is_shown ≡ true) × ReadsField u v field false
 shown_cut true u v field read = (refl, read)
 shown_cut false u v field read = absurd (cc (read.2))
 
-shown_broken : (is_shown : Bool) (u v : Option (List ℕ)) → BreaksShown is_shown u v → (is_shown ≡ true) × BreaksField u v
+shown_broken : (is_shown : Bool) (u v : Option (List ℕ)) → BreaksShown is_shown u v → (is_shown ≡ true)
+    × BreaksField u v
 shown_broken true u v broken = (refl, broken)
 shown_broken false u v broken = absurd broken
 
@@ -44,7 +49,8 @@ without_none k d below = absurd (omega arith)
 abbrev pub EndsBefore : Options → Option (List ℕ) → Option (List ℕ) → Type 0
 EndsBefore options u v = (rest : List ℕ) × Consumes u v rest × EndsKnown u v × IsCutBefore options rest
 
-pub cut_in_scope : (options : Options) (u v : Option (List ℕ)) (scope : List ℕ) → ReadsShown options.scope u v scope false → scope ≢ [] → EndsBefore options u v
+pub cut_in_scope : (options : Options) (u v : Option (List ℕ)) (scope : List ℕ)
+    → ReadsShown options.scope u v scope false → scope ≢ [] → EndsBefore options u v
 cut_in_scope options u v scope read some =
     let cut = shown_cut options.scope u v scope read in (
       scope,
@@ -67,12 +73,15 @@ some_front (x ∷ a) b c none = absurd (cc (none))
 abbrev pub IsSome : Bool → List ℕ → Type 0
 IsSome is_shown rest = (is_shown ≡ true) ⊎ (rest ≢ [])
 
-some_before : (is_shown : Bool) (field rest : List ℕ) → IsSome is_shown rest → (shown_field is_shown field ++ rest) ≢ []
-some_before true field rest some none = some_front field nul rest (sym (append_assoc field (nul ∷ []) rest) ∙ none)
+some_before : (is_shown : Bool) (field rest : List ℕ) → IsSome is_shown rest
+    → (shown_field is_shown field ++ rest) ≢ []
+some_before true field rest some none =
+    some_front field nul rest (sym (append_assoc field (nul ∷ []) rest) ∙ none)
 some_before false field rest (inl shown) none = absurd (cc (shown))
 some_before false field rest (inr some) none = some none
 
-pub cut_in_origin : (options : Options) (u v w : Option (List ℕ)) (scope origin : List ℕ) → ReadsShown options.scope u v scope true
+pub cut_in_origin : (options : Options) (u v w : Option (List ℕ)) (scope origin : List ℕ)
+    → ReadsShown options.scope u v scope true
     → ReadsShown options.origin v w origin false → IsSome options.scope origin → EndsBefore options u w
 cut_in_origin options u v w scope origin first second some =
     let before = shown_read options.scope u v scope first in
@@ -90,8 +99,10 @@ cut_in_origin options u v w scope origin first second some =
     )
 
 -- the fields before a setting, which is not there
-pub cut_before_setting : (options : Options) (u v w x : Option (List ℕ)) (scope origin setting : List ℕ) → ReadsShown options.scope u v scope true
-    → ReadsShown options.origin v w origin true → ReadsField w x setting false → setting ≡ [] → (options.scope ≡ true) ⊎ (options.origin ≡ true)
+pub cut_before_setting : (options : Options) (u v w x : Option (List ℕ)) (scope origin setting : List ℕ)
+    → ReadsShown options.scope u v scope true
+    → ReadsShown options.origin v w origin true → ReadsField w x setting false → setting ≡ []
+    → (options.scope ≡ true) ⊎ (options.origin ≡ true)
     → EndsBefore options u x
 cut_before_setting options u v w x scope origin setting first second third none shown =
     let before = shown_read options.scope u v scope first in
@@ -110,20 +121,27 @@ cut_before_setting options u v w x scope origin setting first second third none 
       },
     )
   where
-    some_head : (options : Options) (scope origin : List ℕ) → (options.scope ≡ true) ⊎ (options.origin ≡ true) → (shown_field options.scope scope ++ shown_field options.origin origin) ≢ []
+    some_head : (options : Options) (scope origin : List ℕ)
+        → (options.scope ≡ true) ⊎ (options.origin ≡ true)
+        → (shown_field options.scope scope ++ shown_field options.origin origin) ≢ []
     some_head options scope origin (inl is) = some_before options.scope scope _ (inl is)
-    some_head options scope origin (inr is) = some_before options.scope scope _ (inr (λ none. some_front origin nul [] (rw is at none)))
+    some_head options scope origin (inr is) =
+        some_before options.scope scope _ (inr (λ none. some_front origin nul [] (rw is at none)))
 
 -- ---- an entry that was broken off
 
-parts_in_first : (field read missing behind last : List ℕ) → field ≡ read ++ missing → (field ++ behind) ++ last ≡ read ++ (missing ++ (behind ++ last))
-parts_in_first field read missing behind last e = rw e (append_assoc (read ++ missing) behind last ∙ append_assoc read missing (behind ++ last))
+parts_in_first : (field read missing behind last : List ℕ) → field ≡ read ++ missing
+    → (field ++ behind) ++ last ≡ read ++ (missing ++ (behind ++ last))
+parts_in_first field read missing behind last e =
+    rw e (append_assoc (read ++ missing) behind last ∙ append_assoc read missing (behind ++ last))
 
-parts_in_second : (before field read missing last : List ℕ) → field ≡ read ++ missing → (before ++ field) ++ last ≡ (before ++ read) ++ (missing ++ last)
+parts_in_second : (before field read missing last : List ℕ) → field ≡ read ++ missing
+    → (before ++ field) ++ last ≡ (before ++ read) ++ (missing ++ last)
 parts_in_second before field read missing last e =
     rw e (ap (λ l. l ++ last) (sym (append_assoc before read missing)) ∙ append_assoc (before ++ read) missing last)
 
-pub broken_in_scope : (options : Options) (u v : Option (List ℕ)) → BreaksShown options.scope u v → BreaksEntry options u v
+pub broken_in_scope : (options : Options) (u v : Option (List ℕ)) → BreaksShown options.scope u v
+    → BreaksEntry options u v
 broken_in_scope options u v broken =
     let part = shown_broken options.scope u v broken in (
       part.1.0,
@@ -132,12 +150,14 @@ broken_in_scope options u v broken =
         entry = record { scope = part.1.1; origin = []; setting = [] };
         is_entry = record { scope = part.1.4; origin = without_none; setting = without_none };
         missing = part.1.2 ++ (shown_field options.origin [] ++ nul ∷ []);
-        parts = ap (λ is_shown. (shown_field is_shown part.1.1 ++ shown_field options.origin []) ++ nul ∷ []) part.0
+        parts =
+            ap (λ is_shown. (shown_field is_shown part.1.1 ++ shown_field options.origin []) ++ nul ∷ []) part.0
             ∙ parts_in_first (part.1.1 ++ nul ∷ []) part.1.0 part.1.2 (shown_field options.origin []) (nul ∷ []) part.1.5;
       },
     )
 
-pub broken_in_origin : (options : Options) (u v w : Option (List ℕ)) (scope : List ℕ) → ReadsShown options.scope u v scope true
+pub broken_in_origin : (options : Options) (u v w : Option (List ℕ)) (scope : List ℕ)
+    → ReadsShown options.scope u v scope true
     → BreaksShown options.origin v w → BreaksEntry options u w
 broken_in_origin options u v w scope first broken =
     let before = shown_read options.scope u v scope first in
@@ -148,12 +168,14 @@ broken_in_origin options u v w scope first broken =
         entry = record { scope = scope; origin = part.1.1; setting = [] };
         is_entry = record { scope = before.without; origin = part.1.4; setting = without_none };
         missing = part.1.2 ++ (nul ∷ []);
-        parts = ap (λ is_shown. (shown_field options.scope scope ++ shown_field is_shown part.1.1) ++ nul ∷ []) part.0
+        parts =
+            ap (λ is_shown. (shown_field options.scope scope ++ shown_field is_shown part.1.1) ++ nul ∷ []) part.0
             ∙ parts_in_second (shown_field options.scope scope) (part.1.1 ++ nul ∷ []) part.1.0 part.1.2 (nul ∷ []) part.1.5;
       },
     )
 
-pub broken_in_setting : (options : Options) (u v w x : Option (List ℕ)) (scope origin : List ℕ) → ReadsShown options.scope u v scope true
+pub broken_in_setting : (options : Options) (u v w x : Option (List ℕ)) (scope origin : List ℕ)
+    → ReadsShown options.scope u v scope true
     → ReadsShown options.origin v w origin true → BreaksField w x → BreaksEntry options u x
 broken_in_setting options u v w x scope origin first second part =
     let before = shown_read options.scope u v scope first in

@@ -1,5 +1,7 @@
 -- Fields, and the NUL that ends them.
-use Rattle.std.proofs.Common.{◌≡◌, ◌≢◌, ◌==◌, ◌-◌, ℕ, zero, suc, List, [], ◌∷◌, ◌++◌, length, take, drop, Bool, true, false, Option, None, Some, refl, sym, ap, subst, arith, eqb-true, eq-eqb, cond, ◌∙◌, IfSome}
+use Rattle.std.proofs.Common.{◌≡◌, ◌≢◌, ◌==◌, ◌-◌, ℕ, zero, suc, List, [], ◌∷◌, ◌++◌, length, take, drop}
+use Rattle.std.proofs.Common.{Bool, true, false, Option, None, Some, refl, sym, ap, subst, arith, eqb-true}
+use Rattle.std.proofs.Common.{eq-eqb, cond, ◌∙◌, IfSome}
 use Rattle.std.specs.Io.{StopsAt}
 use Rattle.std.specs.Io.KnownBytes.{Consumes, IsAtEnd}
 use Rattle.std.specs.Io.BufRead.{take_through, drop_through, DropsThrough}
@@ -22,7 +24,8 @@ without_first byte b bs all = all 0 0 (omega arith)
 -- nothing follows the bytes up to a byte that does not stand there
 none_through_at : (byte x : ℕ) (xs : List ℕ) (same : Bool) → (x == byte) ≡ same
     → (IsWithout byte (take_through byte xs) → drop_through byte xs ≡ [])
-    → IsWithout byte (cond same (x ∷ []) (x ∷ take_through byte xs)) → cond same xs (drop_through byte xs) ≡ []
+    → IsWithout byte (cond same (x ∷ []) (x ∷ take_through byte xs))
+    → cond same xs (drop_through byte xs) ≡ []
 none_through_at byte x xs true is later none = absurd (none 0 0 (omega arith) (eqb-true x byte is))
 none_through_at byte x xs false is later none = later (without_rest byte x (take_through byte xs) none)
 
@@ -31,9 +34,12 @@ none_through byte [] none = refl
 none_through byte (x ∷ xs) none = none_through_at byte x xs (x == byte) refl (none_through byte xs) none
 
 -- a field that was read as far as a NUL
-pub field_read : (unread left : Option (List ℕ)) (read field : List ℕ) (ended : Bool) → CutsNul read field ended → Consumes unread left read
-    → IfSome unread (λ xs. read ≡ take_through nul xs) → DropsThrough unread left nul → ReadsField unread left field ended
-field_read unread left read field true cut consumed bytes rest = (subst (Consumes unread left) cut.0 consumed, cut.1)
+pub field_read : (unread left : Option (List ℕ)) (read field : List ℕ) (ended : Bool)
+    → CutsNul read field ended → Consumes unread left read
+    → IfSome unread (λ xs. read ≡ take_through nul xs) → DropsThrough unread left nul
+    → ReadsField unread left field ended
+field_read unread left read field true cut consumed bytes rest =
+    (subst (Consumes unread left) cut.0 consumed, cut.1)
 field_read None left read field false cut consumed bytes rest = (tt, cut.1, tt)
 field_read (Some xs) left read field false cut consumed bytes rest = (
   subst (Consumes (Some xs) left) (sym cut.0) consumed,
@@ -62,13 +68,15 @@ one_byte x false is = record {
   parts = refl;
 }
 
-stops_later : (x y : ℕ) (ys : List ℕ) → StopsAt (x ∷ y ∷ ys) nul → IsWithout nul (x ∷ take (length (y ∷ ys) - 1) (y ∷ ys))
+stops_later : (x y : ℕ) (ys : List ℕ) → StopsAt (x ∷ y ∷ ys) nul
+    → IsWithout nul (x ∷ take (length (y ∷ ys) - 1) (y ∷ ys))
 stops_later x y ys stops =
     let one_more : length (x ∷ y ∷ ys) - 1 ≡ suc (length (y ∷ ys) - 1) = omega arith in
     subst (IsWithout nul) (ap (λ n. take n (x ∷ y ∷ ys)) one_more) stops
 
 part_of : (read : List ℕ) → StopsAt read nul → IsPart read
-part_of [] stops = record { field = []; missing = nul ∷ []; without = λ k d below. absurd (omega arith); parts = refl }
+part_of [] stops =
+    record { field = []; missing = nul ∷ []; without = λ k d below. absurd (omega arith); parts = refl }
 part_of (x ∷ []) stops = one_byte x (x == nul) refl
 part_of (x ∷ y ∷ ys) stops =
     let without = stops_later x y ys stops in
@@ -81,7 +89,8 @@ part_of (x ∷ y ∷ ys) stops =
     }
 
 -- a field of which something was read
-pub field_broken : (unread left : Option (List ℕ)) (read : List ℕ) → StopsAt read nul → Consumes unread left read → BreaksField unread left
+pub field_broken : (unread left : Option (List ℕ)) (read : List ℕ) → StopsAt read nul
+    → Consumes unread left read → BreaksField unread left
 field_broken unread left read stops consumed =
     let part = part_of read stops in
     (read, part.field, part.missing, consumed, part.without, part.parts)

@@ -5,4 +5,5 @@ use Rattle.config_checks.specs.Keys.{IsWithout}
 
 -- a byte stands in a text that is cut there
 pub not_without : (byte : ℕ) (t front rest : List ℕ) → t ≡ front ++ byte ∷ rest → ¬ (IsWithout byte t)
-not_without byte t front rest parts none = none (length front) 0 (grind (arith, common_steps)) (grind (arith, common_steps))
+not_without byte t front rest parts none =
+    none (length front) 0 (grind (arith, common_steps)) (grind (arith, common_steps))

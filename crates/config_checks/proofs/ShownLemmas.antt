@@ -1,5 +1,6 @@
 -- Texts shown piece by piece.
-use Rattle.std.proofs.Common.{◌≡◌, ◌-◌, ◌<◌, ◌≤◌, ℕ, zero, suc, List, [], ◌∷◌, ◌++◌, length, take, drop, refl, sym, ap, ◌∙◌, arith, length-drop, append-nil, false, ◌==◌}
+use Rattle.std.proofs.Common.{◌≡◌, ◌-◌, ◌<◌, ◌≤◌, ℕ, zero, suc, List, [], ◌∷◌, ◌++◌, length, take, drop, refl}
+use Rattle.std.proofs.Common.{sym, ap, ◌∙◌, arith, length-drop, append-nil, false, ◌==◌}
 use Rattle.bstr.specs.Utf8.{decoded}
 use Rattle.bstr.proofs.lemmas.PieceLemmas.{piece-bounds}
 use Rattle.config_checks.specs.Findings.{piece_shown, shown_past, shown}
@@ -27,13 +28,15 @@ shown_front (b ∷ bs) some =
 
 -- what follows the first piece is shorter
 pub shorter_rest : (t : List ℕ) → 0 < length t → length (drop (decoded t).size t) < length t
-shorter_rest t some = let bounds = piece-bounds t some in omega (arith, length-drop {A = ℕ}, bounds.0, bounds.2)
+shorter_rest t some =
+    let bounds = piece-bounds t some in omega (arith, length-drop {A = ℕ}, bounds.0, bounds.2)
 
 pub not_empty : (t : List ℕ) → false ≡ (length t == 0) → 0 < length t
 not_empty [] none = absurd (cc)
 not_empty (b ∷ bs) none = omega arith
 
 -- nothing is left
-pub all_shown : (out before t rest : List ℕ) → rest ≡ [] → out ++ shown rest ≡ before ++ shown t → out ≡ before ++ shown t
+pub all_shown : (out before t rest : List ℕ) → rest ≡ [] → out ++ shown rest ≡ before ++ shown t
+    → out ≡ before ++ shown t
 unfolding shown_past
 all_shown out before t rest none so_far = sym (append-nil out) ∙ rw none at so_far

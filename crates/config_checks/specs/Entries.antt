@@ -1,5 +1,6 @@
 -- What `git config --list --null` prints: entries, whose fields NUL ends.
-use Rattle.std.specs.Prelude.{◌≡◌, ◌≢◌, ℕ, List, [], ◌∷◌, ◌++◌, flat_map, Bool, true, false, Option, None, Some, IfSome, All}
+use Rattle.std.specs.Prelude.{◌≡◌, ◌≢◌, ℕ, List, [], ◌∷◌, ◌++◌, flat_map, Bool, true, false, Option, None}
+use Rattle.std.specs.Prelude.{Some, IfSome, All}
 use Rattle.std.specs.Io.KnownBytes.{IsAtEnd}
 use Rattle.config_checks.specs.Keys.{IsWithout}
 use Rattle.config_checks.specs.declared.options.Options.{Options}
@@ -70,10 +71,13 @@ pub record IsBegun (options : Options) (rest : List ℕ) : Type 0 where
   pub missing : List ℕ
   pub parts : entry_bytes options entry ≡ rest ++ missing
 
--- the entries that count in a whole input, and whether it was cut off: its last entry counts without its NUL too
+-- the entries that count in a whole input, and whether it was cut off: its last entry counts without its NUL
+-- too
 pub data IsInput (options : Options) (input : List ℕ) (entries : List Entry) (is_cut_off : Bool) : Type 0 where
   whole : IsCut options input entries [] → is_cut_off ≡ false → IsInput options input entries is_cut_off
-  cut_off : (before : List Entry) (last : Entry) (rest : List ℕ) → IsCut options input before rest → IsCutOff options rest last
+  cut_off : (before : List Entry) (last : Entry) (rest : List ℕ) → IsCut options input before rest
+      → IsCutOff options rest last
       → entries ≡ before ++ last ∷ [] → is_cut_off ≡ true → IsInput options input entries is_cut_off
-  cut_before : (rest : List ℕ) → IsCut options input entries rest → IsCutBefore options rest → is_cut_off ≡ true
+  cut_before : (rest : List ℕ) → IsCut options input entries rest → IsCutBefore options rest
+      → is_cut_off ≡ true
       → IsInput options input entries is_cut_off

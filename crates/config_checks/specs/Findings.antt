@@ -1,31 +1,33 @@
 -- The line of a finding.
-use Rattle.std.specs.Prelude.{ℕ, zero, suc, ◌+◌, ◌-◌, ◌/◌, ◌%◌, ◌==◌, ◌&&◌, ◌||◌, nat_lt, List, [], ◌∷◌, ◌++◌, take, flat_map, codes, Bool, true, false, Option, None, Some, if◌then◌else◌}
+use Rattle.std.specs.Prelude.{ℕ, zero, suc, ◌-◌, ◌/◌, ◌%◌, ◌==◌, ◌&&◌, ◌||◌, nat_lt, List, [], ◌∷◌, ◌++◌}
+use Rattle.std.specs.Prelude.{take, flat_map}
+use Rattle.std.specs.Prelude.{codes, Bool, true, false, Option, None, Some, if◌then◌else◌}
+use Rattle.std.specs.Char.{digit_char}
 use denote.Ref.{Bor}
 use Rattle.bstr.specs.Utf8.{decoded}
 use Rattle.config_text.specs.Faults.{fault_text}
 use Rattle.config_checks.specs.declared.kind.SettingKind.{SettingKind}
 use Rattle.config_checks.specs.declared.kind.SettingKind.TheVariants as kinds
 use Rattle.config_checks.specs.declared.reason.Reason.{Reason}
-use Rattle.config_checks.specs.declared.reason.Reason.TheVariants.{NoValue, Refused, OutOfRange, EmptyPath, IllFormedPath, NoWord, NotCanonical, OtherCase}
+use Rattle.config_checks.specs.declared.reason.Reason.TheVariants.{NoValue, Refused, OutOfRange, EmptyPath}
+use Rattle.config_checks.specs.declared.reason.Reason.TheVariants.{IllFormedPath, NoWord, NotCanonical}
+use Rattle.config_checks.specs.declared.reason.Reason.TheVariants.{OtherCase}
 
 -- ---- texts shown safely
 
 abbrev pub backslash : ℕ
 backslash = 0x5C
 
--- a hexadecimal digit
-abbrev pub digit : ℕ → ℕ
-digit d = if nat_lt d 10 then 0x30 + d else 0x57 + d
-
 -- `\x` and two digits
 abbrev pub hex : ℕ → List ℕ
-hex b = backslash ∷ 0x78 ∷ digit (b / 16) ∷ digit (b % 16) ∷ []
+hex b = backslash ∷ 0x78 ∷ digit_char (b / 16) ∷ digit_char (b % 16) ∷ []
 
 -- U+0000 to U+001F, and U+007F to U+009F
 abbrev pub is_control : ℕ → Bool
 is_control c = nat_lt c 0x20 || (nat_lt 0x7E c && nat_lt c 0xA0)
 
--- the bytes of a character, if they are one: a control character and what is no character byte by byte, a backslash twice
+-- the bytes of a character; in hexadecimal if it is a control character or the bytes are no character, a
+-- backslash twice
 abbrev pub piece_shown : Option ℕ → List ℕ → List ℕ
 piece_shown None bytes = flat_map hex bytes
 piece_shown (Some c) bytes =

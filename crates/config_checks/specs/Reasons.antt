@@ -1,5 +1,8 @@
--- What is wrong with a setting: by the kind of its row, over no value or a text, by the grammars of the values.
-use Rattle.std.specs.Prelude.{◌≡◌, ◌≢◌, ◌⊎◌, ℕ, ℤ, pos, negsuc, ◌≤ℤ◌, ◌<◌, List, [], length, take, slice_index_or, Bool, true, false, IsTrue, Option, None, Some, IsUtf8, if◌then◌else◌, All}
+-- What is wrong with a setting: by the kind of its row, over no value or a text, by the grammars of the
+-- values.
+use Rattle.std.specs.Prelude.{◌≡◌, ◌≢◌, ◌⊎◌, ℕ, ℤ, pos, negsuc, ◌≤ℤ◌, ◌<◌, List, [], length, take}
+use Rattle.std.specs.Prelude.{slice_index_or, Bool, true, false, IsTrue, Option, None, Some, IsUtf8}
+use Rattle.std.specs.Prelude.{if◌then◌else◌, All}
 use denote.Ref.{Bor}
 use Rattle.config_text.specs.declared.errors.Fault.{Fault}
 use Rattle.config_text.specs.declared.errors.Fault.TheVariants as faults
@@ -16,7 +19,9 @@ use Rattle.config_checks.specs.declared.kind.WordList.{WordList}
 use Rattle.config_checks.specs.declared.kind.SettingKind.{SettingKind}
 use Rattle.config_checks.specs.declared.kind.SettingKind.TheVariants as kinds
 use Rattle.config_checks.specs.declared.reason.Reason.{Reason}
-use Rattle.config_checks.specs.declared.reason.Reason.TheVariants.{NoValue, Refused, OutOfRange, EmptyPath, IllFormedPath, NoWord, NotCanonical, OtherCase}
+use Rattle.config_checks.specs.declared.reason.Reason.TheVariants.{NoValue, Refused, OutOfRange, EmptyPath}
+use Rattle.config_checks.specs.declared.reason.Reason.TheVariants.{IllFormedPath, NoWord, NotCanonical}
+use Rattle.config_checks.specs.declared.reason.Reason.TheVariants.{OtherCase}
 
 -- ---- no value
 
@@ -29,8 +34,10 @@ takes_true _ = false
 
 -- ---- texts
 
--- nothing is wrong where the grammar gives the text a value, and else the text is refused with its reader's fault
-abbrev pub IsJudged : {V : Type 0} → (List ℕ → V → Type 0) → (List ℕ → Fault → Type 0) → List ℕ → Option Reason → Type 0
+-- nothing is wrong where the grammar gives the text a value, and else the text is refused with its reader's
+-- fault
+abbrev pub IsJudged : {V : Type 0} → (List ℕ → V → Type 0) → (List ℕ → Fault → Type 0) → List ℕ
+    → Option Reason → Type 0
 IsJudged grammar refusal t None = IsAccepted grammar t
 IsJudged grammar refusal t (Some (Refused fault)) = refusal t fault × IsRefused grammar t
 IsJudged grammar refusal t (Some _) = ⊥
@@ -71,7 +78,8 @@ IsJudgedUnmarked path (Some IllFormedPath) = (path ≢ []) × ¬ (IsUtf8 path)
 IsJudgedUnmarked path (Some _) = ⊥
 
 abbrev pub IsJudgedPath : List ℕ → Option Reason → Type 0
-IsJudgedPath t r = (is_optional : Bool) × (path : List ℕ) × Marked t is_optional path × IsJudgedUnmarked path r
+IsJudgedPath t r =
+    (is_optional : Bool) × (path : List ℕ) × Marked t is_optional path × IsJudgedUnmarked path r
 
 -- the same text, ignoring ASCII case or not
 abbrev pub IsSame : (ignores_case : Bool) → List ℕ → List ℕ → Type 0
@@ -96,7 +104,8 @@ pub record IsFirstWord (list : WordList) (t : List ℕ) (word : Bor (List ℕ)) 
 
 -- a word of the list, or a boolean text where the list takes booleans too
 abbrev pub IsTaken : WordList → List ℕ → Type 0
-IsTaken list t = ((word : Bor (List ℕ)) × IsFirstWord list t word) ⊎ (IsTrue list.or_bool × IsAccepted BooleanText t)
+IsTaken list t =
+    ((word : Bor (List ℕ)) × IsFirstWord list t word) ⊎ (IsTrue list.or_bool × IsAccepted BooleanText t)
 
 abbrev pub IsJudgedByWords : WordList → List ℕ → Option Reason → Type 0
 IsJudgedByWords list t None = IsTaken list t
@@ -122,9 +131,11 @@ abbrev pub IsCanonicalOf : {V : Type 0} → (List ℕ → V → Type 0) → (Lis
 IsCanonicalOf {V} grammar canonical t c = (v : V) × grammar t v × IsTextOf grammar canonical v c
 
 -- nothing where the text is canonical, and else the canonical text
-abbrev pub IsRespelled : {V : Type 0} → (List ℕ → V → Type 0) → (List ℕ → Type 0) → List ℕ → Option Reason → Type 0
+abbrev pub IsRespelled : {V : Type 0} → (List ℕ → V → Type 0) → (List ℕ → Type 0) → List ℕ → Option Reason
+    → Type 0
 IsRespelled grammar canonical t None = IsCanonicalOf grammar canonical t t
-IsRespelled grammar canonical t (Some (NotCanonical c)) = IsCanonicalOf grammar canonical t c.bytes × (c.bytes ≢ t)
+IsRespelled grammar canonical t (Some (NotCanonical c)) =
+    IsCanonicalOf grammar canonical t c.bytes × (c.bytes ≢ t)
 IsRespelled grammar canonical t (Some _) = ⊥
 
 pub record IsRespelledBoolOrInt (t : List ℕ) (r : Option Reason) : Type 0 where
@@ -152,8 +163,10 @@ HasSpelling kinds.Color (Some t) r = IsRespelled ColorText CanonicalColor t r
 HasSpelling kinds.Path (Some t) r = r ≡ None
 HasSpelling (kinds.Word list) (Some t) r = IsRespelledByWords list t r
 
--- what is found behind a reason: the reason, if there is one, and else, where canonical texts are wanted, what it should be
-abbrev pub IsFoundBehind : (wants_canonical : Bool) → SettingKind → Option (List ℕ) → Option Reason → Option Reason → Type 0
+-- what is found behind a reason: the reason, if there is one, and else, where canonical texts are wanted,
+-- what it should be
+abbrev pub IsFoundBehind : (wants_canonical : Bool) → SettingKind → Option (List ℕ) → Option Reason
+    → Option Reason → Type 0
 IsFoundBehind wants_canonical kind value (Some reason) r = r ≡ Some reason
 IsFoundBehind true kind value None r = HasSpelling kind value r
 IsFoundBehind false kind value None r = r ≡ None

@@ -1,5 +1,6 @@
--- What a check writes: a line for each entry that something is found of, in order.
-use Rattle.std.specs.Prelude.{◌≡◌, ◌⊎◌, ℕ, ◌+◌, ◌-◌, codes, List, [], ◌∷◌, ◌++◌, Bool, Option, None, Some, if◌then◌else◌}
+-- What a check writes: a line for each finding, in the order of the entries.
+use Rattle.std.specs.Prelude.{◌≡◌, ◌⊎◌, ℕ, ◌+◌, ◌-◌, codes, List, [], ◌∷◌, ◌++◌, Bool, Option, None, Some}
+use Rattle.std.specs.Prelude.{if◌then◌else◌}
 use Rattle.std.specs.Fmt.{decimal}
 use Rattle.std.specs.Io.KnownBytes.{Consumes, Appends}
 use Rattle.config_checks.specs.declared.options.Options.{Options}
@@ -17,81 +18,99 @@ use Rattle.config_checks.specs.Entries.{Entry, IsCut, IsBegun, IsInput, IsSettin
 
 -- ---- a line
 
--- a field before a key, with the tab behind it, where it is shown
+-- a field before a key, with a tab after it, if it is shown
 abbrev pub field_shown : Bool → List ℕ → List ℕ
 field_shown is_shown field = if is_shown then shown field ++ tab ∷ [] else []
 
--- the number of the entry, and the fields that stand before its setting
+-- the number of the entry, and the fields before its setting
 abbrev pub front_shown : Options → ℕ → Entry → List ℕ
-front_shown options number entry = (decimal number ++ tab ∷ []) ++ field_shown options.scope entry.scope ++ field_shown options.origin entry.origin
+front_shown options number entry =
+    (decimal number ++ tab ∷ []) ++ field_shown options.scope entry.scope ++ field_shown options.origin entry.origin
 
 abbrev pub setting_shown : List ℕ → Option (List ℕ) → List ℕ
 setting_shown key value = (shown key ++ tab ∷ []) ++ value_shown value ++ tab ∷ []
 
 abbrev pub finding_line : Options → ℕ → Entry → List ℕ → Option (List ℕ) → SettingKind → Reason → List ℕ
 finding_line options number entry key value kind reason =
-    front_shown options number entry ++ setting_shown key value ++ painted options.color (reason_text kind reason) ++ line_feed ∷ []
+    front_shown options number entry ++ setting_shown key value
+    ++ painted options.color (reason_text kind reason) ++ line_feed ∷ []
 
 -- ---- the report
 
--- the line of an entry with this key and this value, if it has one, and the counts with this entry
-pub data Adds (rows : List Row) (options : Options) (entry : Entry) (key : List ℕ) (value : Option (List ℕ)) (s : Counts) (line : List ℕ) (s' : Counts) : Type 0 where
-  unknown : IsUnknown rows key → line ≡ [] → s' ≡ record s { entries = s.entries + 1; unknown = s.unknown + 1 }
-      → Adds rows options entry key value s line s'
+-- the line of an entry with this key and this value, empty if nothing is wrong, and the counts before and
+-- after the entry
+pub data ReportsEntry (rows : List Row) (options : Options) (entry : Entry) (key : List ℕ) (value : Option (List ℕ))
+    (s : Counts) (line : List ℕ) (s' : Counts) : Type 0 where
+  unknown : IsUnknown rows key → line ≡ []
+      → s' ≡ record s { entries = s.entries + 1; unknown = s.unknown + 1 }
+      → ReportsEntry rows options entry key value s line s'
   right : (row : Row) → Decides rows key row → HasFinding options.canonical row.kind value None → line ≡ []
-      → s' ≡ record s { entries = s.entries + 1 } → Adds rows options entry key value s line s'
-  found : (row : Row) (reason : Reason) → Decides rows key row → HasFinding options.canonical row.kind value (Some reason)
+      → s' ≡ record s { entries = s.entries + 1 } → ReportsEntry rows options entry key value s line s'
+  found : (row : Row) (reason : Reason) → Decides rows key row
+      → HasFinding options.canonical row.kind value (Some reason)
       → line ≡ finding_line options (s.entries + 1) entry key value row.kind reason
-      → s' ≡ record s { entries = s.entries + 1; findings = s.findings + 1 } → Adds rows options entry key value s line s'
+      → s' ≡ record s { entries = s.entries + 1; findings = s.findings + 1 }
+      → ReportsEntry rows options entry key value s line s'
 
 -- the lines of these entries, one after the other, and their counts
 pub data Report (rows : List Row) (options : Options) : List Entry → List ℕ → Counts → Type 0 where
   nothing : Report rows options [] [] (record { entries = 0; unknown = 0; findings = 0 })
-  next : (entries : List Entry) (output : List ℕ) (s : Counts) (entry : Entry) (key : List ℕ) (value : Option (List ℕ)) (line : List ℕ) (s' : Counts)
-      → Report rows options entries output s → IsSetting entry.setting key value → Adds rows options entry key value s line s'
+  next : (entries : List Entry) (output : List ℕ) (s : Counts) (entry : Entry) (key : List ℕ)
+      (value : Option (List ℕ)) (line : List ℕ) (s' : Counts)
+      → Report rows options entries output s → IsSetting entry.setting key value
+      → ReportsEntry rows options entry key value s line s'
       → Report rows options (entries ++ entry ∷ []) (output ++ line) s'
 
 -- how the counts are shown
 abbrev pub summary_shown : Summary → List ℕ
-summary_shown s = decimal s.counts.entries ++ (codes " entries, " ++ (decimal (s.counts.entries - s.counts.unknown) ++ (codes " judged, "
-    ++ (decimal s.counts.unknown ++ (codes " unknown keys, " ++ (decimal s.counts.findings ++ codes " findings"))))))
+summary_shown s =
+    decimal s.counts.entries ++ (codes " entries, "
+    ++ (decimal (s.counts.entries - s.counts.unknown) ++ (codes " judged, "
+    ++ (decimal s.counts.unknown ++ (codes " unknown keys, "
+    ++ (decimal s.counts.findings ++ codes " findings"))))))
 
 -- ---- what a check did to its reader and its writer
 
--- from a reader that had `unread` and then `left`, and a writer that held `held` and then `holds`: the reader was read
--- to its end, and what was written is the lines of its entries
-pub record Completes (rows : List Row) (options : Options) (unread left held holds : Option (List ℕ)) (s : Summary) : Type 0 where
+-- `unread` and `left` are what the reader had left before and after, `contents` and `contents'` what the
+-- writer held: the
+-- reader was read to its end, and what was written is the lines of its entries
+pub record Completes (rows : List Row) (options : Options) (unread left contents contents' : Option (List ℕ))
+    (s : Summary) : Type 0 where
   pub input : List ℕ
   pub output : List ℕ
   pub entries : List Entry
   pub consumed : Consumes unread left input
   pub at_end : EndsKnown unread left
-  pub appended : Appends held holds output
+  pub appended : Appends contents contents' output
   pub whole : IsInput options input entries s.is_cut_off
   pub report : Report rows options entries output s.counts
 
 -- some entries were read, and what was written begins their lines
-pub record BeginsReport (rows : List Row) (options : Options) (entries : List Entry) (output : List ℕ) : Type 0 where
+pub record BeginsReport (rows : List Row) (options : Options) (entries : List Entry) (output : List ℕ)
+    : Type 0 where
   pub s : Counts
   pub missing : List ℕ
   pub report : Report rows options entries (output ++ missing) s
 
--- the entries that were read: each but for one that was begun, or, at the end of the input, all of it
+-- the entries that were read: all that were read whole or, at the end of the input, all of it
 abbrev pub AreRead : Options → Option (List ℕ) → Option (List ℕ) → List ℕ → List Entry → Type 0
-AreRead options unread left input entries = ((rest : List ℕ) × IsCut options input entries rest × IsBegun options rest)
+AreRead options unread left input entries =
+    ((rest : List ℕ) × IsCut options input entries rest × IsBegun options rest)
     ⊎ ((is_cut_off : Bool) × EndsKnown unread left × IsInput options input entries is_cut_off)
 
--- after a fault of reading the lines of all entries that were read are written, and after another a beginning of them
+-- after a failed read the lines of all entries that were read are written, after another error a beginning of
+-- them
 abbrev pub WritesAfter : CheckError → List Row → Options → List Entry → List ℕ → Type 0
 WritesAfter (Read e) rows options entries output = (s : Counts) × Report rows options entries output s
 WritesAfter (Write e) rows options entries output = BeginsReport rows options entries output
 WritesAfter (Memory e) rows options entries output = BeginsReport rows options entries output
 
-pub record Fails (rows : List Row) (options : Options) (unread left held holds : Option (List ℕ)) (e : CheckError) : Type 0 where
+pub record Fails (rows : List Row) (options : Options) (unread left contents contents' : Option (List ℕ))
+    (e : CheckError) : Type 0 where
   pub input : List ℕ
   pub output : List ℕ
   pub entries : List Entry
   pub consumed : Consumes unread left input
-  pub appended : Appends held holds output
+  pub appended : Appends contents contents' output
   pub read : AreRead options unread left input entries
   pub written : WritesAfter e rows options entries output

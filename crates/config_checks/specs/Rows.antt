@@ -1,5 +1,6 @@
 -- Rows: what each setting has to be.
-use Rattle.std.specs.Prelude.{◌≡◌, ◌≢◌, ◌⊎◌, ℕ, ◌+◌, ◌<◌, ◌==◌, ◌||◌, Bool, true, false, List, [], ◌∷◌, ◌++◌, length, take, map, flat_map, codes, Option, None, Some, slice_index_or, All}
+use Rattle.std.specs.Prelude.{◌≡◌, ◌≢◌, ◌⊎◌, ℕ, ◌+◌, ◌<◌, ◌==◌, ◌||◌, Bool, true, false, List, [], ◌∷◌, ◌++◌}
+use Rattle.std.specs.Prelude.{length, take, map, flat_map, codes, Option, None, Some, slice_index_or, All}
 use Rattle.std.specs.List.{slice_split}
 use Rattle.config_checks.specs.declared.key.Key.{Key}
 use Rattle.config_checks.specs.declared.row.Row.{Row}
@@ -7,7 +8,8 @@ use Rattle.config_checks.specs.declared.kind.SettingKind.{SettingKind}
 use Rattle.config_checks.specs.declared.kind.SettingKind.TheVariants as kinds
 use Rattle.config_checks.specs.declared.table.RowFault.{RowFault}
 use Rattle.config_checks.specs.declared.table.BadRow.{BadRow}
-use Rattle.config_checks.specs.declared.table.RowFault.TheVariants.{NoKind, NoKey, UnknownKind, NoWords, Words, Memory}
+use Rattle.config_checks.specs.declared.table.RowFault.TheVariants.{NoKind, NoKey, UnknownKind, NoWords}
+use Rattle.config_checks.specs.declared.table.RowFault.TheVariants.{Words, Memory}
 use Rattle.config_checks.specs.Keys.{IsKey, Covers}
 
 -- no row covers the key
@@ -67,7 +69,9 @@ words_name true true = codes "bool-or-word-any-case"
 
 -- the kind of this name and these words
 abbrev pub IsKind : List ℕ → List (List ℕ) → SettingKind → Type 0
-IsKind name words (kinds.Word list) = (words_name list.ignores_case list.or_bool ≡ name) × (words ≢ []) × (map (λ word. word.now) list.words.items ≡ words)
+IsKind name words (kinds.Word list) =
+    (words_name list.ignores_case list.or_bool ≡ name) × (words ≢ [])
+    × (map (λ word. word.now) list.words.items ≡ words)
 IsKind name words kind = (plain_name kind ≡ Some name) × (words ≡ [])
 
 -- no kind has this name
@@ -88,15 +92,19 @@ pub record IsRow (fields : List (List ℕ)) (row : Row) : Type 0 where
 -- why there is no kind of this name and these words
 abbrev pub IsBadKind : List ℕ → List (List ℕ) → RowFault → Type 0
 IsBadKind name words UnknownKind = IsNoKind name
-IsBadKind name words NoWords = (words ≡ []) × ((ignores_case or_bool : Bool) × (words_name ignores_case or_bool ≡ name))
+IsBadKind name words NoWords =
+    (words ≡ []) × ((ignores_case or_bool : Bool) × (words_name ignores_case or_bool ≡ name))
 IsBadKind name words Words = (words ≢ []) × ((kind : SettingKind) × (plain_name kind ≡ Some name))
 IsBadKind name words (Memory e) = Unit {0}
 IsBadKind name words _ = ⊥
 
--- the first thing that is wrong with these fields: there is no kind, the key is none, or there is no such kind
+-- the first thing that is wrong with these fields: there is no kind, the key is none, or there is no such
+-- kind
 abbrev pub HasRowFault : List (List ℕ) → RowFault → Type 0
 HasRowFault fields NoKind = (key : List ℕ) × (fields ≡ key ∷ [])
-HasRowFault fields NoKey = (key name : List ℕ) × (words : List (List ℕ)) × (fields ≡ key ∷ name ∷ words) × ((k : Key) → ¬ (IsKey key k))
+HasRowFault fields NoKey =
+    (key name : List ℕ) × (words : List (List ℕ)) × (fields ≡ key ∷ name ∷ words)
+    × ((k : Key) → ¬ (IsKey key k))
 HasRowFault fields fault = (key name : List ℕ) × (words : List (List ℕ)) × (fields ≡ key ∷ name ∷ words)
     × ((k : Key) × IsKey key k) × IsBadKind name words fault
 
@@ -111,14 +119,18 @@ lines_of text = slice_split (λ b. b == 10) text
 
 -- one more line: it is no row, or adds one
 abbrev pub AddsRow : List ℕ → List Row → List Row → Type 0
-AddsRow line rows rows' = (IsNoRow (fields_of line) × (rows' ≡ rows)) ⊎ ((row : Row) × IsRow (fields_of line) row × (rows' ≡ rows ++ row ∷ []))
+AddsRow line rows rows' =
+    (IsNoRow (fields_of line) × (rows' ≡ rows))
+    ⊎ ((row : Row) × IsRow (fields_of line) row × (rows' ≡ rows ++ row ∷ []))
 
 -- these lines, in order
 abbrev pub AddsRows : List (List ℕ) → List Row → List Row → Type 0
 AddsRows [] rows rows' = rows' ≡ rows
-AddsRows (line ∷ lines) rows rows'' = (rows' : List Row) × AddsRow line rows rows' × AddsRows lines rows' rows''
+AddsRows (line ∷ lines) rows rows'' =
+    (rows' : List Row) × AddsRow line rows rows' × AddsRows lines rows' rows''
 
--- the first line that is no row has this number, from 1, and this fault; the rows of the lines before it are added
+-- the first line that is no row has this number, from 1, and this fault; the rows of the lines before it are
+-- added
 pub record IsBadLine (text : List ℕ) (rows rows' : List Row) (bad : BadRow) : Type 0 where
   pub before : List (List ℕ)
   pub line : List ℕ

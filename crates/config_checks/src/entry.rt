@@ -2,7 +2,8 @@
 ghost use Rattle.std.specs.Prelude.{OnErr, IfOk, option_copied};
 ghost use Rattle.std.specs.Io.{StopsAt};
 ghost use Rattle.config_checks.specs.Entries.{IsSetting, nul};
-ghost use Rattle.config_checks.specs.Reading.Fields.{held, CutsNul, ReadsField, BreaksField, ReadsShown, BreaksShown, ReadsEntry, BreaksEntry};
+ghost use Rattle.config_checks.specs.Reading.Fields.{entry_of, CutsNul, ReadsField, BreaksField};
+ghost use Rattle.config_checks.specs.Reading.Fields.{ReadsShown, BreaksShown, ReadsEntry, BreaksEntry};
 
 use crate::key::cut_first;
 use crate::options::Options;
@@ -60,7 +61,7 @@ fn read_field<R: BufRead>(reader: &mut R, field: &mut Vec<u8>) -> io::Result<boo
     }
 }
 
-/// Reads a field that may not be shown.
+/// Reads a field if it is shown, and empties the buffer otherwise.
 fn read_shown<R: BufRead>(reader: &mut R, is_shown: bool, field: &mut Vec<u8>) -> io::Result<bool>
     ensures ok { IfOk result
         (ReadsShown is_shown (R.remaining reader.old) (R.remaining reader.new) field.new.items) }
@@ -91,7 +92,7 @@ impl Buffers {
         reader: &mut R,
     ) -> io::Result<EntryEnd>
         ensures ok { IfOk result (ReadsEntry options.now
-            (R.remaining reader.old) (R.remaining reader.new) (held self.new)) }
+            (R.remaining reader.old) (R.remaining reader.new) (entry_of self.new)) }
         ensures err { OnErr result
             (BreaksEntry options.now (R.remaining reader.old) (R.remaining reader.new)) }
     {

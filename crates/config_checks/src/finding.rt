@@ -1,16 +1,24 @@
-//! The line of a finding.
-ghost use Rattle.std.specs.Prelude.{◌≡◌, ◌<◌, ◌++◌, [], length, flat_map, OnOk, MatchOption, IfSome};
-ghost use Rattle.config_checks.specs.Findings.{digit, hex, is_control, piece_shown, shown, range_text, words_text, no_word_text, reason_text};
+//! A finding, and the line that is written for it.
+ghost use Rattle.std.specs.Prelude.{◌≡◌, ◌<◌, ◌++◌, [], length, flat_map, option_copied};
+ghost use Rattle.std.specs.Prelude.{OnOk, MatchOption, IfSome};
+ghost use Rattle.std.specs.Char.{digit_char};
+ghost use Rattle.config_checks.specs.Findings.{hex, is_control, piece_shown, shown, value_shown};
+ghost use Rattle.config_checks.specs.Findings.{range_text, words_text, no_word_text, reason_text, painted};
+ghost use Rattle.config_checks.specs.Reading.Fields.{entry_of};
+ghost use Rattle.config_checks.specs.Report.{field_shown, front_shown, setting_shown, finding_line};
 
+use crate::entry::Buffers;
 use crate::kind::SettingKind;
+use crate::options::Options;
 use crate::reason::Reason;
 use bstr::decode_utf8;
+use itoa::Buffer;
 use std::alloc::AllocError;
 
 /// The hexadecimal digit of a number below 16.
 fn digit(number: u8) -> u8
     requires { number < 16 }
-    ensures { result ≡ digit number }
+    ensures { result ≡ digit_char number }
 {
     if number < 10 {
         b'0' + number
@@ -19,7 +27,7 @@ fn digit(number: u8) -> u8
     }
 }
 
-/// Puts bytes behind others, each as `\xNN`.
+/// Appends each byte as `\xNN`.
 fn push_hex(out: &mut Vec<u8>, bytes: &[u8]) -> Result<(), AllocError>
     ensures { OnOk result (out.new.items ≡ out.old.items ++ flat_map hex bytes.now) }
 {
@@ -36,7 +44,7 @@ fn is_control(character: char) -> bool
     character < ' ' || ('\x7f' <= character && character <= '\u{9f}')
 }
 
-/// Puts the bytes of a character, or bytes that are none, behind others.
+/// Appends the bytes of a character, or bytes that are no character.
 fn push_piece(out: &mut Vec<u8>, character: Option<char>, bytes: &[u8]) -> Result<(), AllocError>
     ensures { OnOk result (out.new.items ≡ out.old.items ++ piece_shown character bytes.now) }
 {
@@ -48,8 +56,8 @@ fn push_piece(out: &mut Vec<u8>, character: Option<char>, bytes: &[u8]) -> Resul
     }
 }
 
-/// The character at the front of a text, if its bytes are one, these bytes, and what follows them. `None` where the
-/// text is empty.
+/// The first character of a text if its first bytes are one, these bytes, and the rest. `None` if it is
+/// empty.
 fn first_piece(text: &[u8]) -> Option<(Option<char>, &[u8], &[u8])>
     ensures shown { MatchOption result (text.now ≡ [])
         (λ p. shown text.now ≡ piece_shown p.0 p.1.now ++ shown p.2.now) }
@@ -63,7 +71,7 @@ fn first_piece(text: &[u8]) -> Option<(Option<char>, &[u8], &[u8])>
     Some((character, bytes, rest))
 }
 
-/// Puts a text behind others as it is shown: control characters and what is no UTF-8 as `\xNN`, and a backslash twice.
+/// Appends a text: control characters and invalid UTF-8 as `\xNN`, and a backslash twice.
 pub fn push_shown(out: &mut Vec<u8>, text: &[u8]) -> Result<(), AllocError>
     ensures { OnOk result (out.new.items ≡ out.old.items ++ shown text.now) }
 {
@@ -75,7 +83,7 @@ pub fn push_shown(out: &mut Vec<u8>, text: &[u8]) -> Result<(), AllocError>
     Ok(())
 }
 
-/// What a number of a kind has to be.
+/// The range that a number of a kind is out of.
 fn range_text(kind: &SettingKind<'_>) -> &'static str
     ensures { result.now ≡ range_text kind.now }
 {
@@ -85,7 +93,7 @@ fn range_text(kind: &SettingKind<'_>) -> &'static str
     }
 }
 
-/// Puts words behind others, with `, ` between them.
+/// Appends words, with `, ` between them.
 fn push_words(out: &mut Vec<u8>, words: &[&[u8]]) -> Result<(), AllocError>
     ensures { OnOk result (out.new.items ≡ out.old.items ++ words_text words.now) }
 {
@@ -100,7 +108,7 @@ fn push_words(out: &mut Vec<u8>, words: &[&[u8]]) -> Result<(), AllocError>
     Ok(())
 }
 
-/// Puts behind others that a text is no word of a kind.
+/// Appends that a text is no word of a kind.
 fn push_no_word(out: &mut Vec<u8>, kind: &SettingKind<'_>) -> Result<(), AllocError>
     ensures { OnOk result (out.new.items ≡ out.old.items ++ no_word_text kind.now) }
 {
@@ -115,7 +123,7 @@ fn push_no_word(out: &mut Vec<u8>, kind: &SettingKind<'_>) -> Result<(), AllocEr
     push_words(out, &list.words)
 }
 
-/// Puts the text of a reason behind others.
+/// Appends the text of a reason.
 pub fn push_reason(
     out: &mut Vec<u8>,
     kind: &SettingKind<'_>,
@@ -138,5 +146,86 @@ pub fn push_reason(
             out.extend_from_slice(b"should be ")?;
             push_shown(out, word)
         }
+    }
+}
+
+/// Appends a field and a tab, if the field is shown.
+fn push_field(line: &mut Vec<u8>, is_shown: bool, field: &[u8]) -> Result<(), AllocError>
+    ensures { OnOk result (line.new.items ≡ line.old.items ++ field_shown is_shown field.now) }
+{
+    if is_shown {
+        push_shown(line, field)?;
+        line.extend_from_slice(b"\t")?;
+    }
+    Ok(())
+}
+
+/// Appends a value, if there is one.
+fn push_value(line: &mut Vec<u8>, value: Option<&[u8]>) -> Result<(), AllocError>
+    ensures { OnOk result (line.new.items ≡ line.old.items ++ value_shown (option_copied value.entry)) }
+{
+    match value {
+        Some(value) => push_shown(line, value),
+        None => Ok(()),
+    }
+}
+
+/// An entry, and what is wrong with it.
+#[derive(Clone, Copy)]
+pub(crate) struct Finding<'e, 't> {
+    pub number: u64,
+    pub entry: &'e Buffers,
+    pub key: &'e [u8],
+    pub value: Option<&'e [u8]>,
+    pub kind: &'e SettingKind<'t>,
+    pub reason: Reason<'t>,
+}
+
+impl Finding<'_, '_> {
+    /// Appends the number of the entry and the fields before its setting.
+    fn push_front(&self, line: &mut Vec<u8>, options: &Options) -> Result<(), AllocError>
+        ensures { OnOk result (line.new.items ≡ line.old.items
+            ++ front_shown options.now self.now.number (entry_of self.now.entry.now)) }
+    {
+        line.extend_from_slice(Buffer::new().format(self.number).as_bytes())?;
+        line.extend_from_slice(b"\t")?;
+        push_field(line, options.scope, &self.entry.scope)?;
+        push_field(line, options.origin, &self.entry.origin)
+    }
+
+    /// Appends the key and the value.
+    fn push_setting(&self, line: &mut Vec<u8>) -> Result<(), AllocError>
+        ensures { OnOk result (line.new.items ≡ line.old.items
+            ++ setting_shown self.now.key.now (option_copied self.now.value)) }
+    {
+        push_shown(line, self.key)?;
+        line.extend_from_slice(b"\t")?;
+        push_value(line, self.value)?;
+        line.extend_from_slice(b"\t")
+    }
+
+    /// Appends the reason, in red if colors are wanted.
+    fn push_painted_reason(&self, line: &mut Vec<u8>, color: bool) -> Result<(), AllocError>
+        ensures { OnOk result (line.new.items ≡ line.old.items
+            ++ painted color (reason_text self.now.kind.now self.now.reason)) }
+    {
+        if !color {
+            return push_reason(line, self.kind, &self.reason);
+        }
+        line.extend_from_slice(b"\x1b[31m")?;
+        push_reason(line, self.kind, &self.reason)?;
+        line.extend_from_slice(b"\x1b[m")
+    }
+
+    /// Appends the line of this finding.
+    pub(crate) fn push_to(&self, line: &mut Vec<u8>, options: &Options) -> Result<(), AllocError>
+        ensures { OnOk result (line.new.items ≡ line.old.items
+            ++ finding_line options.now self.now.number (entry_of self.now.entry.now) self.now.key.now
+            (option_copied self.now.value) self.now.kind.now self.now.reason) }
+    {
+        self.push_front(line, options)?;
+        self.push_setting(line)?;
+        self.push_painted_reason(line, options.color)?;
+        line.extend_from_slice(b"\n")
     }
 }

@@ -1,11 +1,11 @@
-//! Rows for the settings that Git documents, where its page settles their values. docs/CHECKING.md says how a row is
-//! written.
+//! Rows for the settings that Git documents, where its page settles their values. docs/CHECKING.md says how a
+//! row is written.
 
 /// The rows of Git's settings.
 pub const SETTINGS: &str = "\
-# Settings of Git 2.39.5 as git-config(1), with the pages that it names, documents them: those of Debian's package
-# git-man 1:2.39.5-0+deb12u3. A setting whose values they do not settle has no row. They say nothing of case in words:
-# it counts here, but where Git 2.39.5 was seen to ignore it.
+# Settings of Git 2.39.5 as git-config(1), with the pages that it names, documents them: those of Debian's
+# package git-man 1:2.39.5-0+deb12u3. A setting whose values they do not settle has no row. They say nothing
+# of case in words: it counts here, but where Git 2.39.5 was seen to ignore it.
 # advice
 advice.*                            bool
 # core

@@ -12,36 +12,32 @@ const ANY: &[u8] = b"*";
 /// The key of a setting, as `core.bare` or `branch.main.rebase`, or of a row, as `branch.*.rebase`.
 #[derive(Clone, Copy)]
 pub struct Key<'k> {
-    /// What stands before the first dot.
+    /// The part before the first dot.
     pub section: &'k [u8],
-    /// What stands between the first dot and the last, where these are two.
+    /// The part between the first dot and the last, if there are two.
     pub between: Option<&'k [u8]>,
-    /// What stands behind the last dot.
+    /// The part after the last dot.
     pub last: &'k [u8],
 }
 
-/// What stands before the first place of a byte, and what follows it.
+/// The parts before and after the first such byte.
 pub(crate) fn cut_first(text: &[u8], byte: u8) -> Option<(&[u8], &[u8])>
     ensures parts { MatchOption result (IsWithout byte text.now)
         (λ cut. text.now ≡ cut.0.now ++ byte ∷ cut.1.now) }
     ensures first { IfSome result (λ cut. IsWithout byte cut.0.now) }
 {
-    match text.find_byte(byte) {
-        Some(at) => Some((&text[..at], &text[at + 1..])),
-        None => None,
-    }
+    let at = text.find_byte(byte)?;
+    Some((&text[..at], &text[at + 1..]))
 }
 
-/// What stands before the last place of a byte, and what follows it.
+/// The parts before and after the last such byte.
 fn cut_last(text: &[u8], byte: u8) -> Option<(&[u8], &[u8])>
     ensures parts { MatchOption result (IsWithout byte text.now)
         (λ cut. text.now ≡ cut.0.now ++ byte ∷ cut.1.now) }
     ensures last { IfSome result (λ cut. IsWithout byte cut.1.now) }
 {
-    match text.rfind_byte(byte) {
-        Some(at) => Some((&text[..at], &text[at + 1..])),
-        None => None,
-    }
+    let at = text.rfind_byte(byte)?;
+    Some((&text[..at], &text[at + 1..]))
 }
 
 /// Whether a text of a row is one text, ignoring ASCII case.
@@ -51,7 +47,7 @@ pub(crate) fn is_same_word(row: &[u8], text: &[u8]) -> bool
     row.eq_ignore_ascii_case(text)
 }
 
-/// Whether what a row has between its dots covers what a key has there.
+/// Whether the part of a row between its dots covers that of a key.
 fn covers_between(row: Option<&[u8]>, between: Option<&[u8]>) -> bool
     ensures { IsTrue result ↔ CoversBetween row.entry between.entry }
 {
@@ -63,7 +59,7 @@ fn covers_between(row: Option<&[u8]>, between: Option<&[u8]>) -> bool
 }
 
 impl<'k> Key<'k> {
-    /// The key that a text is, or `None` where no dot stands in it.
+    /// Reads a key, or `None` if the text has no dot.
     pub fn parse(text: &'k [u8]) -> Option<Key<'k>>
         ensures { MatchOption result ((k : key.Key) → ¬ (IsKey text.now k)) (IsKey text.now) }
     {
@@ -82,8 +78,8 @@ impl<'k> Key<'k> {
         }
     }
 
-    /// Whether this key of a row covers a key. Sections and last parts are compared ignoring ASCII case, and what
-    /// stands between them by bytes. `*` covers any text between the dots, and any last part.
+    /// Whether this key of a row covers a key. Sections and last parts are compared ignoring ASCII case, and
+    /// the parts between them byte by byte. `*` covers any text between the dots, and any last part.
     pub fn covers(&self, key: &Key<'_>) -> bool
         ensures { IsTrue result ↔ Covers self.now key.now }
     {

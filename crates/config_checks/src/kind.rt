@@ -28,14 +28,14 @@ pub enum SettingKind<'t> {
     BoolOrInt,
     /// A color text.
     Color,
-    /// A path that is not empty and UTF-8, behind the mark `:(optional)` where one stands.
+    /// A path of valid UTF-8 that is not empty, after its mark `:(optional)` if it has one.
     Path,
-    /// A word of the list, or what else the list takes.
+    /// A word of the list, or a boolean text if the list takes these too.
     Word(WordList<'t>),
 }
 
 impl<'t> WordList<'t> {
-    /// Whether a text is this word of the list.
+    /// Whether a text equals this word of the list.
     fn is_word(&self, word: &[u8], text: &[u8]) -> bool
         ensures { IsTrue result ↔ IsWord self.now text.now word.entry }
     {
@@ -46,7 +46,7 @@ impl<'t> WordList<'t> {
         }
     }
 
-    /// The first word of the list that a text is.
+    /// The first word of the list that equals a text.
     pub fn find(&self, text: &[u8]) -> Option<&'t [u8]>
         ensures { MatchOption result (IsNoWord self.now text.now self.now.words.items)
             (IsFirstWord self.now text.now) }

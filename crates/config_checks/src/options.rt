@@ -1,13 +1,13 @@
-//! What is asked of a check.
+//! The options of a check.
 
-/// What is asked of a check.
+/// The options of a check.
 #[derive(Clone, Copy)]
 pub struct Options {
-    /// Whether a scope stands before each setting.
+    /// Whether each entry has a scope before its setting.
     pub scope: bool,
-    /// Whether an origin stands before each setting, behind the scope if there is one.
+    /// Whether each entry has an origin before its setting, after the scope if there is one.
     pub origin: bool,
-    /// Whether right values in another spelling than their canonical one are found too.
+    /// Whether valid values are reported too if they are not spelled canonically.
     pub canonical: bool,
     /// Whether reasons are written in red, for a terminal.
     pub color: bool,

@@ -1,18 +1,21 @@
 //! Why a setting is wrong.
-ghost use Rattle.std.specs.Prelude.{option_copied, None, Some};
+ghost use Rattle.std.specs.Prelude.{◌↔◌, IsTrue, option_copied, None, Some};
 ghost use Rattle.config_text.specs.declared.errors.Fault.TheVariants as faults;
 ghost use Rattle.gix_config_value.specs.Kinds.{KindGrammar, KindCanonical};
 ghost use Rattle.config_text.specs.Value.{IsAccepted};
-ghost use Rattle.config_checks.specs.Reasons.{IsJudged, IsJudgedWithin, IsJudgedBoolOrInt, IsJudgedPath, IsJudgedUnmarked, IsJudgedByWords, IsTaken, HasReason, IsRespelled, IsRespelledBoolOrInt, IsRespelledByWords, HasSpelling, HasFinding};
+ghost use Rattle.config_checks.specs.Reasons.{IsWithin, IsJudged, IsJudgedWithin, IsJudgedBoolOrInt};
+ghost use Rattle.config_checks.specs.Reasons.{IsJudgedPath, IsJudgedUnmarked, IsJudgedByWords, IsTaken};
+ghost use Rattle.config_checks.specs.Reasons.{HasReason, HasSpelling, HasFinding};
+ghost use Rattle.config_checks.specs.Reasons.{IsRespelled, IsRespelledBoolOrInt, IsRespelledByWords};
 
 use crate::kind::{SettingKind, WordList};
 use bstr::BStr;
-use config_text::readers::TryRead;
-use gix_config_value::canonical::{Kind, Text, Value, normalize};
+use gix_config_value::canonical::{CanonicalText, Kind, TryRead, Value, normalize};
 use gix_config_value::integer::Amount;
+use gix_config_value::path::cut_mark;
 use gix_config_value::{Boolean, Color, Fault};
 
-/// Why a setting is wrong, or what it should be.
+/// Why a setting is wrong, or how it should be spelled.
 #[derive(Clone, Copy)]
 pub enum Reason<'t> {
     /// It has no value, and its kind needs one.
@@ -21,20 +24,17 @@ pub enum Reason<'t> {
     Refused(Fault),
     /// It is a number outside the range of its kind.
     OutOfRange,
-    /// It is a path, and nothing stands behind its mark.
+    /// It is a path, and empty after its mark.
     EmptyPath,
-    /// It is a path, and no UTF-8.
+    /// It is a path, and not valid UTF-8.
     IllFormedPath,
-    /// It is no word of its kind's list.
+    /// It is not in the list of its kind, nor a boolean if the list takes these.
     NoWord,
-    /// It is right, and its canonical text is this one.
-    NotCanonical(Text),
-    /// It is right, and in its list the word is spelled like this.
+    /// It is valid, and this is its canonical text.
+    NotCanonical(CanonicalText),
+    /// It is valid, and its list spells the word like this.
     OtherCase(&'t [u8]),
 }
-
-/// The mark of an optional path.
-const MARK: &[u8] = b":(optional)";
 
 /// Why a reader refuses a text.
 fn refusal_by<V: TryRead>(text: &[u8]) -> Option<Reason<'static>>
@@ -46,31 +46,42 @@ fn refusal_by<V: TryRead>(text: &[u8]) -> Option<Reason<'static>>
     }
 }
 
-/// Why a number is wrong that has to lie from `low` to `high`.
-fn number_reason(text: &[u8], low: i64, high: i64) -> Option<Reason<'static>>
-    ensures { IsJudgedWithin low high text.now result }
+/// The least and the greatest number of 32 bits.
+const INT: (i64, i64) = (-2147483648, 2147483647);
+
+/// The least and the greatest size.
+const SIZE: (i64, i64) = (0, i64::MAX);
+
+/// Whether a number lies in a range, both ends included.
+fn is_within(amount: Amount, range: (i64, i64)) -> bool
+    ensures { IsTrue result ↔ IsWithin range.0 range.1 amount.0 }
+{
+    range.0 <= amount.0 && amount.0 <= range.1
+}
+
+/// Why a number is wrong that has to lie in a range.
+fn number_reason(text: &[u8], range: (i64, i64)) -> Option<Reason<'static>>
+    ensures { IsJudgedWithin range.0 range.1 text.now result }
 {
     match Amount::try_read(text) {
-        Ok(amount) if low <= amount.0 && amount.0 <= high => None,
+        Ok(amount) if is_within(amount, range) => None,
         Ok(_) => Some(Reason::OutOfRange),
         Err(fault) => Some(Reason::Refused(fault)),
     }
 }
 
-/// The least and the greatest number of 32 bits.
-const INT: (i64, i64) = (-2147483648, 2147483647);
-
-/// Why what is a boolean or a number is wrong.
+/// Why a text that has to be a boolean or a number is wrong.
 fn boolean_or_number_reason(text: &[u8]) -> Option<Reason<'static>>
     ensures { IsJudgedBoolOrInt text.now result }
 {
     match Amount::try_read(text) {
-        Ok(_) => number_reason(text, INT.0, INT.1),
+        Ok(amount) if is_within(amount, INT) => None,
+        Ok(_) => Some(Reason::OutOfRange),
         Err(_) => refusal_by::<Boolean>(text),
     }
 }
 
-/// Why a path is wrong that stands behind its mark.
+/// Why a path is wrong, without its mark.
 fn unmarked_reason(path: &[u8]) -> Option<Reason<'static>>
     ensures { IsJudgedUnmarked path.now result }
 {
@@ -87,13 +98,11 @@ fn unmarked_reason(path: &[u8]) -> Option<Reason<'static>>
 fn path_reason(text: &[u8]) -> Option<Reason<'static>>
     ensures { IsJudgedPath text.now result }
 {
-    match text.strip_prefix(MARK) {
-        Some(path) => unmarked_reason(path),
-        None => unmarked_reason(text),
-    }
+    let (_, path) = cut_mark(text);
+    unmarked_reason(path)
 }
 
-/// Why a word is wrong.
+/// Why a text is wrong that has to be a word of a list.
 fn word_reason(list: &WordList<'_>, text: &[u8]) -> Option<Reason<'static>>
     ensures { IsJudgedByWords list.now text.now result }
 {
@@ -109,14 +118,14 @@ fn word_reason(list: &WordList<'_>, text: &[u8]) -> Option<Reason<'static>>
     }
 }
 
-/// Why a setting of a kind is wrong whose value is a text.
+/// Why a text is wrong as the value of a setting of a kind.
 fn text_reason(kind: &SettingKind<'_>, text: &[u8]) -> Option<Reason<'static>>
     ensures { HasReason kind.now (Some text.now) result }
 {
     match kind {
         SettingKind::Bool => refusal_by::<Boolean>(text),
-        SettingKind::Int => number_reason(text, INT.0, INT.1),
-        SettingKind::Size => number_reason(text, 0, i64::MAX),
+        SettingKind::Int => number_reason(text, INT),
+        SettingKind::Size => number_reason(text, SIZE),
         SettingKind::BoolOrInt => boolean_or_number_reason(text),
         SettingKind::Color => refusal_by::<Color>(text),
         SettingKind::Path => path_reason(text),
@@ -124,7 +133,8 @@ fn text_reason(kind: &SettingKind<'_>, text: &[u8]) -> Option<Reason<'static>>
     }
 }
 
-/// Why a setting of a kind is wrong, or `None` where it is right. Its value is a text, or `None` where it has none.
+/// Why the value of a setting of a kind is wrong, or `None` if it is valid. `value` is `None` for a key
+/// alone.
 pub fn judge(kind: &SettingKind<'_>, value: Option<&[u8]>) -> Option<Reason<'static>>
     ensures { HasReason kind.now (option_copied value.entry) result }
 {
@@ -135,7 +145,7 @@ pub fn judge(kind: &SettingKind<'_>, value: Option<&[u8]>) -> Option<Reason<'sta
     }
 }
 
-/// What a text should be by the normalizer of a kind, or `None` where it is canonical.
+/// The canonical text of a text, or `None` if the text is canonical.
 fn respelled_by(kind: Kind, text: &[u8]) -> Option<Reason<'static>>
     requires { IsAccepted (KindGrammar kind) text.now }
     ensures { IsRespelled (KindGrammar kind) (KindCanonical kind) text.now result }
@@ -147,7 +157,7 @@ fn respelled_by(kind: Kind, text: &[u8]) -> Option<Reason<'static>>
     Some(Reason::NotCanonical(canonical))
 }
 
-/// What a boolean or a number should be.
+/// The canonical text of a boolean or a number, or `None` if the text is canonical.
 fn respelled_boolean_or_number(text: &[u8]) -> Option<Reason<'static>>
     requires { IsJudgedBoolOrInt text.now None }
     ensures { IsRespelledBoolOrInt text.now result }
@@ -158,7 +168,7 @@ fn respelled_boolean_or_number(text: &[u8]) -> Option<Reason<'static>>
     }
 }
 
-/// What a word should be.
+/// The canonical text of a word or a boolean, or `None` if the text is canonical.
 fn respelled_word<'t>(list: &WordList<'t>, text: &[u8]) -> Option<Reason<'t>>
     requires { IsTaken list.now text.now }
     ensures { IsRespelledByWords list.now text.now result }
@@ -172,7 +182,7 @@ fn respelled_word<'t>(list: &WordList<'t>, text: &[u8]) -> Option<Reason<'t>>
     Some(Reason::OtherCase(word))
 }
 
-/// What a setting that is right should be, or `None` where its text is canonical.
+/// The canonical text of a valid value, or `None` if the value is canonical.
 fn respelled<'t>(kind: &SettingKind<'t>, text: &[u8]) -> Option<Reason<'t>>
     requires { HasReason kind.now (Some text.now) None }
     ensures { HasSpelling kind.now (Some text.now) result }
@@ -188,8 +198,8 @@ fn respelled<'t>(kind: &SettingKind<'t>, text: &[u8]) -> Option<Reason<'t>>
     }
 }
 
-/// Why a setting is wrong, or, where it is right and canonical texts are wanted, what it should be. `None` where there
-/// is nothing to find.
+/// Why the value of a setting is wrong or, if it is valid and canonical texts are wanted, how it should be
+/// spelled. `None` if nothing is wrong.
 pub fn find<'t>(
     kind: &SettingKind<'t>,
     value: Option<&[u8]>,

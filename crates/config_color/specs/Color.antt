@@ -50,7 +50,8 @@ set_shown (suc n) = attribute_shown (suc n) ∷ []
 
 -- how a color is shown: those of foreground, background and attributes that there are, with one space between
 abbrev pub color_shown : Color → List ℕ
-color_shown c = join_with_byte space ((part_shown c.foreground ++ part_shown c.background) ++ set_shown c.attributes.0)
+color_shown c =
+    join_with_byte space ((part_shown c.foreground ++ part_shown c.background) ++ set_shown c.attributes.0)
 
 -- some of the rows, in their order, each at most once
 abbrev pub Chosen : List (List ℕ) → List (List ℕ) → Type 0

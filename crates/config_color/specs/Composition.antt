@@ -40,7 +40,8 @@ Joins t result =
 
 -- the words of both texts have the same names in the same order, and attributes of the same bits
 abbrev pub SameWords : List ℕ → List ℕ → Type 0
-SameWords a b = (names : List Name) × (bits : ℕ) × WordsRead (words a) names bits × WordsRead (words b) names bits
+SameWords a b =
+    (names : List Name) × (bits : ℕ) × WordsRead (words a) names bits × WordsRead (words b) names bits
 
 -- two lists of words that differ in one whole attribute word, which stands at another place of the second list, or at
 -- one more place of it

@@ -25,7 +25,8 @@ after_space text = after_one spellings text
 
 -- no spelling of white space stands at the first n places of the text
 abbrev pub IsWithoutSpace : List ℕ → ℕ → Type 0
-IsWithoutSpace text n = (k : ℕ) → k < n → (space rest : List ℕ) → Space space → ¬ (drop k text ≡ space ++ rest)
+IsWithoutSpace text n =
+    (k : ℕ) → k < n → (space rest : List ℕ) → Space space → ¬ (drop k text ≡ space ++ rest)
 
 -- a cut of a text: what stands before a spelling, and what follows it
 abbrev pub Cut : Type 0

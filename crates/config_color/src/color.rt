@@ -6,8 +6,9 @@ ghost use Rattle.config_text.specs.declared.errors.Fault.TheVariants as faults;
 ghost use Rattle.config_color.specs.Color.{ColorText, CanonicalColor, PartFits, color_shown, no_color};
 ghost use Rattle.config_color.specs.Laws.Color.{color_one_value, color_decided};
 ghost use Rattle.config_color.specs.Reading.Color.{next_name, with_item, read_from, names_shown, ArePlain};
-ghost use Rattle.config_color.specs.Laws.ColorShown.{color_equal, color_canonical_reads, color_one_text, color_shown_is_text};
-ghost use Rattle.std.proofs.Common.{rules};
+ghost use Rattle.config_color.specs.Laws.ColorShown.{color_equal, color_canonical_reads, color_one_text};
+ghost use Rattle.config_color.specs.Laws.ColorShown.{color_shown_is_text};
+ghost use Rattle.config_word.specs.contracts.name.NameValue.TheImpl.Laws.{equal_is_same-law as name_equal};
 ghost use Rattle.config_text.specs.Refusals.{Always, ReadsFault, ReadsBytes, ReadsText, ReadsOwned};
 ghost use Rattle.config_color.specs.Space.{Space};
 ghost use Rattle.config_text.specs.Value.{HasText, Reads};
@@ -18,22 +19,23 @@ use bitflags::Flags;
 use bstr::{BStr, BString};
 use config_text::errors::{Error, Fault, Returned};
 use config_text::readers::{TryRead, read_bytes, read_cow, read_owned, read_text};
-use config_text::value::{Text, Value};
-use config_word::attribute::Attribute;
+use config_text::value::{CanonicalText, LONGEST_TEXT, Value};
+use config_word::attribute::{Attribute, LONGEST_SET};
 use config_word::item::{Item, word};
-use config_word::name::{Name, numbers_fit};
+use config_word::laws::texts::numbers_fit;
+use config_word::name::Name;
 use std::borrow::CowSlice;
 use std::fmt;
 use std::str::FromStr;
 
 /// What text is drawn with: a foreground, a background and attributes.
 ///
-/// A text is names and attributes in any order, with white space between them, which is Unicode's. The first name is
-/// the foreground, the second the background. The empty text reads to the default color.
+/// A text is names and attributes in any order, with white space between them, which is Unicode's. The first
+/// name is the foreground, the second the background. The empty text reads to the default color.
 ///
-/// A text with a third name, or with a word that is neither, is refused with `Fault::Color`. The canonical text has the
-/// names first and then the attributes, in at most 127 bytes. A color with an unknown bit has none, nor has one with a
-/// background alone. The source: docs/GRAMMAR.md, Colors.
+/// A text with a third name, or with a word that is neither, is refused with `Fault::Color`. The canonical
+/// text has the names first and then the attributes, in at most `LONGEST_TEXT` bytes. A color with an unknown
+/// bit has none, nor has one with a background alone. The source: docs/GRAMMAR.md, Colors.
 ///
 /// ```rust
 /// use gix_config_value::color::{Attribute, Name};
@@ -69,8 +71,8 @@ impl Default for Color {
 }
 
 impl Color {
-    /// This color with one more name: as its foreground, or else as its background. `None` where it
-    /// has both.
+    /// This color with one more name: as its foreground, or else as its background. `None` if it has
+    /// both.
     #[inline(always)]
     fn with_name(self, name: Name) -> Option<Color>
         ensures { result
@@ -103,8 +105,8 @@ impl Color {
         }
     }
 
-    /// This color with the item that a word stands for, or as it is where the word is empty. `None`
-    /// where the word stands for nothing, or for a third name.
+    /// This color with the item that a word stands for, or as it is if the word is empty. `None` if
+    /// the word stands for nothing, or for a third name.
     #[inline(always)]
     fn with_word(self, text: &[u8]) -> Option<Color>
         ensures { result ≡ read_from self (piece text.now) }
@@ -128,10 +130,10 @@ fn part_fits(part: Option<Name>)
 impl Color {
     /// Writes the names as they are shown, with one space between them, into a text that is empty.
     #[tactic(auto, using(config_word::specs::Laws::Name::name_short))]
-    fn show_names(&self, text: &mut Text)
+    fn show_names(&self, text: &mut CanonicalText)
         requires { text.old.bytes ≡ [] }
         ensures names { text.new.bytes ≡ names_shown self.now.foreground self.now.background }
-        ensures room { length text.new.bytes ≤ 27 }
+        ensures room { length text.new.bytes + 1 + LONGEST_SET ≤ LONGEST_TEXT }
     {
         match (self.foreground, self.background) {
             (None, None) => (),
@@ -149,8 +151,8 @@ impl Color {
         }
     }
 
-    /// Whether some text reads to this color: each set bit has a constant, and a background stands
-    /// only beside a foreground.
+    /// Whether some text reads to this color: each set bit has a constant, and where there is a
+    /// background there is a foreground.
     fn is_readable(&self) -> bool
         ensures { IsTrue result ↔ (HasText ColorText self.now) }
     {
@@ -160,18 +162,18 @@ impl Color {
             && (self.background.is_none() || self.foreground.is_some())
     }
 
-    /// The color as it is shown, of any set of attributes, in at most 127 bytes.
-    pub fn shown(&self) -> Text
+    /// The color as it is shown, of any set of attributes, in at most `LONGEST_TEXT` bytes.
+    pub fn shown(&self) -> CanonicalText
         ensures { result.bytes ≡ color_shown self.now }
     {
-        let mut text = Text::new();
+        let mut text = CanonicalText::new();
         self.show(&mut text);
         text
     }
 
     /// Writes the color as it is shown into a text that is empty.
     #[inline(always)]
-    pub(crate) fn show(&self, text: &mut Text)
+    pub(crate) fn show(&self, text: &mut CanonicalText)
         requires { text.old.bytes ≡ [] }
         ensures { text.new.bytes ≡ color_shown self.now }
     {
@@ -189,7 +191,7 @@ impl Color {
 /// Where the first word of a text ends.
 #[derive(Clone, Copy)]
 struct FirstWord {
-    /// The bytes before the first white space, of which there may be none.
+    /// The bytes before the first white space.
     length: usize,
     /// The bytes of that white space, or 0 where the text has none.
     space: usize,
@@ -197,9 +199,6 @@ struct FirstWord {
 
 /// How many bytes of a long word are looked at at once.
 const RUN: usize = 16;
-
-/// How many bytes a text has that is refused by its first word, if that is none, before it is walked.
-const LONG_TEXT: usize = 160;
 
 /// Whether each byte of the run at `at` is one with which no white space begins.
 #[inline(always)]
@@ -215,31 +214,7 @@ fn is_plain_run(text: &[u8], at: usize) -> bool
     is_plain
 }
 
-/// The first word of a text, looked at in runs as far as they are plain, and then byte by byte.
-fn long_first_word(text: &[u8]) -> FirstWord
-    ensures clear { IsWithoutSpace text.now result.length }
-    ensures within { result.length + result.space ≤ length text.now }
-    ensures parted { 0 < result.space
-        → Space (slice_range text.now result.length (result.length + result.space)) }
-    ensures last { result.space ≡ 0 → result.length ≡ length text.now }
-{
-    let mut start = 0;
-    while text.len() - start >= RUN && is_plain_run(text, start) {
-        start += RUN;
-    }
-    for at in start..text.len() {
-        let space = space_at(text, at);
-        if space > 0 {
-            return FirstWord { length: at, space };
-        }
-    }
-    FirstWord {
-        length: text.len(),
-        space: 0,
-    }
-}
-
-/// The first word of a text.
+/// The first word of a text. Its bytes after the first sixteen are looked at in runs where they are plain.
 #[inline(always)]
 fn first_word(text: &[u8]) -> FirstWord
     ensures clear { IsWithoutSpace text.now result.length }
@@ -248,10 +223,16 @@ fn first_word(text: &[u8]) -> FirstWord
         → Space (slice_range text.now result.length (result.length + result.space)) }
     ensures last { result.space ≡ 0 → result.length ≡ length text.now }
 {
-    for at in 0..text.len() {
-        let space = space_at(text, at);
-        if space > 0 {
-            return FirstWord { length: at, space };
+    let mut at = 0;
+    while at < text.len() {
+        if at >= RUN && text.len() - at >= RUN && is_plain_run(text, at) {
+            at += RUN;
+        } else {
+            let space = space_at(text, at);
+            if space > 0 {
+                return FirstWord { length: at, space };
+            }
+            at += 1;
         }
     }
     FirstWord {
@@ -267,23 +248,10 @@ fn past_spaces(text: &[u8]) -> &[u8]
     ensures shorter { length result.now ≤ length text.now }
 {
     let mut rest = text;
-    while let [b' ', behind @ ..] = rest {
-        rest = behind;
+    while let [b' ', after @ ..] = rest {
+        rest = after;
     }
     rest
-}
-
-/// Whether the first word of a text is none of a color. It is asked of long texts, since it looks at words in runs.
-#[inline(never)]
-fn begins_with_no_word(text: &[u8]) -> bool
-    ensures { IsTrue result → Reads ColorText text.now None }
-{
-    let first = long_first_word(text);
-    let (text, _behind) = text.split_at(first.length);
-    match Color::default().with_word(text) {
-        Some(_) => false,
-        None => true,
-    }
 }
 
 /// The color of a text, or `None` where it has none. The text is walked from its front.
@@ -291,26 +259,23 @@ fn begins_with_no_word(text: &[u8]) -> bool
 fn color_of(input: &[u8]) -> Option<Color>
     ensures { Reads ColorText input.now result }
 {
-    if input.len() >= LONG_TEXT && begins_with_no_word(input) {
-        return None;
-    }
     let mut color = Color::default();
     let mut rest = past_spaces(input);
     loop {
         let first = first_word(rest);
-        let (text, behind) = rest.split_at(first.length);
+        let (text, after) = rest.split_at(first.length);
         color = color.with_word(text)?;
         if first.space == 0 {
             return Some(color);
         }
-        rest = past_spaces(&behind[first.space..]);
+        rest = past_spaces(&after[first.space..]);
     }
 }
 
 impl TryRead for Color {
     ghost refusal = { Always faults.Color };
 
-    /// The color of the text, or `Fault::Color` where it is no color text.
+    /// The color of the text, or `Fault::Color` if it has none.
     fn try_read(text: &[u8]) -> Result<Color, Fault> {
         color_of(text).ok_or(Fault::Color)
     }
@@ -321,7 +286,7 @@ impl FromStr for Color {
 
     ghost from_str_gives = { ReadsFault ColorText (Always faults.Color) };
 
-    /// The color of the text, or `Fault::Color` where it is no color text.
+    /// The color of the text, or `Fault::Color` if it has none.
     fn from_str(text: &str) -> Result<Color, Fault> {
         Color::try_read(text.as_bytes())
     }
@@ -332,7 +297,7 @@ impl<'a> TryFrom<BStr<'a>> for Color {
 
     ghost try_from_gives = { ReadsBytes ColorText (Always faults.Color) };
 
-    /// Refuses with `Fault::Color` and the whole input where it is no color text.
+    /// The color of the input, or `Fault::Color` with the whole input if it has none.
     fn try_from(input: BStr<'a>) -> Result<Color, Error<'a>> {
         read_bytes(input)
     }
@@ -343,7 +308,7 @@ impl<'a> TryFrom<&'a str> for Color {
 
     ghost try_from_gives = { λ s r. ReadsText ColorText (Always faults.Color) s.now r };
 
-    /// Refuses with `Fault::Color` and the whole input where it is no color text.
+    /// The color of the input, or `Fault::Color` with the whole input if it has none.
     fn try_from(input: &'a str) -> Result<Color, Error<'a>> {
         read_text(input)
     }
@@ -355,7 +320,7 @@ impl TryFrom<BString> for Color {
     ghost try_from_gives = { λ s r.
         ReadsOwned ColorText (Always faults.Color) (bstring_bytes s) s r };
 
-    /// Refuses with `Fault::Color` where the input is no color text, and hands it back.
+    /// The color of the input, or `Fault::Color` with the input handed back if it has none.
     fn try_from(input: BString) -> Result<Color, Returned<BString>> {
         read_owned(input)
     }
@@ -367,7 +332,7 @@ impl<'a> TryFrom<CowSlice<'a, u8>> for Color {
     ghost try_from_gives = { λ s r.
         ReadsOwned ColorText (Always faults.Color) (cow_slice_items s) s r };
 
-    /// Refuses with `Fault::Color` where the input is no color text, and hands it back.
+    /// The color of the input, or `Fault::Color` with the input handed back if it has none.
     fn try_from(input: CowSlice<'a, u8>) -> Result<Color, Returned<CowSlice<'a, u8>>> {
         read_cow(input)
     }
@@ -376,7 +341,7 @@ impl<'a> TryFrom<CowSlice<'a, u8>> for Color {
 impl fmt::Display for Color {
     ghost output = { λ c. Some (color_shown c) };
 
-    /// Writes the names and then the attributes, with one space between, in at most 127 bytes.
+    /// Writes the names and then the attributes, with one space between, in at most `LONGEST_TEXT` bytes.
     fn fmt<W: fmt::Write>(&self, f: &mut fmt::Formatter<W>) -> fmt::Result {
         f.write_str(self.shown().as_str())
     }
@@ -389,18 +354,18 @@ impl Value for Color {
 
     ghost displayed = { color_shown };
 
-    /// The color of the input, and `None` where it is no color text.
+    /// The color of the input, or `None` if it has none.
     fn read(input: BStr<'_>) -> Option<Color> {
         color_of(input.as_bytes())
     }
 
-    /// Whether each set bit has a constant, and a background stands only beside a foreground.
+    /// Whether each set bit has a constant, and a background comes with a foreground.
     fn has_text(&self) -> bool {
         self.is_readable()
     }
 
-    /// Writes the names and then the attributes, with one space between, in at most 127 bytes.
-    fn write_to(&self, text: &mut Text) {
+    /// Writes the names and then the attributes, with one space between, in at most `LONGEST_TEXT` bytes.
+    fn write_to(&self, text: &mut CanonicalText) {
         self.show(text);
     }
 
@@ -414,5 +379,5 @@ impl Value for Color {
 
     ghost decided = { color_decided };
 
-    ghost equal_is_same = { color_equal ⟦<Name as PartialEq>⟧.eq (Prim.search rules) };
+    ghost equal_is_same = { color_equal ⟦<Name as PartialEq>⟧.eq name_equal };
 }

@@ -27,12 +27,12 @@ fn places(a: Color, b: Color) -> Option<(Option<Name>, Option<Name>)>
     }
 }
 
-/// The color that a text of `a`, white space and a text of `b` reads to: docs/GRAMMAR.md, Colors. The names of `a` and
-/// then those of `b` are its foreground and background, and it has the attributes of both. `None` where the names are
-/// more than two.
+/// The color that a text of `a`, white space and a text of `b` reads to: docs/GRAMMAR.md, Colors. The names
+/// of `a` and then those of `b` are its foreground and background, and it has the attributes of both. `None`
+/// where the names are more than two.
 ///
-/// Both colors must have a text, as [`Value::has_text`](config_text::value::Value::has_text) tells, and the answer has
-/// one. A color that was read has a text.
+/// Both colors must have a text, as [`Value::has_text`](config_text::value::Value::has_text) tells, and the
+/// answer has one. A color that was read has a text.
 ///
 /// ```rust
 /// use gix_config_value::Color;

@@ -1,5 +1,6 @@
 //! White space in a text, by its bytes.
-ghost use Rattle.std.specs.Prelude.{◌≡◌, ℕ, ◌+◌, ◌<◌, ◌≤◌, ◌↔◌, ◌++◌, IsTrue, List, [], ◌∷◌, length, drop, slice_range};
+ghost use Rattle.std.specs.Prelude.{◌≡◌, ℕ, ◌+◌, ◌<◌, ◌≤◌, ◌↔◌, ◌++◌, IsTrue, List, [], ◌∷◌, length, drop};
+ghost use Rattle.std.specs.Prelude.{slice_range};
 ghost use Rattle.config_color.specs.Space.{Space};
 
 /// Whether this byte is a spelling of white space.
@@ -38,6 +39,7 @@ fn is_triple(first: u8, second: u8, third: u8) -> bool
 
 /// The length of the spelling of white space at the head of these bytes, or 0 where none stands
 /// there.
+#[inline(always)]
 fn space_length(bytes: &[u8]) -> usize
     ensures none { result ≡ 0
         → (space rest : List ℕ) → Space space → ¬ (bytes.now ≡ space ++ rest) }
@@ -53,9 +55,9 @@ fn space_length(bytes: &[u8]) -> usize
     }
 }
 
-/// The length in bytes of the white space that stands in the input at the byte `at`, or 0 where none stands there.
-/// White space is 25 code points of Unicode, which UTF-8 spells in 1 to 3 bytes. `at` is at most `input.len()`. The
-/// source: docs/GRAMMAR.md, White space and words.
+/// The length in bytes of the white space that stands in the input at the byte `at`, or 0 where none stands
+/// there. White space is 25 code points of Unicode, which UTF-8 spells in 1 to 3 bytes. `at` is at most
+/// `input.len()`. The source: docs/GRAMMAR.md, White space and words.
 ///
 /// ```rust
 /// use gix_config_value::color::space_at;
@@ -64,6 +66,7 @@ fn space_length(bytes: &[u8]) -> usize
 /// assert_eq!(rt; space_at(text, 3), 3);
 /// assert_eq!(rt; space_at(text, 4), 0);
 /// ```
+#[inline(always)]
 pub fn space_at(input: &[u8], at: usize) -> usize
     requires { at ≤ length input.now }
     ensures none { result ≡ 0

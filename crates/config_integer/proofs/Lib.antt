@@ -1,3 +1,3 @@
-pub mod IntegerCounting
+pub mod Counting
 pub mod OnLiterals
 mod StandardFacts

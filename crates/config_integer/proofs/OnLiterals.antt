@@ -1,5 +1,6 @@
 -- Integers and amounts on a literal: what computes them, and from what is computed to the grammars.
-use Rattle.std.proofs.Common.{◌≡◌, ℕ, ℤ, pos, negsuc, Bool, true, false, List, Option, Some, None, nat_lt, refl, ap, subst, sym, arith}
+use Rattle.std.proofs.Common.{◌≡◌, ℕ, ℤ, pos, negsuc, Bool, true, false, List, Option, Some, None, nat_lt}
+use Rattle.std.proofs.Common.{refl, ap, subst, sym, arith}
 use Rattle.std.specs.Prelude.{⊤, Result, Ok, Err, IfOk, IfErr}
 use Rattle.std.specs.Option.{option_and_then}
 use Rattle.std.proofs.lemmas.Bool.Decides.{nat_tests}
@@ -15,7 +16,8 @@ use Rattle.config_text.specs.declared.errors.Error.{Error}
 use Rattle.config_text.specs.declared.errors.Fault.{Fault}
 use Rattle.config_text.specs.declared.errors.Fault.TheVariants as faults
 use Rattle.config_text.specs.Numerals.{IsInI64}
-use Rattle.config_text.specs.Value.{IsRefused, IsValueOf}
+use Rattle.config_text.specs.Value.{IsRefused}
+use Rattle.config_text.specs.Laws.Value.{IsValueOf}
 use Rattle.config_text.proofs.OnLiterals.{refused_by}
 
 -- what a proof unfolds to compute `suffix_of`, `integer_of` and `amount_of` on a literal
@@ -55,7 +57,8 @@ out_of_range_told : (z : ℤ) → is_in_range z ≡ false → ¬ (IsInI64 z)
 out_of_range_told (pos n) e r = grind (arith, nat_tests, ints, r.high)
 out_of_range_told (negsuc n) e r = grind (arith, nat_tests, ints, r.low)
 
-in_range_product : (t : List ℕ) (v : Integer) → IntegerText t v → is_in_range (product v) ≡ true → ProductInRange t (product v)
+in_range_product : (t : List ℕ) (v : Integer) → IntegerText t v → is_in_range (product v) ≡ true
+    → ProductInRange t (product v)
 in_range_product t v text r = record {
   product_text = record { integer = v; text = text; number = refl };
   in_range = in_range_told (product v) r;
@@ -85,11 +88,20 @@ amount_of_is = record { found = amount_found; derived = amount_derived }
 -- an integer text whose product is out of range is refused for that
 pub product_overflows : (refuses : ℤ → Type 0) (t : List ℕ) (v : Integer) → integer_of t ≡ Some v
     → is_in_range (product v) ≡ false → Refusal refuses t faults.Overflow
-product_overflows refuses t v e out =
-    (product v, record { integer = v; text = integer_text t v e; number = refl }, out_of_range_told (product v) out)
+product_overflows refuses t v e out = (
+  product v,
+  record {
+    integer =
+        v;
+    text = integer_text t v e;
+    number = refl;
+  },
+  out_of_range_told (product v) out,
+)
 
 -- a text with a product in range is refused only where the caller's type refuses that product
-refused_product : (refuses : ℤ → Type 0) (t : List ℕ) (f : Fault) (z : ℤ) → ProductInRange t z → Refusal refuses t f → refuses z
+refused_product : (refuses : ℤ → Type 0) (t : List ℕ) (f : Fault) (z : ℤ) → ProductInRange t z
+    → Refusal refuses t f → refuses z
 refused_product refuses t faults.Integer z p r = absurd (r p.product_text.integer p.product_text.text)
 refused_product refuses t faults.Overflow z p r =
     absurd (r.2 (subst IsInI64 (product_one_value t z r.0 p.product_text r.1) p.in_range))
@@ -98,13 +110,15 @@ refused_product refuses t faults.OutOfRange z p r =
 refused_product refuses t faults.Boolean z p r = absurd r
 refused_product refuses t faults.Color z p r = absurd r
 
--- of a text whose product the caller's type does not refuse, `Integer::from_bytes` answers what the type makes of it
-pub converts : {T : Type 0} (accepts : ℤ → T → Type 0) (refuses : ℤ → Type 0) (t : List ℕ) (z : ℤ) (r : Result T Error)
+-- of a text whose product the caller's type takes, `Integer::from_bytes` returns what the type makes of it
+pub converts : {T : Type 0} (accepts : ℤ → T → Type 0) (refuses : ℤ
+    → Type 0) (t : List ℕ) (z : ℤ) (r : Result T Error)
     → ProductInRange t z → ¬ (refuses z) → IfOk r (λ x. (y : ℤ) × ProductInRange t y × accepts y x)
     → IfErr r (λ e. Refusal refuses t e.fault) → (x : T) × (r ≡ Ok x) × accepts z x
 converts accepts refuses t z (Ok x) p takes ok err =
     (x, refl, subst (λ y. accepts y x) (product_one_value t ok.0 z ok.1.product_text p.product_text) ok.2)
-converts accepts refuses t z (Err e) p takes ok err = absurd (takes (refused_product refuses t e.fault z p err))
+converts accepts refuses t z (Err e) p takes ok err =
+    absurd (takes (refused_product refuses t e.fault z p err))
 
 -- the same of amounts as of integers
 pub amount_text : (t : List ℕ) (v : Amount) → amount_of t ≡ Some v → AmountText t v

@@ -1,6 +1,6 @@
--- What git-config(1) says of integers, on examples: a definition with a wrong letter, factor or base does not check.
--- Beyond that page, as Git and C read them, stand `0x`, `0b`, a leading `0`, `g`, signs, both ends of the range, and the
--- refused rows.
+-- What git-config(1) says of integers, on examples: a definition with a wrong letter, factor or base does not
+-- check. As Git and C read them, and not on that page, are `0x`, `0b`, a leading `0`, `g`, signs, both ends
+-- of the range, and the refused rows.
 use Rattle.std.proofs.Common.{ℕ, ℤ, pos, negsuc, List, [], ◌∷◌, codes, Option, Some, None, refl}
 use Rattle.config_integer.specs.declared.integer.Integer.{Integer}
 use Rattle.config_integer.specs.declared.suffix.Suffix.{Suffix}
@@ -59,10 +59,12 @@ pub amounts_are_read : AreRead AmountText amounts
 unfolding integer_on_literals
 amounts_are_read = all_read amount_of_is amounts refl
 
--- no such suffix, two of them, a space, a suffix alone, and nothing; no digit of the base, no digit, and one beyond each
--- end of the range
+-- no such suffix, two of them, a space, a suffix alone, and nothing; no digit of the base, no digit, and one
+-- beyond each end of the range
 abbrev no_integers : List (List ℕ)
-no_integers = codes "10x" ∷ codes "1kb" ∷ codes "1 k" ∷ codes "k" ∷ codes "" ∷ codes "08" ∷ codes "0x" ∷ codes "0b2" ∷ codes "--1"
+no_integers =
+    codes "10x" ∷ codes "1kb" ∷ codes "1 k" ∷ codes "k" ∷ codes ""
+    ∷ codes "08" ∷ codes "0x" ∷ codes "0b2" ∷ codes "--1"
     ∷ codes "9223372036854775808" ∷ codes "-9223372036854775809" ∷ []
 
 pub no_integers_are_refused : AreRefused IntegerText no_integers
@@ -73,4 +75,5 @@ no_integers_are_refused = all_refused integer_of_is no_integers refl
 pub too_large : AmountRefusal (codes "9223372036854775807k") faults.Overflow
 unfolding integer_on_literals
 too_large =
-    product_overflows (λ _. ⊥) (codes "9223372036854775807k") (integer (pos 9223372036854775807) (Some Kibi)) refl refl
+    product_overflows (λ _. ⊥) (codes "9223372036854775807k")
+    (integer (pos 9223372036854775807) (Some Kibi)) refl refl

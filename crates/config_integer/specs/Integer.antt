@@ -1,5 +1,6 @@
 -- Integers: an optional sign, a magnitude in one of five forms, and at most one suffix.
-use Rattle.std.specs.Prelude.{◌≡◌, ℕ, ℤ, pos, neg_ℤ, ◌*ℤ◌, ◌≤◌, ◌⊎◌, List, [], ◌∷◌, ◌++◌, codes, Option, Some, None}
+use Rattle.std.specs.Prelude.{◌≡◌, ℕ, ℤ, pos, neg_ℤ, ◌*ℤ◌, ◌≤◌, ◌⊎◌, List, [], ◌∷◌, ◌++◌, codes, Option, Some}
+use Rattle.std.specs.Prelude.{None}
 use Rattle.std.specs.Fmt.{signed_decimal}
 use Rattle.std.specs.Option.{option_map_or}
 use Rattle.std.specs.Str.Parse.{AllDigits, IsNumeral}
@@ -15,11 +16,14 @@ use Rattle.config_integer.specs.Suffix.{SuffixText, CanonicalSuffix, factor, suf
 -- magnitude: a number without a sign, in one of five forms
 pub data Magnitude (t : List ℕ) (n : ℕ) : Type 0 where
   nought : t ≡ codes "0" → n ≡ 0 → Magnitude t n
-  decimal : (d : ℕ) (ds : List ℕ) → t ≡ d ∷ ds → IsLeadingDigit d → AllDigits 10 ds → n ≡ place_sum t 10 → Magnitude t n
-  octal : (ds : List ℕ) → t ≡ codes "0" ++ ds → IsNumeral 8 ds → n ≡ place_sum ds 8 → Magnitude t n
-  hexadecimal : (ds : List ℕ) → (t ≡ codes "0x" ++ ds) ⊎ (t ≡ codes "0X" ++ ds) → IsNumeral 16 ds → n ≡ place_sum ds 16
+  decimal : (d : ℕ) (ds : List ℕ) → t ≡ d ∷ ds → IsLeadingDigit d → AllDigits 10 ds → n ≡ place_sum t 10
       → Magnitude t n
-  binary : (ds : List ℕ) → (t ≡ codes "0b" ++ ds) ⊎ (t ≡ codes "0B" ++ ds) → IsNumeral 2 ds → n ≡ place_sum ds 2
+  octal : (ds : List ℕ) → t ≡ codes "0" ++ ds → IsNumeral 8 ds → n ≡ place_sum ds 8 → Magnitude t n
+  hexadecimal : (ds : List ℕ) → (t ≡ codes "0x" ++ ds) ⊎ (t ≡ codes "0X" ++ ds) → IsNumeral 16 ds
+      → n ≡ place_sum ds 16
+      → Magnitude t n
+  binary : (ds : List ℕ) → (t ≡ codes "0b" ++ ds) ⊎ (t ≡ codes "0B" ++ ds) → IsNumeral 2 ds
+      → n ≡ place_sum ds 2
       → Magnitude t n
 
 -- a magnitude, or a sign and a magnitude

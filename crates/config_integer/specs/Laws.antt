@@ -1,4 +1,5 @@
 pub mod Suffix
+pub mod Magnitude
 pub mod Integer
 pub mod IntegerShown
 pub mod Amount

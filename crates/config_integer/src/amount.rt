@@ -5,13 +5,14 @@ ghost use Rattle.std.specs.Cow.{cow_slice_items};
 ghost use Rattle.std.proofs.Common.{rules};
 ghost use Rattle.config_text.specs.Refusals.{ReadsFault, ReadsBytes, ReadsText, ReadsOwned};
 ghost use Rattle.config_integer.specs.Amount.{AmountText, AmountRefusal, CanonicalAmount, amount_shown};
-ghost use Rattle.config_integer.specs.Laws.Amount.{amount_one_value, amount_one_text, amount_canonical_reads, amount_shown_is_text, amount_decided};
+ghost use Rattle.config_integer.specs.Laws.Amount.{amount_one_value, amount_one_text, amount_decided};
+ghost use Rattle.config_integer.specs.Laws.Amount.{amount_canonical_reads, amount_shown_is_text};
 
 use crate::integer::scan;
 use bstr::{BStr, BString};
 use config_text::errors::{Error, Fault, Returned};
 use config_text::readers::{TryRead, read_bytes, read_cow, read_owned, read_text};
-use config_text::value::{Text, Value};
+use config_text::value::{CanonicalText, Value};
 use itoa::Buffer;
 use std::borrow::CowSlice;
 use std::fmt;
@@ -20,8 +21,8 @@ use std::str::FromStr;
 /// The number that an integer text has as its product: `1k` and `1024` are one amount.
 ///
 /// It is from -9223372036854775808 to 9223372036854775807. A text that is no integer text is refused with
-/// `Fault::Integer`, and one whose product is out of this range with `Fault::Overflow`. The canonical text is the
-/// number in decimal. The source: docs/GRAMMAR.md, Amounts.
+/// `Fault::Integer`, and one whose product is out of this range with `Fault::Overflow`. The canonical text is
+/// the number in decimal: docs/GRAMMAR.md, Amounts.
 ///
 /// ```rust
 /// use gix_config_value::integer::Amount;
@@ -35,8 +36,8 @@ pub struct Amount(pub i64);
 impl TryRead for Amount {
     ghost refusal = { AmountRefusal };
 
-    /// The amount that the text writes, or `Fault::Integer` where it is no integer, and else `Fault::Overflow` where
-    /// the product leaves `i64`.
+    /// The amount of the text, or `Fault::Integer` if it writes no integer, or `Fault::Overflow` if the
+    /// product leaves `i64`.
     #[inline(always)]
     fn try_read(text: &[u8]) -> Result<Amount, Fault> {
         let Some(integer) = scan(text) else {
@@ -54,8 +55,8 @@ impl FromStr for Amount {
 
     ghost from_str_gives = { ReadsFault AmountText AmountRefusal };
 
-    /// The amount that the text writes, or `Fault::Integer` where it is no integer, and else `Fault::Overflow` where
-    /// the product leaves `i64`.
+    /// The amount of the text, or `Fault::Integer` if it writes no integer, or `Fault::Overflow` if the
+    /// product leaves `i64`.
     fn from_str(text: &str) -> Result<Amount, Fault> {
         Amount::try_read(text.as_bytes())
     }
@@ -66,8 +67,7 @@ impl<'a> TryFrom<BStr<'a>> for Amount {
 
     ghost try_from_gives = { ReadsBytes AmountText AmountRefusal };
 
-    /// Refuses, with the whole input, with `Fault::Integer` where it writes no integer, and else with
-    /// `Fault::Overflow` where the product leaves `i64`.
+    /// The amount of the input, or a fault as `try_read` has it and the whole input.
     fn try_from(input: BStr<'a>) -> Result<Amount, Error<'a>> {
         read_bytes(input)
     }
@@ -78,8 +78,7 @@ impl<'a> TryFrom<&'a str> for Amount {
 
     ghost try_from_gives = { λ s r. ReadsText AmountText AmountRefusal s.now r };
 
-    /// Refuses, with the whole input, with `Fault::Integer` where it writes no integer, and else with
-    /// `Fault::Overflow` where the product leaves `i64`.
+    /// The amount of the input, or a fault as `try_read` has it and the whole input.
     fn try_from(input: &'a str) -> Result<Amount, Error<'a>> {
         read_text(input)
     }
@@ -90,8 +89,7 @@ impl TryFrom<BString> for Amount {
 
     ghost try_from_gives = { λ s r. ReadsOwned AmountText AmountRefusal (bstring_bytes s) s r };
 
-    /// Refuses with `Fault::Integer` where the input writes no integer, and else with `Fault::Overflow` where
-    /// the product leaves `i64`, and hands the input back.
+    /// The amount of the input, or a fault as `try_read` has it and the input itself.
     fn try_from(input: BString) -> Result<Amount, Returned<BString>> {
         read_owned(input)
     }
@@ -102,8 +100,7 @@ impl<'a> TryFrom<CowSlice<'a, u8>> for Amount {
 
     ghost try_from_gives = { λ s r. ReadsOwned AmountText AmountRefusal (cow_slice_items s) s r };
 
-    /// Refuses with `Fault::Integer` where the input writes no integer, and else with `Fault::Overflow` where
-    /// the product leaves `i64`, and hands the input back.
+    /// The amount of the input, or a fault as `try_read` has it and the input itself.
     fn try_from(input: CowSlice<'a, u8>) -> Result<Amount, Returned<CowSlice<'a, u8>>> {
         read_cow(input)
     }
@@ -125,7 +122,7 @@ impl Value for Amount {
 
     ghost displayed = { amount_shown };
 
-    /// The amount of the input, and `None` where it is no integer text or its product leaves `i64`.
+    /// The amount of the input, or `None` if it is no integer text or its product leaves `i64`.
     fn read(input: BStr<'_>) -> Option<Amount> {
         Amount::try_read(input.as_bytes()).ok()
     }
@@ -138,7 +135,7 @@ impl Value for Amount {
     }
 
     /// Writes the number in decimal, in at most 20 bytes.
-    fn write_to(&self, text: &mut Text) {
+    fn write_to(&self, text: &mut CanonicalText) {
         text.push_str(Buffer::new().format(self.0));
     }
 

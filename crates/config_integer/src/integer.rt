@@ -1,5 +1,5 @@
 //! Integers and their suffixes.
-ghost use Rattle.std.specs.Prelude.{◌≡◌, ℤ, [], Option, Some, None, SomeIff, IfOk, IfErr, Ok, Err};
+ghost use Rattle.std.specs.Prelude.{◌≡◌, ◌≤◌, ℤ, [], Option, Some, None, SomeIff, IfOk, IfErr, Ok, Err};
 ghost use Rattle.bstr.specs.BStr.{bstr_bytes};
 ghost use Rattle.bstr.specs.Owned.{bstring_bytes};
 ghost use Rattle.std.specs.Cow.{cow_slice_items};
@@ -7,20 +7,22 @@ ghost use Rattle.std.proofs.Common.{rules};
 ghost use Rattle.config_text.specs.declared.errors.Fault.TheVariants as faults;
 ghost use Rattle.config_text.specs.Value.{Reads};
 ghost use Rattle.config_text.specs.Refusals.{Always, ReadsFault, ReadsBytes, ReadsText, ReadsOwned};
-ghost use Rattle.config_integer.specs.Integer.{IntegerText, CanonicalInteger, integer_shown, product, ProductInRange, Refusal};
+ghost use Rattle.config_integer.specs.Integer.{IntegerText, CanonicalInteger, integer_shown};
+ghost use Rattle.config_integer.specs.Integer.{product, ProductInRange, Refusal};
 ghost use Rattle.config_text.specs.Numerals.{IsInI64};
-ghost use Rattle.config_integer.specs.Reading.Integer.{integer_of};
+ghost use Rattle.config_integer.specs.Reading.Integer.{sign_and_rest, largest, with_sign};
 ghost use Rattle.config_integer.specs.Laws.Integer.{integer_one_value, integer_decided};
-ghost use Rattle.config_integer.specs.Laws.IntegerShown.{integer_one_text, integer_canonical_reads, integer_shown_is_text};
+ghost use Rattle.config_integer.specs.Laws.IntegerShown.{integer_one_text, integer_canonical_reads};
+ghost use Rattle.config_integer.specs.Laws.IntegerShown.{integer_shown_is_text};
 ghost use Rattle.config_text.specs.Json.{GivesJsonNumber};
 
-use crate::magnitude;
+use crate::magnitude::magnitude_and_suffix;
 use crate::suffix::Suffix;
 use bstr::{BStr, BString};
 use config_text::errors::{Error, Fault, Returned};
 use config_text::json::JsonError;
 use config_text::readers::{TryRead, read_bytes, read_cow, read_owned, read_text};
-use config_text::value::{Text, Value};
+use config_text::value::{CanonicalText, Value};
 use itoa::Buffer;
 use serde_json::Value as JsonValue;
 use std::alloc::Global;
@@ -30,12 +32,12 @@ use std::str::FromStr;
 
 /// A number and the suffix that it was written with, kept apart: `1k` and `1024` are two integers.
 ///
-/// A text has at most one sign and at most one suffix. Its number is decimal, or hexadecimal behind `0x`, binary behind
-/// `0b`, octal behind `0`. The letters are read in either case. The number is from -9223372036854775808 to
-/// 9223372036854775807; the product with its suffix may leave that range.
+/// A text has at most one sign and at most one suffix. Its number is decimal, or hexadecimal after `0x`,
+/// binary after `0b`, octal after `0`. The letters are read in either case. The number is from
+/// -9223372036854775808 to 9223372036854775807; the product with its suffix may leave that range.
 ///
-/// Any other text is refused with `Fault::Integer`, and so is one with white space or `_`. The canonical text is the
-/// number in decimal and the suffix in lower case. The source: docs/GRAMMAR.md, Integers.
+/// Any other text is refused with `Fault::Integer`, also one with white space or `_`. The canonical text is
+/// the number in decimal and the suffix in lower case: docs/GRAMMAR.md, Integers.
 ///
 /// ```rust
 /// use gix_config_value::Integer;
@@ -53,41 +55,56 @@ pub struct Integer {
     pub suffix: Option<Suffix>,
 }
 
-/// The integer that the input writes, or `None` where it writes none. The input is read once, from its
-/// first byte on, and no further than to the byte that refuses it.
+/// The integer that the input writes, or `None` if it writes none. The input is read once, from its first
+/// byte on, and no further than to the byte that refuses it.
 #[inline(always)]
 pub fn scan(input: &[u8]) -> Option<Integer>
     ensures { Reads IntegerText input.now result }
 {
-    signed(input)
-}
-
-/// The integer that a text writes, with a sign or without one.
-#[inline(always)]
-fn signed(input: &[u8]) -> Option<Integer>
-    ensures { result ≡ integer_of input.now }
-{
-    let (is_negative, text) = match input {
-        [b'-', text @ ..] => (true, text),
-        [b'+', text @ ..] => (false, text),
-        _ => (false, input),
-    };
-    let limit = if is_negative {
-        i64::MIN.unsigned_abs()
-    } else {
-        i64::MAX.unsigned_abs()
-    };
-    let (number, suffix) = magnitude::unsigned(text, limit)?;
-    let value = if is_negative {
-        0_i64.checked_sub_unsigned(number)?
-    } else {
-        0_i64.checked_add_unsigned(number)?
-    };
+    let (is_negative, text) = sign_and_rest(input);
+    let (magnitude, suffix) = magnitude_and_suffix(text, largest(is_negative))?;
+    let value = with_sign(is_negative, magnitude)?;
     Some(Integer { value, suffix })
 }
 
+/// Whether the text begins with `-`, and the text without its sign.
+#[inline(always)]
+fn sign_and_rest(text: &[u8]) -> (bool, &[u8])
+    ensures { (result.0, result.1.now) ≡ sign_and_rest text.now }
+{
+    match text {
+        [b'-', rest @ ..] => (true, rest),
+        [b'+', rest @ ..] => (false, rest),
+        _ => (false, text),
+    }
+}
+
+/// The largest magnitude of a negative number of `i64`, or of another.
+#[inline(always)]
+fn largest(is_negative: bool) -> u64
+    ensures { result ≡ largest is_negative }
+{
+    if is_negative {
+        i64::MIN.unsigned_abs()
+    } else {
+        i64::MAX.unsigned_abs()
+    }
+}
+
+/// The number with this sign and magnitude, or `None` if it leaves `i64`.
+#[inline(always)]
+fn with_sign(is_negative: bool, magnitude: u64) -> Option<i64>
+    ensures { SomeIff result (magnitude ≤ largest is_negative) (with_sign is_negative magnitude) }
+{
+    if is_negative {
+        0_i64.checked_sub_unsigned(magnitude)
+    } else {
+        0_i64.checked_add_unsigned(magnitude)
+    }
+}
+
 /// The product of the integer that a text writes, as a `T`, or why there is none.
-fn converted<T: TryFrom<i64>>(text: &[u8]) -> Result<T, Fault>
+fn product_as<T: TryFrom<i64>>(text: &[u8]) -> Result<T, Fault>
 where
     T::Error: Drop,
     ensures accepted { IfOk result
@@ -95,22 +112,20 @@ where
     ensures refused { IfErr result
         (Refusal (λ z. (x : T.Error) × T.try_from_gives z (Err x)) text.now) }
 {
+    // With `ok_or` and `?` in place of these arms the proof takes three times as long.
     let Some(integer) = scan(text) else {
         return Err(Fault::Integer);
     };
     let Some(product) = integer.to_decimal() else {
         return Err(Fault::Overflow);
     };
-    match T::try_from(product) {
-        Ok(value) => Ok(value),
-        Err(_) => Err(Fault::OutOfRange),
-    }
+    T::try_from(product).map_err(|_| Fault::OutOfRange)
 }
 
 impl TryRead for Integer {
     ghost refusal = { Always faults.Integer };
 
-    /// The integer that the text writes, or `Fault::Integer` where it writes none.
+    /// The integer that the text writes, or `Fault::Integer` if it writes none.
     fn try_read(text: &[u8]) -> Result<Integer, Fault> {
         scan(text).ok_or(Fault::Integer)
     }
@@ -121,7 +136,7 @@ impl FromStr for Integer {
 
     ghost from_str_gives = { ReadsFault IntegerText (Always faults.Integer) };
 
-    /// The integer that the text writes, or `Fault::Integer` where it writes none.
+    /// The integer that the text writes, or `Fault::Integer` if it writes none.
     fn from_str(text: &str) -> Result<Integer, Fault> {
         Integer::try_read(text.as_bytes())
     }
@@ -132,7 +147,7 @@ impl<'a> TryFrom<BStr<'a>> for Integer {
 
     ghost try_from_gives = { ReadsBytes IntegerText (Always faults.Integer) };
 
-    /// Refuses with `Fault::Integer` and the whole input where it writes no integer.
+    /// The integer of the input, or `Fault::Integer` and the whole input.
     fn try_from(input: BStr<'a>) -> Result<Integer, Error<'a>> {
         read_bytes(input)
     }
@@ -143,7 +158,7 @@ impl<'a> TryFrom<&'a str> for Integer {
 
     ghost try_from_gives = { λ s r. ReadsText IntegerText (Always faults.Integer) s.now r };
 
-    /// Refuses with `Fault::Integer` and the whole input where it writes no integer.
+    /// The integer of the input, or `Fault::Integer` and the whole input.
     fn try_from(input: &'a str) -> Result<Integer, Error<'a>> {
         read_text(input)
     }
@@ -154,7 +169,7 @@ impl TryFrom<BString> for Integer {
 
     ghost try_from_gives = { λ s r. ReadsOwned IntegerText (Always faults.Integer) (bstring_bytes s) s r };
 
-    /// Refuses with `Fault::Integer` where the input writes no integer, and hands it back.
+    /// The integer of the input, or `Fault::Integer` and the input itself.
     fn try_from(input: BString) -> Result<Integer, Returned<BString>> {
         read_owned(input)
     }
@@ -165,7 +180,7 @@ impl<'a> TryFrom<CowSlice<'a, u8>> for Integer {
 
     ghost try_from_gives = { λ s r. ReadsOwned IntegerText (Always faults.Integer) (cow_slice_items s) s r };
 
-    /// Refuses with `Fault::Integer` where the input writes no integer, and hands it back.
+    /// The integer of the input, or `Fault::Integer` and the input itself.
     fn try_from(input: CowSlice<'a, u8>) -> Result<Integer, Returned<CowSlice<'a, u8>>> {
         read_cow(input)
     }
@@ -177,10 +192,8 @@ impl Integer {
     pub fn to_json(&self, _alloc: Global) -> Result<JsonValue, JsonError>
         ensures { GivesJsonNumber (product self.now) result }
     {
-        match self.to_decimal() {
-            Some(product) => Ok(JsonValue::from(product)),
-            None => Err(JsonError::Overflow),
-        }
+        let product = self.to_decimal().ok_or(JsonError::Overflow)?;
+        Ok(JsonValue::from(product))
     }
 }
 
@@ -189,14 +202,14 @@ impl fmt::Display for Integer {
 
     /// Writes the number in decimal, and the letter of its suffix.
     fn fmt<W: fmt::Write>(&self, f: &mut fmt::Formatter<W>) -> fmt::Result {
-        let mut text = Text::new();
-        self.show(&mut text);
-        f.write_str(text.as_str())
+        // The prover knows the range of a field that is read.
+        let _value = self.value;
+        f.write_str(self.text().as_str())
     }
 }
 
 impl Integer {
-    /// The number times the factor of its suffix, or `None` where that leaves `i64`.
+    /// The number times the factor of its suffix, or `None` if that leaves `i64`.
     ///
     /// ```rust
     /// use gix_config_value::Integer;
@@ -213,8 +226,8 @@ impl Integer {
         }
     }
 
-    /// The product of the integer that the input writes, as a `T`. A refusal has the whole input, and the first fault
-    /// that fits: docs/GRAMMAR.md, Integers.
+    /// The product of the integer that the input writes, as a `T`. A refusal has the whole input, and the
+    /// first fault that fits: docs/GRAMMAR.md, Integers.
     ///
     /// - `Fault::Integer`: the input writes no integer.
     /// - `Fault::Overflow`: its product leaves `i64`.
@@ -236,24 +249,10 @@ impl Integer {
         ensures refused { IfErr result
             (λ e. Refusal (λ z. (x : T.Error) × T.try_from_gives z (Err x)) input.now e.fault) }
     {
-        match converted(input) {
-            Ok(value) => Ok(value),
-            Err(fault) => Err(Error {
-                fault,
-                input: BStr::from(input),
-            }),
-        }
-    }
-
-    /// Writes the number in decimal, and the letter of its suffix, into a text that is empty.
-    fn show(&self, text: &mut Text)
-        requires { text.old.bytes ≡ [] }
-        ensures { text.new.bytes ≡ integer_shown self.now }
-    {
-        text.push_str(Buffer::new().format(self.value));
-        if let Some(suffix) = self.suffix {
-            text.push_str(suffix.letter());
-        }
+        product_as(input).map_err(|fault| Error {
+            fault,
+            input: BStr::from(input),
+        })
     }
 }
 
@@ -264,7 +263,7 @@ impl Value for Integer {
 
     ghost displayed = { integer_shown };
 
-    /// The integer that the input writes, and `None` where it writes none.
+    /// The integer that the input writes, or `None` if it writes none.
     fn read(input: BStr<'_>) -> Option<Integer> {
         scan(input.as_bytes())
     }
@@ -277,8 +276,11 @@ impl Value for Integer {
     }
 
     /// Writes the number in decimal, and the letter of its suffix, in at most 21 bytes.
-    fn write_to(&self, text: &mut Text) {
-        self.show(text);
+    fn write_to(&self, text: &mut CanonicalText) {
+        text.push_str(Buffer::new().format(self.value));
+        if let Some(suffix) = self.suffix {
+            text.push_str(suffix.letter());
+        }
     }
 
     ghost one_value = { integer_one_value };

@@ -1,50 +1,47 @@
-//! The magnitude of an integer, and the suffix behind it, read in one pass over the bytes.
-ghost use Rattle.std.specs.Prelude.{◌≡◌, ℕ, ◌≤◌, ◌<◌, ◌+◌, ◌*◌, Some, None, IfSome, SomeIff};
-ghost use Rattle.std.specs.Char.{digit_value};
-ghost use Rattle.config_integer.specs.Reading.Integer.{counted, base_of, digits_of, unsigned_of};
+//! The magnitude of an integer, and the suffix after it, read in one pass over the bytes.
+ghost use Rattle.std.specs.Prelude.{◌≡◌, ℕ, ◌≤◌, ◌<◌, ◌+◌, ◌*◌, IfSome, SomeIff};
+ghost use Rattle.config_integer.specs.Reading.Integer.{number_and_suffix, base_and_digits, magnitude_of};
 
 use crate::suffix::{Suffix, suffix_of};
 use config_text::digits::digit_of;
 
-/// The value of a digit of the base.
+/// 2 to the power of 59. One more digit of any base takes a smaller number to less than 2 to the power of 63.
+const CHECKED_FROM: u64 = 0x0800_0000_0000_0000;
+
+/// The number with one more digit of the base, or `None` if that is more than `limit`.
 #[inline(always)]
-fn digit_in(byte: u8, base: u64) -> Option<u64>
-    requires { base ≤ 16 }
-    ensures { SomeIff result (digit_value byte < base) (digit_value byte) }
+fn with_digit(number: u64, base: u64, digit: u64, limit: u64) -> Option<u64>
+    requires high { base ≤ 16 }
+    requires digit { digit < base }
+    requires wide { 9223372036854775807 ≤ limit }
+    ensures { SomeIff result (number * base + digit ≤ limit) (number * base + digit) }
 {
-    let digit = u64::from(digit_of(byte));
-    if digit < base { Some(digit) } else { None }
+    if number < CHECKED_FROM {
+        return Some(number * base + digit);
+    }
+    let number = number.checked_mul(base)?.checked_add(digit)?;
+    if number <= limit { Some(number) } else { None }
 }
 
-/// Below this number one more digit neither overflows nor passes a limit.
-const UNCHECKED: u64 = 0x0800_0000_0000_0000;
-
-/// The number that one digit or more write in the base, where it is at most `limit`, and the suffix behind them.
+/// The number that one digit or more of the base write, if it is at most `limit`, and the suffix after them.
 #[inline(always)]
-fn counted(text: &[u8], base: u64, limit: u64) -> Option<(u64, Option<Suffix>)>
-    requires low { 2 ≤ base }
+fn number_and_suffix(text: &[u8], base: u64, limit: u64) -> Option<(u64, Option<Suffix>)>
     requires high { base ≤ 16 }
     requires wide { 9223372036854775807 ≤ limit }
-    ensures answer { result ≡ counted base limit text.now }
+    ensures answer { result ≡ number_and_suffix base limit text.now }
     ensures small { IfSome result (λ r. r.0 ≤ limit) }
 {
     let mut number: u64 = 0;
     for (at, byte) in text.iter().enumerate() {
-        let Some(digit) = digit_in(*byte, base) else {
+        let digit = u64::from(digit_of(*byte));
+        if digit >= base {
             if at == 0 {
                 return None;
             }
             let suffix = suffix_of(&text[at..])?;
             return Some((number, Some(suffix)));
-        };
-        if number < UNCHECKED {
-            number = number * base + digit;
-        } else {
-            number = number.checked_mul(base)?.checked_add(digit)?;
-            if number > limit {
-                return None;
-            }
         }
+        number = with_digit(number, base, digit, limit)?;
     }
     if text.is_empty() {
         None
@@ -55,9 +52,8 @@ fn counted(text: &[u8], base: u64, limit: u64) -> Option<(u64, Option<Suffix>)>
 
 /// The base that the first bytes name, and the text from its first digit on.
 #[inline(always)]
-fn based(text: &[u8]) -> (u64, &[u8])
-    ensures base { result.0 ≡ base_of text.now }
-    ensures digits { result.1.now ≡ digits_of text.now }
+fn base_and_digits(text: &[u8]) -> (u64, &[u8])
+    ensures { (result.0, result.1.now) ≡ base_and_digits text.now }
 {
     match text {
         [b'0', b'x' | b'X', digits @ ..] => (16, digits),
@@ -69,9 +65,9 @@ fn based(text: &[u8]) -> (u64, &[u8])
 
 /// The text without those zeros at its front that another zero follows, which change no number.
 #[inline(always)]
-fn past_zeros(text: &[u8]) -> &[u8]
+fn without_zeros(text: &[u8]) -> &[u8]
     ensures { (base limit : ℕ) → 0 < base → base ≤ 16
-        → counted base limit result.now ≡ counted base limit text.now }
+        → number_and_suffix base limit result.now ≡ number_and_suffix base limit text.now }
 {
     let mut rest = text;
     while let [b'0', b'0', ..] = rest {
@@ -80,14 +76,13 @@ fn past_zeros(text: &[u8]) -> &[u8]
     rest
 }
 
-/// The magnitude of a text without a sign, where it is at most `limit`, and its suffix. The limit is
-/// that of `i64` on either side.
+/// The magnitude of a text without a sign, if it is at most `limit`, and its suffix.
 #[inline(always)]
-pub(crate) fn unsigned(text: &[u8], limit: u64) -> Option<(u64, Option<Suffix>)>
+pub(crate) fn magnitude_and_suffix(text: &[u8], limit: u64) -> Option<(u64, Option<Suffix>)>
     requires { 9223372036854775807 ≤ limit }
-    ensures answer { result ≡ unsigned_of limit text.now }
+    ensures answer { result ≡ magnitude_of limit text.now }
     ensures small { IfSome result (λ r. r.0 ≤ limit) }
 {
-    let (base, digits) = based(text);
-    counted(past_zeros(digits), base, limit)
+    let (base, digits) = base_and_digits(text);
+    number_and_suffix(without_zeros(digits), base, limit)
 }

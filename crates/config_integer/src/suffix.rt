@@ -4,13 +4,14 @@ ghost use Rattle.bstr.specs.BStr.{bstr_bytes};
 ghost use Rattle.config_text.specs.Value.{Reads};
 ghost use Rattle.config_text.specs.Refusals.{ReadsOr};
 ghost use Rattle.config_integer.specs.Suffix.{SuffixText, CanonicalSuffix, suffix_shown, factor, offset};
-ghost use Rattle.config_integer.specs.Laws.Suffix.{suffix_one_value, suffix_one_text, suffix_canonical_reads, suffix_shown_is_text, suffix_decided};
+ghost use Rattle.config_integer.specs.Laws.Suffix.{suffix_one_value, suffix_one_text, suffix_decided};
+ghost use Rattle.config_integer.specs.Laws.Suffix.{suffix_canonical_reads, suffix_shown_is_text};
 ghost use Rattle.std.proofs.Common.{rules};
 ghost use Rattle.config_text.specs.Json.{GivesJsonText};
 
 use bstr::BStr;
 use config_text::json::{JsonError, string};
-use config_text::value::{Text, Value};
+use config_text::value::{CanonicalText, Value};
 use serde_json::Value as JsonValue;
 use std::alloc::Global;
 use std::fmt;
@@ -18,8 +19,8 @@ use std::str::FromStr;
 
 /// A unit: 1024, 1024 * 1024 or 1024 * 1024 * 1024.
 ///
-/// The texts are `k`, `m` and `g` in either case, and the lower-case ones are canonical. Any other text is refused
-/// with `()`, and so is the empty one. The source: docs/GRAMMAR.md, Suffixes.
+/// The texts are `k`, `m` and `g` in either case, and the lower-case ones are canonical. Any other text is
+/// refused with `()`, also the empty one: docs/GRAMMAR.md, Suffixes.
 ///
 /// ```rust
 /// use gix_config_value::integer::Suffix;
@@ -39,7 +40,7 @@ pub enum Suffix {
     Gibi,
 }
 
-/// The suffix that one of the six suffix texts names, and `None` for any other text.
+/// The suffix that the text names, or `None` if it names none.
 pub(crate) fn suffix_of(text: &[u8]) -> Option<Suffix>
     ensures { Reads SuffixText text.now result }
 {
@@ -92,7 +93,7 @@ impl FromStr for Suffix {
 
     ghost from_str_gives = { λ s r. ReadsOr SuffixText (λ _. Unit {0}) s r };
 
-    /// The suffix that one of the six suffix texts names; any other text is refused with `()`.
+    /// The suffix that the text names, or `()` if it names none.
     fn from_str(text: &str) -> Result<Suffix, ()> {
         suffix_of(text.as_bytes()).ok_or(())
     }
@@ -103,14 +104,14 @@ impl<'a> TryFrom<BStr<'a>> for Suffix {
 
     ghost try_from_gives = { λ s r. ReadsOr SuffixText (λ _. Unit {0}) (bstr_bytes s) r };
 
-    /// The suffix that one of the six suffix texts names; any other input is refused with `()`.
+    /// The suffix that the input names, or `()` if it names none.
     fn try_from(input: BStr<'a>) -> Result<Suffix, ()> {
         suffix_of(input.as_bytes()).ok_or(())
     }
 }
 
 impl Suffix {
-    /// The letter `k`, `m` or `g` as a JSON string, or `JsonError::Memory` where there is no memory for it.
+    /// The letter `k`, `m` or `g` as a JSON string, or `JsonError::Memory` if there is no memory for it.
     pub fn to_json(&self, alloc: Global) -> Result<JsonValue, JsonError>
         ensures { GivesJsonText (suffix_shown self.now) result }
     {
@@ -134,7 +135,7 @@ impl Value for Suffix {
 
     ghost displayed = { suffix_shown };
 
-    /// The suffix that one of the six suffix texts names, and `None` for any other input.
+    /// The suffix that the input names, or `None` if it names none.
     fn read(input: BStr<'_>) -> Option<Suffix> {
         suffix_of(input.as_bytes())
     }
@@ -145,7 +146,7 @@ impl Value for Suffix {
     }
 
     /// Writes `k`, `m` or `g`.
-    fn write_to(&self, text: &mut Text) {
+    fn write_to(&self, text: &mut CanonicalText) {
         text.push_str(self.letter());
     }
 

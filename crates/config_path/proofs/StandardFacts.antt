@@ -1,4 +1,5 @@
--- What git-config(1) says of pathnames, on its own examples: a definition with a wrong mark or form does not check.
+-- What git-config(1) says of pathnames, on its own examples: a definition with a wrong mark or form does not
+-- check.
 use Rattle.std.proofs.Common.{◌≡◌, ◌≢◌, ℕ, List, [], ◌∷◌, codes, Some, None, true, refl, ap, arith, get_or}
 use Rattle.std.specs.List.{AllByRecursion}
 use Rattle.config_path.specs.Interpolation.{Form, HasForm, IsOneName, join}
@@ -9,8 +10,8 @@ use Rattle.config_path.specs.Path.{Marked}
 abbrev HaveForms : List (List ℕ × Form) → Type 0
 HaveForms rows = AllByRecursion (λ (row : List ℕ × Form). HasForm row.0 row.1) rows
 
--- "begins with ~/ or ~user/": the home directory, and that of a user; beyond that page, `~` alone. "If a path starts
--- with %(prefix)/, the remainder is interpreted as a path relative to Git's runtime prefix"
+-- "begins with ~/ or ~user/": the home directory, and that of a user; beyond that page, `~` alone. "If a path
+-- starts with %(prefix)/, the remainder is interpreted as a path relative to Git's runtime prefix"
 abbrev expanded : List (List ℕ × Form)
 expanded =
     (codes "~/x", below_home (Some (codes "x")))
@@ -40,8 +41,8 @@ literal_path = (
 pub optional_path : Marked (codes ":(optional)~/x") true (codes "~/x")
 optional_path = refl
 
--- a directory and a rest are joined by one slash, as in "~/ is expanded to the value of $HOME"; which directory it is,
--- the path table says
+-- a directory and a rest are joined by one slash, as in "~/ is expanded to the value of $HOME"; which
+-- directory it is, the path table says
 pub joined : (join (codes "/home/user") (codes "x") ≡ codes "/home/user/x")
     × (join (codes "/home/user/") (codes "x") ≡ codes "/home/user/x")
 joined = (refl, refl)

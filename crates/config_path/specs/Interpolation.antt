@@ -1,5 +1,6 @@
 -- What a path value gives: the path table.
-use Rattle.std.specs.Prelude.{◌≡◌, ◌≢◌, ℕ, nat_eq, List, [], ◌∷◌, ◌++◌, codes, Option, None, Some, option_copied, Result, Ok, Err, string_bytes, IsUtf8, if◌then◌else◌}
+use Rattle.std.specs.Prelude.{◌≡◌, ◌≢◌, ℕ, nat_eq, List, [], ◌∷◌, ◌++◌, codes, Option, None, Some}
+use Rattle.std.specs.Prelude.{option_copied, Result, Ok, Err, string_bytes, IsUtf8, if◌then◌else◌}
 use Rattle.std.specs.Fn.{Once, FnOnceReturnsAt}
 use Rattle.std.specs.List.{starts_with, ends_with, AllByRecursion}
 use Rattle.std.specs.declared.string.String.{String}
@@ -7,11 +8,14 @@ use Rattle.std.specs.declared.alloc.Global.{Global}
 use denote.Ref.{Bor}
 use Rattle.config_path.specs.declared.interpolate.Context.{Context}
 use Rattle.config_path.specs.declared.interpolate.Place.{Place}
-use Rattle.config_path.specs.declared.interpolate.Place.TheVariants.{PastPrefix, PastHome, Username, PastUser, Whole}
+use Rattle.config_path.specs.declared.interpolate.Place.TheVariants.{PastPrefix, PastHome, Username, PastUser}
+use Rattle.config_path.specs.declared.interpolate.Place.TheVariants.{Whole}
 use Rattle.config_path.specs.declared.interpolate.Class.{Class}
 use Rattle.config_path.specs.declared.interpolate.Class.TheVariants as class
 use Rattle.config_path.specs.declared.interpolate.Error.{Error}
-use Rattle.config_path.specs.declared.interpolate.Error.TheVariants.{PathMissing, InstallDirMissing, HomeMissing, LookupMissing, UserNotFound, IllFormed, Memory}
+use Rattle.config_path.specs.declared.interpolate.Error.TheVariants.{PathMissing, InstallDirMissing}
+use Rattle.config_path.specs.declared.interpolate.Error.TheVariants.{HomeMissing, LookupMissing, UserNotFound}
+use Rattle.config_path.specs.declared.interpolate.Error.TheVariants.{IllFormed, Memory}
 
 -- what a value is, by how it begins
 pub data Form : Type 0 where
@@ -77,7 +81,8 @@ GivesBelow place dir None r = GivesText dir r
 GivesBelow place dir (Some rest) r = WhereUtf8 place rest (GivesText (join dir rest) r) r
 
 -- the same below a directory that the context may lack
-abbrev pub GivesBelowGiven : Error → Place → Option (List ℕ) → Option (List ℕ) → Result (String Global) Error → Type 0
+abbrev pub GivesBelowGiven : Error → Place → Option (List ℕ) → Option (List ℕ) → Result (String Global) Error
+    → Type 0
 GivesBelowGiven missing place None rest r = r ≡ Err missing
 GivesBelowGiven missing place (Some dir) rest r = GivesBelow place dir rest r
 
@@ -86,8 +91,10 @@ abbrev pub GivesAnswered : Option (List ℕ) → Option (List ℕ) → Result (S
 GivesAnswered None rest r = r ≡ Err UserNotFound
 GivesAnswered (Some dir) rest r = GivesBelow PastUser dir rest r
 
--- below the directory that the lookup answers for the name: first the lookup has to be there, then the name to be UTF-8
-abbrev pub GivesBelowUser : {F : Type 0} → (F → List ℕ → Option (List ℕ) → Type 0) → Option F → List ℕ → Option (List ℕ) → Result (String Global) Error → Type 0
+-- below the directory that the lookup answers for the name: first the lookup has to be there, then the name
+-- to be UTF-8
+abbrev pub GivesBelowUser : {F : Type 0} → (F → List ℕ → Option (List ℕ) → Type 0) → Option F → List ℕ
+    → Option (List ℕ) → Result (String Global) Error → Type 0
 GivesBelowUser answers None name rest r = r ≡ Err LookupMissing
 GivesBelowUser answers (Some f) name rest r =
     WhereUtf8 Username name ((answer : Option (List ℕ)) × answers f name answer × GivesAnswered answer rest r) r
@@ -97,11 +104,15 @@ abbrev pub GivesValue : List ℕ → Result (String Global) Error → Type 0
 GivesValue value r = WhereUtf8 Whole value (GivesText value r) r
 
 -- the path table: what a value of this form gives
-abbrev pub Gives : {F : Type 0} → (F → List ℕ → Option (List ℕ) → Type 0) → Context F → List ℕ → Form → Result (String Global) Error → Type 0
+abbrev pub Gives : {F : Type 0} → (F → List ℕ → Option (List ℕ) → Type 0) → Context F → List ℕ → Form
+    → Result (String Global) Error → Type 0
 Gives answers context value empty r = r ≡ Err PathMissing
-Gives answers context value (below_prefix rest) r = GivesBelowGiven InstallDirMissing PastPrefix (option_copied context.git_install_dir) (Some rest) r
-Gives answers context value (below_home rest) r = GivesBelowGiven HomeMissing PastHome (option_copied context.home_dir) rest r
-Gives answers context value (below_user name rest) r = GivesBelowUser answers context.home_for_user name rest r
+Gives answers context value (below_prefix rest) r =
+    GivesBelowGiven InstallDirMissing PastPrefix (option_copied context.git_install_dir) (Some rest) r
+Gives answers context value (below_home rest) r =
+    GivesBelowGiven HomeMissing PastHome (option_copied context.home_dir) rest r
+Gives answers context value (below_user name rest) r =
+    GivesBelowUser answers context.home_for_user name rest r
 Gives answers context value other r = GivesValue value r
 
 -- interpolated: what the table says at the form that the value has
@@ -111,8 +122,10 @@ pub record Interpolated {F : Type 0} (answers : F → List ℕ → Option (List 
   pub gives : Gives answers context value form r
 
 -- the lookup may answer this directory, or none, for the name
-abbrev pub LooksUp : {F : Type 0} → Once F (Bor (List ℕ) × Unit {0}) (Option (Bor (List ℕ))) → F → List ℕ → Option (List ℕ) → Type 0
-LooksUp lookup f name answer = (r : Option (Bor (List ℕ))) × FnOnceReturnsAt lookup f name r × (option_copied r ≡ answer)
+abbrev pub LooksUp : {F : Type 0} → Once F (Bor (List ℕ) × Unit {0}) (Option (Bor (List ℕ))) → F → List ℕ
+    → Option (List ℕ) → Type 0
+LooksUp lookup f name answer =
+    (r : Option (Bor (List ℕ))) × FnOnceReturnsAt lookup f name r × (option_copied r ≡ answer)
 
 -- how a place is shown
 abbrev pub place_shown : Place → List ℕ
@@ -121,6 +134,16 @@ place_shown PastHome = codes "path past ~/"
 place_shown Username = codes "username"
 place_shown PastUser = codes "path past ~user/"
 place_shown Whole = codes "path"
+
+-- what a refusal is printed as
+abbrev pub path_error_text : Error → List ℕ
+path_error_text PathMissing = codes "path is missing"
+path_error_text InstallDirMissing = codes "git install dir is missing"
+path_error_text HomeMissing = codes "home dir is missing"
+path_error_text LookupMissing = codes "home for user lookup is missing"
+path_error_text UserNotFound = codes "pwd user info is missing"
+path_error_text (IllFormed place input) = codes "Ill-formed UTF-8 in " ++ place_shown place
+path_error_text (Memory e) = codes "no memory"
 
 -- the class of a refusal
 abbrev pub class_of : Error → Class

@@ -3,3 +3,4 @@ pub mod Passwd
 pub mod Interpolation
 pub mod Laws
 pub mod Parts
+pub mod Reading

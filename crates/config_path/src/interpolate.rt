@@ -1,16 +1,16 @@
 //! The directories that stand in a path value for `%(prefix)`, `~` and `~user`.
-ghost use Rattle.std.specs.Prelude.{◌≡◌, ◌≢◌, ◌<◌, [], ◌∷◌, length, None, Some, IsUtf8, MatchOption, MatchResult, IfSome, option_copied, string_bytes};
-ghost use Rattle.std.specs.Option.{ForSome};
-ghost use Rattle.config_path.specs.Interpolation.{Interpolated, LooksUp, place_shown, class_of};
-ghost use Rattle.config_path.specs.Parts.{parts_text, IsMadeOf};
+ghost use Rattle.std.specs.Prelude.{◌≡◌, ◌<◌, ◌≤◌, [], ◌∷◌, ◌++◌, codes, length, None, Some, MatchOption};
+ghost use Rattle.std.specs.Prelude.{IfSome, option_copied};
+ghost use Rattle.config_path.specs.Interpolation.{place_shown, path_error_text, class_of};
 ghost use Rattle.config_path.specs.Passwd.{colon, pieces, home_of_fields, home_in};
+ghost use Rattle.config_path.specs.Reading.Fields.{FollowsFields};
 
-use crate::parts::{Parts, parts_of};
-use std::alloc::{AllocError, Global};
+use std::alloc::AllocError;
 use std::fmt;
 use thiserror::Error as ThisError;
 
-/// What a path value may refer to. A directory or a lookup that is `None` is missing only to a value that needs it.
+/// What a path value may refer to. A directory or a lookup that is `None` is missing only to a value that
+/// needs it.
 ///
 /// ```rust
 /// use gix_config_value::Path;
@@ -84,7 +84,8 @@ pub enum Class {
     Memory,
 }
 
-/// Why a path value is refused. The table of paths says which value is refused with which: docs/GRAMMAR.md, Paths.
+/// Why a path value is refused. The table of paths says which value is refused with which: docs/GRAMMAR.md,
+/// Paths.
 ///
 /// ```rust
 /// use gix_config_value::Path;
@@ -99,24 +100,19 @@ pub enum Class {
 /// assert_eq!(rt; refused, Some(Error::LookupMissing));
 /// ```
 #[derive(Clone, Copy, PartialEq, Eq, Debug, ThisError)]
+#[error("{}", self.text())]
 pub enum Error<'p> {
     /// The value is empty.
-    #[error("path is missing")]
     PathMissing,
     /// The value begins with `%(prefix)/` and the context has no install directory.
-    #[error("git install dir is missing")]
     InstallDirMissing,
     /// The value is `~` or begins with `~/` and the context has no home directory.
-    #[error("home dir is missing")]
     HomeMissing,
     /// The value begins with `~` and a user's name, and the context has no lookup.
-    #[error("home for user lookup is missing")]
     LookupMissing,
     /// The lookup knows no user of the name.
-    #[error("pwd user info is missing")]
     UserNotFound,
     /// A part of the value is not UTF-8.
-    #[error("Ill-formed UTF-8 in {place}")]
     IllFormed {
         /// Which part.
         place: Place,
@@ -124,7 +120,6 @@ pub enum Error<'p> {
         input: &'p [u8],
     },
     /// Out of memory for the result.
-    #[error("no memory")]
     Memory(AllocError),
 }
 
@@ -143,6 +138,21 @@ impl fmt::Display for Place {
     }
 }
 
+impl Place {
+    /// What an error says whose bytes stand at this place.
+    fn ill_formed_text(self) -> &'static str
+        ensures { result.now ≡ codes "Ill-formed UTF-8 in " ++ place_shown self }
+    {
+        match self {
+            Place::PastPrefix => "Ill-formed UTF-8 in path past %(prefix)",
+            Place::PastHome => "Ill-formed UTF-8 in path past ~/",
+            Place::Username => "Ill-formed UTF-8 in username",
+            Place::PastUser => "Ill-formed UTF-8 in path past ~user/",
+            Place::Whole => "Ill-formed UTF-8 in path",
+        }
+    }
+}
+
 impl Error<'_> {
     /// What kind of refusal this is.
     pub fn class(&self) -> Class
@@ -156,6 +166,27 @@ impl Error<'_> {
             | Error::UserNotFound => Class::NotFound,
             Error::IllFormed { .. } => Class::Validation,
             Error::Memory(_) => Class::Memory,
+        }
+    }
+
+    /// What `Display` prints, without the bytes that are not UTF-8.
+    ///
+    /// ```rust
+    /// use gix_config_value::path::interpolate::Error;
+    ///
+    /// assert_eq!(rt; Error::UserNotFound.text(), "pwd user info is missing");
+    /// ```
+    pub fn text(&self) -> &'static str
+        ensures { result.now ≡ path_error_text self.now }
+    {
+        match self {
+            Error::PathMissing => "path is missing",
+            Error::InstallDirMissing => "git install dir is missing",
+            Error::HomeMissing => "home dir is missing",
+            Error::LookupMissing => "home for user lookup is missing",
+            Error::UserNotFound => "pwd user info is missing",
+            Error::IllFormed { place, .. } => place.ill_formed_text(),
+            Error::Memory(_) => "no memory",
         }
     }
 }
@@ -186,47 +217,8 @@ impl<'a, F> Default for Context<'a, F> {
     }
 }
 
-/// The text of the parts, in one allocation. Fails only if memory runs out, and never where it is empty.
-fn concatenated(alloc: Global, parts: Parts<'_, '_>) -> Result<String, AllocError>
-    ensures { MatchResult result
-        (λ whole. string_bytes whole ≡ parts_text parts.entry)
-        (λ _. parts_text parts.entry ≢ []) }
-{
-    let slash = parts.slash();
-    let length = parts.dir.len() + slash.len() + parts.rest.len();
-    let mut whole = String::with_capacity(alloc, length)?;
-    whole.push_str(parts.dir)?;
-    whole.push_str(slash)?;
-    whole.push_str(parts.rest)?;
-    Ok(whole)
-}
-
-/// The parts as one text, or the same refusal.
-fn made<'p>(alloc: Global, parts: Result<Parts<'_, 'p>, Error<'p>>) -> Result<String, Error<'p>>
-    ensures { IsMadeOf parts.entry result }
-{
-    match concatenated(alloc, parts?) {
-        Ok(text) => Ok(text),
-        Err(e) => Err(Error::Memory(e)),
-    }
-}
-
-/// The value with what it refers to: what `Path::interpolate` answers for a path of these bytes.
-pub(crate) fn interpolated<'p, 'a, F>(
-    alloc: Global,
-    value: &'p [u8],
-    context: Context<'a, F>,
-) -> Result<String, Error<'p>>
-where
-    F: FnOnce(&str) -> Option<&'a str> + Drop,
-    requires { ForSome context.home_for_user (λ f. (name : _) → IsUtf8 name.now → F.pre f name) }
-    ensures { Interpolated (LooksUp F.FnOnce) context.entry value.now result }
-{
-    made(alloc, parts_of(value, context))
-}
-
-/// The piece before the first separator and what follows it, or `None` where the text holds no
-/// separator.
+/// The piece before the first separator and what follows it, or `None` if the text holds no separator. Its
+/// contract says what `split_once` gives in the words of the passwd text.
 fn split_piece<'a>(text: &'a str, separator: char) -> Option<(&'a str, &'a str)>
     requires { separator < 128 }
     ensures cut { MatchOption result
@@ -237,7 +229,20 @@ fn split_piece<'a>(text: &'a str, separator: char) -> Option<(&'a str, &'a str)>
     text.split_once(separator)
 }
 
-/// The home directory in one line, where it has seven fields and is that of the user.
+/// What follows the first `count` fields of a line, or `None` if it has no more fields than those.
+fn past_fields(line: &str, count: usize) -> Option<&str>
+    ensures { MatchOption result (length (pieces colon line.now) ≤ count)
+        (λ rest. FollowsFields count (pieces colon line.now) (pieces colon rest.now)) }
+{
+    let mut rest = line;
+    for _field in 0..count {
+        let (_skipped, more) = split_piece(rest, ':')?;
+        rest = more;
+    }
+    Some(rest)
+}
+
+/// The home directory in one line, if the line has seven fields and is that of the user.
 fn home_in_line<'a>(line: &'a str, name: &str) -> Option<&'a str>
     ensures { option_copied result ≡ home_of_fields name.now (pieces colon line.now) }
 {
@@ -245,10 +250,7 @@ fn home_in_line<'a>(line: &'a str, name: &str) -> Option<&'a str>
     if user != name {
         return None;
     }
-    let (_password, rest) = split_piece(rest, ':')?;
-    let (_id, rest) = split_piece(rest, ':')?;
-    let (_group, rest) = split_piece(rest, ':')?;
-    let (_comment, rest) = split_piece(rest, ':')?;
+    let rest = past_fields(rest, 4)?;
     let (home, shell) = split_piece(rest, ':')?;
     match split_piece(shell, ':') {
         Some(_) => None,
@@ -256,8 +258,9 @@ fn home_in_line<'a>(line: &'a str, name: &str) -> Option<&'a str>
     }
 }
 
-/// The home directory of the user of that name in a passwd text. It is the sixth field of the first line of exactly
-/// seven fields whose first field is the name. `None` where no line fits, and for a name that holds a NUL.
+/// The home directory of the user of that name in a passwd text. It is the sixth field of the first line of
+/// exactly seven fields whose first field is the name. `None` where no line fits, and for a name that holds a
+/// NUL.
 ///
 /// Fields are separated by `:`. Lines end at LF, the last line may lack its LF, a CR is part of its
 /// field, and there are no comments. The source: docs/GRAMMAR.md, Paths.

@@ -1,24 +1,27 @@
 //! What a path value stands for, as parts that are borrowed: a directory, a `/` and a rest.
 //!
-//! No memory is asked for. `Path::interpolate` makes one text of the parts, and a caller with a buffer writes them
-//! there.
-ghost use Rattle.std.specs.Prelude.{◌≡◌, [], None, IsUtf8, MatchResult, IfErr, codes, if◌then◌else◌, option_copied};
+//! No memory is asked for. `Path::interpolate` makes one text of the parts, and a caller with a buffer writes
+//! them there.
+ghost use Rattle.std.specs.Prelude.{◌≡◌, ◌≢◌, [], None, IsUtf8, MatchResult, IfErr, codes, if◌then◌else◌};
+ghost use Rattle.std.specs.Prelude.{option_copied, string_bytes};
 ghost use Rattle.std.specs.Option.{ForSome};
-ghost use Rattle.config_path.specs.Interpolation.{Interpolated, LooksUp, IsOneName, below, join, IsIllFormed, GivesBelow, GivesBelowGiven, GivesBelowUser, GivesValue};
+ghost use Rattle.config_path.specs.Interpolation.{Interpolated, LooksUp, IsOneName, below, join, IsIllFormed};
+ghost use Rattle.config_path.specs.Interpolation.{GivesBelow, GivesBelowGiven, GivesBelowUser, GivesValue};
 ghost use Rattle.config_path.specs.Parts.{parts_text, IsNotMemory, Makes};
 
 use crate::interpolate::{Context, Error, Place};
-use crate::path::past;
+use crate::path::strip_front;
 use bstr::ByteSlice;
+use std::alloc::{AllocError, Global};
 
 /// What a value begins with where it refers to the install directory.
 const PREFIX: &[u8] = b"%(prefix)/";
 
-/// A text in parts, one behind the other. Any of them may be empty.
+/// A text in three parts, one after the other. Any of them may be empty.
 ///
 /// ```rust
-/// use config_path::parts::parts_of;
 /// use gix_config_value::path::interpolate::{Context, absent};
+/// use gix_config_value::path::parts::parts_of;
 ///
 /// let context = Context {
 ///     git_install_dir: None,
@@ -34,19 +37,34 @@ const PREFIX: &[u8] = b"%(prefix)/";
 pub struct Parts<'a, 'p> {
     /// The directory, of the context.
     pub dir: &'a str,
-    /// Whether a `/` stands behind the directory.
+    /// Whether a `/` follows the directory.
     pub has_slash: bool,
     /// What follows, of the value.
     pub rest: &'p str,
 }
 
 impl Parts<'_, '_> {
-    /// What stands behind the directory: a `/` or nothing.
+    /// What follows the directory: a `/` or nothing.
     #[inline(always)]
     pub fn slash(&self) -> &'static str
         ensures { result.now ≡ (if self.now.has_slash then codes "/" else []) }
     {
         if self.has_slash { "/" } else { "" }
+    }
+
+    /// The text of the parts, in one allocation. Fails only if memory runs out, and never if it is empty.
+    pub(crate) fn to_text(self, alloc: Global) -> Result<String, AllocError>
+        ensures { MatchResult result
+            (λ whole. string_bytes whole ≡ parts_text self.entry)
+            (λ _. parts_text self.entry ≢ []) }
+    {
+        let slash = self.slash();
+        let length = self.dir.len() + slash.len() + self.rest.len();
+        let mut whole = String::with_capacity(alloc, length)?;
+        whole.push_str(self.dir)?;
+        whole.push_str(slash)?;
+        whole.push_str(self.rest)?;
+        Ok(whole)
     }
 }
 
@@ -145,7 +163,7 @@ where
     }
 }
 
-/// What stands before the first `/`, or all, and what follows that `/`, where there is one.
+/// What is before the first `/`, or all, and what follows that `/`, if there is one.
 fn name_and_rest(path: &[u8]) -> (&[u8], Option<&[u8]>)
     ensures whole { path.now ≡ below result.0.now (option_copied result.1) }
     ensures name { IsOneName result.0.now }
@@ -168,8 +186,8 @@ fn unchanged<'a, 'p>(value: &'p [u8]) -> Result<Parts<'a, 'p>, Error<'p>>
     })
 }
 
-/// The parts of what a value stands for: each string of their text is what the path table gives, and so is each
-/// refusal. It refuses as `Path::interpolate` does, and never with `Memory`.
+/// The parts of what a value stands for: each string of their text is what the path table gives, and so is
+/// each refusal. It refuses as `Path::interpolate` does, and never with `Memory`.
 pub fn parts_of<'p, 'a, F>(
     value: &'p [u8],
     context: Context<'a, F>,
@@ -188,11 +206,11 @@ where
     if value.is_empty() {
         return Err(Error::PathMissing);
     }
-    if let Some(rest) = past(value, PREFIX) {
+    if let Some(rest) = strip_front(value, PREFIX) {
         let missing = Error::InstallDirMissing;
         return below_given(missing, Place::PastPrefix, git_install_dir, Some(rest));
     }
-    let Some(path) = past(value, b"~") else {
+    let Some(path) = strip_front(value, b"~") else {
         return unchanged(value);
     };
     let (name, rest) = name_and_rest(path);

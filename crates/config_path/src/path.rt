@@ -4,10 +4,11 @@ ghost use Rattle.std.specs.Option.{ForSome};
 ghost use Rattle.std.specs.Cow.{cow_slice_items, IsOwnedSlice};
 ghost use Rattle.bstr.specs.BStr.{bstr_bytes};
 ghost use Rattle.bstr.specs.Owned.{bstring_bytes};
-ghost use Rattle.config_path.specs.Path.{IsPathOf, IsEqualPath};
+ghost use Rattle.config_path.specs.Path.{Marked, IsPathOf, IsEqualPath};
 ghost use Rattle.config_path.specs.Interpolation.{Form, HasForm, Gives, Interpolated, LooksUp};
 
-use crate::interpolate::{self, Context, Error};
+use crate::interpolate::{Context, Error};
+use crate::parts::parts_of;
 use bstr::{BStr, BString};
 use std::alloc::{AllocError, Global};
 use std::borrow::CowSlice;
@@ -17,9 +18,9 @@ const MARK: &[u8] = b":(optional)";
 
 /// A path, and whether it may be missing.
 ///
-/// Any bytes are a path, and none are refused; a call that copies them fails only if memory runs out. One leading
-/// `:(optional)`, in exactly these bytes, marks a path as optional and is cut off. What a path refers to is put in by
-/// [`Path::interpolate`]. The source: docs/GRAMMAR.md, Paths.
+/// Any bytes are a path, and none are refused; a call that copies them fails only if memory runs out. One
+/// leading `:(optional)`, in exactly these bytes, marks a path as optional and is cut off. What a path refers
+/// to is put in by [`Path::interpolate`]. The source: docs/GRAMMAR.md, Paths.
 ///
 /// ```rust
 /// use gix_config_value::Path;
@@ -36,8 +37,27 @@ pub struct Path {
     pub is_optional: bool,
 }
 
-/// What follows the front, or `None` where the bytes do not begin with it.
-pub(crate) fn past<'a>(bytes: &'a [u8], front: &[u8]) -> Option<&'a [u8]>
+/// Whether the bytes begin with the mark of an optional path, and what follows it; without the mark that is
+/// all of them. Only one mark is cut off.
+///
+/// ```rust
+/// use gix_config_value::path::cut_mark;
+///
+/// let (is_optional, path) = cut_mark(b":(optional)~/x");
+/// assert!(rt; is_optional);
+/// assert_eq!(rt; path, b"~/x".as_slice());
+/// ```
+pub fn cut_mark(bytes: &[u8]) -> (bool, &[u8])
+    ensures { Marked bytes.now result.0 result.1.now }
+{
+    match strip_front(bytes, MARK) {
+        Some(path) => (true, path),
+        None => (false, bytes),
+    }
+}
+
+/// What follows the front, or `None` if the bytes do not begin with it.
+pub(crate) fn strip_front<'a>(bytes: &'a [u8], front: &[u8]) -> Option<&'a [u8]>
     ensures { MatchOption result
         ((rest : List ℕ) → bytes.now ≢ front.now ++ rest)
         (λ rest. bytes.now ≡ front.now ++ rest.now) }
@@ -52,7 +72,7 @@ impl From<BString> for Path {
     /// second one is part of the path. The memory of the bytes is used as it is.
     fn from(value: BString) -> Path {
         let mut bytes = value.into_vec();
-        let is_optional = past(&bytes, MARK).is_some();
+        let (is_optional, _path) = cut_mark(&bytes);
         if is_optional {
             bytes.drain(..MARK.len());
         }
@@ -77,16 +97,11 @@ impl Path {
     pub fn from_bstr(alloc: Global, value: BStr<'_>) -> Result<Path, AllocError>
         ensures { IfOk result (IsPathOf (bstr_bytes value.entry)) }
     {
-        match past(value.as_bytes(), MARK) {
-            Some(rest) => Ok(Path {
-                value: BString::from_slice(alloc, rest)?,
-                is_optional: true,
-            }),
-            None => Ok(Path {
-                value: BString::from_slice(alloc, value)?,
-                is_optional: false,
-            }),
-        }
+        let (is_optional, path) = cut_mark(value.as_bytes());
+        Ok(Path {
+            value: BString::from_slice(alloc, path)?,
+            is_optional,
+        })
     }
 
     /// The path of bytes that are borrowed or owned. One leading `:(optional)` is cut off, as by
@@ -170,6 +185,11 @@ impl Path {
         ensures at_form { (form : Form) → HasForm (bstring_bytes self.now.value) form
             → Gives (LooksUp F.FnOnce) context.entry (bstring_bytes self.now.value) form result }
     {
-        interpolate::interpolated(alloc, self.as_bytes(), context)
+        let parts = parts_of(self.as_bytes(), context)?;
+        // no `map_err`: the borrow checker does not cover a function whose result names a lifetime
+        match parts.to_text(alloc) {
+            Ok(text) => Ok(text),
+            Err(e) => Err(Error::Memory(e)),
+        }
     }
 }

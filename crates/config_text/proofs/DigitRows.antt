@@ -1,5 +1,6 @@
 -- The table of digits: what each byte is worth in base 16, and 16 for a byte that is no digit.
-use Rattle.std.proofs.Common.{◌≡◌, ℕ, zero, suc, ◌+◌, ◌<◌, ◌≤◌, ◌==◌, nat_lt, List, [], ◌∷◌, length, get_or, Bool, true, ◌&&◌, ◌||◌, refl, subst, arith}
+use Rattle.std.proofs.Common.{◌≡◌, ℕ, zero, suc, ◌+◌, ◌<◌, ◌≤◌, ◌==◌, nat_lt, List, [], ◌∷◌, length, get_or}
+use Rattle.std.proofs.Common.{Bool, true, ◌&&◌, ◌||◌, refl, subst, arith}
 use Rattle.std.proofs.lemmas.Bool.Decides.{nat_tests}
 use Rattle.std.proofs.lemmas.Bool.{and_parts}
 use Rattle.std.specs.Char.{digit_value}
@@ -14,7 +15,8 @@ abbrev are_rows : ℕ → List ℕ → Bool
 are_rows byte [] = true
 are_rows byte (worth ∷ rows) = is_row byte worth && are_rows (suc byte) rows
 
-row_at : (rows : List ℕ) (from i byte : ℕ) → byte ≡ from + i → are_rows from rows ≡ true → i < length rows → is_row byte (get_or rows i 0) ≡ true
+row_at : (rows : List ℕ) (from i byte : ℕ) → byte ≡ from + i → are_rows from rows ≡ true → i < length rows
+    → is_row byte (get_or rows i 0) ≡ true
 row_at [] from i byte e h l = absurd (omega arith)
 row_at (worth ∷ rows) from zero byte e h l =
     let same : from ≡ byte = omega arith in
@@ -26,10 +28,12 @@ row_at (worth ∷ rows) from (suc i) byte e h l =
 pub digit_at : (byte : ℕ) → byte < 256 → is_row byte (get_or DIGITS byte 0) ≡ true
 digit_at byte l = row_at DIGITS 0 byte byte (omega arith) refl l
 
-pub is_digit : (byte worth : ℕ) → byte < 256 → worth ≡ get_or DIGITS byte 0 → worth < 16 → digit_value byte ≡ worth
+pub is_digit : (byte worth : ℕ) → byte < 256 → worth ≡ get_or DIGITS byte 0 → worth < 16
+    → digit_value byte ≡ worth
 is_digit byte worth l e small = grind (arith, nat_tests, digit_at byte l)
 
-pub is_other : (byte worth : ℕ) → byte < 256 → worth ≡ get_or DIGITS byte 0 → ¬ (worth < 16) → ¬ (digit_value byte < 16)
+pub is_other : (byte worth : ℕ) → byte < 256 → worth ≡ get_or DIGITS byte 0 → ¬ (worth < 16)
+    → ¬ (digit_value byte < 16)
 is_other byte worth l e large = λ small. grind (arith, nat_tests, digit_at byte l)
 
 pub is_most : (byte worth : ℕ) → byte < 256 → worth ≡ get_or DIGITS byte 0 → worth ≤ 16

@@ -1,7 +1,9 @@
--- From the contract of an exact reader to its answer for a text whose value is known, or which is known to be refused.
+-- From the contract of an exact reader to its answer for a text whose value is known, or which is known to be
+-- refused.
 use Rattle.std.proofs.Common.{◌≡◌, ℕ, List, Option, Some, None, Result, Ok, Err, refl, ap, map, [], ◌∷◌}
 use Rattle.std.specs.List.{AllByRecursion}
-use Rattle.config_text.specs.Value.{IsRefused, Reads, IsValueOf}
+use Rattle.config_text.specs.Value.{IsRefused, Reads}
+use Rattle.config_text.specs.Laws.Value.{IsValueOf}
 use Rattle.config_text.specs.Refusals.{ReadsOr}
 
 -- a text has at most one value: the law `one_value` of a kind
@@ -20,7 +22,8 @@ pub read_none : {V : Type 0} (grammar : List ℕ → V → Type 0) (t : List ℕ
 read_none grammar t (Some v) refused reads = absurd (refused v reads)
 read_none grammar t None refused reads = refl
 
--- the same of a reader that answers a `Result`, whatever it refuses with: `ReadsText`, `ReadsBytes`, `ReadsFault`
+-- the same of a reader that answers a `Result`, whatever it refuses with: `ReadsText`, `ReadsBytes`,
+-- `ReadsFault`
 pub read_ok : {V E : Type 0} {grammar : List ℕ → V → Type 0} (refusal : E → Type 0) → OneValue grammar
     → (t : List ℕ) (v : V) (r : Result V E) → grammar t v → ReadsOr grammar refusal t r → r ≡ Ok v
 read_ok refusal one t v (Ok w) text reads = ap Ok (one t w v reads text)
@@ -36,7 +39,8 @@ pub refused_by : {V : Type 0} {grammar : List ℕ → V → Type 0} {value_of : 
     → IsValueOf grammar value_of → (t : List ℕ) → value_of t ≡ None → IsRefused grammar t
 refused_by law t e v text = cc (e, law.found t v text)
 
--- a function is the grammar where its answer is the text's one value, and the text is refused where it answers none
+-- a function is the grammar where its answer is the text's one value, and the text is refused where it
+-- answers none
 pub value_by : {V : Type 0} {grammar : List ℕ → V → Type 0} {value_of : List ℕ → Option V} → OneValue grammar
     → ((t : List ℕ) (v : V) → value_of t ≡ Some v → grammar t v)
     → ((t : List ℕ) → value_of t ≡ None → IsRefused grammar t) → IsValueOf grammar value_of

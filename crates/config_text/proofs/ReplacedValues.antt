@@ -2,7 +2,8 @@
 use Rattle.std.proofs.Common.{◌≡◌, ◌⊎◌, inl, inr, ℕ, zero, suc, List, [], ◌∷◌, Some, sym, subst, ap, ◌∙◌}
 use Rattle.std.specs.List.{AllZip}
 use Rattle.std.proofs.lemmas.Option.{same_Some, none-some}
-use Rattle.config_text.specs.Settings.{IsNamed, Decides, Finds, decided, absent, Refuses, IsReplaced, kept, replaced, SameAnswers}
+use Rattle.config_text.specs.Settings.{IsNamed, Decides, Finds, decided, absent, DecidingIsRefused}
+use Rattle.config_text.specs.Settings.{IsReplaced, kept, replaced, SameAnswers}
 
 -- two texts are one, or have the same value
 abbrev SameText : {V : Type 0} → (List ℕ → V → Type 0) → List ℕ → List ℕ → Type 0
@@ -15,7 +16,8 @@ same_entry : {V : Type 0} (grammar : List ℕ → V → Type 0) (canonical : Lis
 same_entry grammar canonical e f (kept same) = (ap (λ p. p.0) same, inl (ap (λ p. p.1) same))
 same_entry grammar canonical e f (replaced v names had is has) = (names, inr (v, had, has))
 
-entry_back : {V : Type 0} (grammar : List ℕ → V → Type 0) (e f : List ℕ × List ℕ) → SameEntry grammar e f → SameEntry grammar f e
+entry_back : {V : Type 0} (grammar : List ℕ → V → Type 0) (e f : List ℕ × List ℕ) → SameEntry grammar e f
+    → SameEntry grammar f e
 entry_back grammar e f (names, inl same) = (sym names, inl (sym same))
 entry_back grammar e f (names, inr both) = (sym names, inr (both.0, both.2, both.1))
 
@@ -24,17 +26,21 @@ same_entries : {V : Type 0} (grammar : List ℕ → V → Type 0) (canonical : L
 same_entries grammar canonical [] [] all = tt
 same_entries grammar canonical [] (f ∷ fs) all = absurd all
 same_entries grammar canonical (e ∷ es) [] all = absurd all
-same_entries grammar canonical (e ∷ es) (f ∷ fs) all = (same_entry grammar canonical e f all.0, same_entries grammar canonical es fs all.1)
+same_entries grammar canonical (e ∷ es) (f ∷ fs) all =
+    (same_entry grammar canonical e f all.0, same_entries grammar canonical es fs all.1)
 
-entries_back : {V : Type 0} (grammar : List ℕ → V → Type 0) (es fs : List (List ℕ × List ℕ)) → AllZip (SameEntry grammar) es fs → AllZip (SameEntry grammar) fs es
+entries_back : {V : Type 0} (grammar : List ℕ → V → Type 0) (es fs : List (List ℕ × List ℕ))
+    → AllZip (SameEntry grammar) es fs → AllZip (SameEntry grammar) fs es
 entries_back grammar [] [] all = tt
 entries_back grammar [] (f ∷ fs) all = absurd all
 entries_back grammar (e ∷ es) [] all = absurd all
 entries_back grammar (e ∷ es) (f ∷ fs) all = (entry_back grammar e f all.0, entries_back grammar es fs all.1)
 
 -- a name stands at the same places, each time with a text of the same value
-named_on : {V : Type 0} (grammar : List ℕ → V → Type 0) (es fs : List (List ℕ × List ℕ)) → AllZip (SameEntry grammar) es fs
-    → (n : List ℕ) (i : ℕ) (t : List ℕ) → IsNamed es n i t → (u : List ℕ) × IsNamed fs n i u × SameText grammar t u
+named_on : {V : Type 0} (grammar : List ℕ → V → Type 0) (es fs : List (List ℕ × List ℕ))
+    → AllZip (SameEntry grammar) es fs
+    → (n : List ℕ) (i : ℕ) (t : List ℕ) → IsNamed es n i t
+    → (u : List ℕ) × IsNamed fs n i u × SameText grammar t u
 named_on grammar [] fs all n i t named = absurd (none-some (n, t) named)
 named_on grammar (e ∷ es) [] all n i t named = absurd all
 named_on grammar (e ∷ es) (f ∷ fs) all n zero t named =
@@ -43,8 +49,10 @@ named_on grammar (e ∷ es) (f ∷ fs) all n zero t named =
     (f.1, ap (λ m. Some (m, f.1)) name, subst (λ x. SameText grammar x f.1) (ap (λ p. p.1) is) all.0.1)
 named_on grammar (e ∷ es) (f ∷ fs) all n (suc i) t named = named_on grammar es fs all.1 n i t named
 
-decides_on : {V : Type 0} (grammar : List ℕ → V → Type 0) (es fs : List (List ℕ × List ℕ)) → AllZip (SameEntry grammar) es fs
-    → (n : List ℕ) (i : ℕ) (t : List ℕ) → Decides es n i t → (u : List ℕ) × Decides fs n i u × SameText grammar t u
+decides_on : {V : Type 0} (grammar : List ℕ → V → Type 0) (es fs : List (List ℕ × List ℕ))
+    → AllZip (SameEntry grammar) es fs
+    → (n : List ℕ) (i : ℕ) (t : List ℕ) → Decides es n i t
+    → (u : List ℕ) × Decides fs n i u × SameText grammar t u
 decides_on grammar es fs all n i t decides =
     let here = named_on grammar es fs all n i t decides.named in (
       here.0,
@@ -56,7 +64,8 @@ decides_on grammar es fs all n i t decides =
       here.2,
     )
 
-finds_on : {V : Type 0} (grammar : List ℕ → V → Type 0) → ((t : List ℕ) (v w : V) → grammar t v → grammar t w → v ≡ w)
+finds_on : {V : Type 0} (grammar : List ℕ → V → Type 0)
+    → ((t : List ℕ) (v w : V) → grammar t v → grammar t w → v ≡ w)
     → (es fs : List (List ℕ × List ℕ)) → AllZip (SameEntry grammar) es fs
     → (n : List ℕ) (default v : V) → Finds grammar es n default v → Finds grammar fs n default v
 finds_on {V} grammar one es fs all n default v (decided i t decides has) = let on = decides_on grammar es fs all n i t decides in with_text on.0 on.1 on.2 where
@@ -66,16 +75,19 @@ finds_on {V} grammar one es fs all n default v (decided i t decides has) = let o
 finds_on grammar one es fs all n default v (absent nowhere is) =
     absent (λ i t named. let there = named_on grammar fs es (entries_back grammar es fs all) n i t named in nowhere i there.0 there.1) is
 
-refuses_on : {V : Type 0} (grammar : List ℕ → V → Type 0) (es fs : List (List ℕ × List ℕ)) → AllZip (SameEntry grammar) es fs
-    → (n : List ℕ) (i : ℕ) (t : List ℕ) → Refuses grammar es n i t → Refuses grammar fs n i t
+refuses_on : {V : Type 0} (grammar : List ℕ → V → Type 0) (es fs : List (List ℕ × List ℕ))
+    → AllZip (SameEntry grammar) es fs
+    → (n : List ℕ) (i : ℕ) (t : List ℕ) → DecidingIsRefused grammar es n i t
+    → DecidingIsRefused grammar fs n i t
 refuses_on grammar es fs all n i t refuses = let on = decides_on grammar es fs all n i t refuses.decides in with_text on.0 on.1 on.2 where
-  with_text : (u : List ℕ) → Decides fs n i u → SameText grammar t u → Refuses grammar fs n i t
+  with_text : (u : List ℕ) → Decides fs n i u → SameText grammar t u → DecidingIsRefused grammar fs n i t
   with_text u on (inl same) = record { decides = subst (Decides fs n i) (sym same) on; refused = refuses.refused }
   with_text u on (inr both) = absurd (refuses.refused both.0 both.1)
 
 pub replaced_answers : {V : Type 0} (grammar : List ℕ → V → Type 0) (canonical : List ℕ → Type 0)
     → ((t : List ℕ) (v w : V) → grammar t v → grammar t w → v ≡ w)
-    → (es fs : List (List ℕ × List ℕ)) → AllZip (IsReplaced grammar canonical) es fs → SameAnswers grammar es fs
+    → (es fs : List (List ℕ × List ℕ)) → AllZip (IsReplaced grammar canonical) es fs
+    → SameAnswers grammar es fs
 replaced_answers grammar canonical one es fs all =
     let on = same_entries grammar canonical es fs all in
     let back = entries_back grammar es fs on in

@@ -18,7 +18,7 @@ abbrev pub GivesJsonNumber : ℤ → Result Value JsonError → Type 0
 GivesJsonNumber z (Ok v) = IsInI64 z × (view v ≡ number (of_integer z))
 GivesJsonNumber z (Err e) = (¬ (IsInI64 z)) × (e ≡ Overflow)
 
--- the text as a string; want of memory is an answer too where the text is not empty
+-- the text as a string, or out of memory, which happens only if the text is not empty
 abbrev pub GivesJsonText : List ℕ → Result Value JsonError → Type 0
 GivesJsonText text (Ok v) = view v ≡ string text
 GivesJsonText text (Err Overflow) = ⊥

@@ -15,24 +15,29 @@ abbrev pub ReadsOr : {V E : Type 0} → (List ℕ → V → Type 0) → (E → T
 ReadsOr grammar refusal t (Ok v) = grammar t v
 ReadsOr grammar refusal t (Err e) = refusal e × IsRefused grammar t
 
--- every text is refused with this fault
+-- whatever the text: if it is refused, then with this fault
 abbrev pub Always : Fault → List ℕ → Fault → Type 0
 Always fault t f = f ≡ fault
 
 -- over a text: a refusal is the fault
-abbrev pub ReadsFault : {V : Type 0} → (List ℕ → V → Type 0) → (List ℕ → Fault → Type 0) → List ℕ → Result V Fault → Type 0
+abbrev pub ReadsFault : {V : Type 0} → (List ℕ → V → Type 0) → (List ℕ → Fault → Type 0) → List ℕ
+    → Result V Fault → Type 0
 ReadsFault grammar refusal t r = ReadsOr grammar (refusal t) t r
 
 -- over a borrowed byte string
-abbrev pub ReadsBytes : {V : Type 0} → (List ℕ → V → Type 0) → (List ℕ → Fault → Type 0) → BStr → Result V Error → Type 0
-ReadsBytes grammar refusal s r = ReadsOr grammar (λ e. refusal (bstr_bytes s) e.fault × (e.input ≡ s)) (bstr_bytes s) r
+abbrev pub ReadsBytes : {V : Type 0} → (List ℕ → V → Type 0) → (List ℕ → Fault → Type 0) → BStr
+    → Result V Error → Type 0
+ReadsBytes grammar refusal s r =
+    ReadsOr grammar (λ e. refusal (bstr_bytes s) e.fault × (e.input ≡ s)) (bstr_bytes s) r
 
 -- over a borrowed text
-abbrev pub ReadsText : {V : Type 0} → (List ℕ → V → Type 0) → (List ℕ → Fault → Type 0) → List ℕ → Result V Error → Type 0
+abbrev pub ReadsText : {V : Type 0} → (List ℕ → V → Type 0) → (List ℕ → Fault → Type 0) → List ℕ
+    → Result V Error → Type 0
 ReadsText grammar refusal t r = ReadsOr grammar (λ e. refusal t e.fault × (bstr_bytes e.input ≡ t)) t r
 
 -- over an owned input with these bytes: a refusal hands it back
-abbrev pub ReadsOwned : {V I : Type 0} → (List ℕ → V → Type 0) → (List ℕ → Fault → Type 0) → List ℕ → I → Result V (Returned I) → Type 0
+abbrev pub ReadsOwned : {V I : Type 0} → (List ℕ → V → Type 0) → (List ℕ → Fault → Type 0) → List ℕ → I
+    → Result V (Returned I) → Type 0
 ReadsOwned grammar refusal t s r = ReadsOr grammar (λ e. refusal t e.fault × (e.input ≡ s)) t r
 
 -- one fault, and inputs of the same bytes

@@ -1,4 +1,5 @@
--- What a list of entries answers for a name. An entry is a name and a text, and the last entry of a name decides.
+-- What a list of entries answers for a name. An entry is a name and a text, and the last entry of a name
+-- decides.
 use Rattle.std.specs.Prelude.{◌≡◌, ℕ, ◌<◌, ◌↔◌, List, Some, map}
 use Rattle.std.specs.List.{slice_get}
 use Rattle.config_text.specs.Value.{IsRefused}
@@ -28,25 +29,31 @@ pub data Finds {V : Type 0} (grammar : List ℕ → V → Type 0) (es : List (Li
   absent : IsAbsent es n → v ≡ default → Finds grammar es n default v
 
 -- the text of the deciding entry has no value
-pub record Refuses {V : Type 0} (grammar : List ℕ → V → Type 0) (es : List (List ℕ × List ℕ)) (n : List ℕ) (i : ℕ) (t : List ℕ) : Type 0 where
+pub record DecidingIsRefused {V : Type 0} (grammar : List ℕ → V → Type 0) (es : List (List ℕ × List ℕ)) (n : List ℕ) (i : ℕ) (t : List ℕ) : Type 0 where
   pub decides : Decides es n i t
   pub refused : IsRefused grammar t
 
 -- the second entry is the first one, or its text is a canonical text of the same value
 pub data IsReplaced {V : Type 0} (grammar : List ℕ → V → Type 0) (canonical : List ℕ → Type 0) (e f : List ℕ × List ℕ) : Type 0 where
   kept : e ≡ f → IsReplaced grammar canonical e f
-  replaced : (v : V) → e.0 ≡ f.0 → grammar e.1 v → canonical f.1 → grammar f.1 v → IsReplaced grammar canonical e f
+  replaced : (v : V) → e.0 ≡ f.0 → grammar e.1 v → canonical f.1 → grammar f.1 v
+      → IsReplaced grammar canonical e f
 
--- both lists give each name the same value, whatever the default, and refuse it at the same index with the same text
+-- both lists give each name the same value, whatever the default, and refuse it at the same index with the
+-- same text
 pub record SameAnswers {V : Type 0} (grammar : List ℕ → V → Type 0) (es fs : List (List ℕ × List ℕ)) : Type 0 where
   pub values : (n : List ℕ) (default v : V) → (Finds grammar es n default v) ↔ (Finds grammar fs n default v)
-  pub refusals : (n : List ℕ) (i : ℕ) (t : List ℕ) → (Refuses grammar es n i t) ↔ (Refuses grammar fs n i t)
+  pub refusals : (n : List ℕ) (i : ℕ) (t : List ℕ)
+      → (DecidingIsRefused grammar es n i t) ↔ (DecidingIsRefused grammar fs n i t)
 
 -- a name has one answer at most: one value for each default, or one refusal
 pub record OneAnswer {V : Type 0} (grammar : List ℕ → V → Type 0) (es : List (List ℕ × List ℕ)) : Type 0 where
-  pub value : (n : List ℕ) (default v w : V) → Finds grammar es n default v → Finds grammar es n default w → v ≡ w
-  pub refusal : (n : List ℕ) (i j : ℕ) (t u : List ℕ) → Refuses grammar es n i t → Refuses grammar es n j u → (i ≡ j) × (t ≡ u)
-  pub apart : (n : List ℕ) (default v : V) (i : ℕ) (t : List ℕ) → Finds grammar es n default v → ¬ (Refuses grammar es n i t)
+  pub value : (n : List ℕ) (default v w : V) → Finds grammar es n default v → Finds grammar es n default w
+      → v ≡ w
+  pub refusal : (n : List ℕ) (i j : ℕ) (t u : List ℕ) → DecidingIsRefused grammar es n i t
+      → DecidingIsRefused grammar es n j u → (i ≡ j) × (t ≡ u)
+  pub apart : (n : List ℕ) (default v : V) (i : ℕ) (t : List ℕ) → Finds grammar es n default v
+      → ¬ (DecidingIsRefused grammar es n i t)
 
 -- one index, and texts of the same bytes
 abbrev pub IsSameRefused : Refused → Refused → Type 0

@@ -7,9 +7,9 @@ use thiserror::Error as ThisError;
 
 /// Why a reader refuses a text. Each is a fault of the text that was handed in, and none is of memory.
 ///
-/// Booleans are refused with `Boolean`, and names, attributes and colors with `Color`. Integers are refused with
-/// `Integer`, and amounts with `Integer` first and `Overflow` second. `Integer::from_bytes` answers `OutOfRange` third.
-/// The texts of each kind: docs/GRAMMAR.md.
+/// Booleans are refused with `Boolean`, and names, attributes and colors with `Color`. Integers are refused
+/// with `Integer`, and amounts with `Integer` first and `Overflow` second. `Integer::from_bytes` answers
+/// `OutOfRange` third. The texts of each kind: docs/GRAMMAR.md.
 ///
 /// ```rust
 /// use gix_config_value::Fault;
@@ -26,7 +26,8 @@ pub enum Fault {
     Boolean,
     /// The text is no integer text: docs/GRAMMAR.md, Integers.
     Integer,
-    /// The text is an integer text, but the product of number and suffix leaves `i64`: docs/GRAMMAR.md, Amounts.
+    /// The text is an integer text, but the product of number and suffix leaves `i64`: docs/GRAMMAR.md,
+    /// Amounts.
     Overflow,
     /// The product fits `i64`, but its conversion to the caller's type refuses it.
     OutOfRange,
@@ -34,9 +35,13 @@ pub enum Fault {
     Color,
 }
 
+/// The text of `Fault::Integer`, with the grammar of the Rust crate.
+const INTEGER_TEXT: &str =
+    "Integers needs to be positive or negative numbers which may have a suffix like 1k, 42, or 50G";
+
 impl Fault {
-    /// What `Display` prints, another text for each fault. It is that of the Rust crate, but for `OutOfRange`, which
-    /// names no type here. It names the kind, and not what in the text is wrong.
+    /// What `Display` prints, another text for each fault. It is that of the Rust crate, but for
+    /// `OutOfRange`, which names no type here. It names the kind, and not what in the text is wrong.
     ///
     /// ```rust
     /// use gix_config_value::Fault;
@@ -49,9 +54,7 @@ impl Fault {
         match self {
             Fault::Boolean =>
                 "Booleans need to be 'no', 'off', 'false', '' or 'yes', 'on', 'true' or any number",
-            Fault::Integer => {
-                "Integers needs to be positive or negative numbers which may have a suffix like 1k, 42, or 50G"
-            }
+            Fault::Integer => INTEGER_TEXT,
             Fault::Overflow => "integer suffix multiplication overflows `i64`",
             Fault::OutOfRange => "integer is out of range",
             Fault::Color =>
@@ -62,8 +65,9 @@ impl Fault {
 
 /// A refusal of a borrowed text: the fault, and the whole input.
 ///
-/// Each `TryFrom` of a `&str` or a `BStr` answers it, of every kind but suffixes, and so does `Integer::from_bytes`. It
-/// is no error type and has no text. Its [`Fault`] is one, and `?` turns it into that.
+/// Each `TryFrom` of a `&str` or a `BStr` answers it, of every kind but suffixes, and so does
+/// `Integer::from_bytes`. It is no error type and has no text. Its [`Fault`] is one, and `?` turns it into
+/// that.
 ///
 /// ```rust
 /// use bstr::BStr;
@@ -84,8 +88,8 @@ pub struct Error<'a> {
 /// A refusal of a text that is handed back, since it is or may be owned: the fault, and the input as
 /// handed in.
 ///
-/// The readers of `BString` and `CowSlice` answer it, and copy nothing. It is no error type and has no text. Its
-/// [`Fault`] is one, and `?` turns it into that; the input is then dropped.
+/// The readers of `BString` and `CowSlice` answer it, and copy nothing. It is no error type and has no text.
+/// Its [`Fault`] is one, and `?` turns it into that; the input is then dropped.
 ///
 /// ```rust
 /// use bstr::BString;
@@ -107,7 +111,8 @@ pub struct Returned<V> {
 impl<'a> From<Error<'a>> for Fault {
     ghost from_gives = { λ error fault. fault ≡ error.fault };
 
-    /// Why the text was refused, so that `?` passes on a refusal of a borrowed text where the error is a `Fault`.
+    /// Why the text was refused, so that `?` passes on a refusal of a borrowed text where the error is a
+    /// `Fault`.
     fn from(error: Error<'a>) -> Fault {
         error.fault
     }
@@ -116,8 +121,8 @@ impl<'a> From<Error<'a>> for Fault {
 impl<V: Drop> From<Returned<V>> for Fault {
     ghost from_gives = { λ returned fault. fault ≡ returned.fault };
 
-    /// Why the text was refused, so that `?` passes on a refusal of an owned text where the error is a `Fault`. The
-    /// input is dropped.
+    /// Why the text was refused, so that `?` passes on a refusal of an owned text where the error is a
+    /// `Fault`. The input is dropped.
     fn from(returned: Returned<V>) -> Fault {
         returned.fault
     }

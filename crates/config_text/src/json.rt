@@ -7,8 +7,8 @@ use thiserror::Error;
 
 /// Why a value has no JSON value: docs/GRAMMAR.md, JSON values.
 ///
-/// Integers are refused with `Overflow` alone. Names, attributes and suffixes are refused with `Memory` alone, and
-/// booleans never.
+/// Integers are refused with `Overflow` alone. Names, attributes and suffixes are refused with `Memory`
+/// alone, and booleans never.
 ///
 /// ```rust
 /// use gix_config_value::Integer;
@@ -27,16 +27,13 @@ pub enum JsonError {
     Memory(AllocError),
 }
 
-/// The text as a JSON string. Asks for memory once, and not for the empty text. `JsonError::Memory`
-/// where that is refused.
+/// The text as a JSON string. It asks for memory once, and not for the empty text. Fails with
+/// `JsonError::Memory` if that is refused.
 pub fn string(alloc: Global, text: &str) -> Result<Value, JsonError>
     ensures { GivesJsonText text.now result }
 {
     if text.is_empty() {
         return Ok(Value::from(String::new(alloc)));
     }
-    match Value::try_from_str(alloc, text) {
-        Ok(value) => Ok(value),
-        Err(error) => Err(JsonError::Memory(error)),
-    }
+    Value::try_from_str(alloc, text).map_err(JsonError::Memory)
 }

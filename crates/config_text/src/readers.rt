@@ -10,10 +10,11 @@ use crate::value::Value;
 use bstr::{BStr, BString};
 use std::borrow::CowSlice;
 
-/// A value whose reader says why it refuses a text. Six of the seven kinds do; a suffix is refused with no fault.
+/// A value whose reader says why it refuses a text. Six of the seven kinds do; a suffix is refused with no
+/// fault.
 ///
 /// ```rust
-/// use config_text::readers::TryRead;
+/// use gix_config_value::canonical::TryRead;
 /// use gix_config_value::{Boolean, Fault};
 ///
 /// assert_eq!(rt; Boolean::try_read(b"off"), Ok(Boolean(false)));
@@ -55,7 +56,8 @@ pub fn read_owned<V: TryRead>(input: BString) -> Result<V, Returned<BString>>
     }
 }
 
-/// The value of a byte slice that is borrowed or owned, or a refusal that hands it back with the fault of `try_read`.
+/// The value of a byte slice that is borrowed or owned, or a refusal that hands it back with the fault of
+/// `try_read`.
 pub fn read_cow<V: TryRead>(input: CowSlice<'_, u8>) -> Result<V, Returned<CowSlice<'_, u8>>>
     ensures { ReadsOwned V.grammar V.refusal (cow_slice_items input.entry) input.entry result }
 {

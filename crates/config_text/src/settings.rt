@@ -1,12 +1,12 @@
 //! Settings by name: of the entries of a name the last one decides.
-ghost use Rattle.std.specs.Prelude.{MatchResult};
-ghost use Rattle.config_text.specs.Settings.{entry_texts, Finds, Refuses};
+ghost use Rattle.std.specs.Prelude.{MatchOption, MatchResult};
+ghost use Rattle.config_text.specs.Settings.{entry_texts, IsAbsent, Decides, Finds, DecidingIsRefused};
 
 use crate::value::Value;
 use bstr::BStr;
 
-/// A setting whose deciding entry has a text without a value: docs/GRAMMAR.md, Settings. The fault is what the reader
-/// of the type answers for that text.
+/// A setting whose deciding entry has a text without a value: docs/GRAMMAR.md, Settings. The fault is what
+/// the reader of the type answers for that text.
 ///
 /// ```rust
 /// use gix_config_value::Boolean;
@@ -26,12 +26,21 @@ pub struct Refused<'a> {
     pub input: &'a [u8],
 }
 
+/// The last entry of this name: its index and its text. `None` if no entry has the name.
+fn deciding_entry<'a>(entries: &[(&[u8], &'a [u8])], name: &[u8]) -> Option<(usize, &'a [u8])>
+    ensures { MatchOption result (IsAbsent (entry_texts entries.now) name.now)
+        (λ e. Decides (entry_texts entries.now) name.now e.0 e.1.now) }
+{
+    let index = entries.iter().rposition(|entry| entry.0 == name)?;
+    Some((index, entries[index].1))
+}
+
 /// The value of a setting. An entry is a name and a text. The last entry with exactly this name
 /// decides, and the entries before it are not read; without one the default is the answer. The text of
 /// the deciding entry is refused where the type gives it no value. The source: docs/GRAMMAR.md, Settings.
 ///
-/// Names are compared byte by byte, so their case counts. For a key that stands without `=`, which Git takes for true,
-/// hand in the text `true`.
+/// Names are compared byte by byte, so their case counts. For a key that stands without `=`, which Git takes
+/// for true, hand in the text `true`.
 ///
 /// ```rust
 /// use gix_config_value::Boolean;
@@ -50,14 +59,12 @@ pub fn lookup<'a, V: Value>(
 ) -> Result<V, Refused<'a>>
     ensures { MatchResult result
         (Finds V.grammar (entry_texts entries.now) name.now default)
-        (λ r. Refuses V.grammar (entry_texts entries.now) name.now r.index r.input.now) }
+        (λ r. DecidingIsRefused V.grammar (entry_texts entries.now) name.now r.index r.input.now) }
 {
-    let Some(index) = entries.iter().rposition(|entry| entry.0 == name) else {
+    let Some((index, input)) = deciding_entry(entries, name) else {
         return Ok(default);
     };
-    let input = entries[index].1;
-    let text = BStr::new(input);
-    match V::read(text) {
+    match V::read(BStr::new(input)) {
         Some(value) => Ok(value),
         None => Err(Refused { index, input }),
     }

@@ -1,23 +1,24 @@
 //! What it means for a text to be read as a value, and for a value to have one canonical text.
 ghost use Rattle.std.specs.Prelude.{◌≡◌, ℕ, ◌↔◌, ◌⊎◌, List, [], IsSomeAnd, IsTrue};
 ghost use Rattle.bstr.specs.BStr.{bstr_bytes};
-ghost use Rattle.config_text.specs.Value.{IsRefused, IsAccepted, HasText, Reads, IsTextOf, Normalizes, Fills, IsOnlyText, Compares};
+ghost use Rattle.config_text.specs.Value.{IsRefused, IsAccepted, HasText, Reads, IsTextOf, Normalizes, Fills};
+ghost use Rattle.config_text.specs.Value.{IsOnlyText, Compares};
 
 use arrayvec::ArrayString;
 use bstr::BStr;
 
-/// The bytes of the longest canonical text: two names of 13 bytes, the fifteen words of attributes, and the spaces
-/// between.
+/// The bytes of the longest canonical text: two names of 13 bytes, the fifteen words of attributes, and the
+/// spaces between.
 pub const LONGEST_TEXT: usize = 127;
 
-/// A canonical text, which has room for the longest, of 127 bytes.
-pub type Text = ArrayString<LONGEST_TEXT>;
+/// A canonical text. It has room for the longest.
+pub type CanonicalText = ArrayString<LONGEST_TEXT>;
 
 /// A kind of value that has texts: which texts read to which value, and which one of them is
 /// canonical. A type of the caller's own may be one too.
 ///
-/// `read` takes any bytes, and answers `None` where they are no text of the kind: docs/GRAMMAR.md has a section for
-/// each. It tells no fault; a type's `FromStr` and [`TryRead`](crate::readers::TryRead) do, but a suffix has none.
+/// `read` takes any bytes, and returns `None` if they are no text of the kind: docs/GRAMMAR.md has a section
+/// for each. Why they are refused is said by [`TryRead`](crate::readers::TryRead).
 ///
 /// ```rust
 /// use bstr::BStr;
@@ -48,24 +49,24 @@ pub trait Value: Copy + Eq {
 
     /// Writes the one canonical text that reads to this value into a text that is empty. Some text
     /// must read to the value, as `has_text` tells.
-    fn write_to(&self, text: &mut Text)
+    fn write_to(&self, text: &mut CanonicalText)
         requires value { HasText grammar self.now }
         requires empty { text.old.bytes ≡ [] }
         ensures { text.new.bytes ≡ displayed self.now };
 
-    /// The one canonical text that reads to this value: its displayed text, of at most 127 bytes.
-    /// Some text must read to the value, as `has_text` tells.
-    fn text(&self) -> Text
+    /// The one canonical text that reads to this value, which is its displayed text. Some text must read to
+    /// the value, as `has_text` tells.
+    fn text(&self) -> CanonicalText
         requires { HasText grammar self.now }
         ensures text { IsTextOf grammar canonical self.now result.bytes }
         ensures shown { result.bytes ≡ displayed self.now }
     {
-        let mut text = Text::new();
+        let mut text = CanonicalText::new();
         self.write_to(&mut text);
         text
     }
 
-    // What a kind owes, beside its three calls.
+    // The laws that a kind has to prove.
 
     /// A text has at most one value.
     ghost one_value: { (t : List ℕ) (v w : Self) → grammar t v → grammar t w → v ≡ w };
@@ -80,15 +81,15 @@ pub trait Value: Copy + Eq {
     /// What a value that has a text is shown as is its canonical text, and so reads back.
     ghost shown_is_text: { (v : Self) → HasText grammar v → IsTextOf grammar canonical v (displayed v) };
 
-    /// Each text is accepted or refused, so a caller may distinguish the two cases.
+    /// Each text is accepted or refused.
     ghost decided: { (t : List ℕ) → IsAccepted grammar t ⊎ IsRefused grammar t };
 
-    /// `==` answers whether two values are the same one.
+    /// `==` says whether two values are the same one.
     ghost equal_is_same: { (v w : Self) → (IsTrue (Self.eq v w)) ↔ (v ≡ w) };
 }
 
-/// The canonical text that reads to the value of the input, or `None` where the input has no value.
-/// A canonical input is answered byte for byte.
+/// The canonical text that reads to the value of the input, or `None` if the input has no value. A canonical
+/// input is returned byte for byte.
 ///
 /// ```rust
 /// use bstr::BStr;
@@ -98,21 +99,19 @@ pub trait Value: Copy + Eq {
 /// let text = normalize_as::<Color>(BStr::from("bold red ul blue")).ok_or("no color")?;
 /// assert_eq!(rt; text.as_str(), "red blue bold ul");
 /// ```
-pub fn normalize_as<V: Value>(input: BStr<'_>) -> Option<Text>
+pub fn normalize_as<V: Value>(input: BStr<'_>) -> Option<CanonicalText>
     ensures answer { Normalizes V.grammar V.canonical (bstr_bytes input.entry) result }
     ensures only { IsOnlyText V.grammar V.canonical (bstr_bytes input.entry) result }
     ensures unchanged { V.canonical (bstr_bytes input.entry)
         → IsSomeAnd result (λ s. s.bytes ≡ bstr_bytes input.entry) }
 {
-    match V::read(input) {
-        Some(value) => Some(value.text()),
-        None => None,
-    }
+    let value = V::read(input)?;
+    Some(value.text())
 }
 
-/// Puts the canonical text that reads to the value of the input in place of what the text holds. Answers whether the
-/// input has a value; where it has none the text is left empty.
-pub fn normalize_into_as<V: Value>(input: BStr<'_>, text: &mut Text) -> bool
+/// Replaces the text by the canonical text that reads to the value of the input, and returns whether the
+/// input has a value. If it has none, the text is left empty.
+pub fn normalize_into_as<V: Value>(input: BStr<'_>, text: &mut CanonicalText) -> bool
     ensures { Fills V.grammar V.canonical (bstr_bytes input.entry) text.new.bytes result }
 {
     text.clear();
@@ -125,7 +124,7 @@ pub fn normalize_into_as<V: Value>(input: BStr<'_>, text: &mut Text) -> bool
     }
 }
 
-/// Whether two texts of a type mean the same, or `None` where the type's grammar gives one of them no value.
+/// Whether two texts of a type mean the same, or `None` if the type's grammar gives one of them no value.
 pub fn same_as<V: Value>(a: BStr<'_>, b: BStr<'_>) -> Option<bool>
     ensures { Compares V.grammar V.canonical (bstr_bytes a.entry) (bstr_bytes b.entry) result }
 {

@@ -1,11 +1,11 @@
-//! A text compared with a word of known length, byte by byte from its front. The length is that of an array, so a
-//! compiler can write each comparison out.
+//! A text compared with a word of known length, byte by byte from its front. The length is that of an array,
+//! so a compiler can write each comparison out.
 ghost use Rattle.std.specs.Prelude.{◌≡◌, bytes_eq, map};
 ghost use Rattle.std.specs.Char.{to_ascii_lowercase};
 
 /// Whether the text is this word.
 #[inline(always)]
-pub fn is<const N: usize>(text: &[u8], word: &[u8; N]) -> bool
+pub fn equals<const N: usize>(text: &[u8], word: &[u8; N]) -> bool
     ensures { result ≡ bytes_eq text.now word.now }
 {
     if text.len() != N {
@@ -21,7 +21,7 @@ pub fn is<const N: usize>(text: &[u8], word: &[u8; N]) -> bool
 
 /// Whether the text is this word, ignoring ASCII case.
 #[inline(always)]
-pub fn is_in_any_case<const N: usize>(text: &[u8], word: &[u8; N]) -> bool
+pub fn equals_ignoring_case<const N: usize>(text: &[u8], word: &[u8; N]) -> bool
     ensures { result ≡ bytes_eq (map to_ascii_lowercase text.now) (map to_ascii_lowercase word.now) }
 {
     if text.len() != N {

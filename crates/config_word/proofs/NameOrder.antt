@@ -35,5 +35,6 @@ name_same names.BrightCyan names.BrightCyan = refl
 name_same names.White names.White = refl
 name_same names.BrightWhite names.BrightWhite = refl
 name_same (names.Ansi j) (names.Ansi k) = then_Equal (nat_cmp j k)
-name_same (names.Rgb r g b) (names.Rgb s h c) = ap (λ o. ordering_then (nat_cmp r s) (ordering_then (nat_cmp g h) o)) (then_Equal (nat_cmp b c))
+name_same (names.Rgb r g b) (names.Rgb s h c) =
+    ap (λ o. ordering_then (nat_cmp r s) (ordering_then (nat_cmp g h) o)) (then_Equal (nat_cmp b c))
 name_same _ _ = refl

@@ -39,7 +39,8 @@ text-no_space : (t : List ℕ) (a : Attribute) → AttributeText t a → no_spac
 text-no_space t a (AttributeText.word row o h e) =
     all-one no_space (row.2 ∷ row.3) t
     (all-one (λ (r : AttributeRow). list_all no_space (r.2 ∷ r.3)) attributes row spellings-no_space o) h
-text-no_space t a (AttributeText.reset s e) = let small : no_space (map to_ascii_lowercase t) ≡ true = rw s refl in lowered t small
+text-no_space t a (AttributeText.reset s e) =
+    let small : no_space (map to_ascii_lowercase t) ≡ true = rw s refl in lowered t small
 
 -- ---- two words have a space between them
 
@@ -60,12 +61,14 @@ abbrev HasTwo : List AttributeRow → Type 0
 HasTwo rows = (x y : AttributeRow) × (rest : List AttributeRow) × (rows ≡ x ∷ y ∷ rest)
 
 -- a row more, or not, after one
-one-told : (b : Bool) (first : AttributeRow) (rows : List AttributeRow) → HasOne rows → HasOne (cond b (first ∷ rows) rows)
+one-told : (b : Bool) (first : AttributeRow) (rows : List AttributeRow) → HasOne rows
+    → HasOne (cond b (first ∷ rows) rows)
 one-told true first rows h = (first, rows, refl)
 one-told false first rows h = h
 
 -- where a row passes the test, one is kept
-one-kept : (p : AttributeRow → Bool) (rows : List AttributeRow) (r : AttributeRow) → OneOf rows r → p r ≡ true → HasOne (filter p rows)
+one-kept : (p : AttributeRow → Bool) (rows : List AttributeRow) (r : AttributeRow) → OneOf rows r → p r ≡ true
+    → HasOne (filter p rows)
 one-kept p [] r o h = absurd o
 one-kept p (first ∷ rows) r (inl e) h =
     let kept : p first ≡ true = rw (← e) h in rw kept (first, filter p rows, refl)
@@ -76,27 +79,34 @@ front : (first : AttributeRow) (rows : List AttributeRow) → HasOne rows → Ha
 front first rows h = (first, h.0, h.1, ap (λ rest. first ∷ rest) h.2)
 
 -- a row more, or not, after two
-two-told : (b : Bool) (first : AttributeRow) (rows : List AttributeRow) → HasTwo rows → HasTwo (cond b (first ∷ rows) rows)
+two-told : (b : Bool) (first : AttributeRow) (rows : List AttributeRow) → HasTwo rows
+    → HasTwo (cond b (first ∷ rows) rows)
 two-told true first rows h = (first, h.0, h.1 ∷ h.2, ap (λ rest. first ∷ rest) h.3)
 two-told false first rows h = h
 
 -- where two rows of different bits pass the test, two are kept
-two-kept : (p : AttributeRow → Bool) (rows : List AttributeRow) (r s : AttributeRow) → OneOf rows r → OneOf rows s → r.1 ≢ s.1
+two-kept : (p : AttributeRow → Bool) (rows : List AttributeRow) (r s : AttributeRow) → OneOf rows r
+    → OneOf rows s → r.1 ≢ s.1
     → p r ≡ true → p s ≡ true → HasTwo (filter p rows)
 two-kept p [] r s o q apart h k = absurd o
-two-kept p (first ∷ rows) r s (inl e) (inl f) apart h k = absurd (apart (ap (λ (x : AttributeRow). x.1) (e ∙ sym f)))
+two-kept p (first ∷ rows) r s (inl e) (inl f) apart h k =
+    absurd (apart (ap (λ (x : AttributeRow). x.1) (e ∙ sym f)))
 two-kept p (first ∷ rows) r s (inl e) (inr q) apart h k =
     let kept : p first ≡ true = rw (← e) h in rw kept (front first (filter p rows) (one-kept p rows s q k))
 two-kept p (first ∷ rows) r s (inr o) (inl f) apart h k =
     let kept : p first ≡ true = rw (← f) k in rw kept (front first (filter p rows) (one-kept p rows r o h))
-two-kept p (first ∷ rows) r s (inr o) (inr q) apart h k = two-told (p first) first (filter p rows) (two-kept p rows r s o q apart h k)
+two-kept p (first ∷ rows) r s (inr o) (inr q) apart h k =
+    two-told (p first) first (filter p rows) (two-kept p rows r s o q apart h k)
 
 -- two words or more have a space between them
-two-spaced : (rows : List AttributeRow) → HasTwo rows → no_space (join_with_byte space (map (λ row. row.2) rows)) ≡ false
-two-spaced rows h = rw h.3 (spaced h.0.2 (join_with_byte space (map (λ (row : AttributeRow). row.2) (h.1 ∷ h.2))))
+two-spaced : (rows : List AttributeRow) → HasTwo rows
+    → no_space (join_with_byte space (map (λ row. row.2) rows)) ≡ false
+two-spaced rows h =
+    rw h.3 (spaced h.0.2 (join_with_byte space (map (λ (row : AttributeRow). row.2) (h.1 ∷ h.2))))
 
 -- where two known bits are set, what is shown is no attribute text
-pub several_refused : (a : Attribute) (i j : ℕ) → i ≢ j → IsKnownBit i → IsKnownBit j → bit_at a.0 i ≡ 1 → bit_at a.0 j ≡ 1
+pub several_refused : (a : Attribute) (i j : ℕ) → i ≢ j → IsKnownBit i → IsKnownBit j → bit_at a.0 i ≡ 1
+    → bit_at a.0 j ≡ 1
     → IsRefused AttributeText (attribute_shown a.0)
 several_refused a i j apart known_i known_j at_i at_j v h =
     let r = OneOf-from_map (λ (x : AttributeRow). x.1) attributes i known_i in

@@ -41,7 +41,8 @@ IsKnownBit bit = OneOf (map (λ row. row.1) attributes) bit
 
 -- attribute text: a spelling of one constant, or `reset`, ignoring ASCII case
 pub data AttributeText (t : List ℕ) (a : Attribute) : Type 0 where
-  word : (row : AttributeRow) → OneOf attributes row → OneOf (row.2 ∷ row.3) t → a.0 ≡ 2 ^ row.1 → AttributeText t a
+  word : (row : AttributeRow) → OneOf attributes row → OneOf (row.2 ∷ row.3) t → a.0 ≡ 2 ^ row.1
+      → AttributeText t a
   reset : SameWord t (codes "reset") → a.0 ≡ 2 ^ 8 → AttributeText t a
 
 -- the words of the known bits that are set, by rising bit

@@ -54,7 +54,8 @@ pub record HexPair (high low n : ℕ) : Type 0 where
 pub data NameText (t : List ℕ) (n : Name) : Type 0 where
   word : OneOf word_names n → SameWord t (name_shown n) → NameText t n
   minus_one : t ≡ codes "-1" → n ≡ Normal → NameText t n
-  palette : (ds : List ℕ) (k : ℕ) → (t ≡ ds) ⊎ (t ≡ codes "+" ++ ds) → IsNumeral 10 ds → k ≡ place_sum ds 10 → k ≤ 255
+  palette : (ds : List ℕ) (k : ℕ) → (t ≡ ds) ⊎ (t ≡ codes "+" ++ ds) → IsNumeral 10 ds → k ≡ place_sum ds 10
+      → k ≤ 255
       → n ≡ Ansi k → NameText t n
   pairs : (a b c d e f r g u : ℕ) → t ≡ codes "#" ++ a ∷ b ∷ c ∷ d ∷ e ∷ f ∷ []
       → HexPair a b r → HexPair c d g → HexPair e f u → n ≡ Rgb r g u → NameText t n

@@ -1,8 +1,11 @@
 //! Sets of text attributes.
-ghost use Rattle.std.specs.Prelude.{⊤, ◌≡◌, ◌+◌, ◌≤◌, ◌++◌, ◌↔◌, length, map, take, IsTrue, Some};
+ghost use Rattle.std.specs.Prelude.{⊤, ◌≡◌, ◌+◌, ◌≤◌, ◌++◌, ◌↔◌, length, map, IsTrue, Some};
 ghost use Rattle.config_text.specs.declared.errors.Fault.TheVariants as faults;
-ghost use Rattle.config_word.specs.Attribute.{AttributeText, CanonicalAttribute, attribute_flags, attribute_shown};
-ghost use Rattle.config_word.specs.Laws.Attribute.{attribute_canonical_reads, attribute_decided, attribute_one_text, attribute_one_value, attribute_shown_is_text};
+ghost use Rattle.config_word.specs.Attribute.{AttributeText, CanonicalAttribute, attribute_flags};
+ghost use Rattle.config_word.specs.Attribute.{attribute_shown};
+ghost use Rattle.config_word.specs.Laws.Attribute.{attribute_canonical_reads, attribute_decided};
+ghost use Rattle.config_word.specs.Laws.Attribute.{attribute_one_text, attribute_one_value};
+ghost use Rattle.config_word.specs.Laws.Attribute.{attribute_shown_is_text};
 ghost use Rattle.config_word.specs.Reading.Attribute.{shown_row, shown_rows, words_in};
 ghost use Rattle.config_text.specs.Refusals.{Always, ReadsBytes, ReadsFault};
 ghost use Rattle.config_text.specs.Value.{HasText, IsTextOf, Reads};
@@ -10,12 +13,13 @@ ghost use Rattle.std.proofs.Common.{rules};
 ghost use Rattle.config_text.specs.Json.{GivesJsonText};
 
 use crate::item::{Item, word};
+use crate::name::LONGEST_NAME;
 use bitflags::{Flag, Flags, bitflag_items};
 use bstr::BStr;
 use config_text::errors::{Error, Fault};
 use config_text::json::{JsonError, string};
 use config_text::readers::{TryRead, read_bytes};
-use config_text::value::{LONGEST_TEXT, Text, Value};
+use config_text::value::{CanonicalText, LONGEST_TEXT, Value};
 use serde_json::Value as JsonValue;
 use std::alloc::Global;
 use std::fmt;
@@ -24,11 +28,11 @@ use std::str::FromStr;
 /// A set of attributes, such as bold or not underlined. Each attribute is one bit; bits that have
 /// no constant are kept.
 ///
-/// A text is one word, as `bold`, `noul` or `no-ul`, and reads to the set of its bit. Words are read in lower case
-/// only, but `reset` in any case. Any other text is refused with `Fault::Color`, and so are two words.
+/// A text is one word, as `bold`, `noul` or `no-ul`, and reads to the set of its bit. Words are read in lower
+/// case only, but `reset` in any case. Any other text is refused with `Fault::Color`, and so are two words.
 ///
-/// A set is shown as the words of its known bits. It has a text exactly where one known bit is set, and no other: then
-/// that word is canonical. The source: docs/GRAMMAR.md, Attributes.
+/// A set is shown as the words of its known bits. It has a text exactly where one known bit is set, and no
+/// other: then that word is canonical. The source: docs/GRAMMAR.md, Attributes.
 ///
 /// ```rust
 /// use gix_config_value::Fault;
@@ -36,7 +40,7 @@ use std::str::FromStr;
 /// use std::str::FromStr;
 ///
 /// assert_eq!(rt; Attribute::from_str("no-ul"), Ok(Attribute::NO_UL));
-/// assert_eq!(rt; Attribute::from_str("Bold"), Err(Fault::Color)); // of these words only `reset` is read in any case
+/// assert_eq!(rt; Attribute::from_str("Bold"), Err(Fault::Color)); // lower case only, but `reset`
 /// let set = Attribute::BOLD | Attribute::UL;
 /// assert_eq!(rt; set.shown().as_str(), "bold ul");
 /// ```
@@ -142,32 +146,32 @@ fn shown_words() -> &'static [Shown]
     &SHOWN
 }
 
-/// The first constants and their words, with bits that are below `LATE`.
-fn early_words() -> &'static [Shown]
-    ensures { map shown_row result.now ≡ take 8 shown_rows }
-{
-    &SHOWN[..8]
-}
+/// How many rows come before those of the `no` words.
+const EARLY: usize = 8;
 
-/// The bit of the first constant that is none of the early ones.
+/// The least bit of a `no` word.
 const LATE: u32 = 1 << 21;
 
+/// The bytes of all words of [`SHOWN`] with a space between: what the longest text has beside two of the
+/// longest names, each with a space after it.
+pub const LONGEST_SET: usize = LONGEST_TEXT - 2 * (LONGEST_NAME + 1);
+
 impl Attribute {
-    /// The constants and their words that the set can have.
+    /// The rows that the set can have words of. A set without a `no` word is shown faster so.
     fn possible_words(self) -> &'static [Shown]
         ensures { words_in self.0 (map shown_row result.now) ≡ words_in self.0 shown_rows }
     {
         if self.0 < LATE {
-            early_words()
+            &SHOWN[..EARLY]
         } else {
-            shown_words()
+            &SHOWN
         }
     }
 
-    /// Appends the words of the known bits that are set, by rising bit, with one space between. There must be room for
-    /// them, at most 99 bytes. Colors append their attributes by it.
-    pub fn push_to(self, text: &mut Text)
-        requires { length text.old.bytes + 99 ≤ LONGEST_TEXT }
+    /// Appends the words of the known bits that are set, by rising bit, with one space between. There must be
+    /// room for `LONGEST_SET` bytes. Colors append their attributes by it.
+    pub fn push_to(self, text: &mut CanonicalText)
+        requires { length text.old.bytes + LONGEST_SET ≤ LONGEST_TEXT }
         ensures { text.new.bytes ≡ text.old.bytes ++ attribute_shown self.0 }
     {
         let mut is_first = true;
@@ -182,13 +186,14 @@ impl Attribute {
         }
     }
 
-    /// The set as it is shown: the words of its known bits, by rising bit, with one space between, in at most 99 bytes.
-    pub fn shown(self) -> Text
+    /// The set as it is shown: the words of its known bits, by rising bit, with one space between, in at most
+    /// `LONGEST_SET` bytes.
+    pub fn shown(self) -> CanonicalText
         ensures bytes { result.bytes ≡ attribute_shown self.0 }
         ensures text { HasText AttributeText self
             → IsTextOf AttributeText CanonicalAttribute self result.bytes }
     {
-        let mut text = Text::new();
+        let mut text = CanonicalText::new();
         self.push_to(&mut text);
         text
     }
@@ -206,7 +211,7 @@ impl Attribute {
     }
 }
 
-/// The attribute that the text is a text of.
+/// The attribute of the text, or `None` if it has none.
 fn attribute_of(text: &[u8]) -> Option<Attribute>
     ensures { Reads AttributeText text.now result }
 {
@@ -219,7 +224,7 @@ fn attribute_of(text: &[u8]) -> Option<Attribute>
 impl TryRead for Attribute {
     ghost refusal = { Always faults.Color };
 
-    /// The attribute that the text is a text of, or `Fault::Color`.
+    /// The attribute of the text, or `Fault::Color` if it has none.
     fn try_read(text: &[u8]) -> Result<Attribute, Fault> {
         attribute_of(text).ok_or(Fault::Color)
     }
@@ -230,7 +235,7 @@ impl FromStr for Attribute {
 
     ghost from_str_gives = { ReadsFault AttributeText (Always faults.Color) };
 
-    /// The attribute that the text is a text of, or `Fault::Color`.
+    /// The attribute of the text, or `Fault::Color` if it has none.
     fn from_str(text: &str) -> Result<Attribute, Fault> {
         Attribute::try_read(text.as_bytes())
     }
@@ -241,7 +246,7 @@ impl<'a> TryFrom<BStr<'a>> for Attribute {
 
     ghost try_from_gives = { ReadsBytes AttributeText (Always faults.Color) };
 
-    /// The attribute that the input is a text of, or `Fault::Color` with the whole input.
+    /// The attribute of the input, or `Fault::Color` with the whole input if it has none.
     fn try_from(input: BStr<'a>) -> Result<Attribute, Error<'a>> {
         read_bytes(input)
     }
@@ -274,7 +279,7 @@ impl Value for Attribute {
 
     ghost displayed = { λ a. attribute_shown a.0 };
 
-    /// The attribute that the input is a text of, and `None` where it is a text of none.
+    /// The attribute of the input, or `None` if it has none.
     fn read(input: BStr<'_>) -> Option<Attribute> {
         attribute_of(input.as_bytes())
     }
@@ -285,7 +290,7 @@ impl Value for Attribute {
     }
 
     /// Writes the word of the one bit that is set.
-    fn write_to(&self, text: &mut Text) {
+    fn write_to(&self, text: &mut CanonicalText) {
         self.push_to(text);
     }
 

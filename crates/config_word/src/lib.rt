@@ -16,3 +16,4 @@ pub mod attribute;
 pub mod item;
 pub mod laws;
 pub mod name;
+mod words;

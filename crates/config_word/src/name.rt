@@ -2,19 +2,23 @@
 ghost use Rattle.std.specs.Prelude.{◌≡◌, ◌+◌, ◌<◌, ◌≤◌, ◌∷◌, [], ◌++◌, length, Some};
 ghost use Rattle.std.specs.Char.{digit_char};
 ghost use Rattle.config_text.specs.declared.errors.Fault.TheVariants as faults;
-ghost use Rattle.config_word.specs.Name.{NameText, CanonicalName, NameFits, hex_pair, name_shown};
-ghost use Rattle.config_word.specs.Laws.Name.{name_canonical_reads, name_decided, name_one_text, name_one_value, name_shown_is_text};
+ghost use Rattle.std.specs.List.{slice_get};
+ghost use Rattle.config_word.specs.Name.{NameText, CanonicalName, hex_pair, name_shown, word_names};
+ghost use Rattle.config_word.specs.Orders.{name_place};
+ghost use Rattle.config_word.specs.Laws.Name.{name_canonical_reads, name_decided, name_one_text};
+ghost use Rattle.config_word.specs.Laws.Name.{name_one_value, name_shown_is_text};
 ghost use Rattle.config_text.specs.Refusals.{Always, ReadsBytes, ReadsFault};
 ghost use Rattle.config_text.specs.Value.{IsTextOf, Reads};
 ghost use Rattle.std.proofs.Common.{rules};
 ghost use Rattle.config_text.specs.Json.{GivesJsonText};
 
 use crate::item::{Item, word};
+use crate::laws::texts::numbers_fit;
 use bstr::BStr;
 use config_text::errors::{Error, Fault};
 use config_text::json::{JsonError, string};
 use config_text::readers::{TryRead, read_bytes};
-use config_text::value::{LONGEST_TEXT, Text, Value};
+use config_text::value::{CanonicalText, LONGEST_TEXT, Value};
 use itoa::Buffer;
 use serde_json::Value as JsonValue;
 use std::alloc::Global;
@@ -23,11 +27,12 @@ use std::str::FromStr;
 
 /// A color's name: a word, a palette number, or red, green and blue.
 ///
-/// The eighteen words are read in any case of their letters, and `-1` as `normal`. A palette number is 0 to 255; a `+`
-/// and zeros may stand before it. Red, green and blue are `#` and six hexadecimal digits, or three, each taken twice.
+/// The eighteen words are read in any case of their letters, and `-1` as `normal`. A palette number is 0 to
+/// 255; a `+` and zeros may stand before it. Red, green and blue are `#` and six hexadecimal digits, or
+/// three, each taken twice.
 ///
-/// Any other text is refused with `Fault::Color`. The canonical text is the word in lower case, the number in decimal,
-/// or `#` and six lower-case digits. The source: docs/GRAMMAR.md, Color names.
+/// Any other text is refused with `Fault::Color`. The canonical text is the word in lower case, the number in
+/// decimal, or `#` and six lower-case digits. The source: docs/GRAMMAR.md, Color names.
 ///
 /// ```rust
 /// use gix_config_value::Fault;
@@ -83,8 +88,55 @@ pub enum Name {
     Rgb(u8, u8, u8),
 }
 
+/// The bytes of the longest word of a name, `brightmagenta`.
+pub const LONGEST_NAME: usize = 13;
+
+/// The words of the eighteen names that are words, in the order of [`Name`].
+pub const WORDS: [&str; 18] = [
+    "normal",
+    "default",
+    "black",
+    "brightblack",
+    "red",
+    "brightred",
+    "green",
+    "brightgreen",
+    "yellow",
+    "brightyellow",
+    "blue",
+    "brightblue",
+    "magenta",
+    "brightmagenta",
+    "cyan",
+    "brightcyan",
+    "white",
+    "brightwhite",
+];
+
+/// The names of [`WORDS`].
+const NAMES: [Name; 18] = [
+    Name::Normal,
+    Name::Default,
+    Name::Black,
+    Name::BrightBlack,
+    Name::Red,
+    Name::BrightRed,
+    Name::Green,
+    Name::BrightGreen,
+    Name::Yellow,
+    Name::BrightYellow,
+    Name::Blue,
+    Name::BrightBlue,
+    Name::Magenta,
+    Name::BrightMagenta,
+    Name::Cyan,
+    Name::BrightCyan,
+    Name::White,
+    Name::BrightWhite,
+];
+
 /// Appends the two lower-case hexadecimal digits of a byte.
-fn push_hex(text: &mut Text, byte: u8)
+fn push_hex(text: &mut CanonicalText, byte: u8)
     requires { length text.old.bytes + 2 ≤ LONGEST_TEXT }
     ensures { text.new.bytes ≡ text.old.bytes ++ hex_pair byte }
 {
@@ -118,66 +170,79 @@ fn hex_digit(number: u8) -> &'static str
 }
 
 impl Name {
-    /// Appends the name as it is shown, in at most 13 bytes, for which there must be room. Colors
-    /// append their names by it.
+    /// The name's place in the order of declaration: 0 for `Normal` to 19 for `Rgb`.
     #[inline(always)]
-    pub fn push_to(self, text: &mut Text)
-        requires { length text.old.bytes + 13 ≤ LONGEST_TEXT }
+    pub fn place(self) -> u8
+        ensures { result ≡ name_place self }
+    {
+        match self {
+            Name::Normal => 0,
+            Name::Default => 1,
+            Name::Black => 2,
+            Name::BrightBlack => 3,
+            Name::Red => 4,
+            Name::BrightRed => 5,
+            Name::Green => 6,
+            Name::BrightGreen => 7,
+            Name::Yellow => 8,
+            Name::BrightYellow => 9,
+            Name::Blue => 10,
+            Name::BrightBlue => 11,
+            Name::Magenta => 12,
+            Name::BrightMagenta => 13,
+            Name::Cyan => 14,
+            Name::BrightCyan => 15,
+            Name::White => 16,
+            Name::BrightWhite => 17,
+            Name::Ansi(_) => 18,
+            Name::Rgb(_, _, _) => 19,
+        }
+    }
+
+    /// The name of the word at this place among [`WORDS`], or `None` after the last.
+    #[inline(always)]
+    pub fn at_place(place: u8) -> Option<Name>
+        ensures { result ≡ slice_get word_names place }
+    {
+        if place < 18 {
+            Some(NAMES[usize::from(place)])
+        } else {
+            None
+        }
+    }
+
+    /// Appends the name as it is shown. There must be room for `LONGEST_NAME` bytes. Colors append their
+    /// names by it.
+    #[inline(always)]
+    pub fn push_to(self, text: &mut CanonicalText)
+        requires { length text.old.bytes + LONGEST_NAME ≤ LONGEST_TEXT }
         ensures { text.new.bytes ≡ text.old.bytes ++ name_shown self }
     {
-        let word = match self {
-            Name::Normal => "normal",
-            Name::Default => "default",
-            Name::Black => "black",
-            Name::BrightBlack => "brightblack",
-            Name::Red => "red",
-            Name::BrightRed => "brightred",
-            Name::Green => "green",
-            Name::BrightGreen => "brightgreen",
-            Name::Yellow => "yellow",
-            Name::BrightYellow => "brightyellow",
-            Name::Blue => "blue",
-            Name::BrightBlue => "brightblue",
-            Name::Magenta => "magenta",
-            Name::BrightMagenta => "brightmagenta",
-            Name::Cyan => "cyan",
-            Name::BrightCyan => "brightcyan",
-            Name::White => "white",
-            Name::BrightWhite => "brightwhite",
-            Name::Ansi(number) => {
-                text.push_str(Buffer::new().format(number));
-                return;
-            }
+        match self {
+            Name::Ansi(number) => text.push_str(Buffer::new().format(number)),
             Name::Rgb(red, green, blue) => {
                 text.push('#');
                 push_hex(text, red);
                 push_hex(text, green);
                 push_hex(text, blue);
-                return;
             }
-        };
-        text.push_str(word);
+            word => text.push_str(WORDS[usize::from(word.place())]),
+        }
     }
 
-    /// The name as it is shown, which is its canonical text, of at most 13 bytes.
-    pub fn shown(self) -> Text
+    /// The name as it is shown, which is its canonical text, of at most `LONGEST_NAME` bytes.
+    pub fn shown(self) -> CanonicalText
         ensures bytes { result.bytes ≡ name_shown self }
         ensures text { IsTextOf NameText CanonicalName self result.bytes }
     {
         numbers_fit(self);
-        let mut text = Text::new();
+        let mut text = CanonicalText::new();
         self.push_to(&mut text);
         text
     }
 }
 
-/// Does nothing when it runs. It tells a proof that each number of a name is a byte. That is known of a name that is
-/// passed by value, and not of one inside another value. So colors call it for the names that they hold.
-pub fn numbers_fit(name: Name)
-    ensures { NameFits name }
-{}
-
-/// The name that the text is a text of.
+/// The name of the text, or `None` if it has none.
 #[inline(always)]
 fn name_of(text: &[u8]) -> Option<Name>
     ensures { Reads NameText text.now result }
@@ -191,7 +256,7 @@ fn name_of(text: &[u8]) -> Option<Name>
 impl TryRead for Name {
     ghost refusal = { Always faults.Color };
 
-    /// The name that the text is a text of, or `Fault::Color`.
+    /// The name of the text, or `Fault::Color` if it has none.
     fn try_read(text: &[u8]) -> Result<Name, Fault> {
         name_of(text).ok_or(Fault::Color)
     }
@@ -202,7 +267,7 @@ impl FromStr for Name {
 
     ghost from_str_gives = { ReadsFault NameText (Always faults.Color) };
 
-    /// The name that the text is a text of, or `Fault::Color`.
+    /// The name of the text, or `Fault::Color` if it has none.
     fn from_str(text: &str) -> Result<Name, Fault> {
         Name::try_read(text.as_bytes())
     }
@@ -213,7 +278,7 @@ impl<'a> TryFrom<BStr<'a>> for Name {
 
     ghost try_from_gives = { ReadsBytes NameText (Always faults.Color) };
 
-    /// The name that the input is a text of, or `Fault::Color` with the whole input.
+    /// The name of the input, or `Fault::Color` with the whole input if it has none.
     fn try_from(input: BStr<'a>) -> Result<Name, Error<'a>> {
         read_bytes(input)
     }
@@ -246,7 +311,7 @@ impl Value for Name {
 
     ghost displayed = { name_shown };
 
-    /// The name that the input is a text of, and `None` where it is a text of none.
+    /// The name of the input, or `None` if it has none.
     #[inline(always)]
     fn read(input: BStr<'_>) -> Option<Name> {
         name_of(input.as_bytes())
@@ -259,8 +324,8 @@ impl Value for Name {
         true
     }
 
-    /// Writes the name as it is shown, in at most 13 bytes.
-    fn write_to(&self, text: &mut Text) {
+    /// Writes the name as it is shown.
+    fn write_to(&self, text: &mut CanonicalText) {
         self.push_to(text);
     }
 

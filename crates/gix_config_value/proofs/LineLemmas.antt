@@ -1,5 +1,7 @@
 -- Lines: where the first LF or the first space of a list of bytes stands.
-use Rattle.std.proofs.Common.{◌-◌, suc, eq-eqb, eqb-true, ◌≡◌, ◌≢◌, ℕ, ◌+◌, ◌<◌, ◌==◌, List, [], ◌∷◌, ◌++◌, Bool, true, false, length, take, drop, get_or, refl, sym, ap, ◌∙◌, arith, append_assoc, add-one, drop-cons, length-take, take-append-drop}
+use Rattle.std.proofs.Common.{◌-◌, suc, eq-eqb, eqb-true, ◌≡◌, ◌≢◌, ℕ, ◌+◌, ◌<◌, ◌==◌, List, [], ◌∷◌, ◌++◌}
+use Rattle.std.proofs.Common.{Bool, true, false, length, take, drop, get_or, refl, sym, ap, ◌∙◌, arith}
+use Rattle.std.proofs.Common.{append_assoc, add-one, drop-cons, length-take, take-append-drop}
 use Rattle.std.specs.List.{AllByRecursion, position_or_len}
 use Rattle.std.proofs.lemmas.List.Sums.{position_or_len_is}
 use Rattle.std.proofs.lemmas.List.{take_rest, get_or-take}
@@ -22,22 +24,26 @@ position_nowhere byte bytes none =
     (λ below. absurd (omega arith))
 
 -- the byte stands first at place i
-pub position_first : (byte : ℕ) (bytes : List ℕ) (i : ℕ) → NoneBefore (Passes (is_byte byte) bytes) 0 (length bytes) i
+pub position_first : (byte : ℕ) (bytes : List ℕ) (i : ℕ)
+    → NoneBefore (Passes (is_byte byte) bytes) 0 (length bytes) i
     → Passes (is_byte byte) bytes i → position_or_len (λ b. b == byte) bytes ≡ i
 position_first byte bytes i first passes =
     position_or_len_is (λ b. b == byte) bytes i 0 (omega (arith, first.high)) (λ k below. false_from _ (first.before k (omega arith) below))
     (λ _. passes)
 
 -- what holds at each place holds of each element
-pub AllByRecursion-from_places : (P : ℕ → Type 0) (xs : List ℕ) → ((k : ℕ) → k < length xs → P (get_or xs k 0)) → AllByRecursion P xs
+pub AllByRecursion-from_places : (P : ℕ → Type 0) (xs : List ℕ)
+    → ((k : ℕ) → k < length xs → P (get_or xs k 0)) → AllByRecursion P xs
 AllByRecursion-from_places P [] each = tt
 AllByRecursion-from_places P (x ∷ xs) each =
     (each 0 (omega arith), AllByRecursion-from_places P xs (λ k below. each (suc k) (omega arith)))
 
-pub unbroken_nowhere : (bytes : List ℕ) → Nowhere (Passes (is_byte line_feed) bytes) 0 (length bytes) → IsUnbroken bytes
+pub unbroken_nowhere : (bytes : List ℕ) → Nowhere (Passes (is_byte line_feed) bytes) 0 (length bytes)
+    → IsUnbroken bytes
 unbroken_nowhere bytes none = AllByRecursion-from_places (λ b. b ≢ line_feed) bytes (λ k below is. none k (omega arith) below (eq-eqb _ line_feed is))
 
-pub cuts_first : (bytes : List ℕ) (i : ℕ) → NoneBefore (Passes (is_byte line_feed) bytes) 0 (length bytes) i → Passes (is_byte line_feed) bytes i → CutsLine bytes i
+pub cuts_first : (bytes : List ℕ) (i : ℕ) → NoneBefore (Passes (is_byte line_feed) bytes) 0 (length bytes) i
+    → Passes (is_byte line_feed) bytes i → CutsLine bytes i
 cuts_first bytes i first passes = record {
   parts =
       let inside : i < length bytes = first.high in
@@ -51,15 +57,18 @@ cuts_first bytes i first passes = record {
 
 -- ---- the head of a line and what follows it
 
-pub head_first : (line : List ℕ) (i : ℕ) → position_or_len (λ b. b == space) line ≡ i → take i line ≡ line_head line
+pub head_first : (line : List ℕ) (i : ℕ) → position_or_len (λ b. b == space) line ≡ i
+    → take i line ≡ line_head line
 head_first line i at = ap (λ n. take n line) (sym at)
 
-pub head_nowhere : (line : List ℕ) → position_or_len (λ b. b == space) line ≡ length line → line ≡ line_head line
+pub head_nowhere : (line : List ℕ) → position_or_len (λ b. b == space) line ≡ length line
+    → line ≡ line_head line
 head_nowhere line at = sym (ap (λ n. take n line) at ∙ take-length line)
 
 pub value_first : (line : List ℕ) (i : ℕ) → position_or_len (λ b. b == space) line ≡ i
     → take (length line - (i + 1)) (drop (i + 1) line) ≡ line_value line
 value_first line i at = take_rest line (i + 1) ∙ ap (λ n. drop (n + 1) line) (sym at)
 
-pub value_nowhere : (line : List ℕ) → position_or_len (λ b. b == space) line ≡ length line → [] ≡ line_value line
+pub value_nowhere : (line : List ℕ) → position_or_len (λ b. b == space) line ≡ length line
+    → [] ≡ line_value line
 value_nowhere line at = sym (ap (λ n. drop (n + 1) line) at ∙ drop_of_length-le line (omega arith))

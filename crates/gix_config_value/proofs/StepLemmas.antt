@@ -1,5 +1,7 @@
 -- How the steps of a run compose, and that every line and every input has answers.
-use Rattle.std.proofs.Common.{length, Result, Ok, Err, OnOk, IfErr, ◌+◌, take, drop, take-append-drop, ◌≡◌, ℕ, inl, inr, List, [], ◌∷◌, ◌++◌, ◌&&◌, flat_map, Bool, true, Option, refl, sym, ap, ◌∙◌, append_assoc, append-nil, subst}
+use Rattle.std.proofs.Common.{length, Result, Ok, Err, OnOk, IfErr, ◌+◌, take, drop, take-append-drop, ◌≡◌, ℕ}
+use Rattle.std.proofs.Common.{inl, inr, List, [], ◌∷◌, ◌++◌, ◌&&◌, flat_map, Bool, true, Option, refl, sym}
+use Rattle.std.proofs.Common.{ap, ◌∙◌, append_assoc, append-nil, subst}
 use Rattle.std.specs.List.{AllByRecursion, AllZip, list_all}
 use Rattle.std.specs.Result.{IsErrAnd}
 use Rattle.std.specs.Io.KnownBytes.{Appends}
@@ -10,21 +12,26 @@ use Rattle.std.proofs.lemmas.List.{nil_from_length}
 use Rattle.std.proofs.lemmas.Bool.Decides.{eqb_tells}
 use Rattle.gix_config_value.specs.declared.program.RunError.{RunError}
 use Rattle.gix_config_value.specs.declared.program.RunError.TheVariants.{Write}
-use Rattle.gix_config_value.specs.declared.program.Outcome.{Outcome}
-use Rattle.gix_config_value.specs.declared.program.Outcome.TheVariants.{Accepted, Refused, UnknownKind}
+use Rattle.gix_config_value.specs.Answers.Outcome.{accepted, refused, unknown_kind}
 use Rattle.config_text.specs.Bytes.{line_feed}
-use Rattle.gix_config_value.specs.Answers.{ended, IsUnbroken, line_head, line_value, LineOutcome, outcome_text, is_accepted, Answers, IsBeginningOfAnswers, AnswersAllBut}
-use Rattle.gix_config_value.specs.Reading.Steps.{Takes, AnswersLast, CutsLine, Sent, Sends, SendsAnswer, Breaks, Going, with_more, Advances, Stops, AnswersUpTo}
+use Rattle.gix_config_value.specs.Answers.{Outcome, ended, IsUnbroken, line_head, line_value, LineOutcome}
+use Rattle.gix_config_value.specs.Answers.{outcome_text, is_accepted, Answers, IsBeginningOfAnswers}
+use Rattle.gix_config_value.specs.Answers.{AnswersAllBut}
+use Rattle.gix_config_value.specs.Reading.Steps.{CompletesLines, AnswersLast, CutsLine, OutputState}
+use Rattle.gix_config_value.specs.Reading.Steps.{SendsBytes, SendsAnswer, AppendsAnswer, FailsSending}
+use Rattle.gix_config_value.specs.Reading.Steps.{RunState, with_more, Advances, FailsWithin, AnswersUpTo}
 use Rattle.gix_config_value.proofs.KindLemmas.{kind_told, kind_decided}
 use Rattle.std.proofs.KnownBytes.{Appends-nil, Appends-trans}
 
 -- ---- lists
 
-pub AllByRecursion-append : {X : Type 0} (P : X → Type 0) (xs ys : List X) → AllByRecursion P xs → AllByRecursion P ys → AllByRecursion P (xs ++ ys)
+pub AllByRecursion-append : {X : Type 0} (P : X → Type 0) (xs ys : List X) → AllByRecursion P xs
+    → AllByRecursion P ys → AllByRecursion P (xs ++ ys)
 AllByRecursion-append P [] ys p q = q
 AllByRecursion-append P (x ∷ xs) ys p q = (p.0, AllByRecursion-append P xs ys p.1 q)
 
-AllZip-append : {A B : Type 0} (R : A → B → Type 0) (xs : List A) (ys : List B) (vs : List A) (ws : List B) → AllZip R xs ys → AllZip R vs ws → AllZip R (xs ++ vs) (ys ++ ws)
+AllZip-append : {A B : Type 0} (R : A → B → Type 0) (xs : List A) (ys : List B) (vs : List A) (ws : List B)
+    → AllZip R xs ys → AllZip R vs ws → AllZip R (xs ++ vs) (ys ++ ws)
 AllZip-append R [] [] vs ws p q = q
 AllZip-append R [] (y ∷ ys) vs ws p q = absurd p
 AllZip-append R (x ∷ xs) [] vs ws p q = absurd p
@@ -32,8 +39,8 @@ AllZip-append R (x ∷ xs) (y ∷ ys) vs ws p q = (p.0, AllZip-append R xs ys vs
 
 -- ---- bytes taken
 
-pub Takes-nil : (line : List ℕ) (ok : Bool) → Takes line ok [] line ok []
-Takes-nil line ok = record {
+pub CompletesLines-nil : (line : List ℕ) (ok : Bool) → CompletesLines line ok [] line ok []
+CompletesLines-nil line ok = record {
   lines = [];
   outcomes = [];
   joined = append-nil line;
@@ -45,8 +52,9 @@ Takes-nil line ok = record {
 }
 
 -- bytes without LF go on with the line begun
-pub Takes-begun : (line front : List ℕ) (ok : Bool) → IsUnbroken front → Takes line ok front (line ++ front) ok []
-Takes-begun line front ok unbroken = record {
+pub CompletesLines-begun : (line front : List ℕ) (ok : Bool) → IsUnbroken front
+    → CompletesLines line ok front (line ++ front) ok []
+CompletesLines-begun line front ok unbroken = record {
   lines = [];
   outcomes = [];
   joined = refl;
@@ -58,9 +66,10 @@ Takes-begun line front ok unbroken = record {
 }
 
 -- bytes with one LF, at their end, complete the line begun
-pub Takes-line : (line front : List ℕ) (ok : Bool) (outcome : Outcome) → IsUnbroken front → LineOutcome (line ++ front) outcome
-    → Takes line ok (ended front) [] (ok && is_accepted outcome) (outcome_text outcome)
-Takes-line line front ok outcome unbroken is = record {
+pub CompletesLines-line : (line front : List ℕ) (ok : Bool) (outcome : Outcome) → IsUnbroken front
+    → LineOutcome (line ++ front) outcome
+    → CompletesLines line ok (ended front) [] (ok && is_accepted outcome) (outcome_text outcome)
+CompletesLines-line line front ok outcome unbroken is = record {
   lines = (line ++ front) ∷ [];
   outcomes = outcome ∷ [];
   joined = sym (append_assoc line front _) ∙ sym (append-nil _) ∙ sym (append-nil _);
@@ -71,9 +80,10 @@ Takes-line line front ok outcome unbroken is = record {
   all_accepted = ap (λ b. ok && b) (sym (and-true _));
 }
 
-pub Takes-trans : (line p line' q line'' : List ℕ) (ok ok' ok'' : Bool) (first second : List ℕ)
-    → Takes line ok p line' ok' first → Takes line' ok' q line'' ok'' second → Takes line ok (p ++ q) line'' ok'' (first ++ second)
-Takes-trans line p line' q line'' ok ok' ok'' first second t u = record {
+pub CompletesLines-trans : (line p line' q line'' : List ℕ) (ok ok' ok'' : Bool) (first second : List ℕ)
+    → CompletesLines line ok p line' ok' first → CompletesLines line' ok' q line'' ok'' second
+    → CompletesLines line ok (p ++ q) line'' ok'' (first ++ second)
+CompletesLines-trans line p line' q line'' ok ok' ok'' first second t u = record {
   lines = t.lines ++ u.lines;
   outcomes = t.outcomes ++ u.outcomes;
   joined = sym (append_assoc line p q) ∙ ap (λ l. l ++ q) t.joined ∙ append_assoc (flat_map ended t.lines) line' q
@@ -91,42 +101,46 @@ Takes-trans line p line' q line'' ok ok' ok'' first second t u = record {
 
 pub line_decided : (line : List ℕ) → (outcome : Outcome) × LineOutcome line outcome
 line_decided line = elim (kind_told (line_head line)) [
-  | inr none ↦ (UnknownKind, none)
+  | inr none ↦ (unknown_kind, none)
   | inl found ↦ elim (kind_decided found.0 (line_value line)) [
-    | inl text ↦ (Accepted (record { bytes = text.0; spare = [] }), (found.0, found.1, text.1))
-    | inr none ↦ (Refused, (found.0, found.1, none))
+    | inl text ↦ (accepted text.0, (found.0, found.1, text.1))
+    | inr none ↦ (refused, (found.0, found.1, none))
   ]
 ]
 
-abbrev pub TakesSome : List ℕ → Bool → List ℕ → Type 0
-TakesSome line ok bytes = (line' : List ℕ) × (ok' : Bool) × (output : List ℕ) × Takes line ok bytes line' ok' output
+abbrev pub CompletesSome : List ℕ → Bool → List ℕ → Type 0
+CompletesSome line ok bytes =
+    (line' : List ℕ) × (ok' : Bool) × (output : List ℕ) × CompletesLines line ok bytes line' ok' output
 
 take_on : (line : List ℕ) (ok : Bool) (b : ℕ) (bs line' : List ℕ) (ok' : Bool) (output : List ℕ)
-    → Takes line ok (b ∷ []) line' ok' output → TakesSome line' ok' bs → TakesSome line ok (b ∷ bs)
+    → CompletesLines line ok (b ∷ []) line' ok' output → CompletesSome line' ok' bs
+    → CompletesSome line ok (b ∷ bs)
 take_on line ok b bs line' ok' output t rest =
-    (rest.0, rest.1, output ++ rest.2, Takes-trans line (b ∷ []) line' bs rest.0 ok ok' rest.1 output rest.2 t rest.3)
+    (rest.0, rest.1, output ++ rest.2, CompletesLines-trans line (b ∷ []) line' bs rest.0 ok ok' rest.1 output rest.2 t rest.3)
 
-take_line_feed : (line : List ℕ) (ok : Bool) → TakesSome line ok (line_feed ∷ [])
+take_line_feed : (line : List ℕ) (ok : Bool) → CompletesSome line ok (line_feed ∷ [])
 take_line_feed line ok = let o = line_decided (line ++ []) in
-    ([], ok && is_accepted o.0, outcome_text o.0, Takes-line line [] ok o.0 tt o.1)
+    ([], ok && is_accepted o.0, outcome_text o.0, CompletesLines-line line [] ok o.0 tt o.1)
 
 -- any bytes complete some lines and leave some line begun
-pub takes_any : (line : List ℕ) (ok : Bool) (bytes : List ℕ) → TakesSome line ok bytes
-takes_any line ok [] = (line, ok, [], Takes-nil line ok)
+pub takes_any : (line : List ℕ) (ok : Bool) (bytes : List ℕ) → CompletesSome line ok bytes
+takes_any line ok [] = (line, ok, [], CompletesLines-nil line ok)
 takes_any line ok (b ∷ bs) = elim (eqb_tells b line_feed) [
   | inl at ↦ let t = take_line_feed line ok in
-      take_on line ok b bs t.0 t.1 t.2 (subst (λ x. Takes line ok (x ∷ []) t.0 t.1 t.2) (sym at.1) t.3) (takes_any t.0 t.1 bs)
-  | inr other ↦ take_on line ok b bs (line ++ b ∷ []) ok [] (Takes-begun line (b ∷ []) ok (other.1, tt)) (takes_any (line ++ b ∷ []) ok bs)
+      take_on line ok b bs t.0 t.1 t.2 (subst (λ x. CompletesLines line ok (x ∷ []) t.0 t.1 t.2) (sym at.1) t.3) (takes_any t.0 t.1 bs)
+  | inr other ↦ take_on line ok b bs (line ++ b ∷ []) ok [] (CompletesLines-begun line (b ∷ []) ok (other.1, tt)) (takes_any (line ++ b ∷ []) ok bs)
 ]
 
 pub last_any : (line : List ℕ) (ok : Bool) → (ok' : Bool) × (output : List ℕ) × AnswersLast line ok ok' output
 last_any [] ok = (ok, [], (refl, refl))
-last_any (b ∷ bs) ok = let o = line_decided (b ∷ bs) in (ok && is_accepted o.0, outcome_text o.0, (o.0, o.1, refl, refl))
+last_any (b ∷ bs) ok =
+    let o = line_decided (b ∷ bs) in (ok && is_accepted o.0, outcome_text o.0, (o.0, o.1, refl, refl))
 
 -- ---- the answers to an input
 
 -- all lines that the bytes of an input complete, and then the last one
-pub Answers-last : (input line output last : List ℕ) (ok ok' : Bool) → Takes [] true input line ok output → AnswersLast line ok ok' last
+pub Answers-last : (input line output last : List ℕ) (ok ok' : Bool)
+    → CompletesLines [] true input line ok output → AnswersLast line ok ok' last
     → Answers input (output ++ last) ok'
 Answers-last input [] output last ok ok' t l = record {
   lines = t.lines;
@@ -154,7 +168,8 @@ Answers-last input (b ∷ bs) output last ok ok' t l = record {
 }
 
 -- what was written of the answers to the completed lines begins the answers to the input, whatever follows
-pub begins : (input line output written missing : List ℕ) (ok : Bool) → Takes [] true input line ok output → output ≡ written ++ missing
+pub begins : (input line output written missing : List ℕ) (ok : Bool)
+    → CompletesLines [] true input line ok output → output ≡ written ++ missing
     → IsBeginningOfAnswers input written
 begins input line output written missing ok t same = let last = last_any line ok in (
   output ++ last.1,
@@ -164,10 +179,11 @@ begins input line output written missing ok t same = let last = last_any line ok
 )
 
 -- the lines that a beginning of the input completes are all but some last ones
-pub all_but : (input left line line' output output' : List ℕ) (ok ok' : Bool) → Takes [] true input line ok output → Takes line ok left line' ok' output'
+pub all_but : (input left line line' output output' : List ℕ) (ok ok' : Bool)
+    → CompletesLines [] true input line ok output → CompletesLines line ok left line' ok' output'
     → (more : List (List ℕ)) × AnswersAllBut more (input ++ left) output
-unfolding Takes-trans
-all_but input left line line' output output' ok ok' t u = let whole = Takes-trans [] input line left line' true ok ok' output output' t u in (
+unfolding CompletesLines-trans
+all_but input left line line' output output' ok ok' t u = let whole = CompletesLines-trans [] input line left line' true ok ok' output output' t u in (
   u.lines,
   record {
     lines = t.lines;
@@ -180,11 +196,12 @@ all_but input left line line' output output' ok ok' t u = let whole = Takes-tran
 
 -- ---- what is sent
 
-pub Sends-nil : (a : Sent) → Sends a a []
-Sends-nil a = record { same_writer = refl; written = []; appended = Appends-nil a.held; in_order = append-nil a.waiting }
+pub SendsBytes-nil : (a : OutputState) → SendsBytes a a []
+SendsBytes-nil a = record { same_writer = refl; written = []; appended = Appends-nil a.held; in_order = append-nil a.waiting }
 
-pub Sends-trans : (a b c : Sent) (o o' : List ℕ) → Sends a b o → Sends b c o' → Sends a c (o ++ o')
-Sends-trans a b c o o' s t = record {
+pub SendsBytes-trans : (a b c : OutputState) (o o' : List ℕ) → SendsBytes a b o → SendsBytes b c o'
+    → SendsBytes a c (o ++ o')
+SendsBytes-trans a b c o o' s t = record {
   same_writer = t.same_writer ∙ s.same_writer;
   written = s.written ++ t.written;
   appended = Appends-trans a.held b.held c.held s.written t.written s.appended t.appended;
@@ -193,28 +210,47 @@ Sends-trans a b c o o' s t = record {
 }
 
 -- some first bytes of what waits are written
-pub Sends-write : (a b : Sent) (held : Option (List ℕ)) (n : ℕ) → Sends a b [] → Appends b.held held (take n b.waiting)
-    → Sends a (record { writer = b.writer; held = held; waiting = drop n b.waiting }) []
-Sends-write a b held n s h = Sends-trans a b _ [] [] s
+pub SendsBytes-write : (a b : OutputState) (held : Option (List ℕ)) (n : ℕ) → SendsBytes a b []
+    → Appends b.held held (take n b.waiting)
+    → SendsBytes a (record { writer = b.writer; held = held; waiting = drop n b.waiting }) []
+SendsBytes-write a b held n s h = SendsBytes-trans a b _ [] [] s
     (record { same_writer = refl; written = take n b.waiting; appended = h; in_order = append-nil b.waiting ∙ sym (take-append-drop n b.waiting) })
 
 -- all is written
-pub Sends-all : (a b : Sent) (bytes : List ℕ) → a.waiting ≡ [] → b.waiting ≡ [] → Sends a b bytes → Appends a.held b.held bytes
-Sends-all a b bytes first last s = subst (Appends a.held b.held)
+pub SendsBytes-all : (a b : OutputState) (bytes : List ℕ) → a.waiting ≡ [] → b.waiting ≡ []
+    → SendsBytes a b bytes → Appends a.held b.held bytes
+SendsBytes-all a b bytes first last s = subst (Appends a.held b.held)
     (sym (ap (λ x. x ++ bytes) (sym first) ∙ s.in_order ∙ ap (λ x. s.written ++ x) last ∙ append-nil s.written)) s.appended
 
-pub Breaks-after : (a b c : Sent) (o o' : List ℕ) (e : RunError) → Sends a b o → Breaks b c o' e → Breaks a c (o ++ o') e
-Breaks-after a b c o o' e s k =
-    record { missing = k.missing; sends = Sends-trans a b (record c { waiting = k.missing }) o o' s k.sends; allowed = k.allowed }
+pub FailsSending-after : (a b c : OutputState) (o o' : List ℕ) (e : RunError) → SendsBytes a b o
+    → FailsSending b c o' e → FailsSending a c (o ++ o') e
+FailsSending-after a b c o o' e s k =
+    record { missing = k.missing; sends = SendsBytes-trans a b (record c { waiting = k.missing }) o o' s k.sends; allowed = k.allowed }
+
+-- the answer to a line is appended to what waits
+pub SendsAnswer-appended : (line : List ℕ) (a b : OutputState) (waiting : List ℕ) (ok : Bool)
+    → SendsBytes a b []
+    → AppendsAnswer line b.waiting waiting ok → SendsAnswer line a (record b { waiting = waiting }) ok
+SendsAnswer-appended line a b waiting ok s p = record {
+  outcome = p.outcome;
+  is = p.is;
+  sends = SendsBytes-trans a b _ [] (outcome_text p.outcome) s
+      (record { same_writer = refl; written = []; appended = Appends-nil b.held; in_order = sym p.puts });
+  accepts = p.accepts;
+}
 
 -- nothing is left of what waited, and the buffer is cleared
-pub Sends-cleared : (a b : Sent) (waiting : List ℕ) → Sends a b [] → length b.waiting ≡ 0 → waiting ≡ [] → Sends a (record b { waiting = waiting }) []
-Sends-cleared a b waiting s none cleared =
-    subst (λ w. Sends a (record b { waiting = w }) []) (nil_from_length b.waiting none ∙ sym cleared) s
+pub SendsBytes-cleared : (a b : OutputState) (waiting : List ℕ) → SendsBytes a b [] → length b.waiting ≡ 0 → waiting ≡ [] → SendsBytes a (record b {
+  waiting =
+      waiting;
+}) []
+SendsBytes-cleared a b waiting s none cleared =
+    subst (λ w. SendsBytes a (record b { waiting = w }) []) (nil_from_length b.waiting none ∙ sym cleared) s
 
 -- a failed write, while these bytes are left
-pub Breaks-write : (a b after : Sent) (bytes : List ℕ) → Sends a b bytes → Appends b.held after.held [] → after.writer ≡ b.writer → Breaks a after bytes Write
-Breaks-write a b after bytes s h same = record {
+pub FailsSending-write : (a b after : OutputState) (bytes : List ℕ) → SendsBytes a b bytes
+    → Appends b.held after.held [] → after.writer ≡ b.writer → FailsSending a after bytes Write
+FailsSending-write a b after bytes s h same = record {
   missing = b.waiting;
   sends = record {
     same_writer = same ∙ s.same_writer;
@@ -227,76 +263,86 @@ Breaks-write a b after bytes s h same = record {
 
 -- ---- bytes taken, and their answers sent
 
-pub Advances-nil : (a : Going) → Advances a a []
-Advances-nil a = record { output = []; taken = Takes-nil a.line a.accepted; sends = Sends-nil a.to }
+pub Advances-nil : (a : RunState) → Advances a a []
+Advances-nil a = record { output = []; taken = CompletesLines-nil a.line a.accepted; sends = SendsBytes-nil a.to }
 
-pub Advances-trans : (a b c : Going) (p q : List ℕ) → Advances a b p → Advances b c q → Advances a c (p ++ q)
+pub Advances-trans : (a b c : RunState) (p q : List ℕ) → Advances a b p → Advances b c q
+    → Advances a c (p ++ q)
 Advances-trans a b c p q t u = record {
   output = t.output ++ u.output;
-  taken = Takes-trans a.line p b.line q c.line a.accepted b.accepted c.accepted t.output u.output t.taken u.taken;
-  sends = Sends-trans a.to b.to c.to t.output u.output t.sends u.sends;
+  taken = CompletesLines-trans a.line p b.line q c.line a.accepted b.accepted c.accepted t.output u.output t.taken u.taken;
+  sends = SendsBytes-trans a.to b.to c.to t.output u.output t.sends u.sends;
 }
 
 -- what waited is written once the bytes are taken
-pub Advances-sent : (a b : Going) (to : Sent) (bytes : List ℕ) → Advances a b bytes → Sends b.to to [] → Advances a (record b { to = to }) bytes
+pub Advances-sent : (a b : RunState) (to : OutputState) (bytes : List ℕ) → Advances a b bytes → SendsBytes b.to to [] → Advances a (record b {
+  to =
+      to;
+}) bytes
 Advances-sent a b to bytes t s = record {
   output = t.output;
   taken = t.taken;
-  sends = subst (Sends a.to to) (append-nil t.output) (Sends-trans a.to b.to to t.output [] t.sends s);
+  sends = subst (SendsBytes a.to to) (append-nil t.output) (SendsBytes-trans a.to b.to to t.output [] t.sends s);
 }
 
 -- bytes without LF go on with the line begun, and no answer comes
-pub Advances-begun : (a b : Going) (bytes : List ℕ) → IsUnbroken bytes → b ≡ with_more a bytes → Advances a b bytes
+pub Advances-begun : (a b : RunState) (bytes : List ℕ) → IsUnbroken bytes → b ≡ with_more a bytes
+    → Advances a b bytes
 Advances-begun a b bytes unbroken gathered = subst (λ x. Advances a x bytes) (sym gathered)
-    (record { output = []; taken = Takes-begun a.line bytes a.accepted unbroken; sends = Sends-nil a.to })
+    (record { output = []; taken = CompletesLines-begun a.line bytes a.accepted unbroken; sends = SendsBytes-nil a.to })
 
 -- the line begun is completed by bytes up to an LF, and answered
-pub Advances-line : (a : Going) (front : List ℕ) (to : Sent) (accepts : Bool) → IsUnbroken front → SendsAnswer (a.line ++ front) a.to to accepts
+pub Advances-line : (a : RunState) (front : List ℕ) (to : OutputState) (accepts : Bool) → IsUnbroken front
+    → SendsAnswer (a.line ++ front) a.to to accepts
     → Advances a (record { line = []; accepted = a.accepted && accepts; to = to }) (ended front)
 Advances-line a front to accepts unbroken e = record {
   output = outcome_text e.outcome;
-  taken = subst (λ x. Takes a.line a.accepted (ended front) [] (a.accepted && x) (outcome_text e.outcome)) (sym e.accepts)
-      (Takes-line a.line front a.accepted e.outcome unbroken e.is);
+  taken = subst (λ x. CompletesLines a.line a.accepted (ended front) [] (a.accepted && x) (outcome_text e.outcome)) (sym e.accepts)
+      (CompletesLines-line a.line front a.accepted e.outcome unbroken e.is);
   sends = e.sends;
 }
 
 -- an error before any of the bytes completed a line
-pub Stops-first : (a : Going) (after : Sent) (bytes : List ℕ) (e : RunError) → Breaks a.to after [] e → Stops a after bytes e
-Stops-first a after bytes e k = record {
+pub FailsWithin-first : (a : RunState) (after : OutputState) (bytes : List ℕ) (e : RunError)
+    → FailsSending a.to after [] e → FailsWithin a after bytes e
+FailsWithin-first a after bytes e k = record {
   done = [];
   left = bytes;
   split = refl;
   line = a.line;
   accepted = a.accepted;
   output = [];
-  taken = Takes-nil a.line a.accepted;
+  taken = CompletesLines-nil a.line a.accepted;
   breaks = k;
 }
 
 -- an error after some of the bytes were taken
-pub Stops-after : (a b : Going) (after : Sent) (p q : List ℕ) (e : RunError) → Advances a b p → Stops b after q e → Stops a after (p ++ q) e
-Stops-after a b after p q e t s = record {
+pub FailsWithin-after : (a b : RunState) (after : OutputState) (p q : List ℕ) (e : RunError) → Advances a b p
+    → FailsWithin b after q e → FailsWithin a after (p ++ q) e
+FailsWithin-after a b after p q e t s = record {
   done = p ++ s.done;
   left = s.left;
   split = ap (λ x. p ++ x) s.split ∙ sym (append_assoc p s.done s.left);
   line = s.line;
   accepted = s.accepted;
   output = t.output ++ s.output;
-  taken = Takes-trans a.line p b.line s.done s.line a.accepted b.accepted s.accepted t.output s.output t.taken s.taken;
-  breaks = Breaks-after a.to b.to after t.output s.output e t.sends s.breaks;
+  taken = CompletesLines-trans a.line p b.line s.done s.line a.accepted b.accepted s.accepted t.output s.output t.taken s.taken;
+  breaks = FailsSending-after a.to b.to after t.output s.output e t.sends s.breaks;
 }
 
 -- an error once all of the bytes are taken
-pub Stops-whole : (a b : Going) (after : Sent) (bytes : List ℕ) (e : RunError) → Advances a b bytes → Breaks b.to after [] e → Stops a after bytes e
-Stops-whole a b after bytes e t k =
-    subst (λ x. Stops a after x e) (append-nil bytes) (Stops-after a b after bytes [] e t (Stops-first b after [] e k))
+pub FailsWithin-whole : (a b : RunState) (after : OutputState) (bytes : List ℕ) (e : RunError)
+    → Advances a b bytes → FailsSending b.to after [] e → FailsWithin a after bytes e
+FailsWithin-whole a b after bytes e t k =
+    subst (λ x. FailsWithin a after x e) (append-nil bytes) (FailsWithin-after a b after bytes [] e t (FailsWithin-first b after [] e k))
 
 -- ---- the parts of a read
 
-pub AnswersUpTo-start : (a : Going) (bytes : List ℕ) → a.line ≡ [] → AnswersUpTo a a bytes bytes
+pub AnswersUpTo-start : (a : RunState) (bytes : List ℕ) → a.line ≡ [] → AnswersUpTo a a bytes bytes
 AnswersUpTo-start a bytes none = record { done = []; split = refl; advances = Advances-nil a; none = none }
 
-pub AnswersUpTo-more : (a b : Going) (bytes rest : List ℕ) (place : ℕ) (to : Sent) (accepts : Bool) → AnswersUpTo a b bytes rest → CutsLine rest place
+pub AnswersUpTo-more : (a b : RunState) (bytes rest : List ℕ) (place : ℕ) (to : OutputState) (accepts : Bool)
+    → AnswersUpTo a b bytes rest → CutsLine rest place
     → SendsAnswer (take place rest) b.to to accepts
     → AnswersUpTo a (record { line = b.line; accepted = b.accepted && accepts; to = to }) bytes (drop (place + 1) rest)
 AnswersUpTo-more a b bytes rest place to accepts t cut e = record {
@@ -310,19 +356,23 @@ AnswersUpTo-more a b bytes rest place to accepts t cut e = record {
 }
 
 -- an error at the answer to a line, or once the lines that end within the bytes are answered
-pub Stops-in_lines : (a b : Going) (bytes rest : List ℕ) (after : Sent) (e : RunError) → AnswersUpTo a b bytes rest → Breaks b.to after [] e
-    → Stops a after bytes e
-Stops-in_lines a b bytes rest after e t k =
-    subst (λ x. Stops a after x e) (sym t.split) (Stops-after a b after t.done rest e t.advances (Stops-first b after rest e k))
+pub FailsWithin-in_lines : (a b : RunState) (bytes rest : List ℕ) (after : OutputState) (e : RunError)
+    → AnswersUpTo a b bytes rest → FailsSending b.to after [] e
+    → FailsWithin a after bytes e
+FailsWithin-in_lines a b bytes rest after e t k =
+    subst (λ x. FailsWithin a after x e) (sym t.split) (FailsWithin-after a b after t.done rest e t.advances (FailsWithin-first b after rest e k))
 
 -- the lines that end within the bytes are answered, and the rest is gathered
-pub Advances-lines : (a b c : Going) (bytes rest : List ℕ) → AnswersUpTo a b bytes rest → IsUnbroken rest → c ≡ with_more b rest → Advances a c bytes
+pub Advances-lines : (a b c : RunState) (bytes rest : List ℕ) → AnswersUpTo a b bytes rest → IsUnbroken rest
+    → c ≡ with_more b rest → Advances a c bytes
 Advances-lines a b c bytes rest t unbroken gathered = subst (λ x. Advances a c x) (sym t.split)
     (Advances-trans a b c t.done rest t.advances (Advances-begun b c rest unbroken gathered))
 
 -- the line begun is gathered up to an LF, and answered
-pub Advances-completed : (a b : Going) (front line : List ℕ) (to : Sent) (accepts : Bool) → IsUnbroken front → b ≡ with_more a front
-    → SendsAnswer b.line b.to to accepts → line ≡ [] → Advances a (record { line = line; accepted = b.accepted && accepts; to = to }) (ended front)
+pub Advances-completed : (a b : RunState) (front line : List ℕ) (to : OutputState) (accepts : Bool)
+    → IsUnbroken front → b ≡ with_more a front
+    → SendsAnswer b.line b.to to accepts → line ≡ []
+    → Advances a (record { line = line; accepted = b.accepted && accepts; to = to }) (ended front)
 Advances-completed a b front line to accepts unbroken gathered e none =
     subst (λ l. Advances a (record { line = l; accepted = b.accepted && accepts; to = to }) (ended front)) (sym none)
     (subst (λ x. Advances a (record { line = []; accepted = x.accepted && accepts; to = to }) (ended front)) (sym gathered)
@@ -331,47 +381,57 @@ Advances-completed a b front line to accepts unbroken gathered e none =
 -- ---- a call that may fail
 
 -- what holds of an error holds where `?` passes it on
-pub passed_on : {T : Type 0} (r : Result T RunError) (e : RunError) (P : RunError → Type 0) → IsErrAnd r (λ x. x ≡ e) → P e → IfErr r P
+pub passed_on : {T : Type 0} (r : Result T RunError) (e : RunError) (P : RunError → Type 0)
+    → IsErrAnd r (λ x. x ≡ e) → P e → IfErr r P
 passed_on (Ok x) e P is p = tt
 passed_on (Err x) e P is p = subst P (sym is) p
 
 -- the bytes are gathered
-pub begun_on : (r : Result (Unit {0}) RunError) (a b : Going) (bytes : List ℕ) → IsUnbroken bytes → OnOk r (b ≡ with_more a bytes)
+pub begun_on : (r : Result (Unit {0}) RunError) (a b : RunState) (bytes : List ℕ) → IsUnbroken bytes
+    → OnOk r (b ≡ with_more a bytes)
     → OnOk r (Advances a b bytes)
 begun_on (Ok x) a b bytes unbroken gathered = Advances-begun a b bytes unbroken gathered
 begun_on (Err e) a b bytes unbroken gathered = tt
 
-pub stopped_first : (r : Result (Unit {0}) RunError) (a : Going) (after : Sent) (bytes : List ℕ) → IfErr r (Breaks a.to after [])
-    → IfErr r (Stops a after bytes)
+pub stopped_first : (r : Result (Unit {0}) RunError) (a : RunState) (after : OutputState) (bytes : List ℕ)
+    → IfErr r (FailsSending a.to after [])
+    → IfErr r (FailsWithin a after bytes)
 stopped_first (Ok x) a after bytes k = tt
-stopped_first (Err e) a after bytes k = Stops-first a after bytes e k
+stopped_first (Err e) a after bytes k = FailsWithin-first a after bytes e k
 
-module _ (r : Result (Unit {0}) RunError) (a b : Going) (bytes rest : List ℕ) (t : AnswersUpTo a b bytes rest) where
+module _ (r : Result (Unit {0}) RunError) (a b : RunState) (bytes rest : List ℕ) (t : AnswersUpTo a b bytes rest) where
   -- the rest is gathered behind the lines that end within the bytes
-  pub lines_on : (c : Going) → IsUnbroken rest → OnOk r (c ≡ with_more b rest) → OnOk r (Advances a c bytes)
+  pub lines_on : (c : RunState) → IsUnbroken rest → OnOk r (c ≡ with_more b rest)
+      → OnOk r (Advances a c bytes)
   lines_on c unbroken = on r where
     on : (r : Result (Unit {0}) RunError) → OnOk r (c ≡ with_more b rest) → OnOk r (Advances a c bytes)
     on (Ok x) gathered = Advances-lines a b c bytes rest t unbroken gathered
     on (Err e) gathered = tt
 
-  pub stopped_in_lines : (after : Sent) → IfErr r (Breaks b.to after []) → IfErr r (Stops a after bytes)
+  pub stopped_in_lines : (after : OutputState) → IfErr r (FailsSending b.to after [])
+      → IfErr r (FailsWithin a after bytes)
   stopped_in_lines after = on r where
-    on : (r : Result (Unit {0}) RunError) → IfErr r (Breaks b.to after []) → IfErr r (Stops a after bytes)
+    on : (r : Result (Unit {0}) RunError) → IfErr r (FailsSending b.to after [])
+        → IfErr r (FailsWithin a after bytes)
     on (Ok x) k = tt
-    on (Err e) k = Stops-in_lines a b bytes rest after e t k
+    on (Err e) k = FailsWithin-in_lines a b bytes rest after e t k
 
-module _ (r : Result (Unit {0}) RunError) (a b : Going) (bytes : List ℕ) (place : ℕ) (cut : CutsLine bytes place)
+module _ (r : Result (Unit {0}) RunError) (a b : RunState) (bytes : List ℕ) (place : ℕ) (cut : CutsLine bytes place)
     (t : Advances a b (ended (take place bytes))) where
   -- the line begun ends at the first LF, and then the rest is taken
-  pub taken_after : (c : Going) → OnOk r (Advances b c (drop (place + 1) bytes)) → OnOk r (Advances a c bytes)
+  pub taken_after : (c : RunState) → OnOk r (Advances b c (drop (place + 1) bytes))
+      → OnOk r (Advances a c bytes)
   taken_after c = on r where
-    on : (r : Result (Unit {0}) RunError) → OnOk r (Advances b c (drop (place + 1) bytes)) → OnOk r (Advances a c bytes)
+    on : (r : Result (Unit {0}) RunError) → OnOk r (Advances b c (drop (place + 1) bytes))
+        → OnOk r (Advances a c bytes)
     on (Ok x) u = subst (Advances a c) (sym cut.parts) (Advances-trans a b c (ended (take place bytes)) (drop (place + 1) bytes) t u)
     on (Err e) u = tt
 
-  pub stopped_after : (after : Sent) → IfErr r (Stops b after (drop (place + 1) bytes)) → IfErr r (Stops a after bytes)
+  pub stopped_after : (after : OutputState) → IfErr r (FailsWithin b after (drop (place + 1) bytes))
+      → IfErr r (FailsWithin a after bytes)
   stopped_after after = on r where
-    on : (r : Result (Unit {0}) RunError) → IfErr r (Stops b after (drop (place + 1) bytes)) → IfErr r (Stops a after bytes)
+    on : (r : Result (Unit {0}) RunError) → IfErr r (FailsWithin b after (drop (place + 1) bytes))
+        → IfErr r (FailsWithin a after bytes)
     on (Ok x) s = tt
-    on (Err e) s = subst (λ l. Stops a after l e) (sym cut.parts)
-        (Stops-after a b after (ended (take place bytes)) (drop (place + 1) bytes) e t s)
+    on (Err e) s = subst (λ l. FailsWithin a after l e) (sym cut.parts)
+        (FailsWithin-after a b after (ended (take place bytes)) (drop (place + 1) bytes) e t s)

@@ -1,15 +1,14 @@
 -- What the program answers to its input.
 --
--- The input is cut into lines at LF. Each line has one outcome, and the output is what the outcomes are shown as,
--- in order.
-use Rattle.std.specs.Prelude.{◌≡◌, ◌≢◌, ⊤, ℕ, ◌==◌, List, [], ◌∷◌, ◌++◌, flat_map, Bool, true, false, codes, Option, Result, Ok, Err}
+-- The input is cut into lines at LF. Each line has one outcome, and the output is what the outcomes are shown
+-- as, in order.
+use Rattle.std.specs.Prelude.{◌≡◌, ◌≢◌, ℕ, ◌==◌, List, [], ◌∷◌, ◌++◌, flat_map, Bool, true, false, codes}
+use Rattle.std.specs.Prelude.{Option, Result, Ok, Err}
 use Rattle.std.specs.List.{AllByRecursion, AllZip, list_all, before_first, after_first}
 use Rattle.std.specs.Io.KnownBytes.{Consumes, Appends, IsAtEnd}
 use Rattle.gix_config_value.specs.declared.kind.Kind.{Kind}
 use Rattle.gix_config_value.specs.declared.program.RunError.{RunError}
 use Rattle.gix_config_value.specs.declared.program.RunError.TheVariants.{Read, Write, Memory}
-use Rattle.gix_config_value.specs.declared.program.Outcome.{Outcome}
-use Rattle.gix_config_value.specs.declared.program.Outcome.TheVariants.{Accepted, Refused, UnknownKind}
 use Rattle.gix_config_value.specs.Kinds.{kind_name, KindValue, KindGrammar, KindCanonical}
 use Rattle.config_text.specs.Bytes.{line_feed, space}
 use Rattle.config_text.specs.Value.{IsRefused, IsTextOf}
@@ -45,36 +44,37 @@ line_value line = after_first (λ b. b == space) line
 
 -- ---- the outcome of a line
 
--- accepted with a canonical text that has the value of the line's text, refused where the kind's grammar gives
--- the text no value, and unknown where the head of the line is no kind's name
+-- what a line is answered: a canonical text, that its text is refused, or that its kind is unknown
+pub data Outcome : Type 0 where
+  accepted : (s : List ℕ) → Outcome
+  refused : Outcome
+  unknown_kind : Outcome
+
+-- accepted with a canonical text that has the value of the line's text, refused where the kind's grammar
+-- gives the text no value, and unknown where the head of the line is no kind's name
 abbrev pub LineOutcome : List ℕ → Outcome → Type 0
-LineOutcome line (Accepted s) = (kind : Kind) × (kind_name kind ≡ line_head line)
-    × ((v : KindValue kind) × KindGrammar kind (line_value line) v × IsTextOf (KindGrammar kind) (KindCanonical kind) v s.bytes)
-LineOutcome line Refused = (kind : Kind) × (kind_name kind ≡ line_head line) × IsRefused (KindGrammar kind) (line_value line)
-LineOutcome line UnknownKind = (kind : Kind) → kind_name kind ≢ line_head line
+LineOutcome line (accepted s) = (kind : Kind) × (kind_name kind ≡ line_head line)
+    × ((v : KindValue kind) × KindGrammar kind (line_value line) v × IsTextOf (KindGrammar kind) (KindCanonical kind) v s)
+LineOutcome line refused =
+    (kind : Kind) × (kind_name kind ≡ line_head line) × IsRefused (KindGrammar kind) (line_value line)
+LineOutcome line unknown_kind = (kind : Kind) → kind_name kind ≢ line_head line
 
 -- the line that says an outcome
 abbrev pub outcome_text : Outcome → List ℕ
-outcome_text (Accepted s) = ended (codes "ok " ++ s.bytes)
-outcome_text Refused = ended (codes "refused")
-outcome_text UnknownKind = ended (codes "unknown kind")
+outcome_text (accepted s) = ended (codes "ok " ++ s)
+outcome_text refused = ended (codes "refused")
+outcome_text unknown_kind = ended (codes "unknown kind")
 
 -- whether a line was accepted
 abbrev pub is_accepted : Outcome → Bool
-is_accepted (Accepted s) = true
-is_accepted Refused = false
-is_accepted UnknownKind = false
-
--- the same outcome: accepted ones have texts of the same bytes
-abbrev pub IsSameOutcome : Outcome → Outcome → Type 0
-IsSameOutcome (Accepted s) (Accepted t) = s.bytes ≡ t.bytes
-IsSameOutcome Refused Refused = ⊤
-IsSameOutcome UnknownKind UnknownKind = ⊤
-IsSameOutcome _ _ = ⊥
+is_accepted (accepted s) = true
+is_accepted refused = false
+is_accepted unknown_kind = false
 
 -- ---- the answers to an input
 
--- each line has its outcome, the output is the answers in order, and `ok` is true exactly where each line is accepted
+-- each line has its outcome, the output is the answers in order, and `ok` is true exactly where each line is
+-- accepted
 pub record LinesAnswered (lines : List (List ℕ)) (output : List ℕ) (ok : Bool) : Type 0 where
   pub outcomes : List Outcome
   pub each : AllZip LineOutcome lines outcomes
@@ -112,8 +112,8 @@ pub record AnswersAllBut (more : List (List ℕ)) (input output : List ℕ) : Ty
   pub cut : IsCut input (lines ++ more) rest
   pub answered : LinesAnswered lines output ok
 
--- which lines are answered after an error: after `Read` exactly those that were read with their LF, after `Memory`
--- some first ones of those
+-- which lines are answered after an error: after `Read` exactly those that were read with their LF, after
+-- `Memory` some first ones of those
 abbrev pub AnswersLines : RunError → List ℕ → List ℕ → Type 0
 AnswersLines Read input output = AnswersAllBut [] input output
 AnswersLines Write input output = Unit {0}

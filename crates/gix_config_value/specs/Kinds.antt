@@ -1,8 +1,16 @@
--- The kinds of value: for each its name, its values, its grammar and its canonical grammar.
-use Rattle.std.specs.Prelude.{◌≡◌, ◌≢◌, ℕ, List, codes, Bool, Option, Result, Ok, Err}
+-- The kinds of value: for each its name, its values, its grammar, its canonical grammar, and why a text is
+-- refused.
+use Rattle.std.specs.Prelude.{◌≡◌, ◌≢◌, ℕ, List, codes, Bool, Option, None, Some, Result, Ok, Err}
 use Rattle.arrayvec.specs.ArrayString.{ArrayString}
 use Rattle.gix_config_value.specs.declared.kind.Kind.{Kind}
 use Rattle.gix_config_value.specs.declared.kind.Kind.TheVariants as kinds
+use Rattle.gix_config_value.specs.declared.refusal.Refusal.{Refusal}
+use Rattle.gix_config_value.specs.declared.refusal.Refusal.TheVariants as refusals
+use Rattle.config_text.specs.declared.errors.Fault.{Fault}
+use Rattle.config_text.specs.declared.errors.Fault.TheVariants as faults
+use Rattle.config_text.specs.Faults.{fault_text}
+use Rattle.config_text.specs.Refusals.{Always}
+use Rattle.config_text.specs.Value.{IsAccepted, IsRefused}
 use Rattle.config_integer.specs.declared.suffix.Suffix as suffix
 use Rattle.config_integer.specs.declared.integer.Integer as integer
 use Rattle.config_integer.specs.declared.amount.Amount as amount
@@ -12,7 +20,7 @@ use Rattle.config_word.specs.declared.attribute.Attribute as attribute
 use Rattle.config_color.specs.declared.color.Color as color
 use Rattle.config_integer.specs.Suffix.{SuffixText, CanonicalSuffix}
 use Rattle.config_integer.specs.Integer.{IntegerText, CanonicalInteger}
-use Rattle.config_integer.specs.Amount.{AmountText, CanonicalAmount}
+use Rattle.config_integer.specs.Amount.{AmountText, CanonicalAmount, AmountRefusal}
 use Rattle.config_boolean.specs.Boolean.{BooleanText, CanonicalBoolean}
 use Rattle.config_word.specs.Name.{NameText, CanonicalName}
 use Rattle.config_word.specs.Attribute.{AttributeText, CanonicalAttribute}
@@ -64,7 +72,34 @@ KindCanonical kinds.Name = CanonicalName
 KindCanonical kinds.Attribute = CanonicalAttribute
 KindCanonical kinds.Color = CanonicalColor
 
--- what a normalizer says of a text in which white space stands: for colors, what follows from the texts beside it
+-- a fault, of those with which a reader refuses a text
+abbrev pub IsFaultOf : (Fault → Type 0) → Refusal → Type 0
+IsFaultOf refusal refusals.Suffix = ⊥
+IsFaultOf refusal (refusals.Fault fault) = refusal fault
+
+-- why a text has no value of a kind: the fault of the kind's reader, and that of suffixes has none
+abbrev pub KindRefusal : Kind → List ℕ → Refusal → Type 0
+KindRefusal kinds.Suffix t = λ r. r ≡ refusals.Suffix
+KindRefusal kinds.Integer t = IsFaultOf (Always faults.Integer t)
+KindRefusal kinds.Amount t = IsFaultOf (AmountRefusal t)
+KindRefusal kinds.Boolean t = IsFaultOf (Always faults.Boolean t)
+KindRefusal kinds.Name t = IsFaultOf (Always faults.Color t)
+KindRefusal kinds.Attribute t = IsFaultOf (Always faults.Color t)
+KindRefusal kinds.Color t = IsFaultOf (Always faults.Color t)
+
+-- the answer to why a text is refused: nothing where it has a value, and otherwise one of these reasons
+abbrev pub WhyRefused : {V : Type 0} → (List ℕ → V → Type 0) → (Refusal → Type 0) → List ℕ → Option Refusal
+    → Type 0
+WhyRefused grammar reason t None = IsAccepted grammar t
+WhyRefused grammar reason t (Some r) = reason r × IsRefused grammar t
+
+-- what a refusal is printed as: a fault as its own text
+abbrev pub refusal_text : Refusal → List ℕ
+refusal_text refusals.Suffix = codes "Suffixes are k, m and g, in either case"
+refusal_text (refusals.Fault fault) = fault_text fault
+
+-- what a normalizer says of a text in which white space stands: for colors, what follows from the texts
+-- beside it
 abbrev pub KindJoins : Kind → List ℕ → Option ArrayString → Type 0
 KindJoins kinds.Color t result = Joins t result
 KindJoins _ t result = Unit {0}

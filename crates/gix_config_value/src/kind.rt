@@ -1,19 +1,21 @@
 //! The kinds of value, as a choice made at run time.
-ghost use Rattle.std.specs.Prelude.{◌≡◌, ◌≢◌, Some, Contains, MatchOption, IsSomeAnd};
+ghost use Rattle.std.specs.Prelude.{◌≡◌, ◌≢◌, Some, MatchOption, IsSomeAnd};
 ghost use Rattle.bstr.specs.BStr.{bstr_bytes};
-ghost use Rattle.gix_config_value.specs.Kinds.{kind_name, NamesKind, KindGrammar, KindCanonical, KindJoins, KindComparesWords};
+ghost use Rattle.gix_config_value.specs.Kinds.{kind_name, NamesKind, KindGrammar, KindCanonical, KindJoins};
+ghost use Rattle.gix_config_value.specs.Kinds.{KindComparesWords, KindRefusal, WhyRefused, IsFaultOf};
 ghost use Rattle.config_text.specs.Value.{Normalizes, Fills, IsOnlyText, Compares};
 ghost use Rattle.gix_config_value.specs.declared.kind.Kind as kind;
-ghost use Rattle.gix_config_value.specs.declared.kind.TheConstants.Kind.{ALL};
 
+use crate::refusal::Refusal;
 use bstr::BStr;
 use config_boolean::boolean::Boolean;
 use config_color::color::Color;
 use config_integer::amount::Amount;
 use config_integer::integer::Integer;
 use config_integer::suffix::Suffix;
-use config_text::value::{Text, normalize_as, normalize_into_as, same_as};
-use config_text::words::is;
+use config_text::readers::TryRead;
+use config_text::value::{CanonicalText, Value, normalize_as, normalize_into_as, same_as};
+use config_text::words::equals;
 use config_word::attribute::Attribute;
 use config_word::name::Name;
 use std::fmt;
@@ -114,42 +116,35 @@ impl FromStr for Kind {
     }
 }
 
-/// Each kind stands in [`Kind::ALL`], and no two kinds have one name: so the name of a kind reads back.
-pub fn every_kind()
-    ensures every { (k : kind.Kind) → Contains ALL k }
-    ensures one_name { (k l : kind.Kind) → kind_name k ≡ kind_name l → k ≡ l }
-{}
-
 /// The kind of exactly this name.
 pub(crate) fn kind_by_name(name: &[u8]) -> Option<Kind>
     ensures { MatchOption result ((k : kind.Kind) → kind_name k ≢ name.now)
         (λ k. kind_name k ≡ name.now) }
 {
-    if is(name, b"suffix") {
+    if equals(name, b"suffix") {
         Some(Kind::Suffix)
-    } else if is(name, b"integer") {
+    } else if equals(name, b"integer") {
         Some(Kind::Integer)
-    } else if is(name, b"amount") {
+    } else if equals(name, b"amount") {
         Some(Kind::Amount)
-    } else if is(name, b"boolean") {
+    } else if equals(name, b"boolean") {
         Some(Kind::Boolean)
-    } else if is(name, b"name") {
+    } else if equals(name, b"name") {
         Some(Kind::Name)
-    } else if is(name, b"attribute") {
+    } else if equals(name, b"attribute") {
         Some(Kind::Attribute)
-    } else if is(name, b"color") {
+    } else if equals(name, b"color") {
         Some(Kind::Color)
     } else {
         None
     }
 }
 
-/// The canonical text of this kind that reads to the value of the input. `None` exactly where the kind's grammar gives
-/// the input no value. A canonical input is answered byte for byte. White space in a color text parts it into two: the
-/// answer is the canonical text of their composition.
+/// The canonical text of this kind that reads to the value of the input. `None` exactly where the kind's
+/// grammar gives the input no value. A canonical input is answered byte for byte. White space in a color text
+/// parts it into two: the answer is the canonical text of their composition.
 ///
-/// It tells no fault; the `FromStr` of the kind's type does, but a suffix has none. docs/GRAMMAR.md has a section for
-/// each kind.
+/// [`refusal`] says why an input is refused. docs/GRAMMAR.md has a section for each kind.
 ///
 /// ```rust
 /// use bstr::BStr;
@@ -159,7 +154,7 @@ pub(crate) fn kind_by_name(name: &[u8]) -> Option<Kind>
 /// assert_eq!(rt; text.as_str(), "16k");
 /// assert_eq!(rt; normalize(Kind::Integer, BStr::from("0x10kb")), None);
 /// ```
-pub fn normalize(kind: Kind, input: BStr<'_>) -> Option<Text>
+pub fn normalize(kind: Kind, input: BStr<'_>) -> Option<CanonicalText>
     ensures answer { Normalizes (KindGrammar kind) (KindCanonical kind)
         (bstr_bytes input.entry) result }
     ensures only { IsOnlyText (KindGrammar kind) (KindCanonical kind)
@@ -179,10 +174,10 @@ pub fn normalize(kind: Kind, input: BStr<'_>) -> Option<Text>
     }
 }
 
-/// Puts the canonical text of this kind that reads to the value of the input in place of what the text holds. Answers
-/// whether the kind's grammar gives the input a value; where it gives none the text is left empty. It answers as
-/// `normalize` does, and hands no text from call to call.
-pub fn normalize_into(kind: Kind, input: BStr<'_>, text: &mut Text) -> bool
+/// Replaces the text by the canonical text of this kind that reads to the value of the input. Returns whether
+/// the kind's grammar gives the input a value; if it gives none, the text is left empty. It is `normalize`
+/// without a copy of the text.
+pub fn normalize_into(kind: Kind, input: BStr<'_>, text: &mut CanonicalText) -> bool
     ensures { Fills (KindGrammar kind) (KindCanonical kind) (bstr_bytes input.entry) text.new.bytes result }
 {
     match kind {
@@ -193,6 +188,47 @@ pub fn normalize_into(kind: Kind, input: BStr<'_>, text: &mut Text) -> bool
         Kind::Name => normalize_into_as::<Name>(input, text),
         Kind::Attribute => normalize_into_as::<Attribute>(input, text),
         Kind::Color => normalize_into_as::<Color>(input, text),
+    }
+}
+
+/// Why the reader of a type refuses a text, or `None` if the text has a value.
+fn refusal_as<V: TryRead>(input: BStr<'_>) -> Option<Refusal>
+    ensures { WhyRefused V.grammar (IsFaultOf (V.refusal (bstr_bytes input.entry)))
+        (bstr_bytes input.entry) result }
+{
+    match V::try_read(input.as_bytes()) {
+        Ok(_) => None,
+        Err(fault) => Some(Refusal::Fault(fault)),
+    }
+}
+
+/// Why a text has no value of this kind, or `None` exactly where it has one.
+///
+/// ```rust
+/// use bstr::BStr;
+/// use gix_config_value::Fault;
+/// use gix_config_value::canonical::{Kind, Refusal, refusal};
+///
+/// let why = refusal(Kind::Amount, BStr::from("10 m"));
+/// assert_eq!(rt; why, Some(Refusal::Fault(Fault::Integer)));
+/// assert_eq!(rt; refusal(Kind::Suffix, BStr::from("kb")), Some(Refusal::Suffix));
+/// assert_eq!(rt; refusal(Kind::Amount, BStr::from("10m")), None);
+/// ```
+pub fn refusal(kind: Kind, input: BStr<'_>) -> Option<Refusal>
+    ensures { WhyRefused (KindGrammar kind) (KindRefusal kind (bstr_bytes input.entry))
+        (bstr_bytes input.entry) result }
+{
+    match kind {
+        Kind::Suffix => match Suffix::read(input) {
+            Some(_) => None,
+            None => Some(Refusal::Suffix),
+        },
+        Kind::Integer => refusal_as::<Integer>(input),
+        Kind::Amount => refusal_as::<Amount>(input),
+        Kind::Boolean => refusal_as::<Boolean>(input),
+        Kind::Name => refusal_as::<Name>(input),
+        Kind::Attribute => refusal_as::<Attribute>(input),
+        Kind::Color => refusal_as::<Color>(input),
     }
 }
 

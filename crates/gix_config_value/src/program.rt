@@ -1,16 +1,18 @@
 //! The program: it answers each line of its input with the canonical text of the line's value.
 //!
-//! Answers wait in a buffer, and are written out when it is full, before the next read and at the
-//! end. Lines that lie within one read are answered from its slice; only a line that crosses the
-//! end of a read is gathered.
-ghost use Rattle.std.specs.Prelude.{◌≡◌, ◌+◌, ◌≤◌, ◌<◌, [], length, MatchOption, OnOk, IfOk, IfErr, Option};
-ghost use Rattle.gix_config_value.specs.Answers.{ended, line_head, line_value, IsUnbroken, LineOutcome, Completes, Fails, status_of};
-ghost use Rattle.gix_config_value.specs.Reading.Steps.{CutsLine, PutsAnswer, sent, Sends, SendsAnswer, Breaks, going, with_more, Advances, Stops, AnswersUpTo, EndsAnswered, EndsEarly};
+//! Answers wait in a buffer. They are written out when it is full, before the next read and at the end. Lines
+//! within one read are answered from its slice; only a line that crosses the end of a read is gathered.
+ghost use Rattle.std.specs.Prelude.{◌≡◌, ◌+◌, ◌≤◌, ◌<◌, [], length, OnOk, IfOk, IfErr};
+ghost use Rattle.gix_config_value.specs.Answers.{ended, line_head, line_value, IsUnbroken, Completes, Fails};
+ghost use Rattle.gix_config_value.specs.Answers.{status_of};
+ghost use Rattle.gix_config_value.specs.Reading.Steps.{AppendsAnswer, output_state, SendsBytes, SendsAnswer};
+ghost use Rattle.gix_config_value.specs.Reading.Steps.{FailsSending, run_state, with_more, Advances};
+ghost use Rattle.gix_config_value.specs.Reading.Steps.{FailsWithin, AnswersUpTo, EndsAnswered, EndsEarly};
 
-use crate::kind::{kind_by_name, normalize, normalize_into};
+use crate::kind::{kind_by_name, normalize_into};
 use arrayvec::ArrayString;
 use bstr::{BStr, ByteSlice};
-use config_text::value::Text;
+use config_text::value::{CanonicalText, LONGEST_TEXT};
 use std::alloc::{AllocError, Global};
 use std::io::{Read, Write};
 use thiserror::Error;
@@ -36,27 +38,8 @@ pub enum RunError {
     Memory(AllocError),
 }
 
-/// What a line is answered. A line is the name of a kind, one space, and the text of a value;
-/// without a space the text is empty. The source: docs/GRAMMAR.md, Lines and answers.
-///
-/// ```rust
-/// use gix_config_value::program::{Outcome, answer};
-///
-/// assert_eq!(rt; answer(b"boolean maybe"), Outcome::Refused);
-/// assert_eq!(rt; answer(b"Boolean yes"), Outcome::UnknownKind);
-/// ```
-#[derive(Clone, Copy, PartialEq, Eq, Debug)]
-pub enum Outcome {
-    /// The kind's grammar gives the text a value: the canonical text of that value.
-    Accepted(Text),
-    /// The kind's grammar gives the text no value.
-    Refused,
-    /// What stands before the first space, or the whole line where there is none, names no kind.
-    UnknownKind,
-}
-
-/// The longest answer: `ok `, a canonical text of 127 bytes, and LF.
-const LONGEST_ANSWER: usize = 131;
+/// The longest answer: `ok `, the longest canonical text, and LF.
+const LONGEST_ANSWER: usize = LONGEST_TEXT + 4;
 
 /// The room for answers that wait.
 const ROOM: usize = 8192;
@@ -64,8 +47,8 @@ const ROOM: usize = 8192;
 /// The most bytes that one read takes.
 const READ: usize = 65536;
 
-/// What stands before the first space of a line, and what follows it. Without a space these are
-/// the whole line and nothing.
+/// What is before the first space of a line, and what follows it. Without a space, the whole line and
+/// nothing.
 fn split_line(line: &[u8]) -> (&[u8], &[u8])
     ensures head { result.0.now ≡ line_head line.now }
     ensures value { result.1.now ≡ line_value line.now }
@@ -76,44 +59,18 @@ fn split_line(line: &[u8]) -> (&[u8], &[u8])
     }
 }
 
-/// What a line is answered, with no reader and no writer. `Accepted` holds the canonical text of
-/// the line's value. `Refused` is answered exactly where the grammar of the line's kind gives its
-/// text no value. `UnknownKind` is answered exactly where the line begins with the name of no kind.
-/// Pass the line without the LF that ends it, since an LF would count as part of the text.
-///
-/// ```rust
-/// use gix_config_value::canonical::Text;
-/// use gix_config_value::program::{Outcome, answer};
-///
-/// let text = Text::from("16k")?;
-/// assert_eq!(rt; answer(b"integer 0x10K"), Outcome::Accepted(text));
-/// assert_eq!(rt; answer(b"integer 0x10kb"), Outcome::Refused);
-/// ```
-pub fn answer(line: &[u8]) -> Outcome
-    ensures { LineOutcome line.now result }
-{
-    let (head, text) = split_line(line);
-    let Some(kind) = kind_by_name(head) else {
-        return Outcome::UnknownKind;
-    };
-    match normalize(kind, BStr::new(text)) {
-        Some(canonical) => Outcome::Accepted(canonical),
-        None => Outcome::Refused,
-    }
-}
-
-/// Puts the line that answers a line behind what waits, and says whether the line was accepted. The
-/// canonical text goes there from where it is written, by way of no `Outcome`.
+/// Appends the answer to a line to what waits, and returns whether the line was accepted. A line is the name
+/// of a kind, one space, and the text of a value; without a space the text is empty.
 fn push_answer(line: &[u8], waiting: &mut ArrayString<ROOM>) -> bool
     requires { length waiting.old.bytes + LONGEST_ANSWER ≤ ROOM }
-    ensures { PutsAnswer line.now waiting.old.bytes waiting.new.bytes result }
+    ensures { AppendsAnswer line.now waiting.old.bytes waiting.new.bytes result }
 {
     let (head, value) = split_line(line);
     let Some(kind) = kind_by_name(head) else {
         waiting.push_str("unknown kind\n");
         return false;
     };
-    let mut text = Text::new();
+    let mut text = CanonicalText::new();
     if !normalize_into(kind, BStr::new(value), &mut text) {
         waiting.push_str("refused\n");
         return false;
@@ -122,13 +79,6 @@ fn push_answer(line: &[u8], waiting: &mut ArrayString<ROOM>) -> bool
     waiting.push_str(text.as_str());
     waiting.push_str("\n");
     true
-}
-
-/// The place of the first LF.
-fn first_line_feed(bytes: &[u8]) -> Option<usize>
-    ensures { MatchOption result (IsUnbroken bytes.now) (CutsLine bytes.now) }
-{
-    bytes.find_byte(b'\n')
 }
 
 /// Answers on their way to a writer: those that wait, and the writer that takes them.
@@ -141,10 +91,11 @@ struct Output<'w, W: Write> {
 impl<'w, W: Write> Output<'w, W> {
     /// Writes out what waits, by as many writes as it takes. A write of no byte is an error.
     fn write_out(&mut self) -> Result<(), RunError>
-        ensures ok { OnOk result (Sends (sent W.contents self.old) (sent W.contents self.new) []) }
+        ensures ok { OnOk result
+            (SendsBytes (output_state W.contents self.old) (output_state W.contents self.new) []) }
         ensures empty { OnOk result (self.new.waiting.bytes ≡ []) }
         ensures err { IfErr result
-            (Breaks (sent W.contents self.old) (sent W.contents self.new) []) }
+            (FailsSending (output_state W.contents self.old) (output_state W.contents self.new) []) }
         ensures write { IfErr result (λ e. e ≡ RunError.Write) }
     {
         let mut rest = self.waiting.as_str().as_bytes();
@@ -159,12 +110,13 @@ impl<'w, W: Write> Output<'w, W> {
         Ok(())
     }
 
-    /// Writes out what waits where there is no room for one more answer.
+    /// Writes out what waits if there is no room for one more answer.
     fn make_room(&mut self) -> Result<(), RunError>
         ensures room { OnOk result (length self.new.waiting.bytes + LONGEST_ANSWER ≤ ROOM) }
-        ensures ok { OnOk result (Sends (sent W.contents self.old) (sent W.contents self.new) []) }
+        ensures ok { OnOk result
+            (SendsBytes (output_state W.contents self.old) (output_state W.contents self.new) []) }
         ensures err { IfErr result
-            (Breaks (sent W.contents self.old) (sent W.contents self.new) []) }
+            (FailsSending (output_state W.contents self.old) (output_state W.contents self.new) []) }
         ensures write { IfErr result (λ e. e ≡ RunError.Write) }
     {
         if self.waiting.remaining_capacity() < LONGEST_ANSWER {
@@ -173,12 +125,12 @@ impl<'w, W: Write> Output<'w, W> {
         Ok(())
     }
 
-    /// Answers a line, and says whether it was accepted.
+    /// Answers a line, and returns whether it was accepted.
     fn answer_line(&mut self, line: &[u8]) -> Result<bool, RunError>
         ensures ok { IfOk result
-            (SendsAnswer line.now (sent W.contents self.old) (sent W.contents self.new)) }
+            (SendsAnswer line.now (output_state W.contents self.old) (output_state W.contents self.new)) }
         ensures err { IfErr result
-            (Breaks (sent W.contents self.old) (sent W.contents self.new) []) }
+            (FailsSending (output_state W.contents self.old) (output_state W.contents self.new) []) }
         ensures write { IfErr result (λ e. e ≡ RunError.Write) }
     {
         self.make_room()?;
@@ -187,17 +139,15 @@ impl<'w, W: Write> Output<'w, W> {
 
     /// Writes out what waits, and flushes.
     fn end(&mut self) -> Result<(), RunError>
-        ensures ok { OnOk result (Sends (sent W.contents self.old) (sent W.contents self.new) []) }
+        ensures ok { OnOk result
+            (SendsBytes (output_state W.contents self.old) (output_state W.contents self.new) []) }
         ensures empty { OnOk result (self.new.waiting.bytes ≡ []) }
         ensures err { IfErr result
-            (Breaks (sent W.contents self.old) (sent W.contents self.new) []) }
+            (FailsSending (output_state W.contents self.old) (output_state W.contents self.new) []) }
         ensures write { IfErr result (λ e. e ≡ RunError.Write) }
     {
         self.write_out()?;
-        match self.writer.flush() {
-            Ok(()) => Ok(()),
-            Err(_) => Err(RunError::Write),
-        }
+        self.writer.flush().map_err(|_| RunError::Write)
     }
 }
 
@@ -209,22 +159,23 @@ struct Progress {
 }
 
 impl Progress {
-    /// Answers each line that ends within the bytes, and gives what follows the last of them.
-    /// No line is begun yet.
+    /// Answers each line that ends within the bytes, and returns what follows the last of them. No line is
+    /// begun yet.
     fn answer_lines<'b, W: Write>(
         &mut self,
         output: &mut Output<'_, W>,
         bytes: &'b [u8],
     ) -> Result<&'b [u8], RunError>
         requires { self.old.line.items ≡ [] }
-        ensures ok { IfOk result (λ rest. AnswersUpTo (going W.contents self.old output.old)
-            (going W.contents self.new output.new) bytes.now rest.now) }
+        ensures ok { IfOk result (λ rest. AnswersUpTo (run_state W.contents self.old output.old)
+            (run_state W.contents self.new output.new) bytes.now rest.now) }
         ensures unbroken { IfOk result (λ rest. IsUnbroken rest.now) }
         ensures err { IfErr result
-            (Stops (going W.contents self.old output.old) (sent W.contents output.new) bytes.now) }
+            (FailsWithin (run_state W.contents self.old output.old)
+            (output_state W.contents output.new) bytes.now) }
     {
         let mut rest = bytes;
-        while let Some(place) = first_line_feed(rest) {
+        while let Some(place) = rest.find_byte(b'\n') {
             let accepted = output.answer_line(&rest[..place])?;
             self.all_accepted &= accepted;
             rest = &rest[place + 1..];
@@ -232,12 +183,13 @@ impl Progress {
         Ok(rest)
     }
 
-    /// Puts bytes behind the line begun. Where there is no memory, what waits is written out first.
+    /// Appends bytes to the line begun. If there is no memory for them, what waits is written out before the
+    /// error.
     fn gather<W: Write>(&mut self, output: &mut Output<'_, W>, bytes: &[u8]) -> Result<(), RunError>
-        ensures ok { OnOk result (going W.contents self.new output.new
-            ≡ with_more (going W.contents self.old output.old) bytes.now) }
+        ensures ok { OnOk result (run_state W.contents self.new output.new
+            ≡ with_more (run_state W.contents self.old output.old) bytes.now) }
         ensures err { IfErr result
-            (Breaks (sent W.contents output.old) (sent W.contents output.new) []) }
+            (FailsSending (output_state W.contents output.old) (output_state W.contents output.new) []) }
     {
         match self.line.extend_from_slice(bytes) {
             Ok(()) => Ok(()),
@@ -248,18 +200,18 @@ impl Progress {
         }
     }
 
-    /// Completes the line begun with what stands before the LF, and answers it.
+    /// Completes the line begun with the bytes before its LF, and answers it.
     fn end_line<W: Write>(
         &mut self,
         output: &mut Output<'_, W>,
         front: &[u8],
     ) -> Result<(), RunError>
         requires { IsUnbroken front.now }
-        ensures ok { OnOk result (Advances (going W.contents self.old output.old)
-            (going W.contents self.new output.new) (ended front.now)) }
+        ensures ok { OnOk result (Advances (run_state W.contents self.old output.old)
+            (run_state W.contents self.new output.new) (ended front.now)) }
         ensures empty { OnOk result (self.new.line.items ≡ []) }
         ensures err { IfErr result
-            (Breaks (sent W.contents output.old) (sent W.contents output.new) []) }
+            (FailsSending (output_state W.contents output.old) (output_state W.contents output.new) []) }
     {
         self.gather(output, front)?;
         let accepted = output.answer_line(self.line.as_slice())?;
@@ -276,10 +228,11 @@ impl Progress {
         bytes: &[u8],
     ) -> Result<(), RunError>
         requires { self.old.line.items ≡ [] }
-        ensures ok { OnOk result (Advances (going W.contents self.old output.old)
-            (going W.contents self.new output.new) bytes.now) }
+        ensures ok { OnOk result (Advances (run_state W.contents self.old output.old)
+            (run_state W.contents self.new output.new) bytes.now) }
         ensures err { IfErr result
-            (Stops (going W.contents self.old output.old) (sent W.contents output.new) bytes.now) }
+            (FailsWithin (run_state W.contents self.old output.old)
+            (output_state W.contents output.new) bytes.now) }
     {
         let begun = self.answer_lines(output, bytes)?;
         self.gather(output, begun)
@@ -292,15 +245,16 @@ impl Progress {
         output: &mut Output<'_, W>,
         bytes: &[u8],
     ) -> Result<(), RunError>
-        ensures ok { OnOk result (Advances (going W.contents self.old output.old)
-            (going W.contents self.new output.new) bytes.now) }
+        ensures ok { OnOk result (Advances (run_state W.contents self.old output.old)
+            (run_state W.contents self.new output.new) bytes.now) }
         ensures err { IfErr result
-            (Stops (going W.contents self.old output.old) (sent W.contents output.new) bytes.now) }
+            (FailsWithin (run_state W.contents self.old output.old)
+            (output_state W.contents output.new) bytes.now) }
     {
         if self.line.is_empty() {
             return self.take_lines(output, bytes);
         }
-        let Some(place) = first_line_feed(bytes) else {
+        let Some(place) = bytes.find_byte(b'\n') else {
             return self.gather(output, bytes);
         };
         self.end_line(output, &bytes[..place])?;
@@ -310,9 +264,9 @@ impl Progress {
     /// Answers the line begun if it is not empty, writes out what waits, and flushes.
     fn finish<W: Write>(&self, output: &mut Output<'_, W>) -> Result<bool, RunError>
         ensures ok { IfOk result
-            (EndsAnswered (going W.contents self.now output.old) (sent W.contents output.new)) }
+            (EndsAnswered (run_state W.contents self.now output.old) (output_state W.contents output.new)) }
         ensures err { IfErr result
-            (EndsEarly (going W.contents self.now output.old) (sent W.contents output.new)) }
+            (EndsEarly (run_state W.contents self.now output.old) (output_state W.contents output.new)) }
     {
         if self.line.is_empty() {
             output.end()?;
@@ -324,15 +278,47 @@ impl Progress {
     }
 }
 
-/// Answers each line of the input, in order: `ok ` and the canonical text of the line's value,
-/// `refused`, or `unknown kind`, as `answer` decides. A last line without LF counts if it is not
-/// empty. The result is whether every line was accepted; with no line it is true.
+/// Reads the input to its end, and answers its lines. Nothing waits yet.
+fn answer_input<R: Read, W: Write>(
+    alloc: Global,
+    reader: &mut R,
+    output: &mut Output<'_, W>,
+) -> Result<bool, RunError>
+    requires { output.old.waiting.bytes ≡ [] }
+    ensures completes { IfOk result (Completes (R.remaining reader.old) (R.remaining reader.new)
+        (W.contents output.old.writer.now) (W.contents output.new.writer.now)) }
+    ensures fails { IfErr result (Fails (R.remaining reader.old) (R.remaining reader.new)
+        (W.contents output.old.writer.now) (W.contents output.new.writer.now)) }
+    ensures same_writer { output.new.writer.ghost_name ≡ output.old.writer.ghost_name }
+{
+    let mut buffer = [0u8; READ];
+    let mut progress = Progress {
+        line: Vec::new(alloc),
+        all_accepted: true,
+    };
+    for _ in 0..u64::MAX {
+        let count = match reader.read(&mut buffer) {
+            Ok(count) => count,
+            Err(_) => return Err(RunError::Read),
+        };
+        if count == 0 {
+            return progress.finish(output);
+        }
+        progress.take_bytes(output, &buffer[..count])?;
+        output.write_out()?;
+    }
+    Err(RunError::Read)
+}
+
+/// Answers each line of the input, in order: `ok ` and the canonical text of the line's value, `refused`, or
+/// `unknown kind`. A last line without LF counts if it is not empty. The result is whether every line was
+/// accepted; with no line it is true. The source: docs/GRAMMAR.md, Lines and answers.
 ///
-/// `Read` is an error of a read, and an input that has not ended after 18446744073709551615 reads.
-/// Exactly the lines that were read with their LF are then answered. `Write` is an error of a
-/// write or of the flush at the end, and a write that takes no byte. `Memory` is answered where
-/// there is no memory for a line that crosses the end of a read: some first lines are then
-/// answered. After any error what was written is a beginning of the answers.
+/// Errors, after each of which what was written is a beginning of the answers:
+/// - `Read`: a read failed, or the input had not ended after 18446744073709551615 reads. Exactly the lines
+///   that were read with their LF are answered.
+/// - `Write`: a write or the flush at the end failed, or a write took no byte.
+/// - `Memory`: there was no memory for a line that crosses the end of a read. Some first lines are answered.
 ///
 /// ```rust
 /// use gix_config_value::program::run;
@@ -354,32 +340,14 @@ pub fn run<R: Read, W: Write>(
     ensures fails { IfErr result (Fails (R.remaining reader.old) (R.remaining reader.new)
         (W.contents writer.old) (W.contents writer.new)) }
 {
-    let mut buffer = [0u8; READ];
-    let mut progress = Progress {
-        line: Vec::new(alloc),
-        all_accepted: true,
-    };
     let mut output = Output {
         waiting: ArrayString::new(),
         writer,
     };
-    for _ in 0..u64::MAX {
-        let count = match reader.read(&mut buffer) {
-            Ok(count) => count,
-            Err(_) => return Err(RunError::Read),
-        };
-        if count == 0 {
-            let all_accepted = progress.finish(&mut output)?;
-            return Ok(all_accepted);
-        }
-        progress.take_bytes(&mut output, &buffer[..count])?;
-        output.write_out()?;
-    }
-    Err(RunError::Read)
+    answer_input(alloc, reader, &mut output)
 }
 
-/// The exit status of a run: 0 where every line was accepted, 1 where some line was not, and 2
-/// after an error.
+/// The exit status of a run: 0 if every line was accepted, 1 if some line was not, and 2 after an error.
 pub fn status(outcome: &Result<bool, RunError>) -> u8
     ensures { result ≡ status_of outcome.now }
 {

@@ -1,3 +1,4 @@
 pub mod Buffers
 pub mod Entries
 pub mod Lookup
+pub mod NameTags

@@ -1,5 +1,7 @@
 -- What the loop over the entries finds is the deciding entry.
-use Rattle.std.proofs.Common.{◌≡◌, ℕ, zero, suc, ◌+◌, ◌-◌, ◌<◌, ◌≤◌, ◌⊎◌, inl, inr, List, [], ◌∷◌, ◌++◌, length, take, drop, Option, None, Some, Bool, true, false, refl, sym, ap, arith, nat_le, add-zero, length-append, length-drop}
+use Rattle.std.proofs.Common.{◌≡◌, ℕ, zero, suc, ◌+◌, ◌-◌, ◌<◌, ◌≤◌, ◌⊎◌, inl, inr, List, [], ◌∷◌, ◌++◌}
+use Rattle.std.proofs.Common.{length, take, drop, Option, None, Some, Bool, true, false, refl, sym, ap, arith}
+use Rattle.std.proofs.Common.{nat_le, add-zero, length-append, length-drop}
 use Rattle.std.specs.Str.{bytes_eq}
 use Rattle.std.proofs.Math.Seq.{drop-append_seam}
 use Rattle.std.proofs.lemmas.Bool.{cases_lt}
@@ -15,18 +17,22 @@ use Rattle.gix_config_value_c.specs.Reading.Settings.{last_from, found_at}
 -- what is found among these entries, where something was found before them
 pub data Since (name : List ℕ) (found : Option GcvEntry) (index start : ℕ) (bytes : List ℕ) (es : List (List ℕ × List ℕ)) (f : Option GcvEntry) : Type 0 where
   kept : IsAbsent es name → f ≡ found → Since name found index start bytes es f
-  here : (j k : ℕ) (t : List ℕ) → Decides es name j t → f ≡ Some (record { index = index + j; start = start + k; length = length t })
-      → k ≡ length (entry_bytes (take j es)) + length name → k + length t ≤ length bytes → take (length t) (drop k bytes) ≡ t
+  here : (j k : ℕ) (t : List ℕ) → Decides es name j t
+      → f ≡ Some (record { index = index + j; start = start + k; length = length t })
+      → k ≡ length (entry_bytes (take j es)) + length name → k + length t ≤ length bytes
+      → take (length t) (drop k bytes) ≡ t
       → Since name found index start bytes es f
 
 abbrev pub Answers : List ℕ → Option GcvEntry → ℕ → ℕ → List ℕ → List ℕ → Option (Option GcvEntry) → Type 0
-Answers name found index start bytes lengths None = (es : List (List ℕ × List ℕ)) → ¬ (AreEntries bytes lengths es)
+Answers name found index start bytes lengths None =
+    (es : List (List ℕ × List ℕ)) → ¬ (AreEntries bytes lengths es)
 Answers name found index start bytes lengths (Some f) =
     (es : List (List ℕ × List ℕ)) × AreEntries bytes lengths es × Since name found index start bytes es f
 
 -- ---- the first entry, and those behind it
 
-behind_all : (bytes : List ℕ) (n m : ℕ) (lengths : List ℕ) (es : List (List ℕ × List ℕ)) → AreEntries bytes (n ∷ m ∷ lengths) es
+behind_all : (bytes : List ℕ) (n m : ℕ) (lengths : List ℕ) (es : List (List ℕ × List ℕ))
+    → AreEntries bytes (n ∷ m ∷ lengths) es
     → (n ≤ length bytes) × (m ≤ length (drop n bytes)) × ((rest : List (List ℕ × List ℕ)) × AreEntries (drop m (drop n bytes)) lengths rest)
 behind_all bytes n m lengths [] are = absurd (let e = are.lengths_are in cc)
 behind_all bytes n m lengths (e ∷ es) are =
@@ -34,14 +40,27 @@ behind_all bytes n m lengths (e ∷ es) are =
     let second : m ≡ length e.1 = let s = are.lengths_are in cc in
     let more : lengths ≡ entry_lengths es = let s = are.lengths_are in cc in
     let past : drop n bytes ≡ e.1 ++ entry_bytes es = rw (are.bytes_are, first) (drop-append_seam e.0 (e.1 ++ entry_bytes es)) in
-    let last : drop m (drop n bytes) ≡ entry_bytes es = rw (past, second) (drop-append_seam e.1 (entry_bytes es)) in
-    (rw (are.bytes_are, length-append) (omega arith), rw (past, length-append) (omega arith), (es, record { bytes_are = last; lengths_are = more }))
+    let last : drop m (drop n bytes) ≡ entry_bytes es = rw (past, second) (drop-append_seam e.1 (entry_bytes es)) in (
+      rw (are.bytes_are, length-append) (omega arith),
+      rw (past, length-append) (omega arith),
+      (
+        es,
+        record {
+          bytes_are =
+              last;
+          lengths_are = more;
+        },
+      ),
+    )
 
-front_first : (bytes : List ℕ) (n m : ℕ) (lengths : List ℕ) (es : List (List ℕ × List ℕ)) → n ≤ length bytes → m ≤ length (drop n bytes)
-    → AreEntries (drop m (drop n bytes)) lengths es → AreEntries bytes (n ∷ m ∷ lengths) ((take n bytes, take m (drop n bytes)) ∷ es)
+front_first : (bytes : List ℕ) (n m : ℕ) (lengths : List ℕ) (es : List (List ℕ × List ℕ)) → n ≤ length bytes
+    → m ≤ length (drop n bytes)
+    → AreEntries (drop m (drop n bytes)) lengths es
+    → AreEntries bytes (n ∷ m ∷ lengths) ((take n bytes, take m (drop n bytes)) ∷ es)
 front_first bytes n m lengths es first second are = record {
   bytes_are = rw (← are.bytes_are) (rw (take-append-drop m (drop n bytes), take-append-drop n bytes) refl);
-  lengths_are = rw (length-take-le n bytes first, length-take-le m (drop n bytes) second, are.lengths_are) refl;
+  lengths_are =
+      rw (length-take-le n bytes first, length-take-le m (drop n bytes) second, are.lengths_are) refl;
 }
 
 -- ---- a name before others
@@ -50,20 +69,24 @@ either : (b : Bool) → (b ≡ true) ⊎ (b ≡ false)
 either true = inl refl
 either false = inr refl
 
-named_same : (e : List ℕ × List ℕ) (es : List (List ℕ × List ℕ)) (name t : List ℕ) → IsNamed (e ∷ es) name 0 t → e.0 ≡ name
+named_same : (e : List ℕ × List ℕ) (es : List (List ℕ × List ℕ)) (name t : List ℕ) → IsNamed (e ∷ es) name 0 t
+    → e.0 ≡ name
 named_same e es name t named = ap (λ p. p.0) (same_Some e (name, t) named)
 
-first_decides : (e : List ℕ × List ℕ) (es : List (List ℕ × List ℕ)) (name : List ℕ) → e.0 ≡ name → IsAbsent es name → Decides (e ∷ es) name 0 e.1
+first_decides : (e : List ℕ × List ℕ) (es : List (List ℕ × List ℕ)) (name : List ℕ) → e.0 ≡ name
+    → IsAbsent es name → Decides (e ∷ es) name 0 e.1
 first_decides e es name is nowhere = record { named = ap (λ n. Some (n, e.1)) is; last = later } where
   later : (j : ℕ) (u : List ℕ) → 0 < j → ¬ (IsNamed (e ∷ es) name j u)
   later zero u above named = absurd (omega arith)
   later (suc j) u above named = nowhere j u named
 
-still_absent : (e : List ℕ × List ℕ) (es : List (List ℕ × List ℕ)) (name : List ℕ) → ¬ (e.0 ≡ name) → IsAbsent es name → IsAbsent (e ∷ es) name
+still_absent : (e : List ℕ × List ℕ) (es : List (List ℕ × List ℕ)) (name : List ℕ) → ¬ (e.0 ≡ name)
+    → IsAbsent es name → IsAbsent (e ∷ es) name
 still_absent e es name other nowhere zero t named = other (named_same e es name t named)
 still_absent e es name other nowhere (suc i) t named = nowhere i t named
 
-later_decides : (e : List ℕ × List ℕ) (es : List (List ℕ × List ℕ)) (name : List ℕ) (j : ℕ) (t : List ℕ) → Decides es name j t
+later_decides : (e : List ℕ × List ℕ) (es : List (List ℕ × List ℕ)) (name : List ℕ) (j : ℕ) (t : List ℕ)
+    → Decides es name j t
     → Decides (e ∷ es) name (suc j) t
 later_decides e es name j t decides = record { named = decides.named; last = later } where
   later : (i : ℕ) (u : List ℕ) → suc j < i → ¬ (IsNamed (e ∷ es) name i u)
@@ -72,8 +95,10 @@ later_decides e es name j t decides = record { named = decides.named; last = lat
 
 -- ---- one entry more
 
-one_longer : (first second : List ℕ) (es : List (List ℕ × List ℕ)) (name : List ℕ) (n m k : ℕ) → length first ≡ n → length second ≡ m
-    → k ≡ length (entry_bytes es) + length name → n + (m + k) ≡ length (entry_bytes ((first, second) ∷ es)) + length name
+one_longer : (first second : List ℕ) (es : List (List ℕ × List ℕ)) (name : List ℕ) (n m k : ℕ)
+    → length first ≡ n → length second ≡ m
+    → k ≡ length (entry_bytes es) + length name
+    → n + (m + k) ≡ length (entry_bytes ((first, second) ∷ es)) + length name
 one_longer first second es name n m k is_n is_m behind =
     omega (arith, is_n, is_m, behind, length-append first (second ++ entry_bytes es), length-append second (entry_bytes es))
 
@@ -118,7 +143,8 @@ no_half_entry bytes n (e ∷ es) are = let s = are.lengths_are in cc
 
 last_answers : (name bytes lengths : List ℕ) (found : Option GcvEntry) (index start : ℕ)
     → Answers name found index start bytes lengths (last_from name found index start bytes lengths)
-last_answers name [] [] found index start = ([], record { bytes_are = refl; lengths_are = refl }, kept (λ i t named. none-some (name, t) named) refl)
+last_answers name [] [] found index start =
+    ([], record { bytes_are = refl; lengths_are = refl }, kept (λ i t named. none-some (name, t) named) refl)
 last_answers name (b ∷ bytes) [] found index start = no_more_bytes b bytes
 last_answers name bytes (n ∷ []) found index start = no_half_entry bytes n
 last_answers name bytes (n ∷ m ∷ lengths) found index start = elim (cases_lt (length bytes) n) [
@@ -143,12 +169,15 @@ last_answers name bytes (n ∷ m ∷ lengths) found index start = elim (cases_lt
 -- the last entry of the name, or none, or no entries
 abbrev pub IsLast : List ℕ → List ℕ → List ℕ → Option (Option GcvEntry) → Type 0
 IsLast name bytes lengths None = (es : List (List ℕ × List ℕ)) → ¬ (AreEntries bytes lengths es)
-IsLast name bytes lengths (Some None) = (es : List (List ℕ × List ℕ)) × AreEntries bytes lengths es × IsAbsent es name
+IsLast name bytes lengths (Some None) =
+    (es : List (List ℕ × List ℕ)) × AreEntries bytes lengths es × IsAbsent es name
 IsLast name bytes lengths (Some (Some f)) = (es : List (List ℕ × List ℕ)) × AreEntries bytes lengths es
     × ((t : List ℕ) × IsDeciding bytes es name f t) × (f.start + f.length ≤ length bytes)
 
-placed : (name bytes : List ℕ) (es : List (List ℕ × List ℕ)) (f : GcvEntry) (j k : ℕ) (t : List ℕ) → Decides es name j t
-    → f ≡ record { index = 0 + j; start = 0 + k; length = length t } → k ≡ length (entry_bytes (take j es)) + length name
+placed : (name bytes : List ℕ) (es : List (List ℕ × List ℕ)) (f : GcvEntry) (j k : ℕ) (t : List ℕ)
+    → Decides es name j t
+    → f ≡ record { index = 0 + j; start = 0 + k; length = length t }
+    → k ≡ length (entry_bytes (take j es)) + length name
     → k + length t ≤ length bytes → take (length t) (drop k bytes) ≡ t
     → ((t : List ℕ) × IsDeciding bytes es name f t) × (f.start + f.length ≤ length bytes)
 placed name bytes es f j k t decides is behind within stands =
@@ -168,18 +197,23 @@ placed name bytes es f j k t decides is behind within stands =
       rw (start, size) within,
     )
 
-since_last : (name bytes lengths : List ℕ) (es : List (List ℕ × List ℕ)) (f : Option GcvEntry) → AreEntries bytes lengths es
+since_last : (name bytes lengths : List ℕ) (es : List (List ℕ × List ℕ)) (f : Option GcvEntry)
+    → AreEntries bytes lengths es
     → Since name None 0 0 bytes es f → IsLast name bytes lengths (Some f)
 since_last name bytes lengths es None are (kept nowhere same) = (es, are, nowhere)
-since_last name bytes lengths es None are (here j k t decides is behind within stands) = absurd (none-some _ is)
+since_last name bytes lengths es None are (here j k t decides is behind within stands) =
+    absurd (none-some _ is)
 since_last name bytes lengths es (Some f) are (kept nowhere same) = absurd (none-some _ (sym same))
 since_last name bytes lengths es (Some f) are (here j k t decides is behind within stands) =
     let found = placed name bytes es f j k t decides (same_Some _ _ is) behind within stands in
     (es, are, found.0, found.1)
 
-answers_last : (name bytes lengths : List ℕ) (r : Option (Option GcvEntry)) → Answers name None 0 0 bytes lengths r → IsLast name bytes lengths r
+answers_last : (name bytes lengths : List ℕ) (r : Option (Option GcvEntry))
+    → Answers name None 0 0 bytes lengths r → IsLast name bytes lengths r
 answers_last name bytes lengths None none = none
 answers_last name bytes lengths (Some f) some = since_last name bytes lengths some.0 f some.1 some.2
 
-pub is_last : (name bytes lengths : List ℕ) (r : Option (Option GcvEntry)) → r ≡ last_from name None 0 0 bytes lengths → IsLast name bytes lengths r
-is_last name bytes lengths r is = answers_last name bytes lengths r (rw is (last_answers name bytes lengths None 0 0))
+pub is_last : (name bytes lengths : List ℕ) (r : Option (Option GcvEntry))
+    → r ≡ last_from name None 0 0 bytes lengths → IsLast name bytes lengths r
+is_last name bytes lengths r is =
+    answers_last name bytes lengths r (rw is (last_answers name bytes lengths None 0 0))

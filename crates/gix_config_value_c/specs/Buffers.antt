@@ -5,7 +5,8 @@ use Rattle.gix_config_value_c.specs.declared.status.TheConstants.{OK, SHORT_BUFF
 -- the text stands at the front of the buffer, and what is behind it is left alone; or the buffer is too short and left
 -- alone. Either way the length is that of the text.
 pub data PutsText (text buffer buffer' : List ℕ) (length' status : ℕ) : Type 0 where
-  whole : length text ≤ length buffer → buffer' ≡ text ++ drop (length text) buffer → length' ≡ length text → status ≡ OK
+  whole : length text ≤ length buffer → buffer' ≡ text ++ drop (length text) buffer → length' ≡ length text
+      → status ≡ OK
       → PutsText text buffer buffer' length' status
   short : length buffer < length text → buffer' ≡ buffer → length' ≡ length text → status ≡ SHORT_BUFFER
       → PutsText text buffer buffer' length' status

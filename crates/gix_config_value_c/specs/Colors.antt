@@ -7,23 +7,27 @@ use Rattle.gix_config_value.specs.Value.{HasText}
 use Rattle.gix_config_value_c.specs.declared.status.TheConstants.{OK, NO_TEXT, TOO_MANY_NAMES, BAD_NAME}
 use Rattle.gix_config_value_c.specs.declared.structs.GcvColor.{GcvColor}
 use Rattle.gix_config_value_c.specs.Structs.{color_struct}
-use Rattle.gix_config_value_c.specs.Values.{IsNoValue}
+use Rattle.gix_config_value_c.specs.Values.{IsNoValue, LeavesAlone}
 
--- two colors, each of which some text reads to
+-- the two colors that stand in C as these
+abbrev pub AreColors : GcvColor → GcvColor → Color → Color → Type 0
+AreColors a b first second = (a ≡ color_struct first) × (b ≡ color_struct second)
+
+-- the same, where some text reads to each of both
 pub record AreReadable (a b : GcvColor) (first second : Color) : Type 0 where
-  pub first_stands : a ≡ color_struct first
-  pub second_stands : b ≡ color_struct second
+  pub colors : AreColors a b first second
   pub first_text : HasText ColorText first
   pub second_text : HasText ColorText second
 
--- the composition is put into `out`; or there is none, or one of both has no text, or is no color, and `out` is left alone
+-- the composition is put into `out`; or there is none, or one of both has no text, or is no color, and `out` is left
+-- alone
 pub data ComposesInto (a b out out' : GcvColor) (status : ℕ) : Type 0 where
   composed : (first second both : Color) → AreReadable a b first second → Composes first second (Some both)
       → out' ≡ color_struct both → status ≡ OK → ComposesInto a b out out' status
   too_many_names : (first second : Color) → AreReadable a b first second → Composes first second None
-      → out' ≡ out → status ≡ TOO_MANY_NAMES → ComposesInto a b out out' status
-  no_text : (first second : Color) → a ≡ color_struct first → b ≡ color_struct second
-      → (¬ (HasText ColorText first)) ⊎ (¬ (HasText ColorText second)) → out' ≡ out → status ≡ NO_TEXT
-      → ComposesInto a b out out' status
-  bad_name : IsNoValue color_struct a ⊎ IsNoValue color_struct b → out' ≡ out → status ≡ BAD_NAME
+      → LeavesAlone TOO_MANY_NAMES out out' status → ComposesInto a b out out' status
+  no_text : (first second : Color) → AreColors a b first second
+      → (¬ (HasText ColorText first)) ⊎ (¬ (HasText ColorText second))
+      → LeavesAlone NO_TEXT out out' status → ComposesInto a b out out' status
+  bad_name : IsNoValue color_struct a ⊎ IsNoValue color_struct b → LeavesAlone BAD_NAME out out' status
       → ComposesInto a b out out' status

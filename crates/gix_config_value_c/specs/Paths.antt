@@ -1,9 +1,11 @@
 -- Paths in C: the mark, and what stands in a path value for its directories.
-use Rattle.std.specs.Prelude.{◌≡◌, ◌≤◌, ◌⊎◌, ℕ, List, length, Bool, Option, None, Some, Result, Ok, Err, string_bytes, IsUtf8, drop}
+use Rattle.std.specs.Prelude.{◌≡◌, ◌≤◌, ◌⊎◌, ℕ, List, length, Bool, Option, None, Some, Result, Ok, Err}
+use Rattle.std.specs.Prelude.{string_bytes, IsUtf8, drop}
 use Rattle.std.specs.declared.string.String.{String}
 use Rattle.std.specs.declared.alloc.Global.{Global}
 use Rattle.config_path.specs.declared.interpolate.Error.{Error}
-use Rattle.config_path.specs.declared.interpolate.Error.TheVariants.{PathMissing, InstallDirMissing, HomeMissing, Memory}
+use Rattle.config_path.specs.declared.interpolate.Error.TheVariants.{PathMissing, InstallDirMissing}
+use Rattle.config_path.specs.declared.interpolate.Error.TheVariants.{HomeMissing, Memory}
 use Rattle.config_path.specs.declared.interpolate.Place.TheVariants.{PastPrefix, PastHome}
 use Rattle.gix_config_value.specs.Path.{Marked}
 use Rattle.gix_config_value.specs.Passwd.{home_in}
@@ -28,15 +30,19 @@ IsGiven given (Some text) = (given.0 ≡ 1) × IsUtf8 given.1 × (text ≡ given
 
 -- the flag is neither 0 nor 1, or the text is no UTF-8
 abbrev pub IsBad : ℕ → ℕ × List ℕ → Type 0
-IsBad status given = ((status ≡ BAD_FLAG) × IsNoValue flag_number given.0) ⊎ ((status ≡ NOT_UTF8) × (given.0 ≡ 1) × ¬ (IsUtf8 given.1))
+IsBad status given =
+    ((status ≡ BAD_FLAG) × IsNoValue flag_number given.0) ⊎ ((status ≡ NOT_UTF8) × (given.0 ≡ 1) × ¬ (IsUtf8 given.1))
 
 -- ---- the path table, where users are looked up in a passwd text
 
-abbrev pub GivesIn : (install_dir home passwd : Option (List ℕ)) → List ℕ → Form → Result (String Global) Error → Type 0
+abbrev pub GivesIn : (install_dir home passwd : Option (List ℕ)) → List ℕ → Form
+    → Result (String Global) Error → Type 0
 GivesIn install_dir home passwd value empty r = r ≡ Err PathMissing
-GivesIn install_dir home passwd value (below_prefix rest) r = GivesBelowGiven InstallDirMissing PastPrefix install_dir (Some rest) r
+GivesIn install_dir home passwd value (below_prefix rest) r =
+    GivesBelowGiven InstallDirMissing PastPrefix install_dir (Some rest) r
 GivesIn install_dir home passwd value (below_home rest) r = GivesBelowGiven HomeMissing PastHome home rest r
-GivesIn install_dir home passwd value (below_user name rest) r = GivesBelowUser (λ users user answer. answer ≡ home_in users user) passwd name rest r
+GivesIn install_dir home passwd value (below_user name rest) r =
+    GivesBelowUser (λ users user answer. answer ≡ home_in users user) passwd name rest r
 GivesIn install_dir home passwd value other r = GivesValue value r
 
 pub record InterpolatedIn (install_dir home passwd : Option (List ℕ)) (value : List ℕ) (r : Result (String Global) Error) : Type 0 where
@@ -48,7 +54,8 @@ pub record InterpolatedIn (install_dir home passwd : Option (List ℕ)) (value :
 
 -- the text is put into the buffer; or the number of the fault into `fault`, or memory is wanted. The rest is left alone.
 abbrev pub PutsPath : Result (String Global) Error → List ℕ → List ℕ → ℕ → ℕ → ℕ → ℕ → ℕ → Type 0
-PutsPath (Ok s) buffer buffer' size size' fault fault' status = PutsText (string_bytes s) buffer buffer' size' status × (fault' ≡ fault)
+PutsPath (Ok s) buffer buffer' size size' fault fault' status =
+    PutsText (string_bytes s) buffer buffer' size' status × (fault' ≡ fault)
 PutsPath (Err (Memory e)) buffer buffer' size size' fault fault' status =
     (buffer' ≡ buffer) × (size' ≡ size) × (fault' ≡ fault) × (status ≡ NO_MEMORY)
 PutsPath (Err e) buffer buffer' size size' fault fault' status =
@@ -57,8 +64,10 @@ PutsPath (Err e) buffer buffer' size size' fault fault' status =
 -- what the path without its mark is interpolated to is put; or something that was given is bad, and all is left alone
 pub data InterpolatesInto (t : List ℕ) (install_dir home passwd : ℕ × List ℕ) (buffer buffer' : List ℕ) (size size' fault fault' status : ℕ) : Type 0 where
   interpolated : (i h p : Option (List ℕ)) (is_optional : Bool) (value : List ℕ) (r : Result (String Global) Error)
-      → IsGiven install_dir i → IsGiven home h → IsGiven passwd p → Marked t is_optional value → InterpolatedIn i h p value r
+      → IsGiven install_dir i → IsGiven home h → IsGiven passwd p → Marked t is_optional value
+      → InterpolatedIn i h p value r
       → PutsPath r buffer buffer' size size' fault fault' status
       → InterpolatesInto t install_dir home passwd buffer buffer' size size' fault fault' status
-  bad : IsBad status install_dir ⊎ IsBad status home ⊎ IsBad status passwd → buffer' ≡ buffer → size' ≡ size → fault' ≡ fault
+  bad : IsBad status install_dir ⊎ IsBad status home ⊎ IsBad status passwd → buffer' ≡ buffer → size' ≡ size
+      → fault' ≡ fault
       → InterpolatesInto t install_dir home passwd buffer buffer' size size' fault fault' status

@@ -1,13 +1,14 @@
 -- A setting among entries that stand in C as one byte string and the lengths of names and texts.
-use Rattle.std.specs.Prelude.{◌≡◌, ◌+◌, ℕ, List, [], ◌∷◌, ◌++◌, length, take, slice_range}
+use Rattle.std.specs.Prelude.{◌≡◌, ◌+◌, ◌⊎◌, ℕ, List, [], ◌∷◌, ◌++◌, length, take, slice_range}
 use Rattle.gix_config_value.specs.declared.kind.Kind.{Kind}
 use Rattle.gix_config_value.specs.Kinds.{KindGrammar}
 use Rattle.gix_config_value.specs.Settings.{Decides, IsAbsent}
 use Rattle.gix_config_value.specs.Value.{IsAccepted, IsRefused}
 use Rattle.gix_config_value_c.specs.declared.status.TheConstants.{OK, REFUSED, ABSENT, BAD_LENGTHS}
+use Rattle.gix_config_value_c.specs.declared.status.TheConstants.{UNKNOWN_KIND}
 use Rattle.gix_config_value_c.specs.declared.settings.GcvEntry.{GcvEntry}
 use Rattle.gix_config_value_c.specs.Numbers.{kind_number}
-use Rattle.gix_config_value_c.specs.Texts.{IsUnknown}
+use Rattle.gix_config_value_c.specs.Values.{IsNoValue, LeavesAlone}
 
 -- the names and texts, one behind the other
 abbrev pub entry_bytes : List (List ℕ × List ℕ) → List ℕ
@@ -32,20 +33,27 @@ pub record IsDeciding (bytes : List ℕ) (es : List (List ℕ × List ℕ)) (nam
   pub stands : slice_range bytes found.start (found.start + found.length) ≡ t
   pub sized : found.length ≡ length t
 
--- the deciding entry is put into `out`, with a text that has a value of the kind, or that is refused; or no entry has the
--- name, or the lengths do not fit, or the kind is unknown, and `out` is left alone
+-- the kind and the entries that are given
+pub record AreGiven (number : ℕ) (bytes lengths : List ℕ) (kind : Kind) (es : List (List ℕ × List ℕ)) : Type 0 where
+  pub kind_is : number ≡ kind_number kind
+  pub entries : AreEntries bytes lengths es
+
+-- the status says whether the text has a value of the kind
+abbrev pub IsJudged : Kind → List ℕ → ℕ → Type 0
+IsJudged kind t status =
+    (IsAccepted (KindGrammar kind) t × (status ≡ OK)) ⊎ (IsRefused (KindGrammar kind) t × (status ≡ REFUSED))
+
+-- the deciding entry is put into `out`, and its text is judged; or no entry has the name, or the lengths do not fit, or
+-- the kind is unknown, and `out` is left alone
 pub data LooksUpInto (number : ℕ) (bytes lengths name : List ℕ) (out out' : GcvEntry) (status : ℕ) : Type 0 where
-  decided : (kind : Kind) (es : List (List ℕ × List ℕ)) (t : List ℕ) → number ≡ kind_number kind → AreEntries bytes lengths es
-      → IsDeciding bytes es name out' t → IsAccepted (KindGrammar kind) t → status ≡ OK
+  decided : (kind : Kind) (es : List (List ℕ × List ℕ)) (t : List ℕ) → AreGiven number bytes lengths kind es
+      → IsDeciding bytes es name out' t → IsJudged kind t status
       → LooksUpInto number bytes lengths name out out' status
-  refused : (kind : Kind) (es : List (List ℕ × List ℕ)) (t : List ℕ) → number ≡ kind_number kind → AreEntries bytes lengths es
-      → IsDeciding bytes es name out' t → IsRefused (KindGrammar kind) t → status ≡ REFUSED
-      → LooksUpInto number bytes lengths name out out' status
-  absent : (kind : Kind) (es : List (List ℕ × List ℕ)) → number ≡ kind_number kind → AreEntries bytes lengths es
-      → IsAbsent es name → out' ≡ out → status ≡ ABSENT
-      → LooksUpInto number bytes lengths name out out' status
-  bad_lengths : (kind : Kind) → number ≡ kind_number kind → ((es : List (List ℕ × List ℕ)) → ¬ (AreEntries bytes lengths es))
-      → out' ≡ out → status ≡ BAD_LENGTHS
-      → LooksUpInto number bytes lengths name out out' status
-  unknown : IsUnknown number status → out' ≡ out
+  absent : (kind : Kind) (es : List (List ℕ × List ℕ)) → AreGiven number bytes lengths kind es
+      → IsAbsent es name
+      → LeavesAlone ABSENT out out' status → LooksUpInto number bytes lengths name out out' status
+  bad_lengths : (kind : Kind) → number ≡ kind_number kind
+      → ((es : List (List ℕ × List ℕ)) → ¬ (AreEntries bytes lengths es))
+      → LeavesAlone BAD_LENGTHS out out' status → LooksUpInto number bytes lengths name out out' status
+  unknown : IsNoValue kind_number number → LeavesAlone UNKNOWN_KIND out out' status
       → LooksUpInto number bytes lengths name out out' status

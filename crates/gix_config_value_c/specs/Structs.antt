@@ -1,8 +1,9 @@
 -- The structs that stand in C for values.
-use Rattle.std.specs.Prelude.{ℕ, Option, None, Some}
+use Rattle.std.specs.Prelude.{ℕ, ◌+◌, Option, None, Some}
 use Rattle.config_integer.specs.declared.integer.Integer.{Integer}
 use Rattle.config_word.specs.declared.name.Name.{Name}
-use Rattle.config_word.specs.declared.name.Name.TheVariants.{Normal, Default, Black, BrightBlack, Red, BrightRed, Green, BrightGreen, Yellow, BrightYellow, Blue, BrightBlue, Magenta, BrightMagenta, Cyan, BrightCyan, White, BrightWhite, Ansi, Rgb}
+use Rattle.config_word.specs.declared.name.Name.TheVariants.{Ansi, Rgb}
+use Rattle.config_word.specs.Orders.{name_place}
 use Rattle.config_color.specs.declared.color.Color.{Color}
 use Rattle.gix_config_value_c.specs.declared.structs.GcvInteger.{GcvInteger}
 use Rattle.gix_config_value_c.specs.declared.structs.GcvName.{GcvName}
@@ -17,28 +18,11 @@ integer_struct v = record { value = v.value; suffix = suffix_number v.suffix }
 abbrev pub tagged : ℕ → GcvName
 tagged tag = record { tag = tag; palette = 0; red = 0; green = 0; blue = 0 }
 
--- a name: its tag, and its numbers, if it has some
+-- a name: its tag, which is one more than its place, and its numbers, if it has some
 abbrev pub name_struct : Name → GcvName
-name_struct Normal = tagged 1
-name_struct Default = tagged 2
-name_struct Black = tagged 3
-name_struct BrightBlack = tagged 4
-name_struct Red = tagged 5
-name_struct BrightRed = tagged 6
-name_struct Green = tagged 7
-name_struct BrightGreen = tagged 8
-name_struct Yellow = tagged 9
-name_struct BrightYellow = tagged 10
-name_struct Blue = tagged 11
-name_struct BrightBlue = tagged 12
-name_struct Magenta = tagged 13
-name_struct BrightMagenta = tagged 14
-name_struct Cyan = tagged 15
-name_struct BrightCyan = tagged 16
-name_struct White = tagged 17
-name_struct BrightWhite = tagged 18
 name_struct (Ansi n) = record { tag = 19; palette = n; red = 0; green = 0; blue = 0 }
 name_struct (Rgb r g b) = record { tag = 20; palette = 0; red = r; green = g; blue = b }
+name_struct name = tagged (name_place name + 1)
 
 -- a name, or none
 abbrev pub part_struct : Option Name → GcvName
@@ -47,4 +31,8 @@ part_struct (Some n) = name_struct n
 
 -- a color: its names and the bits of its attributes
 abbrev pub color_struct : Color → GcvColor
-color_struct c = record { foreground = part_struct c.foreground; background = part_struct c.background; attributes = c.attributes.0 }
+color_struct c = record {
+  foreground = part_struct c.foreground;
+  background = part_struct c.background;
+  attributes = c.attributes.0;
+}

@@ -29,8 +29,10 @@ NormalizesInto number t buffer buffer' size size' status = AnswersText (IsNormal
 -- whether both texts mean the same is put into `out`; or one of them is refused, or the kind unknown, and `out` is left
 -- alone
 pub data ComparesInto (number : ℕ) (a b : List ℕ) (out out' status : ℕ) : Type 0 where
-  compared : (kind : Kind) (same : Bool) → number ≡ kind_number kind → Compares (KindGrammar kind) (KindCanonical kind) a b (Some same)
+  compared : (kind : Kind) (same : Bool) → number ≡ kind_number kind
+      → Compares (KindGrammar kind) (KindCanonical kind) a b (Some same)
       → out' ≡ flag_number same → status ≡ OK → ComparesInto number a b out out' status
-  refused : (kind : Kind) → number ≡ kind_number kind → Compares (KindGrammar kind) (KindCanonical kind) a b None
+  refused : (kind : Kind) → number ≡ kind_number kind
+      → Compares (KindGrammar kind) (KindCanonical kind) a b None
       → out' ≡ out → status ≡ REFUSED → ComparesInto number a b out out' status
   unknown : IsUnknown number status → out' ≡ out → ComparesInto number a b out out' status

@@ -8,6 +8,10 @@ use Rattle.gix_config_value_c.specs.declared.structs.GcvInteger.{GcvInteger}
 use Rattle.gix_config_value_c.specs.Buffers.{AnswersText}
 use Rattle.gix_config_value_c.specs.Structs.{integer_struct}
 
+-- the call returns this status, and leaves `out` alone
+abbrev pub LeavesAlone : {C : Type 0} → ℕ → C → C → ℕ → Type 0
+LeavesAlone said out out' status = (out' ≡ out) × (status ≡ said)
+
 -- no value stands in C as this
 abbrev pub IsNoValue : {V C : Type 0} → (V → C) → C → Type 0
 IsNoValue {V} struct c = (v : V) → c ≢ struct v
@@ -25,7 +29,8 @@ Shows struct shown bad c buffer buffer' size size' status =
 pub data Multiplies (c : GcvInteger) (out out' : ℤ) (status : ℕ) : Type 0 where
   multiplied : (v : Integer) → c ≡ integer_struct v → IsInI64 (product v) → out' ≡ product v → status ≡ OK
       → Multiplies c out out' status
-  overflow : (v : Integer) → c ≡ integer_struct v → ¬ (IsInI64 (product v)) → out' ≡ out → status ≡ OVERFLOW
+  overflow : (v : Integer) → c ≡ integer_struct v → ¬ (IsInI64 (product v))
+      → LeavesAlone OVERFLOW out out' status
       → Multiplies c out out' status
-  bad_suffix : IsNoValue integer_struct c → out' ≡ out → status ≡ BAD_SUFFIX
+  bad_suffix : IsNoValue integer_struct c → LeavesAlone BAD_SUFFIX out out' status
       → Multiplies c out out' status

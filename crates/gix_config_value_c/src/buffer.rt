@@ -4,8 +4,8 @@ ghost use Rattle.gix_config_value_c.specs.Buffers.{PutsText};
 
 use crate::status::{OK, SHORT_BUFFER};
 
-/// Writes a text to the front of the buffer, and its length beside it. Where the buffer is shorter than the text,
-/// nothing is written but that length.
+/// Writes a text to the front of the buffer, and its length into `length`. If the buffer is shorter than the
+/// text, only that length is written.
 pub(crate) fn put(text: &[u8], buffer: &mut [u8], length: &mut usize) -> u32
     ensures { PutsText text.now buffer.old buffer.new length.new result }
 {
@@ -17,7 +17,8 @@ pub(crate) fn put(text: &[u8], buffer: &mut [u8], length: &mut usize) -> u32
     OK
 }
 
-/// Writes a text into the buffer behind its first bytes, for which there must be room. Answers where the text ends.
+/// Writes a text into the buffer at a place after which there must be room for it. Returns where the text
+/// ends.
 #[inline(always)]
 pub(crate) fn push(text: &[u8], buffer: &mut [u8], at: usize) -> usize
     requires { at + list_length text.now ≤ list_length buffer.old }

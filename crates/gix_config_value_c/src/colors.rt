@@ -5,9 +5,9 @@ use crate::status::{BAD_NAME, NO_TEXT, OK, TOO_MANY_NAMES};
 use crate::structs::{GcvColor, color_of, color_struct};
 use gix_config_value::canonical::{Value, compose};
 
-/// Puts into `out` the color that a text of the first one, white space and a text of the second one reads to. First
-/// `BAD_NAME` where a name of one of them is none, then `NO_TEXT` where no text reads to one of them, then
-/// `TOO_MANY_NAMES` where they have more than two names together: then `out` is left alone.
+/// Puts into `out` the color that a text of the first one, white space and a text of the second one reads to.
+/// First `BAD_NAME` if a name of one of them is none, then `NO_TEXT` if no text reads to one of them,
+/// then `TOO_MANY_NAMES` if they have more than two names together: then `out` is left alone.
 #[unsafe(no_mangle)]
 pub extern "C" fn gcv_raw_compose(first: &GcvColor, second: &GcvColor, out: &mut GcvColor) -> u32
     ensures { ComposesInto first.now second.now out.old out.new result }

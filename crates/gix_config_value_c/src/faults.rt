@@ -1,5 +1,6 @@
 //! Why a text or a path is refused, as a number and as a text.
-ghost use Rattle.std.specs.Prelude.{◌≡◌, option_copied};
+ghost use Rattle.std.specs.Prelude.{◌≡◌, ◌++◌, codes, option_copied};
+ghost use Rattle.config_path.specs.Interpolation.{place_shown};
 ghost use Rattle.gix_config_value_c.specs.Numbers.{fault_number};
 ghost use Rattle.gix_config_value_c.specs.Faults.{place_number, path_fault_number, numbered_text, TellsFault};
 
@@ -21,7 +22,7 @@ pub(crate) fn fault_number(fault: Fault) -> u32
     }
 }
 
-/// The number of a place that is no UTF-8.
+/// The number of a place that is not UTF-8.
 fn place_number(place: Place) -> u32
     ensures { result ≡ place_number place }
 {
@@ -34,7 +35,7 @@ fn place_number(place: Place) -> u32
     }
 }
 
-/// The number of a fault of a path, 0 where memory is wanted.
+/// The number of a fault of a path, 0 for out of memory.
 pub(crate) fn path_fault_number(error: Error<'_>) -> u32
     ensures { result ≡ path_fault_number error.entry }
 {
@@ -49,6 +50,13 @@ pub(crate) fn path_fault_number(error: Error<'_>) -> u32
     }
 }
 
+/// What an error says of bytes that are not UTF-8.
+fn ill_formed_text(place: Place) -> &'static str
+    ensures { result.now ≡ codes "Ill-formed UTF-8 in " ++ place_shown place }
+{
+    Error::IllFormed { place, input: b"" }.text()
+}
+
 /// The text of the fault of this number.
 fn numbered_text(number: u32) -> Option<&'static str>
     ensures { option_copied result ≡ numbered_text number }
@@ -59,22 +67,23 @@ fn numbered_text(number: u32) -> Option<&'static str>
         3 => Some(Fault::Overflow.text()),
         4 => Some(Fault::OutOfRange.text()),
         5 => Some(Fault::Color.text()),
-        6 => Some("path is missing"),
-        7 => Some("git install dir is missing"),
-        8 => Some("home dir is missing"),
-        9 => Some("home for user lookup is missing"),
-        10 => Some("pwd user info is missing"),
-        11 => Some("Ill-formed UTF-8 in path past %(prefix)"),
-        12 => Some("Ill-formed UTF-8 in path past ~/"),
-        13 => Some("Ill-formed UTF-8 in username"),
-        14 => Some("Ill-formed UTF-8 in path past ~user/"),
-        15 => Some("Ill-formed UTF-8 in path"),
+        6 => Some(Error::PathMissing.text()),
+        7 => Some(Error::InstallDirMissing.text()),
+        8 => Some(Error::HomeMissing.text()),
+        9 => Some(Error::LookupMissing.text()),
+        10 => Some(Error::UserNotFound.text()),
+        11 => Some(ill_formed_text(Place::PastPrefix)),
+        12 => Some(ill_formed_text(Place::PastHome)),
+        13 => Some(ill_formed_text(Place::Username)),
+        14 => Some(ill_formed_text(Place::PastUser)),
+        15 => Some(ill_formed_text(Place::Whole)),
         _ => None,
     }
 }
 
-/// Puts the text of a fault into the buffer, and its length into `length`. `UNKNOWN_FAULT` where no fault has the
-/// number, and `SHORT_BUFFER` where the buffer is shorter than the text: then nothing is written but its length.
+/// Puts the text of a fault into the buffer, and its length into `length`. `UNKNOWN_FAULT` if no fault has
+/// the number, and `SHORT_BUFFER` if the buffer is shorter than the text: then nothing is written but its
+/// length.
 #[unsafe(no_mangle)]
 pub extern "C" fn gcv_raw_fault_text(fault: u32, buffer: &mut [u8], length: &mut usize) -> u32
     ensures { TellsFault fault buffer.old buffer.new length.old length.new result }

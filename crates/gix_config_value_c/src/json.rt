@@ -1,8 +1,8 @@
 //! Values as JSON texts, without white space.
 //!
-//! Each call takes memory for the text and gives it back. A text goes to the front of the buffer, and its length into
-//! `length`. Where the buffer is shorter, the answer is `SHORT_BUFFER`, and nothing is written but the length; where
-//! memory is refused, it is `NO_MEMORY`, and nothing is written.
+//! Each call takes memory for the text and gives it back. A text goes to the front of the buffer, and its
+//! length into `length`. If the buffer is shorter, the call returns `SHORT_BUFFER`, and nothing is written
+//! but the length; where memory is refused, it is `NO_MEMORY`, and nothing is written.
 ghost use Rattle.std.specs.Prelude.{◌≡◌, Some, false};
 ghost use Rattle.serde_json.specs.Data.{string, boolean as truth};
 ghost use Rattle.config_boolean.specs.declared.boolean.Boolean as boolean;
@@ -36,7 +36,7 @@ fn put_json(alloc: Global, json: &Value, buffer: &mut [u8], length: &mut usize) 
     }
 }
 
-/// The letter of a suffix as a JSON text. `BAD_SUFFIX` where no suffix has the number.
+/// The letter of a suffix as a JSON text. `BAD_SUFFIX` if no suffix has the number.
 #[unsafe(no_mangle)]
 pub extern "C" fn gcv_raw_json_suffix(
     alloc: Global,
@@ -56,8 +56,8 @@ pub extern "C" fn gcv_raw_json_suffix(
     }
 }
 
-/// The product of an integer as a JSON number. `BAD_SUFFIX` where its suffix has no such number, and `OVERFLOW` where
-/// the product leaves `i64`.
+/// The product of an integer as a JSON number. `BAD_SUFFIX` if its suffix has no such number, and
+/// `OVERFLOW` if the product leaves `i64`.
 #[unsafe(no_mangle)]
 pub extern "C" fn gcv_raw_json_integer(
     alloc: Global,
@@ -76,7 +76,7 @@ pub extern "C" fn gcv_raw_json_integer(
     }
 }
 
-/// A boolean as `true` or `false`. `BAD_FLAG` where the value is neither 0 nor 1.
+/// A boolean as `true` or `false`. `BAD_FLAG` if the value is neither 0 nor 1.
 #[unsafe(no_mangle)]
 pub extern "C" fn gcv_raw_json_boolean(
     alloc: Global,
@@ -96,7 +96,7 @@ pub extern "C" fn gcv_raw_json_boolean(
     }
 }
 
-/// A name as a JSON text. `BAD_NAME` where the struct is that of none.
+/// A name as a JSON text. `BAD_NAME` if the struct is that of none.
 #[unsafe(no_mangle)]
 pub extern "C" fn gcv_raw_json_name(
     alloc: Global,

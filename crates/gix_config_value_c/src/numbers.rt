@@ -5,7 +5,7 @@ ghost use Rattle.gix_config_value_c.specs.Numbers.{kind_number, suffix_number, f
 use gix_config_value::canonical::Kind;
 use gix_config_value::integer::Suffix;
 
-/// The kind of this number, or `None` where no kind has it.
+/// The kind of this number, or `None` if no kind has it.
 pub(crate) fn kind_of(number: u32) -> Option<Kind>
     ensures { StandsFor kind_number number result }
 {
@@ -33,7 +33,7 @@ pub(crate) fn suffix_number(suffix: Option<Suffix>) -> u32
     }
 }
 
-/// The suffix of this number, or `None` where no suffix has it.
+/// The suffix of this number, or `None` if no suffix has it.
 pub(crate) fn unit_of(number: u32) -> Option<Suffix>
     ensures { StandsFor (λ s. suffix_number (Some s)) number result }
 {
@@ -63,7 +63,7 @@ pub(crate) fn flag_number(flag: bool) -> u32
     if flag { 1 } else { 0 }
 }
 
-/// The truth value of this number, or `None` where it is neither 0 nor 1.
+/// The truth value of this number, or `None` if it is neither 0 nor 1.
 pub(crate) fn flag_of(number: u32) -> Option<bool>
     ensures { StandsFor flag_number number result }
 {

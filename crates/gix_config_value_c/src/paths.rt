@@ -1,43 +1,38 @@
 //! Path values: the mark of an optional path, and the directories that a path refers to.
-ghost use Rattle.std.specs.Prelude.{◌≡◌, ℕ, ◌≤◌, ◌<◌, Bool, List, MatchResult, Result, IsUtf8, option_copied, Some, None, length as text_length};
+ghost use Rattle.std.specs.Prelude.{◌≡◌, ℕ, ◌≤◌, ◌<◌, List, MatchResult, Result, IsUtf8, option_copied, Some};
+ghost use Rattle.std.specs.Prelude.{None, length as text_length};
 ghost use Rattle.std.specs.declared.string.String.{String};
 ghost use Rattle.std.specs.declared.alloc.Global.{Global};
 ghost use Rattle.config_path.specs.declared.interpolate.Error.{Error};
 ghost use Rattle.config_path.specs.Parts.{parts_text, IsMadeOf, Makes};
-ghost use Rattle.gix_config_value.specs.Path.{Marked};
 ghost use Rattle.gix_config_value_c.specs.Buffers.{AnswersText};
-ghost use Rattle.gix_config_value_c.specs.Paths.{CutsMark, IsGiven, IsBad, InterpolatedIn, PutsPath, InterpolatesInto};
+ghost use Rattle.gix_config_value_c.specs.Paths.{CutsMark, IsGiven, IsBad, InterpolatedIn, PutsPath};
+ghost use Rattle.gix_config_value_c.specs.Paths.{InterpolatesInto};
 
 use crate::buffer::push;
 use crate::faults::path_fault_number;
-use crate::numbers::flag_of;
+use crate::numbers::{flag_number, flag_of};
 use crate::status::{BAD_FLAG, NO_MEMORY, NOT_UTF8, OK, REFUSED, SHORT_BUFFER};
-use config_path::parts::{Parts, parts_of};
+use gix_config_value::path::cut_mark;
 use gix_config_value::path::interpolate::{Context, Error, absent, home_for_user};
-
-/// The mark of an optional path.
-const MARK: &[u8] = b":(optional)";
+use gix_config_value::path::parts::{Parts, parts_of};
 
 /// The bytes of the longest block of memory, and so of the longest text.
 const LONGEST_BLOCK: usize = usize::MAX / 2;
 
-/// Puts into `optional` whether a path is marked as optional, 1 or 0, and into `start` where the path begins behind
-/// the mark. Only one mark is cut off.
+/// Puts into `optional` whether a path is marked as optional, 1 or 0, and into `start` where the path begins
+/// behind the mark. Only one mark is cut off.
 #[unsafe(no_mangle)]
 pub extern "C" fn gcv_raw_cut_mark(text: &[u8], optional: &mut u32, start: &mut usize)
     ensures { CutsMark text.now optional.new start.new }
 {
-    if text.starts_with(MARK) {
-        *optional = 1;
-        *start = MARK.len();
-    } else {
-        *optional = 0;
-        *start = 0;
-    }
+    let (is_optional, path) = cut_mark(text);
+    *optional = flag_number(is_optional);
+    *start = text.len() - path.len();
 }
 
-/// The text where the flag is 1, and none where it is 0. `BAD_FLAG` where it is neither, and `NOT_UTF8` where the text
-/// is no UTF-8.
+/// The text where the flag is 1, and none where it is 0. `BAD_FLAG` if it is neither, and `NOT_UTF8` where
+/// the text is not UTF-8.
 fn given<'a>(flag: u32, bytes: &'a [u8]) -> Result<Option<&'a str>, u32>
     ensures { MatchResult result
         (λ text. IsGiven (flag, bytes.now) (option_copied text))
@@ -55,16 +50,6 @@ fn given<'a>(flag: u32, bytes: &'a [u8]) -> Result<Option<&'a str>, u32>
     }
 }
 
-/// What follows the mark of an optional path, or all where it does not stand there.
-fn without_mark(text: &[u8]) -> &[u8]
-    ensures { (is_optional : Bool) × Marked text.now is_optional result.now }
-{
-    match text.strip_prefix(MARK) {
-        Some(path) => path,
-        None => text,
-    }
-}
-
 /// The parts of what a path stands for, where users are looked up in a passwd text.
 fn with_users<'a, 'p>(
     path: &'p [u8],
@@ -72,8 +57,8 @@ fn with_users<'a, 'p>(
     home: Option<&'a str>,
     passwd: &'a str,
 ) -> Result<Parts<'a, 'p>, Error<'p>>
-    ensures { Makes result (InterpolatedIn (option_copied install_dir.entry) (option_copied home.entry) (Some passwd.now)
-        path.now) }
+    ensures { Makes result (InterpolatedIn (option_copied install_dir.entry) (option_copied home.entry)
+        (Some passwd.now) path.now) }
 {
     let context = Context {
         git_install_dir: install_dir,
@@ -89,7 +74,8 @@ fn without_users<'a, 'p>(
     install_dir: Option<&'a str>,
     home: Option<&'a str>,
 ) -> Result<Parts<'a, 'p>, Error<'p>>
-    ensures { Makes result (InterpolatedIn (option_copied install_dir.entry) (option_copied home.entry) None path.now) }
+    ensures { Makes result (InterpolatedIn (option_copied install_dir.entry) (option_copied home.entry)
+        None path.now) }
 {
     let context = Context {
         git_install_dir: install_dir,
@@ -115,9 +101,11 @@ fn interpolated<'a, 'p>(
     }
 }
 
-/// Puts the text of the parts into the buffer. A text that no block of memory could hold is refused as `NO_MEMORY`.
+/// Puts the text of the parts into the buffer. A text that no block of memory could hold is refused as
+/// `NO_MEMORY`.
 fn put_parts(parts: Parts<'_, '_>, buffer: &mut [u8], length: &mut usize) -> u32
-    ensures { AnswersText (λ text. (text ≡ parts_text parts.entry) × IsUtf8 text × (text_length text ≤ LONGEST_BLOCK))
+    ensures { AnswersText
+        (λ text. (text ≡ parts_text parts.entry) × IsUtf8 text × (text_length text ≤ LONGEST_BLOCK))
         (λ reason. (reason ≡ NO_MEMORY) × (LONGEST_BLOCK < text_length (parts_text parts.entry)))
         buffer.old buffer.new length.old length.new result }
 {
@@ -170,12 +158,14 @@ fn put_path(
     }
 }
 
-/// Puts what a path value stands for into the buffer, and its length into `length`. One mark of an optional path is
-/// cut off first. Each of the install directory, the home directory and the passwd text is there where its flag is 1.
+/// Puts what a path value stands for into the buffer, and its length into `length`. One mark of an optional
+/// path is cut off first. Each of the install directory, the home directory and the passwd text is there
+/// where its flag is 1.
 ///
-/// `BAD_FLAG` where a flag is neither 0 nor 1, and `NOT_UTF8` where a text that is there is no UTF-8. `REFUSED` where
-/// the path stands for nothing: the number of the fault is put into `fault`. `NO_MEMORY` where the text is longer than
-/// a block of memory can be; the call takes none. `SHORT_BUFFER` where the buffer is shorter than the text.
+/// `BAD_FLAG` if a flag is neither 0 nor 1, and `NOT_UTF8` if a text that is there is not UTF-8.
+/// `REFUSED` if the path stands for nothing: the number of the fault is put into `fault`. `NO_MEMORY`
+/// where the text is longer than a block of memory can be; the call takes none. `SHORT_BUFFER` if the
+/// buffer is shorter than the text.
 #[unsafe(no_mangle)]
 pub extern "C" fn gcv_raw_interpolate(
     text: &[u8],
@@ -189,7 +179,8 @@ pub extern "C" fn gcv_raw_interpolate(
     length: &mut usize,
     fault: &mut u32,
 ) -> u32
-    ensures { InterpolatesInto text.now (has_install_dir, install_dir.now) (has_home, home.now) (has_passwd, passwd.now)
+    ensures { InterpolatesInto text.now (has_install_dir, install_dir.now) (has_home, home.now)
+        (has_passwd, passwd.now)
         buffer.old buffer.new length.old length.new fault.old fault.new result }
 {
     let install_dir = match given(has_install_dir, install_dir) {
@@ -204,6 +195,7 @@ pub extern "C" fn gcv_raw_interpolate(
         Ok(passwd) => passwd,
         Err(status) => return status,
     };
-    let answer = interpolated(without_mark(text), install_dir, home, passwd);
+    let (_is_optional, path) = cut_mark(text);
+    let answer = interpolated(path, install_dir, home, passwd);
     put_path(answer, buffer, length, fault)
 }

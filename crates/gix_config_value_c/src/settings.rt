@@ -73,12 +73,12 @@ fn last_entry(bytes: &[u8], lengths: &[usize], name: &[u8]) -> Option<Option<Gcv
     }
 }
 
-/// Looks for the last entry of the name, which decides. The bytes are the names and texts of all entries, one behind
-/// the other, and the lengths are those of name, text, name, text and so on.
+/// Looks for the last entry of the name, which decides. The bytes are the names and texts of all entries, one
+/// behind the other, and the lengths are those of name, text, name, text and so on.
 ///
-/// `OK` where its text has a value of the kind, and `REFUSED` where it has none: the entry is put into `out`. First
-/// `UNKNOWN_KIND` where no kind has the number, then `BAD_LENGTHS` where the lengths do not fit the bytes, then
-/// `ABSENT` where no entry has the name: then `out` is left alone.
+/// `OK` if its text has a value of the kind, and `REFUSED` if it has none: the entry is put into `out`.
+/// First `UNKNOWN_KIND` if no kind has the number, then `BAD_LENGTHS` if the lengths do not fit the
+/// bytes, then `ABSENT` if no entry has the name: then `out` is left alone.
 #[unsafe(no_mangle)]
 pub extern "C" fn gcv_raw_lookup(
     kind: u32,

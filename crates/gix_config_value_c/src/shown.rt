@@ -1,7 +1,7 @@
 //! Values as they are shown.
 //!
-//! A text goes to the front of the buffer, and its length into `length`. Where the buffer is shorter, the answer is
-//! `SHORT_BUFFER`, and nothing is written but the length.
+//! A text goes to the front of the buffer, and its length into `length`. Where the buffer is shorter, the
+//! answer is `SHORT_BUFFER`, and nothing is written but the length.
 ghost use Rattle.std.specs.Prelude.{Some};
 ghost use Rattle.gix_config_value.specs.Suffix.{suffix_shown};
 ghost use Rattle.gix_config_value.specs.Integer.{integer_shown};
@@ -25,7 +25,7 @@ use gix_config_value::canonical::Value;
 use gix_config_value::color::Attribute;
 use itoa::Buffer;
 
-/// Shows the suffix of a number. `BAD_SUFFIX` where no suffix has it.
+/// Shows the suffix of a number. `BAD_SUFFIX` if no suffix has it.
 #[tactic(auto, using(config_integer::specs::Laws::Suffix::suffix_has_text))]
 #[unsafe(no_mangle)]
 pub extern "C" fn gcv_raw_show_suffix(suffix: u32, buffer: &mut [u8], length: &mut usize) -> u32
@@ -38,7 +38,7 @@ pub extern "C" fn gcv_raw_show_suffix(suffix: u32, buffer: &mut [u8], length: &m
     put(suffix.text().as_str().as_bytes(), buffer, length)
 }
 
-/// Shows an integer. `BAD_SUFFIX` where its suffix has no such number.
+/// Shows an integer. `BAD_SUFFIX` if its suffix has no such number.
 #[tactic(auto, using(config_integer::specs::Laws::IntegerShown::integer_has_text))]
 #[unsafe(no_mangle)]
 pub extern "C" fn gcv_raw_show_integer(
@@ -63,7 +63,7 @@ pub extern "C" fn gcv_raw_show_amount(value: i64, buffer: &mut [u8], length: &mu
     put(Buffer::new().format(value).as_bytes(), buffer, length)
 }
 
-/// Shows a boolean. `BAD_FLAG` where the value is neither 0 nor 1.
+/// Shows a boolean. `BAD_FLAG` if the value is neither 0 nor 1.
 #[tactic(auto, using(config_boolean::specs::Laws::Boolean::boolean_has_text))]
 #[unsafe(no_mangle)]
 pub extern "C" fn gcv_raw_show_boolean(value: u32, buffer: &mut [u8], length: &mut usize) -> u32
@@ -76,7 +76,7 @@ pub extern "C" fn gcv_raw_show_boolean(value: u32, buffer: &mut [u8], length: &m
     put(Boolean(flag).text().as_str().as_bytes(), buffer, length)
 }
 
-/// Shows a name. `BAD_NAME` where the struct is that of none.
+/// Shows a name. `BAD_NAME` if the struct is that of none.
 #[unsafe(no_mangle)]
 pub extern "C" fn gcv_raw_show_name(value: &GcvName, buffer: &mut [u8], length: &mut usize) -> u32
     ensures { Shows name_struct name_shown BAD_NAME
@@ -97,7 +97,7 @@ pub extern "C" fn gcv_raw_show_attribute(bits: u32, buffer: &mut [u8], length: &
     put(set.shown().as_str().as_bytes(), buffer, length)
 }
 
-/// Shows a color. `BAD_NAME` where the struct of one of its names is that of none.
+/// Shows a color. `BAD_NAME` if the struct of one of its names is that of none.
 #[unsafe(no_mangle)]
 pub extern "C" fn gcv_raw_show_color(value: &GcvColor, buffer: &mut [u8], length: &mut usize) -> u32
     ensures { Shows color_struct color_shown BAD_NAME

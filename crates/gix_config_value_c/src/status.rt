@@ -1,6 +1,6 @@
-//! What a call answers: 0, or a number for each way in which it answers nothing.
+//! What a call returns: 0, or a number for each reason why it puts nothing.
 
-/// The call has answered.
+/// The call has put its result.
 pub const OK: u32 = 0;
 /// The text has no value, or the path stands for none.
 pub const REFUSED: u32 = 1;
@@ -22,7 +22,7 @@ pub const BAD_SUFFIX: u32 = 8;
 pub const BAD_NAME: u32 = 9;
 /// A flag is neither 0 nor 1.
 pub const BAD_FLAG: u32 = 10;
-/// A directory or the passwd text is no UTF-8.
+/// A directory or the passwd text is not UTF-8.
 pub const NOT_UTF8: u32 = 11;
 /// The lengths are not those of names and texts that fill the bytes.
 pub const BAD_LENGTHS: u32 = 12;

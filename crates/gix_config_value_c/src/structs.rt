@@ -2,7 +2,8 @@
 ghost use Rattle.std.specs.Prelude.{◌≡◌};
 ghost use Rattle.gix_config_value_c.specs.Numbers.{StandsFor};
 ghost use Rattle.gix_config_value_c.specs.Reading.Structs.{tagged_name};
-ghost use Rattle.gix_config_value_c.specs.Structs.{tagged, integer_struct, name_struct, part_struct, color_struct};
+ghost use Rattle.gix_config_value_c.specs.Structs.{tagged, integer_struct, name_struct, part_struct};
+ghost use Rattle.gix_config_value_c.specs.Structs.{color_struct};
 
 use crate::numbers::{suffix_number, suffix_of};
 use bitflags::Flags;
@@ -23,8 +24,8 @@ pub struct GcvInteger {
 #[repr(C)]
 #[derive(Clone, Copy, PartialEq, Eq)]
 pub struct GcvName {
-    /// 0 for no name, 1 to 18 for the words in the order of `Name`, 19 for a palette number, 20 for red, green and
-    /// blue.
+    /// 0 for no name, 1 to 18 for the words in the order of `Name`, 19 for a palette number, 20 for red,
+    /// green and blue.
     pub tag: u32,
     /// The palette number.
     pub palette: u8,
@@ -42,7 +43,7 @@ pub struct GcvName {
 pub struct GcvColor {
     /// The color of the text.
     pub foreground: GcvName,
-    /// The color behind the text.
+    /// The color of the background.
     pub background: GcvName,
     /// The bits of the attributes.
     pub attributes: u32,
@@ -58,7 +59,7 @@ pub(crate) fn integer_struct(integer: Integer) -> GcvInteger
     }
 }
 
-/// The integer of this struct, or `None` where its suffix has no such number.
+/// The integer of this struct, or `None` if its suffix has no such number.
 pub(crate) fn integer_of(integer: GcvInteger) -> Option<Integer>
     ensures { StandsFor integer_struct integer result }
 {
@@ -69,8 +70,8 @@ pub(crate) fn integer_of(integer: GcvInteger) -> Option<Integer>
     })
 }
 
-/// The struct of a word, or of no name.
-const fn word(tag: u32) -> GcvName
+/// The struct that has this tag alone.
+const fn tagged(tag: u32) -> GcvName
     ensures { result ≡ tagged tag }
 {
     GcvName {
@@ -82,39 +83,21 @@ const fn word(tag: u32) -> GcvName
     }
 }
 
-/// The struct of a name.
+/// The struct of a name. Its tag is one more than its place.
+#[inline(always)]
 pub(crate) fn name_struct(name: Name) -> GcvName
     ensures { result ≡ name_struct name }
 {
+    let word = tagged(u32::from(name.place()) + 1);
     match name {
-        Name::Normal => word(1),
-        Name::Default => word(2),
-        Name::Black => word(3),
-        Name::BrightBlack => word(4),
-        Name::Red => word(5),
-        Name::BrightRed => word(6),
-        Name::Green => word(7),
-        Name::BrightGreen => word(8),
-        Name::Yellow => word(9),
-        Name::BrightYellow => word(10),
-        Name::Blue => word(11),
-        Name::BrightBlue => word(12),
-        Name::Magenta => word(13),
-        Name::BrightMagenta => word(14),
-        Name::Cyan => word(15),
-        Name::BrightCyan => word(16),
-        Name::White => word(17),
-        Name::BrightWhite => word(18),
-        Name::Ansi(palette) => GcvName {
-            palette,
-            ..word(19)
-        },
+        Name::Ansi(palette) => GcvName { palette, ..word },
         Name::Rgb(red, green, blue) => GcvName {
             red,
             green,
             blue,
-            ..word(20)
+            ..word
         },
+        _ => word,
     }
 }
 
@@ -124,41 +107,26 @@ fn part_struct(part: Option<Name>) -> GcvName
     ensures { result ≡ part_struct part }
 {
     match part {
-        None => word(0),
+        None => tagged(0),
         Some(name) => name_struct(name),
     }
 }
 
-/// The name that the tag says, with the numbers that it uses, or `None` where it says none.
+/// The name that the tag says, with the numbers that it uses, or `None` if it says none.
+#[inline(always)]
 fn tagged_name(name: GcvName) -> Option<Name>
     ensures { result ≡ tagged_name name }
 {
     match name.tag {
-        1 => Some(Name::Normal),
-        2 => Some(Name::Default),
-        3 => Some(Name::Black),
-        4 => Some(Name::BrightBlack),
-        5 => Some(Name::Red),
-        6 => Some(Name::BrightRed),
-        7 => Some(Name::Green),
-        8 => Some(Name::BrightGreen),
-        9 => Some(Name::Yellow),
-        10 => Some(Name::BrightYellow),
-        11 => Some(Name::Blue),
-        12 => Some(Name::BrightBlue),
-        13 => Some(Name::Magenta),
-        14 => Some(Name::BrightMagenta),
-        15 => Some(Name::Cyan),
-        16 => Some(Name::BrightCyan),
-        17 => Some(Name::White),
-        18 => Some(Name::BrightWhite),
+        0 => None,
         19 => Some(Name::Ansi(name.palette)),
         20 => Some(Name::Rgb(name.red, name.green, name.blue)),
-        _ => None,
+        tag => Name::at_place(u8::try_from(tag - 1).ok()?),
     }
 }
 
-/// The name of this struct, or `None` where it is that of no name.
+/// The name of this struct, or `None` if it is that of no name.
+#[inline(always)]
 pub(crate) fn name_of(name: GcvName) -> Option<Name>
     ensures { StandsFor name_struct name result }
 {
@@ -175,14 +143,14 @@ pub(crate) fn name_of(name: GcvName) -> Option<Name>
 fn part_of(part: GcvName) -> Option<Option<Name>>
     ensures { StandsFor part_struct part result }
 {
-    if part == word(0) {
+    if part == tagged(0) {
         return Some(None);
     }
     let name = name_of(part)?;
     Some(Some(name))
 }
 
-/// The color of this struct, or `None` where one of its names is none.
+/// The color of this struct, or `None` if one of its names is none.
 #[inline(always)]
 pub(crate) fn color_of(color: GcvColor) -> Option<Color>
     ensures { StandsFor color_struct color result }

@@ -7,14 +7,15 @@ use crate::buffer::put;
 use crate::numbers::{flag_number, kind_of};
 use crate::status::{OK, REFUSED, UNKNOWN_KIND};
 use bstr::BStr;
-use gix_config_value::canonical::{Kind, Text, Value, normalize_into, same};
+use gix_config_value::canonical::{CanonicalText, Kind, Value, normalize_into, same};
 use gix_config_value::integer::Suffix;
 
-/// Puts the letter of the suffix that a text names. `REFUSED` where it names none.
+/// Puts the letter of the suffix that a text names. `REFUSED` if it names none.
 #[inline(never)]
 #[tactic(auto, using(config_integer::specs::Laws::Suffix::suffix_has_text))]
 fn put_suffix(text: &[u8], buffer: &mut [u8], length: &mut usize) -> u32
-    ensures { NormalizesInto (kind_number kinds.Suffix) text.now buffer.old buffer.new length.old length.new result }
+    ensures { NormalizesInto (kind_number kinds.Suffix) text.now
+        buffer.old buffer.new length.old length.new result }
 {
     match Suffix::try_from(BStr::new(text)) {
         Ok(suffix) => put(suffix.text().as_str().as_bytes(), buffer, length),
@@ -22,9 +23,9 @@ fn put_suffix(text: &[u8], buffer: &mut [u8], length: &mut usize) -> u32
     }
 }
 
-/// Puts the canonical text of the value of a text into the buffer, and its length into `length`. `REFUSED` where the
-/// text has no value of the kind, `UNKNOWN_KIND` where no kind has the number, and `SHORT_BUFFER` where the buffer is
-/// shorter than the canonical text: then nothing is written but that text's length.
+/// Puts the canonical text of the value of a text into the buffer, and its length into `length`. `REFUSED`
+/// where the text has no value of the kind, `UNKNOWN_KIND` if no kind has the number, and `SHORT_BUFFER`
+/// where the buffer is shorter than the canonical text: then nothing is written but that text's length.
 #[unsafe(no_mangle)]
 pub extern "C" fn gcv_raw_normalize(
     kind: u32,
@@ -40,15 +41,15 @@ pub extern "C" fn gcv_raw_normalize(
     if let Kind::Suffix = kind {
         return put_suffix(text, buffer, length);
     }
-    let mut canonical = Text::new();
+    let mut canonical = CanonicalText::new();
     if !normalize_into(kind, BStr::new(text), &mut canonical) {
         return REFUSED;
     }
     put(canonical.as_str().as_bytes(), buffer, length)
 }
 
-/// Puts into `out` whether two texts mean the same, 1 or 0. `REFUSED` where one of them has no value of the kind, and
-/// `UNKNOWN_KIND` where no kind has the number: then `out` is left alone.
+/// Puts into `out` whether two texts mean the same, 1 or 0. `REFUSED` if one of them has no value of the
+/// kind, and `UNKNOWN_KIND` if no kind has the number: then `out` is left alone.
 #[unsafe(no_mangle)]
 pub extern "C" fn gcv_raw_same(kind: u32, first: &[u8], second: &[u8], out: &mut u32) -> u32
     ensures { ComparesInto kind first.now second.now out.old out.new result }

@@ -6,7 +6,7 @@ import pathlib
 import sys
 
 sys.dont_write_bytecode = True
-sys.path.insert(0, str(pathlib.Path(__file__).resolve().parents[3] / "fuzz"))
+sys.path.insert(0, str(pathlib.Path(__file__).resolve().parents[3] / "compare"))
 import fuzz  # noqa: E402
 
 

@@ -74,7 +74,7 @@ LD_LIBRARY_PATH=$prefix/lib
 export PKG_CONFIG_PATH LD_LIBRARY_PATH
 archive=$prefix/lib/libgix_config_value.a
 
-holds "the version" python3 "$root/.ci/version.py" "$prefix"
+holds "the version" python3 "$tests/version.py" "$prefix"
 
 # the calls that the header declares are the symbols that the library shows, and it needs none but those of docs/C.md
 grep -oE 'gcv_raw_[a-z0-9_]+' "$prefix/include/gix_config_value.h" | sort -u > "$work/declared"
@@ -175,7 +175,7 @@ holds "memory by $compiler" $compiler -std=c99 $warnings -I"$prefix/include" \
     -Wl,--wrap=malloc,--wrap=realloc,--wrap=free -o "$work/memory" "$tests/memory.c" "$archive"
 counted "each status" "$work/calls"
 counted "memory refused" "$work/memory"
-counted "upstream's answers" "$work/lines" "$root/replay/lines.txt" "$root/replay/answers.txt"
+counted "upstream's answers" "$work/lines" "$root/compare/lines.txt" "$root/compare/answers.txt"
 paste "$root/crates/path_answers/stdin" "$root/crates/path_answers/stdout" > "$work/calls_and_answers"
 counted "stored paths" "$work/paths" "$work/calls_and_answers"
 if [ -x "$program" ]; then

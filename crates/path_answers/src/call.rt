@@ -1,4 +1,5 @@
-//! Calls of `Path::interpolate` as lines write them, and what the library answers to them, as a line writes it.
+//! Calls of `Path::interpolate` as lines write them, and what the library answers to them, as a line writes
+//! it.
 
 use bstr::BString;
 use gix_config_value::Path;
@@ -106,9 +107,9 @@ fn outcome(alloc: Global, given: Result<String, Error<'_>>) -> anyhow::Result<St
 }
 
 impl Call<'_> {
-    /// What the call gives: the flag, the value behind the mark, how often the lookup was called, and the text or the
-    /// error, between tabs. An error where digits are wrong, where those of a directory or of a user are no UTF-8, and
-    /// where memory is refused.
+    /// What the call gives: the flag, the value behind the mark, how often the lookup was called, and the
+    /// text or the error, between tabs. An error where digits are wrong, where those of a directory or of a
+    /// user are no UTF-8, and where memory is refused.
     pub fn answer(&self, alloc: Global) -> anyhow::Result<String> {
         let path = Path::from(BString::new(hex::decode(alloc, self.value)?));
         let git_install_dir = directory(alloc, self.git_install_dir)?;

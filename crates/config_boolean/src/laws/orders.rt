@@ -1,4 +1,4 @@
-//! What `==`, `cmp`, `partial_cmp`, hashes and `clone` answer for booleans, and what the default is.
+//! What `==`, `cmp`, `partial_cmp`, hashes and `clone` return for booleans, and the default.
 ghost use Rattle.std.specs.Prelude.{◌≡◌, false};
 ghost use Rattle.config_text.specs.Orders.{HasOrder, IsCopied};
 ghost use Rattle.config_boolean.specs.declared.boolean.Boolean.{Boolean};
@@ -7,7 +7,7 @@ ghost use Rattle.config_boolean.specs.Orders.{boolean_order};
 use crate::boolean::Boolean;
 use std::hash::Hash;
 
-/// False stands before true, and is the default; equal booleans hash equally.
+/// False comes before true, and is the default; equal booleans hash equally.
 pub fn boolean_order()
     ensures order { HasOrder (◌≡◌) boolean_order
         ⟦<Boolean as PartialEq>⟧.eq ⟦<Boolean as Ord>⟧.cmp ⟦<Boolean as PartialOrd>⟧.partial_cmp

@@ -4,7 +4,6 @@ ghost use Rattle.config_boolean.specs.declared.boolean.Boolean.{Boolean};
 ghost use Rattle.config_boolean.specs.Boolean.{BooleanText, CanonicalBoolean, boolean_shown};
 
 /// Both booleans have a text: the one that they are shown as.
-#[tactic(auto, using(crate::specs::Laws::Boolean::boolean_shown_is_text, crate::specs::Laws::Boolean::boolean_has_text))]
 pub fn boolean_text()
     ensures { (b : Boolean) → IsTextOf BooleanText CanonicalBoolean b (boolean_shown b) }
 {}

@@ -6,11 +6,13 @@ use Rattle.config_checks.specs.declared.entry.Buffers.{Buffers}
 use Rattle.config_checks.specs.declared.entry.EntryEnd.{EntryEnd}
 use Rattle.config_checks.specs.declared.entry.EntryEnd.TheVariants.{Nul, CutOff, CutBefore, Nothing}
 use Rattle.config_checks.specs.Keys.{IsWithout}
-use Rattle.config_checks.specs.Entries.{Entry, IsEntry, IsCutOff, IsCutBefore, IsBegun, EndsKnown, entry_bytes, nul}
+use Rattle.config_checks.specs.Entries.{Entry, IsEntry, IsCutOff, IsCutBefore, IsBegun, EndsKnown}
+use Rattle.config_checks.specs.Entries.{entry_bytes, nul}
 
 -- the entry that the buffers hold
-abbrev pub held : Buffers → Entry
-held buffers = record { scope = buffers.scope.items; origin = buffers.origin.items; setting = buffers.setting.items }
+abbrev pub entry_of : Buffers → Entry
+entry_of buffers =
+    record { scope = buffers.scope.items; origin = buffers.origin.items; setting = buffers.setting.items }
 
 -- the NUL at the end is cut off, if one is there
 abbrev pub CutsNul : List ℕ → List ℕ → Bool → Type 0
@@ -24,7 +26,9 @@ ReadsField unread left field false = Consumes unread left field × IsWithout nul
 
 -- something of a field was read, or all of it, with its NUL
 abbrev pub BreaksField : Option (List ℕ) → Option (List ℕ) → Type 0
-BreaksField unread left = (read field missing : List ℕ) × Consumes unread left read × IsWithout nul field × (field ++ nul ∷ [] ≡ read ++ missing)
+BreaksField unread left =
+    (read field missing : List ℕ) × Consumes unread left read × IsWithout nul field
+    × (field ++ nul ∷ [] ≡ read ++ missing)
 
 -- the same of a field that may not be shown: then nothing is read, and the field is empty
 abbrev pub ReadsShown : Bool → Option (List ℕ) → Option (List ℕ) → List ℕ → Bool → Type 0
@@ -39,8 +43,10 @@ BreaksShown false unread left = ⊥
 -- how an entry was read
 abbrev pub ReadsEntry : Options → Option (List ℕ) → Option (List ℕ) → Entry → EntryEnd → Type 0
 ReadsEntry options unread left entry Nul = Consumes unread left (entry_bytes options entry) × IsEntry entry
-ReadsEntry options unread left entry CutOff = (rest : List ℕ) × Consumes unread left rest × EndsKnown unread left × IsCutOff options rest entry
-ReadsEntry options unread left entry CutBefore = (rest : List ℕ) × Consumes unread left rest × EndsKnown unread left × IsCutBefore options rest
+ReadsEntry options unread left entry CutOff =
+    (rest : List ℕ) × Consumes unread left rest × EndsKnown unread left × IsCutOff options rest entry
+ReadsEntry options unread left entry CutBefore =
+    (rest : List ℕ) × Consumes unread left rest × EndsKnown unread left × IsCutBefore options rest
 ReadsEntry options unread left entry Nothing = Consumes unread left [] × EndsKnown unread left
 
 -- something of an entry was read, or all of it

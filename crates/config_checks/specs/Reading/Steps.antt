@@ -7,13 +7,13 @@ use Rattle.config_checks.specs.declared.check.Counts.{Counts}
 use Rattle.config_checks.specs.declared.check.CheckError.{CheckError}
 use Rattle.config_checks.specs.declared.check.CheckError.TheVariants.{Read, Write, Memory}
 use Rattle.config_checks.specs.Entries.{Entry, IsCut, IsSetting}
-use Rattle.config_checks.specs.Report.{Adds, Report}
+use Rattle.config_checks.specs.Report.{ReportsEntry, Report}
 
--- some of the bytes were written
-pub record WritesPart (held holds : Option (List ℕ)) (bytes : List ℕ) : Type 0 where
+-- a beginning of the bytes was written
+pub record AppendsPart (contents contents' : Option (List ℕ)) (bytes : List ℕ) : Type 0 where
   pub written : List ℕ
   pub missing : List ℕ
-  pub appended : Appends held holds written
+  pub appended : Appends contents contents' written
   pub parts : bytes ≡ written ++ missing
 
 -- each count fits, and leaves room for one more
@@ -22,24 +22,26 @@ pub record HasRoom (s : Counts) : Type 0 where
   pub unknown : s.unknown ≤ s.entries
   pub findings : s.findings ≤ s.entries
 
--- an entry was judged, and its line written
-pub record Judges (rows : List Row) (options : Options) (entry : Entry) (s s' : Counts) (held holds : Option (List ℕ)) : Type 0 where
+-- an entry was counted, and its line written
+pub record Reports (rows : List Row) (options : Options) (entry : Entry) (s s' : Counts)
+    (contents contents' : Option (List ℕ)) : Type 0 where
   pub key : List ℕ
   pub value : Option (List ℕ)
   pub line : List ℕ
   pub setting : IsSetting entry.setting key value
-  pub adds : Adds rows options entry key value s line s'
-  pub appended : Appends held holds line
+  pub adds : ReportsEntry rows options entry key value s line s'
+  pub appended : Appends contents contents' line
 
--- an entry was judged, and of its line some bytes were written
-pub record BreaksLine (rows : List Row) (options : Options) (entry : Entry) (s : Counts) (held holds : Option (List ℕ)) : Type 0 where
+-- an entry was counted, and a beginning of its line written
+pub record ReportsPart (rows : List Row) (options : Options) (entry : Entry) (s : Counts)
+    (contents contents' : Option (List ℕ)) : Type 0 where
   pub key : List ℕ
   pub value : Option (List ℕ)
   pub line : List ℕ
   pub after : Counts
   pub setting : IsSetting entry.setting key value
-  pub adds : Adds rows options entry key value s line after
-  pub part : WritesPart held holds line
+  pub adds : ReportsEntry rows options entry key value s line after
+  pub part : AppendsPart contents contents' line
 
 -- no fault of reading
 abbrev pub IsNoRead : CheckError → Type 0
@@ -48,11 +50,12 @@ IsNoRead (Write e) = Unit {0}
 IsNoRead (Memory e) = Unit {0}
 
 -- the entries that were read so far, and their lines, which were written
-pub record SoFar (rows : List Row) (options : Options) (unread left held holds : Option (List ℕ)) (s : Counts) : Type 0 where
+pub record IsCheckedTo (rows : List Row) (options : Options) (unread left contents contents' : Option (List ℕ))
+    (s : Counts) : Type 0 where
   pub input : List ℕ
   pub output : List ℕ
   pub entries : List Entry
   pub consumed : Consumes unread left input
   pub cut : IsCut options input entries []
-  pub appended : Appends held holds output
+  pub appended : Appends contents contents' output
   pub report : Report rows options entries output s

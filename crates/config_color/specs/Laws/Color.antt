@@ -15,8 +15,9 @@ use Rattle.config_color.specs.Color.{WordsRead, Placed, ColorText, no_color}
 use Rattle.config_color.specs.Reading.Color.{word_item, next_name, with_item, read_from, color_of}
 use Rattle.std.specs.Option.{option_and_then, option_to_list}
 use Rattle.config_word.specs.Name.{NameText}
-use Rattle.config_text.specs.Value.{IsAccepted, IsRefused, Reads, IsValueOf}
-use Rattle.config_text.specs.Laws.Value.{decided_by, one_value_by}
+use Rattle.config_text.specs.Value.{IsAccepted, IsRefused, Reads}
+use Rattle.config_text.specs.Laws.Value.{IsValueOf}
+use Rattle.config_text.specs.Laws.Value.{decided_by, one_value_by, read_by, reads_by}
 use Rattle.config_word.specs.Item.{ItemText}
 use Rattle.config_word.specs.Laws.Item.{item-law, item_one_value, not_both}
 use Rattle.config_color.specs.Split.{IsWithoutSpace, piece, words}
@@ -30,7 +31,8 @@ word_item-value = item-law
 pub or_assoc : (a b c : ℕ) → bit_or (bit_or a b) c ≡ bit_or a (bit_or b c)
 or_assoc a b c = same_from_bits _ _ (λ i. simp bit_at_or (omega arith))
 
-pub WordsRead-join : (xs ys : List (List ℕ)) (ns ms : List Name) (i j : ℕ) → WordsRead xs ns i → WordsRead ys ms j
+pub WordsRead-join : (xs ys : List (List ℕ)) (ns ms : List Name) (i j : ℕ) → WordsRead xs ns i
+    → WordsRead ys ms j
     → WordsRead (xs ++ ys) (ns ++ ms) (bit_or i j)
 WordsRead-join [] ys ns ms i j r s = rw (r.0, r.1, or_zero_l j) s
 WordsRead-join (w ∷ xs) ys ns ms i j (inl (n, more, t, e, r)) s =
@@ -49,7 +51,8 @@ pub record PartsRead (xs ys : List (List ℕ)) (names : List Name) (bits : ℕ) 
   pub all_names : names ≡ front_names ++ back_names
   pub all_bits : bits ≡ bit_or front_bits back_bits
 
-pub WordsRead-split : (xs ys : List (List ℕ)) (names : List Name) (bits : ℕ) → WordsRead (xs ++ ys) names bits → PartsRead xs ys names bits
+pub WordsRead-split : (xs ys : List (List ℕ)) (names : List Name) (bits : ℕ) → WordsRead (xs ++ ys) names bits
+    → PartsRead xs ys names bits
 WordsRead-split [] ys names bits r =
     record { front_names = []; back_names = names; front_bits = 0; back_bits = bits; front = (refl, refl); back = r; all_names = refl; all_bits = sym (or_zero_l bits) }
 WordsRead-split (w ∷ xs) ys names bits (inl (n, more, t, e, r)) =
@@ -66,16 +69,20 @@ pub one_attribute : (w : List ℕ) (a b : Attribute) → AttributeText w a → A
 one_attribute w a b p q = let e = item_one_value w (items.Attribute a) (items.Attribute b) p q in cc
 
 -- words have one reading
-pub WordsRead-one : (ws : List (List ℕ)) (ns ms : List Name) (i j : ℕ) → WordsRead ws ns i → WordsRead ws ms j → (ns ≡ ms) × (i ≡ j)
+pub WordsRead-one : (ws : List (List ℕ)) (ns ms : List Name) (i j : ℕ) → WordsRead ws ns i → WordsRead ws ms j
+    → (ns ≡ ms) × (i ≡ j)
 WordsRead-one [] ns ms i j r s = (cc, cc)
 WordsRead-one (w ∷ ws) ns ms i j (inl (n, more, t, e, r)) (inl (m, rest, u, f, s)) =
     let o = WordsRead-one ws more rest i j r s in let k = one_name w n m t u in (cc (o.0), o.1)
-WordsRead-one (w ∷ ws) ns ms i j (inl (n, more, t, e, r)) (inr (b, rest, u, f, s)) = absurd (not_both w n b t u)
-WordsRead-one (w ∷ ws) ns ms i j (inr (a, more, t, e, r)) (inl (m, rest, u, f, s)) = absurd (not_both w m a u t)
+WordsRead-one (w ∷ ws) ns ms i j (inl (n, more, t, e, r)) (inr (b, rest, u, f, s)) =
+    absurd (not_both w n b t u)
+WordsRead-one (w ∷ ws) ns ms i j (inr (a, more, t, e, r)) (inl (m, rest, u, f, s)) =
+    absurd (not_both w m a u t)
 WordsRead-one (w ∷ ws) ns ms i j (inr (a, more, t, e, r)) (inr (b, rest, u, f, s)) =
     let o = WordsRead-one ws ns ms more rest r s in let k = one_attribute w a b t u in (o.0, e ∙ (ap (λ a. bit_or a.0 more) k ∙ (ap (λ m. bit_or b.0 m) o.1 ∙ sym f)))
 
-pub Placed-words : (ns : List Name) (f b : Option Name) → Placed ns f b → option_to_list f ++ option_to_list b ≡ ns
+pub Placed-words : (ns : List Name) (f b : Option Name) → Placed ns f b
+    → option_to_list f ++ option_to_list b ≡ ns
 Placed-words [] f b p = rw (p.0, p.1) refl
 Placed-words (n ∷ []) f b p = rw (p.0, p.1) refl
 Placed-words (n ∷ m ∷ []) f b p = rw (p.0, p.1) refl
@@ -101,7 +108,8 @@ placing (n ∷ m ∷ []) l = (Some n, Some m, (refl, refl))
 placing (n ∷ m ∷ o ∷ ns) l = absurd (omega arith)
 
 -- colors with the same parts
-pub same_color : (c d : Color) → c.foreground ≡ d.foreground → c.background ≡ d.background → c.attributes.0 ≡ d.attributes.0 → c ≡ d
+pub same_color : (c d : Color) → c.foreground ≡ d.foreground → c.background ≡ d.background
+    → c.attributes.0 ≡ d.attributes.0 → c ≡ d
 same_color c d e f g = λ i. record { foreground = e i; background = f i; attributes = record { 0 = g i } }
 
 -- one more name is placed behind those that are placed already
@@ -115,16 +123,20 @@ next_placed (m ∷ []) f b bits n more g d p q =
 next_placed (m ∷ o ∷ []) f b bits n more g d p q = absurd q
 next_placed (m ∷ o ∷ k ∷ ns) f b bits n more g d p q = absurd p
 
-some_parts : (f b : Option Name) (bits : ℕ) (c : Color) → Some (record { foreground = f; background = b; attributes = record { 0 = bits } }) ≡ Some c
+some_parts : (f b : Option Name) (bits : ℕ) (c : Color)
+    → Some (record { foreground = f; background = b; attributes = record { 0 = bits } }) ≡ Some c
     → (c.foreground ≡ f) × (c.background ≡ b) × (c.attributes.0 ≡ bits)
 some_parts f b bits c e =
     let k : record { foreground = f; background = b; attributes = record { 0 = bits } } ≡ c = cc in
     (ap (λ (c : Color). c.foreground) (sym k), ap (λ (c : Color). c.background) (sym k), ap (λ (c : Color). c.attributes.0) (sym k))
 
-next_from : (ns : List Name) (f b : Option Name) (bits : ℕ) (n : Name) (c : Color) → Placed ns f b → next_name f b bits n ≡ Some c
+next_from : (ns : List Name) (f b : Option Name) (bits : ℕ) (n : Name) (c : Color) → Placed ns f b
+    → next_name f b bits n ≡ Some c
     → Placed (ns ++ n ∷ []) c.foreground c.background × (c.attributes.0 ≡ bits)
-next_from [] f b bits n c p e = let h = rw p.0 at e in let k = some_parts (Some n) b bits c h in ((k.0, k.1 ∙ p.1), k.2)
-next_from (m ∷ []) f b bits n c p e = let h = rw (p.0, p.1) at e in let k = some_parts (Some m) (Some n) bits c h in ((k.0, k.1), k.2)
+next_from [] f b bits n c p e =
+    let h = rw p.0 at e in let k = some_parts (Some n) b bits c h in ((k.0, k.1 ∙ p.1), k.2)
+next_from (m ∷ []) f b bits n c p e =
+    let h = rw (p.0, p.1) at e in let k = some_parts (Some m) (Some n) bits c h in ((k.0, k.1), k.2)
 next_from (m ∷ o ∷ []) f b bits n c p e = let h = rw (p.0, p.1) at e in absurd (cc)
 next_from (m ∷ o ∷ k ∷ ns) f b bits n c p e = absurd p
 
@@ -154,13 +166,16 @@ pub record ReadOn (ws : List (List ℕ)) (p c : Color) (ns : List Name) : Type 0
   pub placed : Placed (ns ++ names) c.foreground c.background
   pub united : c.attributes.0 ≡ bit_or p.attributes.0 bits
 
-reading_derived : (ws : List (List ℕ)) (p c : Color) (ns : List Name) → Placed ns p.foreground p.background → read_from p ws ≡ Some c → ReadOn ws p c ns
+reading_derived : (ws : List (List ℕ)) (p c : Color) (ns : List Name) → Placed ns p.foreground p.background
+    → read_from p ws ≡ Some c → ReadOn ws p c ns
 reading_derived [] p c ns before h =
     let e : p ≡ c = cc in
     record { names = []; bits = 0; read = (refl, refl); placed = rw append-nil (rw e at before); united = ap (λ (c : Color). c.attributes.0) (sym e) ∙ sym (or_zero_r p.attributes.0) }
 reading_derived (w ∷ ws) p c ns before h = at_item w ws p c ns before (word_item w) refl h (λ d ms q e. reading_derived ws d c ms q e) where
-  at_name : (w : List ℕ) (ws : List (List ℕ)) (p c : Color) (ns : List Name) → Placed ns p.foreground p.background → (n : Name) → NameText w n
-      → (o : Option Color) → next_name p.foreground p.background p.attributes.0 n ≡ o → option_and_then (λ d. read_from d ws) o ≡ Some c
+  at_name : (w : List ℕ) (ws : List (List ℕ)) (p c : Color) (ns : List Name)
+      → Placed ns p.foreground p.background → (n : Name) → NameText w n
+      → (o : Option Color) → next_name p.foreground p.background p.attributes.0 n ≡ o
+      → option_and_then (λ d. read_from d ws) o ≡ Some c
       → ((d : Color) (ms : List Name) → Placed ms d.foreground d.background → read_from d ws ≡ Some c → ReadOn ws d c ms) → ReadOn (w ∷ ws) p c ns
   at_name w ws p c ns before n t None e h more = absurd (cc)
   at_name w ws p c ns before n t (Some d) e h more =
@@ -168,8 +183,10 @@ reading_derived (w ∷ ws) p c ns before h = at_item w ws p c ns before (word_it
       let r = more d (ns ++ n ∷ []) k.0 h in
       record { names = n ∷ r.names; bits = r.bits; read = inl (n, r.names, t, refl, r.read); placed = rw append_assoc at r.placed; united = r.united ∙ ap (λ a. bit_or a r.bits) k.1 }
 
-  at_item : (w : List ℕ) (ws : List (List ℕ)) (p c : Color) (ns : List Name) → Placed ns p.foreground p.background
-      → (o : Option Item) → word_item w ≡ o → option_and_then (λ d. read_from d ws) (option_and_then (λ i. with_item p i) o) ≡ Some c
+  at_item : (w : List ℕ) (ws : List (List ℕ)) (p c : Color) (ns : List Name)
+      → Placed ns p.foreground p.background
+      → (o : Option Item) → word_item w ≡ o
+      → option_and_then (λ d. read_from d ws) (option_and_then (λ i. with_item p i) o) ≡ Some c
       → ((d : Color) (ms : List Name) → Placed ms d.foreground d.background → read_from d ws ≡ Some c → ReadOn ws d c ms) → ReadOn (w ∷ ws) p c ns
   at_item w ws p c ns before None e h more = absurd (cc)
   at_item w ws p c ns before (Some (items.Name n)) e h more =
@@ -197,62 +214,60 @@ color_one_value t v w p q = one_value_by color_of-value t v w p q
 pub color_decided : (t : List ℕ) → IsAccepted ColorText t ⊎ IsRefused ColorText t
 color_decided t = decided_by color_of-value t
 
--- what an exact reader answers is what the grammar gives as a function
-pub reads_by : {V : Type 0} {grammar : List ℕ → V → Type 0} {value_of : List ℕ → Option V} → IsValueOf grammar value_of
-    → (t : List ℕ) (r : Option V) → value_of t ≡ r → Reads grammar t r
-reads_by law t None e = λ v h. cc (e, law.found t v h)
-reads_by law t (Some v) e = law.derived t v e
-
-pub read_is : {V : Type 0} {grammar : List ℕ → V → Type 0} {value_of : List ℕ → Option V} → IsValueOf grammar value_of
-    → (t : List ℕ) (r : Option V) → Reads grammar t r → value_of t ≡ r
-read_is {V} {grammar} {value_of} law t None h = told (value_of t) refl where
-  told : (o : Option V) → value_of t ≡ o → value_of t ≡ None
-  told None e = e
-  told (Some v) e = absurd (h v (law.derived t v e))
-read_is law t (Some v) h = law.found t v h
-
 and_then_only : (o : Option Color) → option_and_then (λ d. Some d) o ≡ o
 and_then_only None = refl
 and_then_only (Some c) = refl
 
-and_then_both : (o : Option Color) (more : Color → Option Color) → option_and_then more o ≡ option_and_then more (option_and_then (λ d. Some d) o)
+and_then_both : (o : Option Color) (more : Color → Option Color)
+    → option_and_then more o ≡ option_and_then more (option_and_then (λ d. Some d) o)
 and_then_both None more = refl
 and_then_both (Some c) more = refl
 
 -- one more word, by the item that it was found to be
-pub read_word : (c : Color) (t : List ℕ) (r : Option Item) → t ≢ [] → Reads ItemText t r → read_from c (piece t) ≡ option_and_then (λ i. with_item c i) r
+pub read_word : (c : Color) (t : List ℕ) (r : Option Item) → t ≢ [] → Reads ItemText t r
+    → read_from c (piece t) ≡ option_and_then (λ i. with_item c i) r
 read_word c [] r n h = absurd (n refl)
-read_word c (x ∷ t) r n h = rw (read_is word_item-value (x ∷ t) r h) (and_then_only (option_and_then (λ i. with_item c i) r))
+read_word c (x ∷ t) r n h =
+    rw (sym (read_by word_item-value (x ∷ t) r h)) (and_then_only (option_and_then (λ i. with_item c i) r))
 
 -- a piece, and the words behind it
-read_piece : (c : Color) (t : List ℕ) (ws : List (List ℕ)) → read_from c (piece t ++ ws) ≡ option_and_then (λ d. read_from d ws) (read_from c (piece t))
+read_piece : (c : Color) (t : List ℕ) (ws : List (List ℕ))
+    → read_from c (piece t ++ ws) ≡ option_and_then (λ d. read_from d ws) (read_from c (piece t))
 read_piece c [] ws = refl
-read_piece c (x ∷ t) ws = and_then_both (option_and_then (λ i. with_item c i) (word_item (x ∷ t))) (λ d. read_from d ws)
+read_piece c (x ∷ t) ws =
+    and_then_both (option_and_then (λ i. with_item c i) (word_item (x ∷ t))) (λ d. read_from d ws)
 
 -- a text whose first word is n bytes long, and s bytes of white space behind it
-pub read_step : (c : Color) (text : List ℕ) (n s : ℕ) → IsWithoutSpace text n → n + s ≤ length text → Space (slice_range text n (n + s))
+pub read_step : (c : Color) (text : List ℕ) (n s : ℕ) → IsWithoutSpace text n → n + s ≤ length text
+    → Space (slice_range text n (n + s))
     → read_from c (words text) ≡ option_and_then (λ d. read_from d (words (drop (n + s) text))) (read_from c (piece (take n text)))
 read_step c text n s h l k = ap (λ ws. read_from c ws) (words_step text n s h l k) ∙ read_piece c (take n text) (words (drop (n + s) text))
 
-pub read_last : (c : Color) (text : List ℕ) → IsWithoutSpace text (length text) → read_from c (words text) ≡ read_from c (piece text)
+pub read_last : (c : Color) (text : List ℕ) → IsWithoutSpace text (length text)
+    → read_from c (words text) ≡ read_from c (piece text)
 read_last c text h = ap (λ ws. read_from c ws) (words_last text h)
 
 -- the walk: what the words of the input read to is what the color so far and the words of the rest read to
-pub walk_refused : (input rest : List ℕ) (c : Color) (n s : ℕ) → read_from no_color (words input) ≡ read_from c (words rest)
-    → IsWithoutSpace rest n → n + s ≤ length rest → (0 < s → Space (slice_range rest n (n + s))) → (s ≡ 0 → n ≡ length rest)
+pub walk_refused : (input rest : List ℕ) (c : Color) (n s : ℕ)
+    → read_from no_color (words input) ≡ read_from c (words rest)
+    → IsWithoutSpace rest n → n + s ≤ length rest → (0 < s → Space (slice_range rest n (n + s)))
+    → (s ≡ 0 → n ≡ length rest)
     → read_from c (piece (take n rest)) ≡ None → Reads ColorText input None
 walk_refused input rest c n s same clear within parted last e =
     elim (eqb_told s 0) [
       | inl z ↦
           let all : n ≡ length rest = last z.1 in
           let clear_all : IsWithoutSpace rest (length rest) = subst (λ (n : ℕ). IsWithoutSpace rest n) all clear in
-          reads_by color_of-value input None (same ∙ (read_last c rest clear_all ∙ (ap (λ t. read_from c (piece t)) (sym (take_all n rest (omega arith))) ∙ e)))
+          let last_word = ap (λ t. read_from c (piece t)) (sym (take_all n rest (omega arith))) in
+          reads_by color_of-value input None (sym (same ∙ (read_last c rest clear_all ∙ (last_word ∙ e))))
       | inr z ↦
           let some : 0 < s = grind (arith, nat_tests) in
-          reads_by color_of-value input None (same ∙ (read_step c rest n s clear within (parted some) ∙ ap (λ o. option_and_then (λ d. read_from d (words (drop (n + s) rest))) o) e))
+          let more = ap (λ o. option_and_then (λ d. read_from d (words (drop (n + s) rest))) o) e in
+          reads_by color_of-value input None (sym (same ∙ (read_step c rest n s clear within (parted some) ∙ more)))
     ]
 
-pub walk_done : (input rest : List ℕ) (c d : Color) (n s : ℕ) → read_from no_color (words input) ≡ read_from c (words rest)
+pub walk_done : (input rest : List ℕ) (c d : Color) (n s : ℕ)
+    → read_from no_color (words input) ≡ read_from c (words rest)
     → IsWithoutSpace rest n → (s ≡ 0 → n ≡ length rest) → s ≡ 0
     → read_from c (piece (take n rest)) ≡ Some d → ColorText input d
 walk_done input rest c d n s same clear last z e =
@@ -260,8 +275,10 @@ walk_done input rest c d n s same clear last z e =
     let clear_all : IsWithoutSpace rest (length rest) = subst (λ (n : ℕ). IsWithoutSpace rest n) all clear in
     color_of-value.derived input d (same ∙ (read_last c rest clear_all ∙ (ap (λ t. read_from c (piece t)) (sym (take_all n rest (omega arith))) ∙ e)))
 
-pub walk_goes_on : (input rest : List ℕ) (c d : Color) (n s : ℕ) → read_from no_color (words input) ≡ read_from c (words rest)
+pub walk_goes_on : (input rest : List ℕ) (c d : Color) (n s : ℕ)
+    → read_from no_color (words input) ≡ read_from c (words rest)
     → IsWithoutSpace rest n → n + s ≤ length rest → (0 < s → Space (slice_range rest n (n + s))) → ¬ (s ≡ 0)
-    → read_from c (piece (take n rest)) ≡ Some d → read_from no_color (words input) ≡ read_from d (words (drop (n + s) rest))
+    → read_from c (piece (take n rest)) ≡ Some d
+    → read_from no_color (words input) ≡ read_from d (words (drop (n + s) rest))
 walk_goes_on input rest c d n s same clear within parted z e =
     same ∙ (read_step c rest n s clear within (parted (omega arith)) ∙ ap (λ o. option_and_then (λ d. read_from d (words (drop (n + s) rest))) o) e)

@@ -1,15 +1,15 @@
 -- The laws of `Value` for colors: canonical texts read, one for each color, and it is the text that the color is
 -- shown as.
-use Rattle.std.proofs.Common.{◌≡◌, ◌≢◌, ℕ, zero, suc, ◌+◌, ◌*◌, ◌^◌, ◌<◌, ◌≤◌, ◌↔◌, ◌⊎◌, inl, inr, ◌&&◌, nat_le, Bool, true, false, ◌==◌, List, [], ◌∷◌, ◌++◌, length, map, filter, Option, Some, None, bit_and, min, refl, sym, ap, subst, ◌∙◌, length-append, arith}
+use Rattle.std.proofs.Common.{◌≡◌, ◌≢◌, ℕ, zero, suc, ◌+◌, ◌^◌, ◌<◌, ◌≤◌, ◌↔◌, ◌⊎◌, inl, inr, ◌&&◌, nat_le, Bool, true, false, ◌==◌, List, [], ◌∷◌, ◌++◌, length, map, filter, Option, Some, None, bit_and, min, refl, sym, ap, subst, ◌∙◌, length-append, arith}
 use Rattle.std.specs.Bool.{⊤, IsTrue}
-use Rattle.std.specs.Option.{option_eq, is_some, option_to_list}
+use Rattle.std.specs.Option.{option_eq, is_some}
 use Rattle.std.specs.Prelude.{not}
 use Rattle.bitflags.specs.Sets.{known_bits as known_bits_of, known_from}
 use Rattle.std.specs.Int.{bit_at}
 use Rattle.std.specs.Int.RustNames.{bit_or}
 use Rattle.std.specs.Int.Bits.{or_zero_l}
-use Rattle.std.specs.List.{AllByRecursion, join_with_byte}
-use Rattle.std.proofs.lemmas.List.{append-nil, map-append, length-map}
+use Rattle.std.specs.List.{AllByRecursion, join_with_byte, list_all}
+use Rattle.std.proofs.lemmas.List.{append-nil, length-map}
 use Rattle.std.proofs.lemmas.Bool.{and_parts, leb-true}
 use Rattle.std.proofs.lemmas.Nat.{and_comm}
 use Rattle.std.proofs.lemmas.Bool.Decides.{Decides-eqb}
@@ -19,14 +19,18 @@ use Rattle.config_word.specs.declared.attribute.Attribute.{Attribute}
 use Rattle.config_word.specs.declared.name.Name.{Name}
 use Rattle.config_word.specs.Attribute.{AttributeRow, attributes, attribute_flags, AttributeText, attribute_words, rising_words}
 use Rattle.config_color.specs.Color.{WordsRead, Placed, ColorText, part_shown, set_shown, color_shown, Chosen, CanonicalColor, PartFits, AreKnown}
-use Rattle.config_color.specs.Laws.Color.{WordsRead-join, Placed-words, placing, same_color, color_one_value}
+use Rattle.config_color.specs.Laws.Color.{WordsRead-join, Placed-short, placing, same_color, color_one_value}
 use Rattle.config_text.specs.Bytes.{space}
+use Rattle.config_text.specs.declared.value.TheConstants.{LONGEST_TEXT}
+use Rattle.config_word.specs.declared.attribute.TheConstants.{LONGEST_SET}
+use Rattle.config_word.specs.declared.name.TheConstants.{LONGEST_NAME}
+use Rattle.config_word.specs.Laws.Attribute.{attribute_short}
 use Rattle.config_color.specs.Laws.Composition.{background_beside, some_none}
-use Rattle.config_word.specs.Name.{NameFits, NameText, CanonicalName, name_shown}
+use Rattle.config_word.specs.Name.{NameText, CanonicalName, name_shown}
 use Rattle.config_word.specs.Laws.Name.{name_canonical_reads, name_one_text, name_short, name_fits, name_shown_is_text, name_has_text}
 use Rattle.config_text.specs.OneOf.{OneOf}
 use Rattle.config_text.specs.Laws.OneOf.{all-one}
-use Rattle.config_color.specs.Laws.PlainWords.{words_spaced, all_plain_append, chosen_plain, names_plain}
+use Rattle.config_color.specs.Laws.PlainWords.{is_plain_word, words_spaced, all_plain_append, chosen_plain, names_plain}
 use Rattle.config_text.specs.Value.{IsAccepted, HasText, IsTextOf}
 use Rattle.config_color.specs.Split.{words}
 use Rattle.config_color.specs.Laws.Split.{eqb_told}
@@ -69,8 +73,12 @@ and_pow_clear n k e = and_pow n k ∙ rw e (omega arith)
 and_zero : (n : ℕ) → bit_and n 0 ≡ 0
 and_zero n = same_from_bits _ _ (λ i. simp (bit_at_and, bit_at-zero) (omega arith))
 
+zero_and : (n : ℕ) → bit_and 0 n ≡ 0
+zero_and n = same_from_bits _ _ (λ i. simp (bit_at_and, bit_at-zero) (omega arith))
+
 -- the words of the set bits read to those bits
-set_words_read : (rows : List AttributeRow) (bits : ℕ) → AreRead rows → WordsRead (set_words bits rows) [] (bit_and bits (bits_of rows))
+set_words_read : (rows : List AttributeRow) (bits : ℕ) → AreRead rows
+    → WordsRead (set_words bits rows) [] (bit_and bits (bits_of rows))
 set_words_read [] bits h = (refl, and_zero bits)
 set_words_read (row ∷ rows) bits h =
     elim (bit_told bits row.1) [
@@ -83,7 +91,8 @@ chosen_more row rows [] h = tt
 chosen_more row rows (w ∷ ws) h = inr h
 
 -- the words of the set bits are some of the rows' words
-set_words_chosen : (rows : List AttributeRow) (bits : ℕ) → Chosen (map (λ row. row.2) rows) (set_words bits rows)
+set_words_chosen : (rows : List AttributeRow) (bits : ℕ)
+    → Chosen (map (λ row. row.2) rows) (set_words bits rows)
 set_words_chosen [] bits = tt
 set_words_chosen (row ∷ rows) bits =
     elim (bit_told bits row.1) [
@@ -96,7 +105,8 @@ set_words_zero [] = refl
 set_words_zero (row ∷ rows) = rw (bit_at-zero row.1) (set_words_zero rows)
 
 -- bits that agree from the rows' on have the same words
-set_words_same : (low : ℕ) (rows : List AttributeRow) (a b : ℕ) → Rise low rows → ((i : ℕ) → low ≤ i → bit_at a i ≡ bit_at b i)
+set_words_same : (low : ℕ) (rows : List AttributeRow) (a b : ℕ) → Rise low rows
+    → ((i : ℕ) → low ≤ i → bit_at a i ≡ bit_at b i)
     → set_words a rows ≡ set_words b rows
 set_words_same low [] a b r h = refl
 set_words_same low (row ∷ rows) a b r h =
@@ -113,9 +123,11 @@ pub record ChosenRead (low : ℕ) (rows : List AttributeRow) (ws : List (List �
   pub shown : ws ≡ set_words bits rows
   pub above : (i : ℕ) → i < low → bit_at bits i ≡ 0
 
-chosen_read : (rows : List AttributeRow) (low : ℕ) (ws : List (List ℕ)) → Rise low rows → AreRead rows → Chosen (map (λ row. row.2) rows) ws
+chosen_read : (rows : List AttributeRow) (low : ℕ) (ws : List (List ℕ)) → Rise low rows → AreRead rows
+    → Chosen (map (λ row. row.2) rows) ws
     → ChosenRead low rows ws
-chosen_read [] low [] r h c = record { bits = 0; read = (refl, refl); shown = refl; above = λ i l. bit_at-zero i }
+chosen_read [] low [] r h c =
+    record { bits = 0; read = (refl, refl); shown = refl; above = λ i l. bit_at-zero i }
 chosen_read [] low (w ∷ ws) r h c = absurd c
 chosen_read (row ∷ rows) low [] r h c = record { bits = 0; read = (refl, refl); shown = sym (set_words_zero (row ∷ rows)); above = λ i l. bit_at-zero i }
 chosen_read (row ∷ rows) low (w ∷ ws) r h (inl c) = with_row (chosen_read rows (row.1 + 1) ws r.1 h.1 c.1) where
@@ -140,9 +152,11 @@ chosen_read (row ∷ rows) low (w ∷ ws) r h (inr c) = without_row (chosen_read
     above = λ i l. more.above i (omega arith);
   }
 
-are_read : (rows : List AttributeRow) → ((row : AttributeRow) → OneOf rows row → OneOf attributes row) → AreRead rows
+are_read : (rows : List AttributeRow) → ((row : AttributeRow) → OneOf rows row → OneOf attributes row)
+    → AreRead rows
 are_read [] f = tt
-are_read (row ∷ rows) f = (AttributeText.word row (f row (inl refl)) (inl refl) refl, are_read rows (λ r o. f r (inr o)))
+are_read (row ∷ rows) f =
+    (AttributeText.word row (f row (inl refl)) (inl refl) refl, are_read rows (λ r o. f r (inr o)))
 
 attributes_read : AreRead attributes
 attributes_read = are_read attributes (λ row o. o)
@@ -164,15 +178,12 @@ rising_is : rising_words ≡ map (λ row. row.2) attributes
 unfolding rising_words attributes
 rising_is = refl
 
-known_bits : bits_of attributes ≡ 266338814
-unfolding attributes
-known_bits = refl
-
 -- the bits of the rows are those that are set in their union
 row_bit : (rows : List AttributeRow) (i : ℕ) → OneOf (map (λ row. row.1) rows) i → bit_at (bits_of rows) i ≡ 1
 row_bit [] i o = absurd o
 row_bit (row ∷ rows) i (inl e) = rw e (bit_at_or (2 ^ row.1) (bits_of rows) row.1 ∙ rw (bit_at-pow_same row.1) (omega (arith, bit_at-lt (bits_of rows) row.1)))
-row_bit (row ∷ rows) i (inr o) = bit_at_or (2 ^ row.1) (bits_of rows) i ∙ rw (row_bit rows i o) (omega (arith, bit_at-lt (2 ^ row.1) i))
+row_bit (row ∷ rows) i (inr o) =
+    bit_at_or (2 ^ row.1) (bits_of rows) i ∙ rw (row_bit rows i o) (omega (arith, bit_at-lt (2 ^ row.1) i))
 
 bit_row : (rows : List AttributeRow) (i : ℕ) → bit_at (bits_of rows) i ≡ 1 → OneOf (map (λ row. row.1) rows) i
 bit_row [] i h = absurd (omega (arith, bit_at-zero i))
@@ -184,54 +195,71 @@ bit_row (row ∷ rows) i h =
           inr (bit_row rows i (omega (arith, h, bit_at_or (2 ^ row.1) (bits_of rows) i, bit_at-pow_other row.1 i other)))
     ]
 
--- each set bit is known exactly where the known bits are all that is set
-known_mask : (bits : ℕ) → AreKnown bits → bit_and bits 266338814 ≡ bits
-known_mask bits known = same_from_bits _ _ (λ i. ap (λ m. bit_at (bit_and bits m) i) (sym known_bits) ∙ (bit_at_and bits (bits_of attributes) i ∙ at_bit i (bit_told bits i))) where
-  at_bit : (i : ℕ) → (bit_at bits i ≡ 1) ⊎ (bit_at bits i ≡ 0) → min (bit_at bits i) (bit_at (bits_of attributes) i) ≡ bit_at bits i
+-- a set without other bits than those of the constants
+abbrev IsMasked : ℕ → Type 0
+IsMasked bits = bit_and bits (bits_of attributes) ≡ bits
+
+-- which is the same as that each set bit is known
+known_mask : (bits : ℕ) → AreKnown bits → IsMasked bits
+known_mask bits known = same_from_bits _ _ (λ i. bit_at_and bits (bits_of attributes) i ∙ at_bit i (bit_told bits i)) where
+  at_bit : (i : ℕ) → (bit_at bits i ≡ 1) ⊎ (bit_at bits i ≡ 0)
+      → min (bit_at bits i) (bit_at (bits_of attributes) i) ≡ bit_at bits i
   at_bit i (inl e) = rw (e, row_bit attributes i (known i e)) refl
   at_bit i (inr e) = rw e (omega arith)
 
-mask_known : (bits : ℕ) → bit_and bits 266338814 ≡ bits → AreKnown bits
+mask_known : (bits : ℕ) → IsMasked bits → AreKnown bits
 mask_known bits h = λ i e.
-    let masked : bit_at (bit_and bits (bits_of attributes)) i ≡ bit_at bits i = ap (λ m. bit_at (bit_and bits m) i) known_bits ∙ ap (λ n. bit_at n i) h in
-    bit_row attributes i (omega (arith, masked, e, bit_at_and bits (bits_of attributes) i, bit_at-lt (bits_of attributes) i))
+    let masked : bit_at (bit_and bits (bits_of attributes)) i ≡ bit_at bits i = ap (λ n. bit_at n i) h in
+    let both = bit_at_and bits (bits_of attributes) i in
+    bit_row attributes i (omega (arith, masked, e, both, bit_at-lt (bits_of attributes) i))
 
 -- chosen words of the canonical ones
-pub rising_read : (ws : List (List ℕ)) → Chosen rising_words ws → ChosenRead 0 attributes ws
-rising_read ws c = chosen_read attributes 0 ws attributes_rise attributes_read (subst (λ (rows : List (List ℕ)). Chosen rows ws) rising_is c)
+rising_read : (ws : List (List ℕ)) → Chosen rising_words ws → ChosenRead 0 attributes ws
+rising_read ws c =
+    chosen_read attributes 0 ws attributes_rise attributes_read (subst (λ (rows : List (List ℕ)). Chosen rows ws) rising_is c)
 
-pub attribute_words_chosen : (bits : ℕ) → Chosen rising_words (attribute_words bits)
-attribute_words_chosen bits = subst (λ (rows : List (List ℕ)). Chosen rows (attribute_words bits)) (sym rising_is) (set_words_chosen attributes bits)
+attribute_words_chosen : (bits : ℕ) → Chosen rising_words (attribute_words bits)
+attribute_words_chosen bits =
+    subst (λ (rows : List (List ℕ)). Chosen rows (attribute_words bits)) (sym rising_is) (set_words_chosen attributes bits)
 
-pub attribute_words_read : (bits : ℕ) → bit_and bits 266338814 ≡ bits → WordsRead (attribute_words bits) [] bits
-attribute_words_read bits e = subst (λ (n : ℕ). WordsRead (attribute_words bits) [] n) (ap (λ m. bit_and bits m) known_bits ∙ e) (set_words_read attributes bits attributes_read)
+attribute_words_read : (bits : ℕ) → IsMasked bits → WordsRead (attribute_words bits) [] bits
+attribute_words_read bits e =
+    subst (λ (n : ℕ). WordsRead (attribute_words bits) [] n) e (set_words_read attributes bits attributes_read)
 
-attribute_known : (w : List ℕ) (a : Attribute) → AttributeText w a → bit_and a.0 266338814 ≡ a.0
+attribute_known : (w : List ℕ) (a : Attribute) → AttributeText w a → IsMasked a.0
 unfolding attributes
 attribute_known w a (AttributeText.word row o p e) =
-    rw e ((Decides-eqb (bit_and (2 ^ row.1) 266338814) (2 ^ row.1)).0 (all-one (λ (row : AttributeRow). bit_and (2 ^ row.1) 266338814 == 2 ^ row.1) attributes row refl o))
+    let mask : ℕ = bits_of attributes in
+    rw e ((Decides-eqb (bit_and (2 ^ row.1) mask) (2 ^ row.1)).0
+    (all-one (λ (row : AttributeRow). bit_and (2 ^ row.1) mask == 2 ^ row.1) attributes row refl o))
 attribute_known w a (AttributeText.reset p e) = rw e refl
 
 -- the bits that words read to are known
-pub WordsRead-known : (ws : List (List ℕ)) (ns : List Name) (bits : ℕ) → WordsRead ws ns bits → bit_and bits 266338814 ≡ bits
-WordsRead-known [] ns bits r = rw r.1 refl
+WordsRead-known : (ws : List (List ℕ)) (ns : List Name) (bits : ℕ) → WordsRead ws ns bits → IsMasked bits
+WordsRead-known [] ns bits r = rw r.1 (zero_and (bits_of attributes))
 WordsRead-known (w ∷ ws) ns bits (inl (n, more, t, e, r)) = WordsRead-known ws more bits r
 WordsRead-known (w ∷ ws) ns bits (inr (a, more, t, e, r)) =
-    rw e (and_or a.0 more 266338814 ∙ (ap (λ n. bit_or n (bit_and more 266338814)) (attribute_known w a t) ∙ ap (λ n. bit_or a.0 n) (WordsRead-known ws ns more r)))
+    let front = attribute_known w a t in
+    let back = WordsRead-known ws ns more r in
+    rw e (and_or a.0 more (bits_of attributes) ∙ cc)
+
+-- names that have texts
+abbrev HaveTexts : List Name → Type 0
+HaveTexts ns = AllByRecursion (HasText NameText) ns
 
 -- the names that words read to have texts
-names_have_text : (ws : List (List ℕ)) (ns : List Name) (bits : ℕ) → WordsRead ws ns bits → AllByRecursion (HasText NameText) ns
-names_have_text [] ns bits r = subst (λ (ns : List Name). AllByRecursion (HasText NameText) ns) (sym r.0) tt
-names_have_text (w ∷ ws) ns bits (inl (n, more, t, e, r)) =
-    subst (λ (ns : List Name). AllByRecursion (HasText NameText) ns) (sym e) ((w, t), names_have_text ws more bits r)
-names_have_text (w ∷ ws) ns bits (inr (a, more, t, e, r)) = names_have_text ws ns more r
+names_have_texts : (ws : List (List ℕ)) (ns : List Name) (bits : ℕ) → WordsRead ws ns bits → HaveTexts ns
+names_have_texts [] ns bits r = subst HaveTexts (sym r.0) tt
+names_have_texts (w ∷ ws) ns bits (inl (n, more, t, e, r)) =
+    subst HaveTexts (sym e) ((w, t), names_have_texts ws more bits r)
+names_have_texts (w ∷ ws) ns bits (inr (a, more, t, e, r)) = names_have_texts ws ns more r
 
 -- the displayed names read to them
-names_read : (ns : List Name) → AllByRecursion (HasText NameText) ns → WordsRead (map name_shown ns) ns 0
+names_read : (ns : List Name) → HaveTexts ns → WordsRead (map name_shown ns) ns 0
 names_read [] h = (refl, refl)
 names_read (n ∷ ns) h = inl (n, ns, (name_shown_is_text n h.0).reads_to, refl, names_read ns h.1)
 
-names_canonical : (ns : List Name) → AllByRecursion (HasText NameText) ns → AllByRecursion CanonicalName (map name_shown ns)
+names_canonical : (ns : List Name) → HaveTexts ns → AllByRecursion CanonicalName (map name_shown ns)
 names_canonical [] h = tt
 names_canonical (n ∷ ns) h = ((name_shown_is_text n h.0).canonical_text, names_canonical ns h.1)
 
@@ -256,73 +284,98 @@ canonical_names_read (t ∷ ts) h = with_name (name_canonical_reads t h.0) (cano
         as_many = ap suc more.as_many;
       }
 
--- words that are joined behind others are joined with them
+-- names and then words of attributes read to the names and to the attributes' bits
+names_and_words : (ts ws : List (List ℕ)) (ns : List Name) (bits : ℕ) → WordsRead ts ns 0
+    → WordsRead ws [] bits
+    → WordsRead (ts ++ ws) ns bits
+names_and_words ts ws ns bits r s =
+    subst (λ (ns : List Name). WordsRead (ts ++ ws) ns bits) (append-nil ns)
+    (subst (λ (b : ℕ). WordsRead (ts ++ ws) (ns ++ []) b) (or_zero_l bits) (WordsRead-join ts ws ns [] 0 bits r s))
+
+-- ---- the text that a color is shown as
+
+-- words that are joined after others are joined with them
 join_last : (xs : List (List ℕ)) (y : List ℕ) (ys : List (List ℕ))
     → join_with_byte space (xs ++ join_with_byte space (y ∷ ys) ∷ []) ≡ join_with_byte space (xs ++ y ∷ ys)
 join_last [] y ys = refl
 join_last (x ∷ []) y ys = refl
-join_last (x ∷ z ∷ xs) y ys = ap (λ t. x ++ 32 ∷ t) (join_last (z ∷ xs) y ys)
+join_last (x ∷ z ∷ xs) y ys = ap (λ t. x ++ space ∷ t) (join_last (z ∷ xs) y ys)
 
-part_named : (o : Option Name) → part_shown o ≡ map name_shown (option_to_list o)
-part_named None = refl
-part_named (Some n) = refl
+-- the names' texts are those of foreground and background
+parts_named : (ns : List Name) (f b : Option Name) → Placed ns f b
+    → part_shown f ++ part_shown b ≡ map name_shown ns
+parts_named [] f b p = rw (p.0, p.1) refl
+parts_named (n ∷ []) f b p = rw (p.0, p.1) refl
+parts_named (n ∷ m ∷ []) f b p = rw (p.0, p.1) refl
+parts_named (n ∷ m ∷ o ∷ ns) f b p = absurd p
 
-join_set : (xs : List (List ℕ)) (bits : ℕ) → bit_and bits 266338814 ≡ bits
+join_set : (xs : List (List ℕ)) (bits : ℕ) → IsMasked bits
     → join_with_byte space (xs ++ set_shown bits) ≡ join_with_byte space (xs ++ attribute_words bits)
 join_set xs zero e = ap (λ ws. join_with_byte space (xs ++ ws)) (sym (set_words_zero attributes))
 join_set xs (suc n) e = some (attribute_words (suc n)) refl where
   some : (ws : List (List ℕ)) → attribute_words (suc n) ≡ ws
-      → join_with_byte space (xs ++ join_with_byte space (attribute_words (suc n)) ∷ []) ≡ join_with_byte space (xs ++ attribute_words (suc n))
-  some [] k = let r = subst (λ (ws : List (List ℕ)). WordsRead ws [] (suc n)) k (attribute_words_read (suc n) e) in absurd (omega (arith, r.1))
+      → join_with_byte space (xs ++ join_with_byte space (attribute_words (suc n)) ∷ [])
+      ≡ join_with_byte space (xs ++ attribute_words (suc n))
+  some [] k =
+      let r = subst (λ (ws : List (List ℕ)). WordsRead ws [] (suc n)) k (attribute_words_read (suc n) e) in
+      absurd (omega (arith, r.1))
   some (y ∷ ys) k = rw k (join_last xs y ys)
 
--- the text that a color is shown as, as its words
-pub shown_spaced : (c : Color) → bit_and c.attributes.0 266338814 ≡ c.attributes.0
-    → color_shown c ≡ join_with_byte space (map name_shown (option_to_list c.foreground ++ option_to_list c.background) ++ attribute_words c.attributes.0)
-shown_spaced c e =
+-- it is the names' texts and the attributes' words, with a space between
+shown_spaced : (c : Color) (ns : List Name) → Placed ns c.foreground c.background → IsMasked c.attributes.0
+    → color_shown c ≡ join_with_byte space (map name_shown ns ++ attribute_words c.attributes.0)
+shown_spaced c ns placed e =
     join_set (part_shown c.foreground ++ part_shown c.background) c.attributes.0 e
-    ∙ ap (λ xs. join_with_byte space (xs ++ attribute_words c.attributes.0)) parts where
-      parts : part_shown c.foreground ++ part_shown c.background ≡ map name_shown (option_to_list c.foreground ++ option_to_list c.background)
-      parts = rw (part_named c.foreground, part_named c.background) (sym (map-append name_shown (option_to_list c.foreground) (option_to_list c.background)))
+    ∙ ap (λ xs. join_with_byte space (xs ++ attribute_words c.attributes.0)) (parts_named ns c.foreground c.background placed)
 
 -- a canonical text reads to a color, and is its displayed text
-pub canonical_shown : (t : List ℕ) → CanonicalColor t → (c : Color) × ColorText t c × (t ≡ color_shown c)
+canonical_shown : (t : List ℕ) → CanonicalColor t → (c : Color) × ColorText t c × (t ≡ color_shown c)
 canonical_shown t h = whole (canonical_names_read h.names h.named) (rising_read h.words h.chosen) where
+  plain : list_all is_plain_word (h.names ++ h.words) ≡ true
+  plain = all_plain_append h.names h.words (names_plain h.names h.named) (chosen_plain h.words h.chosen)
+
   spelled_words : words t ≡ h.names ++ h.words
-  spelled_words = ap words h.spelled ∙ words_spaced (h.names ++ h.words) (all_plain_append h.names h.words (names_plain h.names h.named) (chosen_plain h.words h.chosen))
+  spelled_words = ap words h.spelled ∙ words_spaced (h.names ++ h.words) plain
 
-  whole : NamesRead h.names → ChosenRead 0 attributes h.words → (c : Color) × ColorText t c × (t ≡ color_shown c)
-  whole n w = placed (placing n.names (omega (arith, n.as_many, h.at_most_two))) where
+  whole : NamesRead h.names → ChosenRead 0 attributes h.words
+      → (c : Color) × ColorText t c × (t ≡ color_shown c)
+  whole n w = as_placed (placing n.names (omega (arith, n.as_many, h.at_most_two))) where
     joined : WordsRead (h.names ++ h.words) n.names w.bits
-    joined =
-        subst (λ (ns : List Name). WordsRead (h.names ++ h.words) ns w.bits) (append-nil n.names)
-        (subst (λ (b : ℕ). WordsRead (h.names ++ h.words) (n.names ++ []) b) (or_zero_l w.bits) (WordsRead-join h.names h.words n.names [] 0 w.bits n.read w.read))
+    joined = names_and_words h.names h.words n.names w.bits n.read w.read
 
-    placed : (f : Option Name) × (b : Option Name) × Placed n.names f b → (c : Color) × ColorText t c × (t ≡ color_shown c)
-    placed (f, b, p) =
+    as_placed : (f : Option Name) × (b : Option Name) × Placed n.names f b
+        → (c : Color) × ColorText t c × (t ≡ color_shown c)
+    as_placed (f, b, p) =
         let c : Color = record { foreground = f; background = b; attributes = record { 0 = w.bits } } in
-        let read : ColorText t c = record { names = n.names; read = subst (λ (ws : List (List ℕ)). WordsRead ws n.names w.bits) (sym spelled_words) joined; placed = p } in
-        let ts : h.names ≡ map name_shown (option_to_list f ++ option_to_list b) = n.shown ∙ ap (λ ns. map name_shown ns) (sym (Placed-words n.names f b p)) in
-        let whole : h.names ++ h.words ≡ map name_shown (option_to_list f ++ option_to_list b) ++ attribute_words w.bits = ap (λ ts. ts ++ h.words) ts ∙ ap (λ ws. map name_shown (option_to_list f ++ option_to_list b) ++ ws) w.shown in
-        (c, read, h.spelled ∙ (ap (λ ws. join_with_byte space ws) whole ∙ sym (shown_spaced c (WordsRead-known (h.names ++ h.words) n.names w.bits joined))))
+        let read = subst (λ (ws : List (List ℕ)). WordsRead ws n.names w.bits) (sym spelled_words) joined in
+        let shown = shown_spaced c n.names p (WordsRead-known (h.names ++ h.words) n.names w.bits joined) in
+        let parts : h.names ++ h.words ≡ map name_shown n.names ++ attribute_words w.bits =
+        ap (λ ts. ts ++ h.words) n.shown ∙ ap (λ ws. map name_shown n.names ++ ws) w.shown in
+        (c, record { names = n.names; read = read; placed = p }, h.spelled ∙ (ap (join_with_byte space) parts ∙ sym shown))
 
 pub color_canonical_reads : (t : List ℕ) → CanonicalColor t → IsAccepted ColorText t
 color_canonical_reads t h = let k = canonical_shown t h in (k.0, k.1)
 
-pub color_one_text : (s t : List ℕ) (v : Color) → CanonicalColor s → CanonicalColor t → ColorText s v → ColorText t v → s ≡ t
+pub color_one_text : (s t : List ℕ) (v : Color) → CanonicalColor s → CanonicalColor t → ColorText s v
+    → ColorText t v → s ≡ t
 color_one_text s t v p q r u =
     let k = canonical_shown s p in
     let l = canonical_shown t q in
-    k.2 ∙ (ap (λ (c : Color). color_shown c) (color_one_value s k.0 v k.1 r ∙ sym (color_one_value t l.0 v l.1 u)) ∙ sym l.2)
+    let same : k.0 ≡ l.0 = color_one_value s k.0 v k.1 r ∙ sym (color_one_value t l.0 v l.1 u) in
+    k.2 ∙ (ap color_shown same ∙ sym l.2)
 
--- the letters of words, and one byte behind each
-abbrev pub weight : List (List ℕ) → ℕ
+-- ---- its length
+
+-- the letters of words, and one byte after each
+abbrev weight : List (List ℕ) → ℕ
 weight [] = 0
 weight (w ∷ ws) = length w + 1 + weight ws
 
-spaced_weight : (w : List ℕ) (ws : List (List ℕ)) → length (join_with_byte space (w ∷ ws)) + 1 ≡ weight (w ∷ ws)
+spaced_weight : (w : List ℕ) (ws : List (List ℕ))
+    → length (join_with_byte space (w ∷ ws)) + 1 ≡ weight (w ∷ ws)
 spaced_weight w [] = omega arith
-spaced_weight w (v ∷ ws) = omega (arith, length-append w (32 ∷ join_with_byte space (v ∷ ws)), spaced_weight v ws)
+spaced_weight w (v ∷ ws) =
+    omega (arith, length-append w (space ∷ join_with_byte space (v ∷ ws)), spaced_weight v ws)
 
 spaced_short : (ws : List (List ℕ)) (n : ℕ) → weight ws ≤ n + 1 → length (join_with_byte space ws) ≤ n
 spaced_short [] n l = omega arith
@@ -332,106 +385,114 @@ weight-append : (xs ys : List (List ℕ)) → weight (xs ++ ys) ≡ weight xs + 
 weight-append [] ys = omega arith
 weight-append (x ∷ xs) ys = omega (arith, weight-append xs ys)
 
-names_weight : (ns : List Name) → AllByRecursion (HasText NameText) ns → weight (map name_shown ns) ≤ 14 * length ns
-names_weight [] h = omega arith
-names_weight (n ∷ ns) h = omega (arith, name_short n (name_fits h.0.0 n h.0.1), names_weight ns h.1)
+part_weight : (o : Option Name) → PartFits o → weight (part_shown o) ≤ LONGEST_NAME + 1
+part_weight None h = omega arith
+part_weight (Some n) h = omega (arith, name_short n h)
 
-set_words_weight : (rows : List AttributeRow) (bits : ℕ) → weight (set_words bits rows) ≤ weight (map (λ row. row.2) rows)
-set_words_weight [] bits = omega arith
-set_words_weight (row ∷ rows) bits =
-    elim (bit_told bits row.1) [
-      | inl e ↦ rw e (omega (arith, set_words_weight rows bits))
-      | inr e ↦ rw e (omega (arith, set_words_weight rows bits))
-    ]
+set_weight : (bits : ℕ) → weight (set_shown bits) ≤ LONGEST_SET + 1
+set_weight zero = omega arith
+set_weight (suc n) = omega (arith, attribute_short (suc n))
 
-rows_weight : weight (map (λ row. row.2) attributes) ≡ 100
-unfolding attributes
-rows_weight = refl
+-- two of the longest names and the longest set, with a space between, are the longest text
+color_short : (c : Color) → PartFits c.foreground → PartFits c.background
+    → length (color_shown c) ≤ LONGEST_TEXT
+color_short c f b =
+    let names = part_shown c.foreground ++ part_shown c.background in
+    spaced_short (names ++ set_shown c.attributes.0) LONGEST_TEXT (omega (
+      arith,
+      weight-append names (set_shown c.attributes.0),
+      weight-append (part_shown c.foreground) (part_shown c.background),
+      part_weight c.foreground f,
+      part_weight c.background b,
+      set_weight c.attributes.0,
+    ))
 
--- the displayed text of a color whose names have texts, whose bits are known, and whose background stands beside
--- a foreground
-pub shown_is_text : (c : Color) → AllByRecursion (HasText NameText) (option_to_list c.foreground ++ option_to_list c.background)
-    → bit_and c.attributes.0 266338814 ≡ c.attributes.0 → (c.foreground ≡ None → c.background ≡ None)
+-- ---- the laws
+
+-- names that have texts have numbers that fit
+texts_fit : (ns : List Name) (f b : Option Name) → HaveTexts ns → Placed ns f b → PartFits f × PartFits b
+texts_fit [] f b h p = rw (p.0, p.1) (tt, tt)
+texts_fit (n ∷ []) f b h p = rw (p.0, p.1) (name_fits h.0.0 n h.0.1, tt)
+texts_fit (n ∷ m ∷ []) f b h p = rw (p.0, p.1) (name_fits h.0.0 n h.0.1, name_fits h.1.0.0 m h.1.0.1)
+texts_fit (n ∷ m ∷ o ∷ ns) f b h p = absurd p
+
+-- a color is shown as its canonical text where its names have texts and its bits are known
+shown_is_text : (c : Color) (ns : List Name) → Placed ns c.foreground c.background → HaveTexts ns
+    → IsMasked c.attributes.0
     → IsTextOf ColorText CanonicalColor c (color_shown c)
-shown_is_text c h e beside = record {
+shown_is_text c ns placed texts e = record {
   canonical_text = record {
-    names = map name_shown (option_to_list c.foreground ++ option_to_list c.background);
+    names = map name_shown ns;
     words = attribute_words c.attributes.0;
-    at_most_two = omega (arith, length-map (option_to_list c.foreground ++ option_to_list c.background) name_shown, two c.foreground c.background);
-    named = names_canonical (option_to_list c.foreground ++ option_to_list c.background) h;
+    at_most_two = omega (arith, length-map ns name_shown, Placed-short ns c.foreground c.background placed);
+    named = names_canonical ns texts;
     chosen = attribute_words_chosen c.attributes.0;
-    spelled = shown_spaced c e;
+    spelled = spelled;
   };
   reads_to = record {
-    names = option_to_list c.foreground ++ option_to_list c.background;
-    read = subst (λ (ws : List (List ℕ)). WordsRead ws (option_to_list c.foreground ++ option_to_list c.background) c.attributes.0) (sym shown_words)
-        (subst (λ (ns : List Name). WordsRead (map name_shown (option_to_list c.foreground ++ option_to_list c.background) ++ attribute_words c.attributes.0) ns c.attributes.0) (append-nil (option_to_list c.foreground ++ option_to_list c.background))
-        (subst (λ (b : ℕ). WordsRead (map name_shown (option_to_list c.foreground ++ option_to_list c.background) ++ attribute_words c.attributes.0) ((option_to_list c.foreground ++ option_to_list c.background) ++ []) b) (or_zero_l c.attributes.0)
-        (WordsRead-join (map name_shown (option_to_list c.foreground ++ option_to_list c.background)) (attribute_words c.attributes.0) (option_to_list c.foreground ++ option_to_list c.background) [] 0 c.attributes.0
-        (names_read (option_to_list c.foreground ++ option_to_list c.background) h) (attribute_words_read c.attributes.0 e))));
-    placed = place c.foreground c.background beside;
+    names = ns;
+    read = subst (λ (ws : List (List ℕ)). WordsRead ws ns c.attributes.0) (sym shown_words)
+        (names_and_words (map name_shown ns) (attribute_words c.attributes.0) ns c.attributes.0
+        (names_read ns texts) (attribute_words_read c.attributes.0 e));
+    placed = placed;
   };
-  short = rw (shown_spaced c e) (spaced_short (map name_shown (option_to_list c.foreground ++ option_to_list c.background) ++ attribute_words c.attributes.0) 127
-      (omega (arith, weight-append (map name_shown (option_to_list c.foreground ++ option_to_list c.background)) (attribute_words c.attributes.0), names_weight (option_to_list c.foreground ++ option_to_list c.background) h, two c.foreground c.background, set_words_weight attributes c.attributes.0, rows_weight)));
+  short = let fit = texts_fit ns c.foreground c.background texts placed in color_short c fit.0 fit.1;
 } where
-  two : (f b : Option Name) → length (option_to_list f ++ option_to_list b) ≤ 2
-  two None None = omega arith
-  two None (Some m) = omega arith
-  two (Some n) None = omega arith
-  two (Some n) (Some m) = omega arith
+  spelled : color_shown c ≡ join_with_byte space (map name_shown ns ++ attribute_words c.attributes.0)
+  spelled = shown_spaced c ns placed e
 
-  place : (f b : Option Name) → (f ≡ None → b ≡ None) → Placed (option_to_list f ++ option_to_list b) f b
-  place None None k = (refl, refl)
-  place None (Some m) k = absurd (some_none m (k refl))
-  place (Some n) None k = (refl, refl)
-  place (Some n) (Some m) k = (refl, refl)
+  plain : list_all is_plain_word (map name_shown ns ++ attribute_words c.attributes.0) ≡ true
+  plain = all_plain_append (map name_shown ns) (attribute_words c.attributes.0)
+      (names_plain (map name_shown ns) (names_canonical ns texts))
+      (chosen_plain (attribute_words c.attributes.0) (attribute_words_chosen c.attributes.0))
 
-  shown_words : words (color_shown c) ≡ map name_shown (option_to_list c.foreground ++ option_to_list c.background) ++ attribute_words c.attributes.0
-  shown_words = ap words (shown_spaced c e) ∙ words_spaced (map name_shown (option_to_list c.foreground ++ option_to_list c.background) ++ attribute_words c.attributes.0)
-      (all_plain_append (map name_shown (option_to_list c.foreground ++ option_to_list c.background)) (attribute_words c.attributes.0) (names_plain (map name_shown (option_to_list c.foreground ++ option_to_list c.background)) (names_canonical (option_to_list c.foreground ++ option_to_list c.background) h)) (chosen_plain (attribute_words c.attributes.0) (attribute_words_chosen c.attributes.0)))
+  shown_words : words (color_shown c) ≡ map name_shown ns ++ attribute_words c.attributes.0
+  shown_words = ap words spelled ∙ words_spaced (map name_shown ns ++ attribute_words c.attributes.0) plain
 
-pub color_shown_is_text : (c : Color) → HasText ColorText c → IsTextOf ColorText CanonicalColor c (color_shown c)
+pub color_shown_is_text : (c : Color) → HasText ColorText c
+    → IsTextOf ColorText CanonicalColor c (color_shown c)
 color_shown_is_text c (t, h) =
-    shown_is_text c
-    (subst (λ (ns : List Name). AllByRecursion (HasText NameText) ns) (sym (Placed-words h.names c.foreground c.background h.placed)) (names_have_text (words t) h.names c.attributes.0 h.read))
+    shown_is_text c h.names h.placed (names_have_texts (words t) h.names c.attributes.0 h.read)
     (WordsRead-known (words t) h.names c.attributes.0 h.read)
-    (background_beside t c h)
 
 -- a color that was read has numbers that fit
 pub parts_fit : (t : List ℕ) (c : Color) → ColorText t c → PartFits c.foreground × PartFits c.background
-parts_fit t c h = fit h.names c.foreground c.background (names_have_text (words t) h.names c.attributes.0 h.read) h.placed where
-  fits : (n : Name) → HasText NameText n → NameFits n
-  fits n (t, p) = name_fits t n p
-
-  fit : (ns : List Name) (f b : Option Name) → AllByRecursion (HasText NameText) ns → Placed ns f b → PartFits f × PartFits b
-  fit [] f b h p = rw (p.0, p.1) (tt, tt)
-  fit (n ∷ []) f b h p = rw (p.0, p.1) (fits n h.0, tt)
-  fit (n ∷ m ∷ []) f b h p = rw (p.0, p.1) (fits n h.0, fits m h.1.0)
-  fit (n ∷ m ∷ o ∷ ns) f b h p = absurd p
+parts_fit t c h =
+    texts_fit h.names c.foreground c.background (names_have_texts (words t) h.names c.attributes.0 h.read) h.placed
 
 -- which colors have a text: those whose set bits are known, with a background only beside a foreground
 pub color_has_text : (c : Color) → PartFits c.foreground → PartFits c.background
     → (HasText ColorText c) ↔ (AreKnown c.attributes.0 × (c.foreground ≡ None → c.background ≡ None))
 color_has_text c f b = (
   λ h. (mask_known c.attributes.0 (WordsRead-known (words h.0) h.1.names c.attributes.0 h.1.read), background_beside h.0 c h.1),
-  λ k. (color_shown c, (shown_is_text c (parts c.foreground c.background f b) (known_mask c.attributes.0 k.0) k.1).reads_to),
+  λ k. told c.foreground c.background f b refl refl k.1 (known_mask c.attributes.0 k.0),
 ) where
-  parts : (f b : Option Name) → PartFits f → PartFits b → AllByRecursion (HasText NameText) (option_to_list f ++ option_to_list b)
-  parts None None p q = tt
-  parts None (Some m) p q = (name_has_text m q, tt)
-  parts (Some n) None p q = (name_has_text n p, tt)
-  parts (Some n) (Some m) p q = (name_has_text n p, (name_has_text m q, tt))
+  text : (ns : List Name) → Placed ns c.foreground c.background → HaveTexts ns → IsMasked c.attributes.0
+      → HasText ColorText c
+  text ns placed texts e = (color_shown c, (shown_is_text c ns placed texts e).reads_to)
+
+  told : (g d : Option Name) → PartFits g → PartFits d → c.foreground ≡ g → c.background ≡ d
+      → (c.foreground ≡ None → c.background ≡ None) → IsMasked c.attributes.0 → HasText ColorText c
+  told None None p q e h beside masked = text [] (e, h) tt masked
+  told None (Some m) p q e h beside masked = cc (beside e, h)
+  told (Some n) None p q e h beside masked = text (n ∷ []) (e, h) (name_has_text n p, tt) masked
+  told (Some n) (Some m) p q e h beside masked =
+      text (n ∷ m ∷ []) (e, h) (name_has_text n p, (name_has_text m q, tt)) masked
+
+-- ---- tests that the code makes
 
 -- whether the parts of two colors are the same, in the order in which `==` tries them
 abbrev pub same_parts : (Name → Name → Bool) → Color → Color → Bool
-same_parts E v w = option_eq E v.foreground w.foreground && (option_eq E v.background w.background && (v.attributes.0 == w.attributes.0))
+same_parts E v w =
+    option_eq E v.foreground w.foreground && (option_eq E v.background w.background && (v.attributes.0 == w.attributes.0))
 
 -- tests all of which pass
 all_pass : (a b c : Bool) → (a && (b && c)) ≡ true → (a ≡ true) × (b ≡ true) × (c ≡ true)
 all_pass a b c h = let k = and_parts a (b && c) h in let l = and_parts b c k.1 in (k.0, l.0, l.1)
 
 -- colors are equal where their parts are
-pub color_equal : (E : Name → Name → Bool) → ((n m : Name) → (IsTrue (E n m)) ↔ (n ≡ m)) → (v w : Color) → (IsTrue (same_parts E v w)) ↔ (v ≡ w)
+pub color_equal : (E : Name → Name → Bool) → ((n m : Name) → (IsTrue (E n m)) ↔ (n ≡ m))
+    → (v w : Color) → (IsTrue (same_parts E v w)) ↔ (v ≡ w)
 color_equal E law v w = (to, from) where
   part_same : (f g : Option Name) → option_eq E f g ≡ true → f ≡ g
   part_same None None h = refl
@@ -445,29 +506,36 @@ color_equal E law v w = (to, from) where
 
   to : IsTrue (same_parts E v w) → v ≡ w
   to h =
-      let k = all_pass (option_eq E v.foreground w.foreground) (option_eq E v.background w.background) (v.attributes.0 == w.attributes.0) h in
-      let front : option_eq E v.foreground w.foreground ≡ true = cc (k.0, k.1, k.2) in
-      let back : option_eq E v.background w.background ≡ true = cc (k.0, k.1, k.2) in
-      let set : v.attributes.0 == w.attributes.0 ≡ true = cc (k.0, k.1, k.2) in
-      same_color v w (part_same v.foreground w.foreground front) (part_same v.background w.background back) ((Decides-eqb v.attributes.0 w.attributes.0).0 set)
+      let front = option_eq E v.foreground w.foreground in
+      let back = option_eq E v.background w.background in
+      let k = all_pass front back (v.attributes.0 == w.attributes.0) h in
+      same_color v w (part_same v.foreground w.foreground k.0) (part_same v.background w.background k.1)
+      ((Decides-eqb v.attributes.0 w.attributes.0).0 k.2)
 
   from : v ≡ w → IsTrue (same_parts E v w)
-  from e = rw (← e) (rw (part_equal v.foreground, part_equal v.background, (Decides-eqb v.attributes.0 v.attributes.0).1 refl) refl)
+  from e =
+      let same = (Decides-eqb v.attributes.0 v.attributes.0).1 refl in
+      rw (← e) (rw (part_equal v.foreground, part_equal v.background, same) refl)
 
 -- the test whether all set bits are known
-pub known_told : (all bits : ℕ) (r : Bool) → all ≡ known_bits_of attribute_flags → r ≡ (bit_and all bits == bits) → (IsTrue r) ↔ (AreKnown bits)
+pub known_told : (all bits : ℕ) (r : Bool) → all ≡ known_bits_of attribute_flags
+    → r ≡ (bit_and all bits == bits)
+    → (IsTrue r) ↔ (AreKnown bits)
 unfolding attributes known_from
 known_told all bits r e f = (
-  λ h. mask_known bits (and_comm bits 266338814 ∙ (ap (λ m. bit_and m bits) (sym e) ∙ (Decides-eqb (bit_and all bits) bits).0 (sym f ∙ h))),
-  λ h. f ∙ (Decides-eqb (bit_and all bits) bits).1 (ap (λ m. bit_and m bits) e ∙ (and_comm 266338814 bits ∙ known_mask bits h)),
-)
+  λ h. mask_known bits (and_comm bits all_bits ∙ (ap (λ m. bit_and m bits) (sym e) ∙ (Decides-eqb (bit_and all bits) bits).0 (sym f ∙ h))),
+  λ h. f ∙ (Decides-eqb (bit_and all bits) bits).1 (ap (λ m. bit_and m bits) e ∙ (and_comm all_bits bits ∙ known_mask bits h)),
+) where
+  all_bits : ℕ
+  all_bits = known_bits_of attribute_flags
 
 -- the test whether a background stands beside a foreground, where there is one
 pub none_told : (o : Option Name) (n : Bool) → is_some o ≡ not n → n ≡ true → o ≡ None
 none_told None n e h = refl
 none_told (Some x) n e h = let k = rw h at e in absurd (cc)
 
-pub beside_told : (f b : Option Name) (n s : Bool) → is_some b ≡ not n → n ≡ false → s ≡ is_some f → (IsTrue s) ↔ (f ≡ None → b ≡ None)
+pub beside_told : (f b : Option Name) (n s : Bool) → is_some b ≡ not n → n ≡ false → s ≡ is_some f
+    → (IsTrue s) ↔ (f ≡ None → b ≡ None)
 beside_told None None n s e h k = let l = rw h at e in absurd (cc)
 beside_told None (Some x) n s e h k = (λ t. absurd (cc), λ t. absurd (some_none x (t refl)))
 beside_told (Some y) b n s e h k = (λ t z. absurd (some_none y z), λ t. k)

@@ -25,7 +25,8 @@ background_beside t c h e = beside h.names c.foreground c.background h.placed e 
   beside (n ∷ m ∷ o ∷ ns) f b p e = absurd p
 
 -- the composition of the parts' colors is the color of the text that is joined of them by white space
-pub joined_reads : (front space back : List ℕ) (c : Color) → Space space → Joined front back c → ColorText (front ++ space ++ back) c
+pub joined_reads : (front space back : List ℕ) (c : Color) → Space space → Joined front back c
+    → ColorText (front ++ space ++ back) c
 joined_reads front space back c s (a, b, p, q, k) =
     let w = sym (words_joined front space back s) ∙ ap words (sym (append_assoc front space back)) in
     let r = WordsRead-join (words front) (words back) p.names q.names a.attributes.0 b.attributes.0 p.read q.read in
@@ -37,7 +38,8 @@ joined_reads front space back c s (a, b, p, q, k) =
     }
 
 -- the color of a joined text is the composition of the colors of its parts
-pub reads_joined : (front space back : List ℕ) (c : Color) → Space space → ColorText (front ++ space ++ back) c → Joined front back c
+pub reads_joined : (front space back : List ℕ) (c : Color) → Space space
+    → ColorText (front ++ space ++ back) c → Joined front back c
 reads_joined front space back c s h = parted (WordsRead-split (words front) (words back) h.names c.attributes.0 read) where
   read : WordsRead (words front ++ words back) h.names c.attributes.0
   read = subst (λ (ws : List (List ℕ)). WordsRead ws h.names c.attributes.0) (ap words (append_assoc front space back) ∙ words_joined front space back s) h.read
@@ -59,12 +61,14 @@ reads_joined front space back c s h = parted (WordsRead-split (words front) (wor
       )
 
 -- what `normalize` answers for a color text is said for every place at which white space stands in it
-pub normalizes_joins : (t : List ℕ) (result : Option ArrayString) → Normalizes ColorText CanonicalColor t result → Joins t result
+pub normalizes_joins : (t : List ℕ) (result : Option ArrayString)
+    → Normalizes ColorText CanonicalColor t result → Joins t result
 normalizes_joins t None refused = λ front space back s e c j. refused c (subst (λ (t : List ℕ). ColorText t c) (sym e) (joined_reads front space back c s j))
 normalizes_joins t (Some r) (c, h, k) = λ front space back s e. (c, reads_joined front space back c s (subst (λ (t : List ℕ). ColorText t c) e h), k)
 
 -- what `same` answers for color texts is said by their words
-pub compares_words : (a b : List ℕ) (result : Option Bool) → Compares ColorText CanonicalColor a b result → ComparesWords a b result
+pub compares_words : (a b : List ℕ) (result : Option Bool) → Compares ColorText CanonicalColor a b result
+    → ComparesWords a b result
 compares_words a b None refused = tt
 compares_words a b (Some same) (v, w, p, q, k, texts) = (λ e. agree (k.0 e), λ s. k.1 (meet s)) where
   agree : v ≡ w → SameWords a b
@@ -82,29 +86,38 @@ compares_words a b (Some same) (v, w, p, q, k, texts) = (λ e. agree (k.0 e), λ
       same_color v w placed.0 placed.1 (m.1 ∙ sym o.1)
 
 -- a composition of colors that have texts has one
-pub composition_has_text : (a b c : Color) → HasText ColorText a → HasText ColorText b → Composition a b c → HasText ColorText c
-composition_has_text a b c (s, p) (t, q) k = (s ++ codes " " ++ t, joined_reads s (codes " ") t c space_byte (a, b, p, q, k))
+pub composition_has_text : (a b c : Color) → HasText ColorText a → HasText ColorText b → Composition a b c
+    → HasText ColorText c
+composition_has_text a b c (s, p) (t, q) k =
+    (s ++ codes " " ++ t, joined_reads s (codes " ") t c space_byte (a, b, p, q, k))
 
 pub some_none : (n : Name) → Some n ≡ None → ⊥
 some_none n e = cc
 
 -- the places that the names of two colors have
-places_some : (f b g d : Option Name) (h i : Option Name) → (f ≡ None → b ≡ None) → (g ≡ None → d ≡ None) → places_of f b g d ≡ Some (h, i)
+places_some : (f b g d : Option Name) (h i : Option Name) → (f ≡ None → b ≡ None) → (g ≡ None → d ≡ None)
+    → places_of f b g d ≡ Some (h, i)
     → Placed ((option_to_list f ++ option_to_list b) ++ (option_to_list g ++ option_to_list d)) h i
 places_some None (Some o) g d h i p q e = absurd (some_none o (p refl))
 places_some None None None None h i p q e = let k = some_pair_parts None h None i e in (sym k.0, sym k.1)
 places_some None None None (Some m) h i p q e = absurd (some_none m (q refl))
-places_some None None (Some n) None h i p q e = let k = some_pair_parts (Some n) h None i e in (sym k.0, sym k.1)
-places_some None None (Some n) (Some m) h i p q e = let k = some_pair_parts (Some n) h (Some m) i e in (sym k.0, sym k.1)
-places_some (Some n) None None None h i p q e = let k = some_pair_parts (Some n) h None i e in (sym k.0, sym k.1)
-places_some (Some n) None (Some o) None h i p q e = let k = some_pair_parts (Some n) h (Some o) i e in (sym k.0, sym k.1)
+places_some None None (Some n) None h i p q e =
+    let k = some_pair_parts (Some n) h None i e in (sym k.0, sym k.1)
+places_some None None (Some n) (Some m) h i p q e =
+    let k = some_pair_parts (Some n) h (Some m) i e in (sym k.0, sym k.1)
+places_some (Some n) None None None h i p q e =
+    let k = some_pair_parts (Some n) h None i e in (sym k.0, sym k.1)
+places_some (Some n) None (Some o) None h i p q e =
+    let k = some_pair_parts (Some n) h (Some o) i e in (sym k.0, sym k.1)
 places_some (Some n) None g (Some m) h i p q e = absurd (cc)
-places_some (Some n) (Some o) None None h i p q e = let k = some_pair_parts (Some n) h (Some o) i e in (sym k.0, sym k.1)
+places_some (Some n) (Some o) None None h i p q e =
+    let k = some_pair_parts (Some n) h (Some o) i e in (sym k.0, sym k.1)
 places_some (Some n) (Some o) None (Some m) h i p q e = absurd (some_none m (q refl))
 places_some (Some n) (Some o) (Some m) d h i p q e = absurd (cc)
 
 -- there is no place for more than two
-places_none : (f b g d : Option Name) → (f ≡ None → b ≡ None) → (g ≡ None → d ≡ None) → places_of f b g d ≡ None
+places_none : (f b g d : Option Name) → (f ≡ None → b ≡ None) → (g ≡ None → d ≡ None)
+    → places_of f b g d ≡ None
     → 2 < length ((option_to_list f ++ option_to_list b) ++ (option_to_list g ++ option_to_list d))
 places_none None b g d p q e = absurd (cc)
 places_none (Some n) None g None p q e = absurd (cc)

@@ -1,6 +1,6 @@
 -- Words of printing ASCII bytes: no white space stands in them, so a text that is joined of them by spaces
 -- has these words.
-use Rattle.std.proofs.Common.{◌≡◌, ℕ, ◌<◌, ◌≤◌, ◌⊎◌, inl, inr, Bool, true, false, ◌&&◌, codes, nat_le, List, [], ◌∷◌, ◌++◌, Option, Some, None, refl, ◌∙◌, arith}
+use Rattle.std.proofs.Common.{◌≡◌, ℕ, ◌≤◌, inl, inr, Bool, true, false, ◌&&◌, codes, nat_le, List, [], ◌∷◌, ◌++◌, Option, Some, None, refl, ◌∙◌, arith}
 use Rattle.std.specs.List.{AllByRecursion, join_with_byte, list_all}
 use Rattle.std.specs.Str.Parse.{AllDigits}
 use Rattle.std.proofs.lemmas.Bool.{and_from, and_parts}
@@ -12,8 +12,7 @@ use Rattle.config_word.specs.Name.{CanonicalName, lower_words}
 use Rattle.config_text.specs.Bytes.{space, IsLowerHex}
 use Rattle.config_text.specs.OneOf.{OneOf}
 use Rattle.config_text.specs.Laws.OneOf.{all-one}
-use Rattle.config_color.specs.Space.{spellings, Space}
-use Rattle.config_color.specs.Laws.Space.{no_empty}
+use Rattle.config_color.specs.Laws.Space.{start_not}
 use Rattle.config_color.specs.Split.{after_space, last_cut, words}
 use Rattle.config_color.specs.Laws.Split.{after_space_is, words_none, words_joined, space_byte}
 
@@ -27,24 +26,22 @@ is_plain_word [] = false
 is_plain_word (x ∷ xs) = is_plain x && list_all is_plain xs
 
 plain_range : (b : ℕ) → is_plain b ≡ true → (33 ≤ b) × (b ≤ 126)
-plain_range b h = let k = and_parts (nat_le 33 b) (nat_le b 126) h in (grind (arith, nat_tests), grind (arith, nat_tests))
+plain_range b h =
+    let k = and_parts (nat_le 33 b) (nat_le b 126) h in (grind (arith, nat_tests), grind (arith, nat_tests))
 
 range_plain : (b : ℕ) → 33 ≤ b → b ≤ 126 → is_plain b ≡ true
-range_plain b l h = and_from (nat_le 33 b) (nat_le b 126) (grind (arith, nat_tests)) (grind (arith, nat_tests))
+range_plain b l h =
+    and_from (nat_le 33 b) (nat_le b 126) (grind (arith, nat_tests)) (grind (arith, nat_tests))
 
 -- no spelling of white space begins with a plain byte
-space_first : (a : ℕ) (more : List ℕ) → Space (a ∷ more) → (a < 33) ⊎ (126 < a)
-unfolding spellings
-space_first a more h = grind arith
-
 not_before : (x : ℕ) (text : List ℕ) → is_plain x ≡ true → after_space (x ∷ text) ≡ None
 not_before x text h = told (after_space (x ∷ text)) refl where
   told : (o : Option (List ℕ)) → after_space (x ∷ text) ≡ o → after_space (x ∷ text) ≡ None
   told None e = e
-  told (Some r) e = let k = after_space_is (x ∷ text) r e in absurd (apart k.0 k.1 k.2) where
-    apart : (space : List ℕ) → Space space → x ∷ text ≡ space ++ r → ⊥
-    apart [] s e = no_empty s
-    apart (a ∷ more) s e = let f : x ≡ a = cc in let k = plain_range x h in let l = space_first a more s in grind arith
+  told (Some r) e =
+      let k = after_space_is (x ∷ text) r e in
+      let range = plain_range x h in
+      absurd (start_not (x ∷ text) (omega (arith, range.0)) (omega (arith, range.1)) k.0 r k.1 k.2)
 
 plain_uncut : (text : List ℕ) → list_all is_plain text ≡ true → last_cut text ≡ None
 plain_uncut [] h = refl
@@ -57,21 +54,24 @@ plain_word [] h = absurd (cc)
 plain_word (x ∷ xs) h = words_none (x ∷ xs) (plain_uncut (x ∷ xs) h)
 
 -- the words of a text that is joined of plain words by spaces
-pub words_spaced : (ws : List (List ℕ)) → list_all is_plain_word ws ≡ true → words (join_with_byte space ws) ≡ ws
+pub words_spaced : (ws : List (List ℕ)) → list_all is_plain_word ws ≡ true
+    → words (join_with_byte space ws) ≡ ws
 words_spaced [] h = words_none [] refl
 words_spaced (w ∷ []) h = plain_word w (and_parts (is_plain_word w) true h).0
 words_spaced (w ∷ v ∷ ws) h =
     let k = and_parts (is_plain_word w) (list_all is_plain_word (v ∷ ws)) h in
     words_joined w (codes " ") (join_with_byte space (v ∷ ws)) space_byte ∙ rw (plain_word w k.0, words_spaced (v ∷ ws) k.1) refl
 
-pub all_plain_append : (xs ys : List (List ℕ)) → list_all is_plain_word xs ≡ true → list_all is_plain_word ys ≡ true
+pub all_plain_append : (xs ys : List (List ℕ)) → list_all is_plain_word xs ≡ true
+    → list_all is_plain_word ys ≡ true
     → list_all is_plain_word (xs ++ ys) ≡ true
 all_plain_append [] ys p q = q
 all_plain_append (x ∷ xs) ys p q =
     let k = and_parts (is_plain_word x) (list_all is_plain_word xs) p in
     and_from (is_plain_word x) (list_all is_plain_word (xs ++ ys)) k.0 (all_plain_append xs ys k.1 q)
 
-chosen_all_plain : (rows ws : List (List ℕ)) → list_all is_plain_word rows ≡ true → Chosen rows ws → list_all is_plain_word ws ≡ true
+chosen_all_plain : (rows ws : List (List ℕ)) → list_all is_plain_word rows ≡ true → Chosen rows ws
+    → list_all is_plain_word ws ≡ true
 chosen_all_plain [] [] h c = refl
 chosen_all_plain [] (w ∷ ws) h c = absurd c
 chosen_all_plain (row ∷ rows) [] h c = refl
@@ -111,4 +111,5 @@ name_plain t (CanonicalName.rgb ds e l h) = rw e (hex_plain ds h)
 
 pub names_plain : (ts : List (List ℕ)) → AllByRecursion CanonicalName ts → list_all is_plain_word ts ≡ true
 names_plain [] h = refl
-names_plain (t ∷ ts) h = and_from (is_plain_word t) (list_all is_plain_word ts) (name_plain t h.0) (names_plain ts h.1)
+names_plain (t ∷ ts) h =
+    and_from (is_plain_word t) (list_all is_plain_word ts) (name_plain t h.0) (names_plain ts h.1)

@@ -1,10 +1,11 @@
 -- Which bytes the spellings of white space have.
-use Rattle.std.proofs.Common.{◌≡◌, ℕ, ◌+◌, ◌<◌, ◌≤◌, ◌⊎◌, inl, inr, List, [], ◌∷◌, ◌++◌, length, get_or, drop, arith}
-use Rattle.std.proofs.lemmas.Bool.Decides.{leb_tells}
+use Rattle.std.proofs.Common.{◌≡◌, ℕ, ◌+◌, ◌<◌, ◌≤◌, ◌⊎◌, inl, inr, Bool, true, false, ◌||◌, nat_le, List, [], ◌∷◌, ◌++◌, length, get_or, drop, refl, ap, arith}
+use Rattle.std.proofs.lemmas.Bool.Decides.{leb_tells, nat_tests}
 use Rattle.std.proofs.lemmas.List.{get_or-drop}
-use Rattle.config_color.specs.Space.{spellings, Space}
 use Rattle.config_color.specs.Split.{IsWithoutSpace}
 use Rattle.config_color.specs.Reading.Color.{ArePlain}
+use Rattle.config_text.specs.Laws.OneOf.{all-one}
+use Rattle.config_color.specs.Space.{spellings, Space}
 
 pub narrow_bytes : (a : ℕ) → Space (a ∷ []) → ((9 ≤ a) × (a ≤ 13)) ⊎ (a ≡ 32)
 unfolding spellings
@@ -24,11 +25,13 @@ pub bytes_narrow : (a : ℕ) → (9 ≤ a) × (a ≤ 13) ⊎ (a ≡ 32) → Spac
 unfolding spellings
 bytes_narrow a h = grind arith
 
-pub bytes_general : (c : ℕ) → (128 ≤ c) × (c ≤ 138) ⊎ (c ≡ 168) ⊎ (c ≡ 169) ⊎ (c ≡ 175) → Space (226 ∷ 128 ∷ c ∷ [])
+pub bytes_general : (c : ℕ) → (128 ≤ c) × (c ≤ 138) ⊎ (c ≡ 168) ⊎ (c ≡ 169) ⊎ (c ≡ 175)
+    → Space (226 ∷ 128 ∷ c ∷ [])
 unfolding spellings
 bytes_general c h = grind arith
 
-pub bytes_triple : (a b c : ℕ) → (a ≡ 225) × (b ≡ 154) × (c ≡ 128) ⊎ (a ≡ 226) × (b ≡ 129) × (c ≡ 159) ⊎ (a ≡ 227) × (b ≡ 128) × (c ≡ 128)
+pub bytes_triple : (a b c : ℕ)
+    → (a ≡ 225) × (b ≡ 154) × (c ≡ 128) ⊎ (a ≡ 226) × (b ≡ 129) × (c ≡ 159) ⊎ (a ≡ 227) × (b ≡ 128) × (c ≡ 128)
     → Space (a ∷ b ∷ c ∷ [])
 unfolding spellings
 bytes_triple a b c h = grind arith
@@ -64,24 +67,41 @@ pub begins_not : (text : List ℕ) → (1 ≤ length text → ¬ (Space (get_or 
 begins_not text p q r space rest h e = refuted text p q r (begins text space rest h e) where
   refuted : (text : List ℕ) → (1 ≤ length text → ¬ (Space (get_or text 0 0 ∷ [])))
       → (2 ≤ length text → ¬ (Space (get_or text 0 0 ∷ get_or text 1 0 ∷ [])))
-      → (3 ≤ length text → ¬ (Space (get_or text 0 0 ∷ get_or text 1 0 ∷ get_or text 2 0 ∷ []))) → Begins text → ⊥
+      → (3 ≤ length text → ¬ (Space (get_or text 0 0 ∷ get_or text 1 0 ∷ get_or text 2 0 ∷ []))) → Begins text
+      → ⊥
   refuted text p q r (one a rest e s) = (rw e at p) (omega arith) s
   refuted text p q r (two a b rest e s) = (rw e at q) (omega arith) s
   refuted text p q r (three a b c rest e s) = (rw e at r) (omega arith) s
+
+-- the first byte of a spelling
+abbrev is_start : List ℕ → Bool
+is_start [] = false
+is_start (a ∷ more) = nat_le a 32 || nat_le 194 a
+
+space_start : (a : ℕ) (more : List ℕ) → Space (a ∷ more) → nat_le a 32 || nat_le 194 a ≡ true
+unfolding spellings
+space_start a more s = all-one is_start spellings (a ∷ more) refl s
+
+-- a text that begins with another byte begins with no spelling
+pub start_not : (text : List ℕ) → 32 < get_or text 0 0 → get_or text 0 0 < 194
+    → (space rest : List ℕ) → Space space → ¬ (text ≡ space ++ rest)
+start_not text low high [] rest s e = no_empty s
+start_not text low high (a ∷ more) rest s e =
+    let first : get_or text 0 0 ≡ a = ap (λ t. get_or t 0 0) e in
+    let start = space_start a more s in grind (arith, nat_tests)
 
 pub bytes_double : (a b : ℕ) → a ≡ 194 → (b ≡ 133) ⊎ (b ≡ 160) → Space (a ∷ b ∷ [])
 unfolding spellings
 bytes_double a b h k = grind arith
 
--- with a plain byte no white space begins
-plain_begins_not : (text : List ℕ) → (32 < get_or text 0 0) × (get_or text 0 0 < 194) → (space rest : List ℕ) → Space space → ¬ (text ≡ space ++ rest)
-plain_begins_not text p =
-    begins_not text (λ l h. let k = narrow_bytes _ h in grind arith) (λ l h. let k = double_bytes _ _ h in grind arith) (λ l h. let k = triple_bytes _ _ _ h in grind arith)
-
 -- a run of plain bytes has no white space
 pub plain_run : (text : List ℕ) (from to : ℕ) → IsWithoutSpace text from → ArePlain text from to → IsWithoutSpace text to
 plain_run text from to clear plain k below space rest s =
     elim (leb_tells from k) [
-      | inl h ↦ let e : k + 0 ≡ k = omega arith in plain_begins_not (drop k text) (rw (get_or-drop k text 0 0, e) (plain k h.1 below)) space rest s
+      | inl h ↦
+          let e : k + 0 ≡ k = omega arith in
+          let byte : (32 < get_or (drop k text) 0 0) × (get_or (drop k text) 0 0 < 194) =
+          rw (get_or-drop k text 0 0, e) (plain k h.1 below) in
+          start_not (drop k text) byte.0 byte.1 space rest s
       | inr h ↦ clear k h.1 space rest s
     ]

@@ -1,8 +1,7 @@
 -- The laws of `Split`: the two sentences of the definition of words, the words of a text that is joined of two by white
 -- space, and the first word of a text that is walked from its front.
-use Rattle.std.proofs.Common.{◌≡◌, ℕ, zero, suc, ◌+◌, ◌-◌, ◌<◌, ◌≤◌, ◌==◌, ◌⊎◌, inl, inr, Bool, true, false, List, [], ◌∷◌, ◌++◌, length, get_or, take, drop, slice_range, Option, Some, None, refl, sym, ap, ◌∙◌, append_assoc, length-append, arith}
+use Rattle.std.proofs.Common.{◌≡◌, ℕ, zero, suc, ◌+◌, ◌-◌, ◌<◌, ◌≤◌, ◌==◌, ◌⊎◌, inl, inr, Bool, true, false, List, [], ◌∷◌, ◌++◌, length, map, get_or, take, drop, slice_range, Option, Some, None, refl, sym, ap, ◌∙◌, append_assoc, length-append, arith}
 use Rattle.std.specs.Bool.{Decides}
-use Rattle.std.specs.List.{AllByRecursion}
 use Rattle.std.specs.Option.{option_or}
 use Rattle.std.proofs.lemmas.Bool.Decides.{Decides-eqb}
 use Rattle.std.proofs.lemmas.List.{append-nil, take-append-drop, drop-drop, take_all}
@@ -14,12 +13,6 @@ use Rattle.config_color.specs.Split.{IsWithoutSpace, after, after_one, after_spa
 pub space_byte : Space (32 ∷ [])
 unfolding spellings
 space_byte = inr (inr (inr (inr (inr (inl refl)))))
-
--- what holds of each row holds of one of them
-pub each_row : (P : List ℕ → Type 0) (rows : List (List ℕ)) → AllByRecursion P rows → (text : List ℕ) → OneOf rows text → P text
-each_row P [] all text h = absurd h
-each_row P (row ∷ rows) all text (inl e) = rw e all.0
-each_row P (row ∷ rows) all text (inr h) = each_row P rows all.1 text h
 
 -- a test of equal numbers, told
 pub eqb_told : (x y : ℕ) → ((x == y ≡ true) × (x ≡ y)) ⊎ (x == y ≡ false)
@@ -55,26 +48,48 @@ after_one_is (row ∷ rows) text rest h = told (after row text) refl h (after_on
   told None e k more = let found = more k in (found.0, inr found.1, found.2)
 
 -- what follows a spelling at the head of a text
-pub after_space_is : (text rest : List ℕ) → after_space text ≡ Some rest → (space : List ℕ) × Space space × (text ≡ space ++ rest)
+pub after_space_is : (text rest : List ℕ) → after_space text ≡ Some rest
+    → (space : List ℕ) × Space space × (text ≡ space ++ rest)
 unfolding after_space spellings
 after_space_is text rest h = after_one_is spellings text rest h
 
 -- a cut of the end of a text is a cut of the text
-cut_append : (before text b r : List ℕ) → last_cut text ≡ Some (b, r) → last_cut (before ++ text) ≡ Some (before ++ b, r)
+cut_append : (before text b r : List ℕ) → last_cut text ≡ Some (b, r)
+    → last_cut (before ++ text) ≡ Some (before ++ b, r)
 cut_append [] text b r h = h
 cut_append (x ∷ before) text b r h = rw (cut_append before text b r h) refl
 
--- behind a spelling that no other follows, the cut stands at that spelling
-last_space : (space rest : List ℕ) → Space space → last_cut rest ≡ None → last_cut (space ++ rest) ≡ Some ([], rest)
+-- the last cut of `front ++ rest`, where `rest` has none
+abbrev cut_in : List ℕ → List ℕ → Option Cut
+cut_in [] rest = None
+cut_in (x ∷ front) rest = cut_at x (after_space (x ∷ front ++ rest)) (cut_in front rest)
+
+cut_in-is : (front rest : List ℕ) → last_cut rest ≡ None → last_cut (front ++ rest) ≡ cut_in front rest
+cut_in-is [] rest h = h
+cut_in-is (x ∷ front) rest h = rw (cut_in-is front rest h) refl
+
+-- each spelling is cut at its front
+each_cut : (rest : List ℕ) → map (λ row. cut_in row rest) spellings ≡ map (λ row. Some ([], rest)) spellings
 unfolding after_space spellings
-last_space space rest s h = each_row (λ space. (rest : List ℕ) → last_cut rest ≡ None → last_cut (space ++ rest) ≡ Some ([], rest)) spellings
-    (λ rest h. rw h refl, (λ rest h. rw h refl, (λ rest h. rw h refl, (λ rest h. rw h refl, (λ rest h. rw h refl, (λ rest h. rw h refl, (λ rest h. rw h refl, (λ rest h. rw h refl, (λ rest h. rw h refl, (λ rest h. rw h refl, (λ rest h. rw h refl, (λ rest h. rw h refl, (λ rest h. rw h refl, (λ rest h. rw h refl, (λ rest h. rw h refl, (λ rest h. rw h refl, (λ rest h. rw h refl, (λ rest h. rw h refl, (λ rest h. rw h refl, (λ rest h. rw h refl, (λ rest h. rw h refl, (λ rest h. rw h refl, (λ rest h. rw h refl, (λ rest h. rw h refl, (λ rest h. rw h refl, tt)))))))))))))))))))))))))
-    space s rest h
+each_cut rest = refl
+
+-- after a spelling that no other follows, the cut is at that spelling
+last_space : (space rest : List ℕ) → Space space → last_cut rest ≡ None
+    → last_cut (space ++ rest) ≡ Some ([], rest)
+unfolding spellings
+last_space space rest s h = cut_in-is space rest h ∙ same_at spellings (each_cut rest) s where
+  same_at : (rows : List (List ℕ)) → map (λ row. cut_in row rest) rows ≡ map (λ row. Some ([], rest)) rows
+      → OneOf rows space
+      → cut_in space rest ≡ Some ([], rest)
+  same_at [] e o = absurd o
+  same_at (row ∷ rows) e (inl is) = rw is (cc)
+  same_at (row ∷ rows) e (inr o) = same_at rows (cc) o
 
 -- the cut of a text is told
 pub cut_told : (text : List ℕ) → (last_cut text ≡ None) ⊎ ((cut : Cut) × (last_cut text ≡ Some cut))
 cut_told text = told (last_cut text) refl where
-  told : (o : Option Cut) → last_cut text ≡ o → (last_cut text ≡ None) ⊎ ((cut : Cut) × (last_cut text ≡ Some cut))
+  told : (o : Option Cut) → last_cut text ≡ o
+      → (last_cut text ≡ None) ⊎ ((cut : Cut) × (last_cut text ≡ Some cut))
   told None e = inl e
   told (Some cut) e = inr (cut, e)
 
@@ -98,7 +113,8 @@ cut_shorter (x ∷ text) cut h =
       at_head None k = absurd (cc)
       at_head (Some r) k = let e : [] ≡ cut.0 = ap (λ o. front_of o) k in omega (arith, ap length e)
 
-within_enough : (n m : ℕ) (text : List ℕ) → length text ≤ n → length text ≤ m → words_within n text ≡ words_within m text
+within_enough : (n m : ℕ) (text : List ℕ) → length text ≤ n → length text ≤ m
+    → words_within n text ≡ words_within m text
 within_enough zero zero text p q = refl
 within_enough zero (suc m) [] p q = refl
 within_enough zero (suc m) (x ∷ text) p q = absurd (omega arith)
@@ -117,7 +133,8 @@ words_none [] h = refl
 words_none (x ∷ text) h = rw h refl
 
 -- otherwise: the words of what stands before the last spelling, then what follows it
-pub words_some : (text : List ℕ) (cut : Cut) → last_cut text ≡ Some cut → words text ≡ words cut.0 ++ piece cut.1
+pub words_some : (text : List ℕ) (cut : Cut) → last_cut text ≡ Some cut
+    → words text ≡ words cut.0 ++ piece cut.1
 unfolding words
 words_some [] cut h = absurd (cc)
 words_some (x ∷ text) cut h =
@@ -149,11 +166,13 @@ words_joined_within (suc n) before space rest l s =
     ]
 
 -- the words of two texts joined by a spelling are those of the one, then those of the other
-pub words_joined : (before space rest : List ℕ) → Space space → words (before ++ (space ++ rest)) ≡ words before ++ words rest
+pub words_joined : (before space rest : List ℕ) → Space space
+    → words (before ++ (space ++ rest)) ≡ words before ++ words rest
 words_joined before space rest s = words_joined_within (length rest) before space rest (omega arith) s
 
 -- what follows a space at the front of a text has the words of the text
-pub words_past_space : (t : List ℕ) → 1 ≤ length t → get_or t 0 0 ≡ 32 → words (take (length t - 1) (drop 1 t)) ≡ words t
+pub words_past_space : (t : List ℕ) → 1 ≤ length t → get_or t 0 0 ≡ 32
+    → words (take (length t - 1) (drop 1 t)) ≡ words t
 unfolding words
 words_past_space [] l e = absurd (omega arith)
 words_past_space (c ∷ cs) l e =
@@ -173,12 +192,14 @@ uncut (suc n) (x ∷ text) h = rw (uncut n text (λ k l. h (suc k) (omega arith)
       (ap (λ t. x ∷ t) (sym (take-append-drop n text)) ∙ (ap (λ t. t ++ drop n text) found.2 ∙ append_assoc found.0 r (drop n text))))
 
 -- the words of a text at whose place n the first spelling stands, s bytes long
-pub words_step : (text : List ℕ) (n s : ℕ) → IsWithoutSpace text n → n + s ≤ length text → Space (slice_range text n (n + s))
+pub words_step : (text : List ℕ) (n s : ℕ) → IsWithoutSpace text n → n + s ≤ length text
+    → Space (slice_range text n (n + s))
     → words text ≡ piece (take n text) ++ words (drop (n + s) text)
 words_step text n s h l k =
     ap words (parts text n s l) ∙ (words_joined (take n text) (slice_range text n (n + s)) (drop (n + s) text) k
     ∙ ap (λ ws. ws ++ words (drop (n + s) text)) (words_none (take n text) (uncut n text h))) where
-      parts : (text : List ℕ) (n s : ℕ) → n + s ≤ length text → text ≡ take n text ++ (slice_range text n (n + s) ++ drop (n + s) text)
+      parts : (text : List ℕ) (n s : ℕ) → n + s ≤ length text
+          → text ≡ take n text ++ (slice_range text n (n + s) ++ drop (n + s) text)
       parts text n s l = let e : n + s - n ≡ s = omega arith in
           rw e (sym (take-append-drop n text) ∙ ap (λ t. take n text ++ t) (sym (take-append-drop s (drop n text)) ∙ ap (λ t. take s (drop n text) ++ t) (drop-drop s n text)))
 
@@ -187,7 +208,8 @@ pub words_last : (text : List ℕ) → IsWithoutSpace text (length text) → wor
 words_last text h = words_none text (let k = uncut (length text) text h in ap last_cut (sym (take_all (length text) text (omega arith))) ∙ k)
 
 -- the parts of a cut
-cut_parts : (text : List ℕ) (cut : Cut) → last_cut text ≡ Some cut → (space : List ℕ) × Space space × (text ≡ cut.0 ++ (space ++ cut.1))
+cut_parts : (text : List ℕ) (cut : Cut) → last_cut text ≡ Some cut
+    → (space : List ℕ) × Space space × (text ≡ cut.0 ++ (space ++ cut.1))
 cut_parts [] cut h = absurd (cc)
 cut_parts (x ∷ text) cut h = at_place x text cut (after_space (x ∷ text)) refl (last_cut text) h (cut_parts text) where
   at_place : (x : ℕ) (text : List ℕ) (cut : Cut) (here : Option (List ℕ)) → after_space (x ∷ text) ≡ here
@@ -207,14 +229,17 @@ cut_parts (x ∷ text) cut h = at_place x text cut (after_space (x ∷ text)) re
   at_place x text cut None e None h more = absurd (cc)
 
 -- a text in which no spelling stands has no cut
-no_cut : (text : List ℕ) → ((before space rest : List ℕ) → Space space → ¬ (text ≡ before ++ (space ++ rest))) → last_cut text ≡ None
+no_cut : (text : List ℕ) → ((before space rest : List ℕ) → Space space → ¬ (text ≡ before ++ (space ++ rest)))
+    → last_cut text ≡ None
 no_cut text h =
     elim (cut_told text) [
       | inl e ↦ e
       | inr c ↦ let k = cut_parts text c.0 c.1 in absurd (h c.0.0 k.0 c.0.1 k.1 k.2)
     ]
 
-pub words_whole : (text : List ℕ) → ((before space rest : List ℕ) → Space space → ¬ (text ≡ before ++ space ++ rest)) → words text ≡ piece text
+pub words_whole : (text : List ℕ)
+    → ((before space rest : List ℕ) → Space space → ¬ (text ≡ before ++ space ++ rest))
+    → words text ≡ piece text
 words_whole text h = words_none text (no_cut text (λ before space rest s e. h before space rest s (e ∙ sym (append_assoc before space rest))))
 
 pub words_cut_last : (before space rest : List ℕ) → Space space
@@ -228,4 +253,5 @@ words_cut_last before space rest s h =
           long space s l where
             long : (space : List ℕ) → Space space → length ((before ++ space) ++ b) ≤ length before → ⊥
             long [] s l = no_empty s
-            long (x ∷ more) s l = omega (arith, length-append (before ++ x ∷ more) b, length-append before (x ∷ more))
+            long (x ∷ more) s l =
+                omega (arith, length-append (before ++ x ∷ more) b, length-append before (x ∷ more))

@@ -7,8 +7,8 @@ ghost use Rattle.config_color.specs.Space.{Space};
 ghost use Rattle.config_text.specs.Value.{HasText};
 ghost use Rattle.config_color.specs.Split.{piece, words};
 
-/// A color has a text exactly where each of its set bits has a constant, and its background stands
-/// only beside a foreground.
+/// A color has a text exactly if each of its set bits has a constant, and it has no background
+/// without a foreground.
 pub fn known_and_beside()
     ensures { (c : Color) → PartFits c.foreground → PartFits c.background
         → (HasText ColorText c)
@@ -21,15 +21,15 @@ pub fn numbers_fit()
         → PartFits c.foreground × PartFits c.background }
 {}
 
-/// A text in which no white space stands is its own one word, or has no word where it is empty.
+/// A text without white space is its own one word, or has no word if it is empty.
 pub fn whole_words()
     ensures { (text : List ℕ)
         → ((before space rest : List ℕ) → Space space → ¬ (text ≡ before ++ space ++ rest))
         → words text ≡ piece text }
 {}
 
-/// Behind the last white space in a text stands its last word, or none where the text ends there.
-/// Its other words are those of what stands before.
+/// After the last white space of a text comes its last word, or no word if the text ends there.
+/// Its other words are those of what comes before.
 pub fn last_words()
     ensures { (before space rest : List ℕ) → Space space
         → ((front other back : List ℕ) → Space other
@@ -37,22 +37,22 @@ pub fn last_words()
         → words (before ++ space ++ rest) ≡ words before ++ piece rest }
 {}
 
-/// The words of a text are those of what stands before any white space in it, then those of what
+/// The words of a text are those of what comes before any white space in it, then those of what
 /// follows.
 pub fn joined_words()
     ensures { (before space rest : List ℕ) → Space space
         → words (before ++ space ++ rest) ≡ words before ++ words rest }
 {}
 
-/// Two texts joined by white space have a color exactly where both have one and these have a
+/// Two texts joined by white space have a color exactly if both have one and these have a
 /// composition, which is the color.
 pub fn joined_colors()
     ensures { (front space back : List ℕ) (c : Color) → Space space
         → (ColorText (front ++ space ++ back) c) ↔ (Joined front back c) }
 {}
 
-/// Texts whose words are the same but for one whole attribute word have the same color, or none. That word stands at
-/// another place or once more.
+/// Texts whose words are the same but for one whole attribute word have the same color, or none. That word
+/// stands at another place or once more.
 pub fn moved_words()
     ensures { (t u : List ℕ) (c : Color) → Moves (words t) (words u)
         → (ColorText t c) ↔ (ColorText u c) }

@@ -38,19 +38,28 @@ number_amount t z n = record {
 }
 
 canonical_shown : (t : List ℕ) → CanonicalAmount t → IsShown AmountText amount_shown t
-canonical_shown t h = let n = number_shown t h in record { value = record { 0 = n.number }; reads_to = number_amount t n.number n.text; same = n.shown }
+canonical_shown t h =
+    let n = number_shown t h in
+    record { value = record { 0 = n.number }; reads_to = number_amount t n.number n.text; same = n.shown }
 
 pub amount_canonical_reads : (t : List ℕ) → CanonicalAmount t → IsAccepted AmountText t
 amount_canonical_reads = canonical_reads_by canonical_shown
 
-pub amount_one_text : (s t : List ℕ) (v : Amount) → CanonicalAmount s → CanonicalAmount t → AmountText s v → AmountText t v → s ≡ t
+pub amount_one_text : (s t : List ℕ) (v : Amount) → CanonicalAmount s → CanonicalAmount t → AmountText s v
+    → AmountText t v → s ≡ t
 amount_one_text = one_text_by amount_one_value canonical_shown
 
 amount_shown_in_range : (v : Amount) → IsInI64 v.0 → IsTextOf AmountText CanonicalAmount v (amount_shown v)
-amount_shown_in_range v r = let n = shown_number v.0 r in
-    record { canonical_text = n.canonical_number; reads_to = number_amount (amount_shown v) v.0 n.text; short = omega (arith, n.short) }
+amount_shown_in_range v r =
+    let n = shown_number v.0 r in
+    record {
+      canonical_text = n.canonical_number;
+      reads_to = number_amount (amount_shown v) v.0 n.text;
+      short = omega (arith, n.short);
+    }
 
-pub amount_shown_is_text : (v : Amount) → HasText AmountText v → IsTextOf AmountText CanonicalAmount v (amount_shown v)
+pub amount_shown_is_text : (v : Amount) → HasText AmountText v
+    → IsTextOf AmountText CanonicalAmount v (amount_shown v)
 amount_shown_is_text v h = amount_shown_in_range v h.1.in_range
 
 pub amount_has_text : (v : Amount) → IsInI64 v.0 → HasText AmountText v

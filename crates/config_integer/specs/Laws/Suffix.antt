@@ -1,11 +1,13 @@
 -- The laws of `Value` for suffixes.
-use Rattle.std.proofs.Common.{◌≡◌, ℕ, ◌⊎◌, inl, inr, Bool, true, false, cond, List, [], ◌∷◌, Some, None, refl, ap, subst, codes, arith, lit≤}
+use Rattle.std.proofs.Common.{◌≡◌, ℕ, ◌⊎◌, inl, inr, Bool, true, false, cond, List, [], ◌∷◌, Some, None, refl}
+use Rattle.std.proofs.Common.{ap, subst, codes, arith, lit≤}
 use Rattle.std.specs.Prelude.{◌==◌, ◌||◌}
 use Rattle.std.proofs.lemmas.Bool.Decides.{nat_tests}
 use Rattle.std.proofs.lemmas.Option.{none-some, same_Some}
 use Rattle.config_integer.specs.declared.suffix.Suffix.{Suffix}
 use Rattle.config_integer.specs.declared.suffix.Suffix.TheVariants.{Kibi, Mebi, Gibi}
-use Rattle.config_text.specs.Value.{IsAccepted, IsRefused, HasText, IsTextOf, IsValueOf}
+use Rattle.config_text.specs.Value.{IsAccepted, IsRefused, HasText, IsTextOf}
+use Rattle.config_text.specs.Laws.Value.{IsValueOf}
 use Rattle.config_text.specs.OneOf.{OneOf}
 use Rattle.config_text.specs.Laws.Value.{text_told, Told, either_told}
 use Rattle.config_text.specs.Laws.OneOf.{decided_among}
@@ -23,7 +25,8 @@ suffix_one_value t Mebi Gibi p q = grind arith
 suffix_one_value t Gibi Kibi p q = grind arith
 suffix_one_value t Gibi Mebi p q = grind arith
 
-pub suffix_one_text : (s t : List ℕ) (v : Suffix) → CanonicalSuffix s → CanonicalSuffix t → SuffixText s v → SuffixText t v → s ≡ t
+pub suffix_one_text : (s t : List ℕ) (v : Suffix) → CanonicalSuffix s → CanonicalSuffix t → SuffixText s v
+    → SuffixText t v → s ≡ t
 suffix_one_text s t Kibi p q r u = grind arith
 suffix_one_text s t Mebi p q r u = grind arith
 suffix_one_text s t Gibi p q r u = grind arith
@@ -33,7 +36,8 @@ suffix_canonical_reads t (inl p) = (Kibi, inl p)
 suffix_canonical_reads t (inr (inl p)) = (Mebi, inl p)
 suffix_canonical_reads t (inr (inr p)) = (Gibi, inl p)
 
-pub suffix_shown_is_text : (v : Suffix) → HasText SuffixText v → IsTextOf SuffixText CanonicalSuffix v (suffix_shown v)
+pub suffix_shown_is_text : (v : Suffix) → HasText SuffixText v
+    → IsTextOf SuffixText CanonicalSuffix v (suffix_shown v)
 suffix_shown_is_text Kibi h = record { canonical_text = inl refl; reads_to = inl refl; short = lit≤ tt }
 suffix_shown_is_text Mebi h = record { canonical_text = inr (inl refl); reads_to = inl refl; short = lit≤ tt }
 suffix_shown_is_text Gibi h = record { canonical_text = inr (inr refl); reads_to = inl refl; short = lit≤ tt }
@@ -74,18 +78,20 @@ suffix_found t Gibi (inl e) = rw e refl
 suffix_found t Gibi (inr e) = rw e refl
 
 unit_derived : (c : ℕ) (v : Suffix) → unit_of c ≡ Some v → SuffixText (c ∷ []) v
-unit_derived c v e = told (c == 107 || c == 75) (c == 109 || c == 77) (c == 103 || c == 71) refl refl refl e where
-  one_of : (x y : ℕ) → (c == x || c == y) ≡ true → (c ∷ [] ≡ x ∷ []) ⊎ (c ∷ [] ≡ y ∷ [])
-  one_of x y h = elim (either x y h) [ inl e ↦ inl (ap (λ n. n ∷ []) e) | inr e ↦ inr (ap (λ n. n ∷ []) e) ] where
-    either : (x y : ℕ) → (c == x || c == y) ≡ true → (c ≡ x) ⊎ (c ≡ y)
-    either x y h = grind (arith, nat_tests)
+unit_derived c v e =
+    told (c == 107 || c == 75) (c == 109 || c == 77) (c == 103 || c == 71) refl refl refl e where
+      one_of : (x y : ℕ) → (c == x || c == y) ≡ true → (c ∷ [] ≡ x ∷ []) ⊎ (c ∷ [] ≡ y ∷ [])
+      one_of x y h =
+          elim (either x y h) [ inl e ↦ inl (ap (λ n. n ∷ []) e) | inr e ↦ inr (ap (λ n. n ∷ []) e) ] where
+            either : (x y : ℕ) → (c == x || c == y) ≡ true → (c ≡ x) ⊎ (c ≡ y)
+            either x y h = grind (arith, nat_tests)
 
-  told : (k m g : Bool) → (c == 107 || c == 75) ≡ k → (c == 109 || c == 77) ≡ m → (c == 103 || c == 71) ≡ g
-      → cond k (Some Kibi) (cond m (Some Mebi) (cond g (Some Gibi) None)) ≡ Some v → SuffixText (c ∷ []) v
-  told true m g p q r e = subst (SuffixText (c ∷ [])) (same_Some _ v e) (one_of 107 75 p)
-  told false true g p q r e = subst (SuffixText (c ∷ [])) (same_Some _ v e) (one_of 109 77 q)
-  told false false true p q r e = subst (SuffixText (c ∷ [])) (same_Some _ v e) (one_of 103 71 r)
-  told false false false p q r e = absurd (none-some v e)
+      told : (k m g : Bool) → (c == 107 || c == 75) ≡ k → (c == 109 || c == 77) ≡ m → (c == 103 || c == 71) ≡ g
+          → cond k (Some Kibi) (cond m (Some Mebi) (cond g (Some Gibi) None)) ≡ Some v → SuffixText (c ∷ []) v
+      told true m g p q r e = subst (SuffixText (c ∷ [])) (same_Some _ v e) (one_of 107 75 p)
+      told false true g p q r e = subst (SuffixText (c ∷ [])) (same_Some _ v e) (one_of 109 77 q)
+      told false false true p q r e = subst (SuffixText (c ∷ [])) (same_Some _ v e) (one_of 103 71 r)
+      told false false false p q r e = absurd (none-some v e)
 
 suffix_derived : (t : List ℕ) (v : Suffix) → suffix_of t ≡ Some v → SuffixText t v
 unfolding suffix_of

@@ -1,5 +1,7 @@
--- Integer texts, as a function that answers the value: in one pass over the bytes, as they are read.
-use Rattle.std.specs.Prelude.{ℕ, ◌+◌, ◌*◌, cond, ◌||◌, List, [], ◌∷◌, drop, Option, Some, None, nat_lt, nat_le, ◌==◌, pos, neg_ℤ, slice_index}
+-- Integer texts as a function that returns the value: in one pass over the bytes, as they are read.
+use Rattle.std.specs.Prelude.{ℕ, ◌+◌, ◌*◌, nat_lt, nat_le, ◌==◌, ℤ, pos, neg_ℤ}
+use Rattle.std.specs.Prelude.{Bool, true, false, cond, ◌||◌, List, [], ◌∷◌, drop, slice_index, Option, Some}
+use Rattle.std.specs.Prelude.{None}
 use Rattle.std.specs.Option.{option_map}
 use Rattle.std.specs.Char.{digit_value}
 use Rattle.config_integer.specs.declared.integer.Integer.{Integer}
@@ -18,44 +20,59 @@ unfoldable pub suffix_of : List ℕ → Option Suffix
 suffix_of (c ∷ []) = unit_of c
 suffix_of _ = None
 
--- the number of the digits behind which `number` was read, and the suffix behind them
-abbrev pub counted_from : ℕ → ℕ → ℕ → List ℕ → Option (ℕ × Option Suffix)
-counted_from base limit number [] = Some (number, None)
-counted_from base limit number (c ∷ cs) =
+-- the number of the digits that follow `number`, and the suffix after them
+abbrev pub number_from : ℕ → ℕ → ℕ → List ℕ → Option (ℕ × Option Suffix)
+number_from base limit number [] = Some (number, None)
+number_from base limit number (c ∷ cs) =
     cond (nat_lt (digit_value c) base)
-    (cond (nat_le (number * base + digit_value c) limit) (counted_from base limit (number * base + digit_value c) cs) None)
+    (cond (nat_le (number * base + digit_value c) limit)
+    (number_from base limit (number * base + digit_value c) cs) None)
     (option_map (λ s. (number, Some s)) (suffix_of (c ∷ cs)))
 
--- the number of one digit or more, and the suffix behind them
-abbrev pub counted : ℕ → ℕ → List ℕ → Option (ℕ × Option Suffix)
-counted base limit [] = None
-counted base limit (c ∷ cs) = cond (nat_lt (digit_value c) base) (counted_from base limit 0 (c ∷ cs)) None
+-- the number of one digit or more, and the suffix after them
+abbrev pub number_and_suffix : ℕ → ℕ → List ℕ → Option (ℕ × Option Suffix)
+number_and_suffix base limit [] = None
+number_and_suffix base limit (c ∷ cs) =
+    cond (nat_lt (digit_value c) base) (number_from base limit 0 (c ∷ cs)) None
 
--- the base that a text names, and where its digits begin
-abbrev pub base_of : List ℕ → ℕ
-base_of t =
+-- the base that a text names, and the text from its first digit on
+abbrev pub base_and_digits : List ℕ → ℕ × List ℕ
+base_and_digits t =
     cond (slice_index t 0 == 48)
-    (cond (slice_index t 1 == 120 || slice_index t 1 == 88) 16 (cond (slice_index t 1 == 98 || slice_index t 1 == 66) 2 8))
-    10
+    (cond (slice_index t 1 == 120 || slice_index t 1 == 88) (16, drop 2 t)
+    (cond (slice_index t 1 == 98 || slice_index t 1 == 66) (2, drop 2 t) (8, t)))
+    (10, t)
 
-abbrev pub digits_of : List ℕ → List ℕ
-digits_of t =
-    cond (slice_index t 0 == 48)
-    (cond (slice_index t 1 == 120 || slice_index t 1 == 88) (drop 2 t) (cond (slice_index t 1 == 98 || slice_index t 1 == 66) (drop 2 t) t))
-    t
+-- the magnitude and the suffix of digits of a base
+abbrev pub magnitude_in : ℕ → ℕ × List ℕ → Option (ℕ × Option Suffix)
+magnitude_in limit b = number_and_suffix b.0 limit b.1
 
--- the magnitude and the suffix of a text without a sign
-abbrev pub unsigned_of : ℕ → List ℕ → Option (ℕ × Option Suffix)
-unsigned_of limit t = counted (base_of t) limit (digits_of t)
+-- the same of a text without a sign
+abbrev pub magnitude_of : ℕ → List ℕ → Option (ℕ × Option Suffix)
+magnitude_of limit t = magnitude_in limit (base_and_digits t)
 
-abbrev pub plain_integer : ℕ × Option Suffix → Integer
-plain_integer r = record { value = pos r.0; suffix = r.1 }
+-- whether a text begins with `-`, and the text without its sign
+abbrev pub sign_and_rest : List ℕ → Bool × List ℕ
+sign_and_rest t =
+    cond (slice_index t 0 == 45) (true, drop 1 t) (cond (slice_index t 0 == 43) (false, drop 1 t) (false, t))
 
-abbrev pub negative_integer : ℕ × Option Suffix → Integer
-negative_integer r = record { value = neg_ℤ (pos r.0); suffix = r.1 }
+-- the largest magnitude of a negative number, and of another
+abbrev pub largest : Bool → ℕ
+largest true = 9223372036854775808
+largest false = 9223372036854775807
+
+-- the number with this sign and magnitude
+abbrev pub with_sign : Bool → ℕ → ℤ
+with_sign true n = neg_ℤ (pos n)
+with_sign false n = pos n
+
+-- the integer of a sign, a magnitude and a suffix
+abbrev pub signed_integer : Bool → ℕ × Option Suffix → Integer
+signed_integer is_negative r = record { value = with_sign is_negative r.0; suffix = r.1 }
+
+-- the integer of a sign and the text after it
+abbrev pub integer_after : Bool × List ℕ → Option Integer
+integer_after s = option_map (signed_integer s.0) (magnitude_of (largest s.0) s.1)
 
 abbrev pub integer_of : List ℕ → Option Integer
-integer_of t =
-    cond (slice_index t 0 == 45) (option_map negative_integer (unsigned_of 9223372036854775808 (drop 1 t)))
-    (cond (slice_index t 0 == 43) (option_map plain_integer (unsigned_of 9223372036854775807 (drop 1 t)))
-    (option_map plain_integer (unsigned_of 9223372036854775807 t)))
+integer_of t = integer_after (sign_and_rest t)

@@ -1,4 +1,4 @@
-//! What `==`, `cmp`, `partial_cmp`, hashes and `clone` answer for the value types, and what their defaults are.
+//! What `==`, `cmp`, `partial_cmp`, hashes and `clone` return for the value types, and their defaults.
 ghost use Rattle.std.specs.Prelude.{◌≡◌, None, pos};
 ghost use Rattle.config_text.specs.Orders.{HasOrder, IsCopied};
 ghost use Rattle.config_integer.specs.declared.integer.Integer.{Integer};
@@ -20,8 +20,8 @@ pub fn suffix_order()
         ⟦<Suffix as Clone>⟧.is_infallible }
 {}
 
-/// Integers are ordered by their numbers and then by their suffixes, none first, and equal ones hash equally; the
-/// default is 0 without a suffix.
+/// Integers are ordered by their numbers and then by their suffixes, one without a suffix first, and equal
+/// ones hash equally; the default is 0 without a suffix.
 pub fn integer_order()
     ensures order { HasOrder (◌≡◌) integer_order
         ⟦<Integer as PartialEq>⟧.eq ⟦<Integer as Ord>⟧.cmp ⟦<Integer as PartialOrd>⟧.partial_cmp

@@ -9,7 +9,6 @@ ghost use Rattle.config_integer.specs.Integer.{IntegerText, CanonicalInteger, in
 ghost use Rattle.config_integer.specs.Amount.{AmountText, CanonicalAmount, amount_shown};
 
 /// Every suffix has a text: the one that it is shown as.
-#[tactic(auto, using(crate::specs::Laws::Suffix::suffix_shown_is_text, crate::specs::Laws::Suffix::suffix_has_text))]
 pub fn suffix_text()
     ensures { (s : Suffix) → IsTextOf SuffixText CanonicalSuffix s (suffix_shown s) }
 {}

@@ -1,5 +1,6 @@
 -- Each value has just one form in the path table.
-use Rattle.std.proofs.Common.{◌≡◌, ◌≢◌, inl, inr, ℕ, List, [], ◌∷◌, ◌++◌, codes, Option, None, Some, Result, Bool, true, false, refl, sym, ap, subst, arith, drop}
+use Rattle.std.proofs.Common.{◌≡◌, ◌≢◌, inl, inr, ℕ, List, [], ◌∷◌, ◌++◌, codes, Option, None, Some, Result}
+use Rattle.std.proofs.Common.{Bool, true, false, refl, sym, ap, subst, arith, drop}
 use Rattle.std.specs.declared.string.String.{String}
 use Rattle.std.specs.declared.alloc.Global.{Global}
 use Rattle.std.proofs.lemmas.Bool.Decides.{Decides-eqb, eqb_tells}
@@ -14,7 +15,8 @@ pub record SameBelow (m n : List ℕ) (r s : Option (List ℕ)) : Type 0 where
   pub name : m ≡ n
   pub rest : r ≡ s
 
-same_below : (m n : List ℕ) (r s : Option (List ℕ)) → below m r ≡ below n s → IsOneName m → IsOneName n → SameBelow m n r s
+same_below : (m n : List ℕ) (r s : Option (List ℕ)) → below m r ≡ below n s → IsOneName m → IsOneName n
+    → SameBelow m n r s
 same_below [] [] None None e h k = record { name = refl; rest = refl }
 same_below [] [] None (Some s) e h k = absurd (grind arith)
 same_below [] [] (Some r) None e h k = absurd (grind arith)
@@ -79,7 +81,8 @@ one_form value other (below_user n s) p q = absurd (p.2 _ q.0)
 one_form value other other p q = refl
 
 -- a text is a name, or a name, a `/` and a rest
-some_below : (text : List ℕ) → (name : List ℕ) × ((rest : Option (List ℕ)) × (text ≡ below name rest) × IsOneName name)
+some_below : (text : List ℕ)
+    → (name : List ℕ) × ((rest : Option (List ℕ)) × (text ≡ below name rest) × IsOneName name)
 some_below [] = ([], (None, refl, tt))
 some_below (c ∷ text) =
     elim (eqb_tells c 47) [
@@ -95,11 +98,13 @@ some_below (c ∷ text) =
 pub some_form : (value : List ℕ) → (form : Form) × HasForm value form
 some_form [] = (empty, refl)
 some_form (c ∷ text) = told _ (starts_is Decides-eqb (c ∷ text) (codes "%(prefix)/") _ refl) where
-  at_tilde : (name : List ℕ) (rest : Option (List ℕ)) → c ≡ 126 → text ≡ below name rest → IsOneName name → (form : Form) × HasForm (c ∷ text) form
+  at_tilde : (name : List ℕ) (rest : Option (List ℕ)) → c ≡ 126 → text ≡ below name rest → IsOneName name
+      → (form : Form) × HasForm (c ∷ text) form
   at_tilde [] rest h e k = (below_home rest, cc)
   at_tilde (x ∷ name) rest h e k = (below_user (x ∷ name) rest, (cc, (λ q. cc), k))
 
-  told : (r : Bool) → (r ≡ true → (c ∷ text) ≡ codes "%(prefix)/" ++ drop 10 (c ∷ text)) × ((rest : List ℕ) → (c ∷ text) ≡ codes "%(prefix)/" ++ rest → r ≡ true) → (form : Form) × HasForm (c ∷ text) form
+  told : (r : Bool)
+      → (r ≡ true → (c ∷ text) ≡ codes "%(prefix)/" ++ drop 10 (c ∷ text)) × ((rest : List ℕ) → (c ∷ text) ≡ codes "%(prefix)/" ++ rest → r ≡ true) → (form : Form) × HasForm (c ∷ text) form
   told true h = (below_prefix (drop 10 (c ∷ text)), h.0 refl)
   told false h =
       elim (eqb_tells c 126) [
@@ -109,6 +114,7 @@ some_form (c ∷ text) = told _ (starts_is Decides-eqb (c ∷ text) (codes "%(pr
 
 -- what the table says at each form that the value has
 pub at_form : {F : Type 0} {answers : F → List ℕ → Option (List ℕ) → Type 0} {context : Context F} {value : List ℕ} {r : Result (String Global) Error}
-    → Interpolated answers context value r → (form : Form) → HasForm value form → Gives answers context value form r
+    → Interpolated answers context value r → (form : Form) → HasForm value form
+    → Gives answers context value form r
 at_form {F} {answers} {context} {value} {r} i form h =
     subst (λ f. Gives answers context value f r) (one_form value i.form form i.has_form h) i.gives

@@ -1,5 +1,6 @@
 -- The place sum is the number that std reads digit by digit from the left.
-use Rattle.std.proofs.Common.{◌≡◌, ℕ, suc, ◌+◌, ◌*◌, ◌^◌, ◌≤◌, List, [], ◌∷◌, length, arith, ◌∙◌, ℤ, pos, negsuc, ◌⊎◌, inl, inr, w64, FitsSigned}
+use Rattle.std.proofs.Common.{◌≡◌, ℕ, suc, ◌+◌, ◌*◌, ◌^◌, ◌≤◌, List, [], ◌∷◌, length, arith, ◌∙◌, ℤ, pos}
+use Rattle.std.proofs.Common.{negsuc, ◌⊎◌, inl, inr, w64, FitsSigned}
 use Rattle.std.proofs.lemmas.Bool.{cases_lt}
 use Rattle.std.proofs.Math.Nat.{pow-zero, pow-succ'}
 use Rattle.std.specs.Char.{digit_value}
@@ -7,7 +8,8 @@ use Rattle.std.specs.Str.Parse.{digits_value_after, digits_value}
 use Rattle.config_text.specs.Numerals.{place_sum, IsInI64}
 use Rattle.std.proofs.lemmas.Int.{ints}
 
-pub digits_value_after_is : (base n : ℕ) (ds : List ℕ) → digits_value_after base n ds ≡ n * base ^ length ds + place_sum ds base
+pub digits_value_after_is : (base n : ℕ) (ds : List ℕ)
+    → digits_value_after base n ds ≡ n * base ^ length ds + place_sum ds base
 digits_value_after_is base n [] = none n base where
   none : (n base : ℕ) → n ≡ n * base ^ 0 + 0
   none n base = rw pow-zero (omega arith)

@@ -1,5 +1,6 @@
 -- What stands in a mapped, a joined and a flattened list, and what holds of it.
-use Rattle.std.proofs.Common.{ℕ, subst, ◌≡◌, ◌⊎◌, Bool, true, inl, inr, List, [], ◌∷◌, ◌++◌, map, flat_map, refl, ap, ◌∙◌}
+use Rattle.std.proofs.Common.{ℕ, subst, ◌≡◌, ◌⊎◌, Bool, true, inl, inr, List, [], ◌∷◌, ◌++◌, map, flat_map}
+use Rattle.std.proofs.Common.{refl, ap, ◌∙◌}
 use Rattle.std.specs.List.{list_all}
 use Rattle.std.proofs.lemmas.Bool.{and_parts}
 use Rattle.config_text.specs.OneOf.{OneOf}
@@ -11,7 +12,8 @@ OneOf-map f [] x h = absurd h
 OneOf-map f (y ∷ ys) x (inl e) = inl (ap f e)
 OneOf-map f (y ∷ ys) x (inr h) = inr (OneOf-map f ys x h)
 
-pub OneOf-from_map : {X Y : Type 0} (f : X → Y) (xs : List X) (y : Y) → OneOf (map f xs) y → (x : X) × OneOf xs x × (y ≡ f x)
+pub OneOf-from_map : {X Y : Type 0} (f : X → Y) (xs : List X) (y : Y) → OneOf (map f xs) y
+    → (x : X) × OneOf xs x × (y ≡ f x)
 OneOf-from_map f [] y h = absurd h
 OneOf-from_map f (x ∷ xs) y (inl e) = (x, inl refl, e)
 OneOf-from_map f (x ∷ xs) y (inr h) = let r = OneOf-from_map f xs y h in (r.0, inr r.1, r.2)
@@ -31,12 +33,14 @@ OneOf-from_append (z ∷ zs) ys x (inl e) = inl (inl e)
 OneOf-from_append (z ∷ zs) ys x (inr h) =
     elim (OneOf-from_append zs ys x h) [ inl a ↦ inl (inr a) | inr b ↦ inr b ]
 
-pub OneOf-flat_map : {X Y : Type 0} (f : X → List Y) (xs : List X) (x : X) (y : Y) → OneOf xs x → OneOf (f x) y → OneOf (flat_map f xs) y
+pub OneOf-flat_map : {X Y : Type 0} (f : X → List Y) (xs : List X) (x : X) (y : Y) → OneOf xs x
+    → OneOf (f x) y → OneOf (flat_map f xs) y
 OneOf-flat_map f [] x y h k = absurd h
 OneOf-flat_map f (z ∷ zs) x y (inl e) k = OneOf-front (f z) (flat_map f zs) y (rw (← e) k)
 OneOf-flat_map f (z ∷ zs) x y (inr h) k = OneOf-back (f z) (flat_map f zs) y (OneOf-flat_map f zs x y h k)
 
-pub OneOf-from_flat_map : {X Y : Type 0} (f : X → List Y) (xs : List X) (y : Y) → OneOf (flat_map f xs) y → (x : X) × OneOf xs x × OneOf (f x) y
+pub OneOf-from_flat_map : {X Y : Type 0} (f : X → List Y) (xs : List X) (y : Y) → OneOf (flat_map f xs) y
+    → (x : X) × OneOf xs x × OneOf (f x) y
 OneOf-from_flat_map f [] y h = absurd h
 OneOf-from_flat_map f (x ∷ xs) y h =
     elim (OneOf-from_append (f x) (flat_map f xs) y h) [
@@ -57,7 +61,8 @@ decided_among {V} grammar vs all t told = elim (among vs) [ inl a ↦ inl a | in
       ]
 
 -- what passes for each of a list passes for one of them
-pub all-one : {X : Type 0} (p : X → Bool) (xs : List X) (x : X) → list_all p xs ≡ true → OneOf xs x → p x ≡ true
+pub all-one : {X : Type 0} (p : X → Bool) (xs : List X) (x : X) → list_all p xs ≡ true → OneOf xs x
+    → p x ≡ true
 all-one p [] x h o = absurd o
 all-one p (y ∷ ys) x h (inl e) = ap p e ∙ (and_parts (p y) (list_all p ys) h).0
 all-one p (y ∷ ys) x h (inr o) = all-one p ys x (and_parts (p y) (list_all p ys) h).1 o

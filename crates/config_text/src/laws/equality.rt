@@ -28,8 +28,8 @@ pub fn errors()
         ⟦<Error<'static> as Clone>⟧.is_infallible }
 {}
 
-/// Refusals that hand a text back are equal exactly where their faults are the same, and their inputs equal by
-/// the equality of their type.
+/// Refusals that hand a text back are equal exactly where their faults are the same, and their inputs equal
+/// by the equality of their type.
 pub fn returned<V: PartialEq + Drop>()
     ensures { Equates (IsSameReturned V.eq) ⟦<Returned<V> as PartialEq>⟧.eq }
 {}

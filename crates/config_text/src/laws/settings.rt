@@ -5,8 +5,8 @@ ghost use Rattle.config_text.specs.Settings.{IsReplaced, SameAnswers, OneAnswer}
 
 use crate::value::Value;
 
-/// Where in a list of entries any texts are replaced by canonical texts of the same values, each name
-/// keeps its answer. That is the value, whatever the default, or the index of the refusal and the refused text.
+/// Where in a list of entries any texts are replaced by canonical texts of the same values, each name keeps
+/// its answer. That is the value, whatever the default, or the index of the refusal and the refused text.
 pub fn replaced_values<V: Value>()
     ensures { (es fs : List (List ℕ × List ℕ)) → AllZip (IsReplaced V.grammar V.canonical) es fs
         → SameAnswers V.grammar es fs }

@@ -9,8 +9,9 @@ use Rattle.std.proofs.lemmas.Nat.{pow_pos, and_le_l}
 use Rattle.std.proofs.lemmas.Nat.Bits.{and_pow, bit_at-lt}
 use Rattle.std.proofs.lemmas.Slice.Eq.{bytes_eq-Decides}
 use Rattle.std.specs.Int.{bit_at}
-use Rattle.std.specs.List.{join_with_byte, list_all, list_any, AllByRecursion}
+use Rattle.std.specs.List.{AllByRecursion, join_with_byte, list_all, list_any}
 use Rattle.config_word.specs.declared.attribute.Attribute.{Attribute}
+use Rattle.config_word.specs.declared.attribute.TheConstants.{LONGEST_SET}
 use Rattle.config_word.specs.Attribute.{AttributeRow, AttributeText, CanonicalAttribute, IsKnownBit, attribute_shown, attribute_words, attributes, rising_words}
 use Rattle.config_word.specs.Reading.Attribute.{remaining, shown_rows, words_in}
 use Rattle.config_text.specs.Bytes.{space}
@@ -65,7 +66,8 @@ unfolding attributes
 words-short = refl
 
 -- the word of a constant is a text of it
-spelled-as : (row : AttributeRow) (s : List ℕ) → OneOf attributes row → s ≡ row.2 → AttributeText s (record { 0 = 2 ^ row.1 })
+spelled-as : (row : AttributeRow) (s : List ℕ) → OneOf attributes row → s ≡ row.2
+    → AttributeText s (record { 0 = 2 ^ row.1 })
 spelled-as row s o e = AttributeText.word row o (inl e) refl
 
 -- a canonical text is what its constant is shown as
@@ -84,7 +86,8 @@ pub attribute_one_text : (s t : List ℕ) (v : Attribute) → CanonicalAttribute
 attribute_one_text = one_text_by attribute_one_value canonical-shown
 
 -- what an attribute that has a text is shown as is its canonical text
-pub attribute_shown_is_text : (v : Attribute) → HasText AttributeText v → IsTextOf AttributeText CanonicalAttribute v (attribute_shown v.0)
+pub attribute_shown_is_text : (v : Attribute) → HasText AttributeText v
+    → IsTextOf AttributeText CanonicalAttribute v (attribute_shown v.0)
 attribute_shown_is_text v h = told (text-constant h.0 v h.1) where
   told : IsConstant v → IsTextOf AttributeText CanonicalAttribute v (attribute_shown v.0)
   told (row, o, e) =
@@ -96,7 +99,8 @@ attribute_shown_is_text v h = told (text-constant h.0 v h.1) where
       })
 
 -- an attribute has a text exactly where one bit is set and known
-pub attribute_has_text : (a : Attribute) → (HasText AttributeText a) ↔ ((bit : ℕ) × IsKnownBit bit × (a.0 ≡ 2 ^ bit))
+pub attribute_has_text : (a : Attribute)
+    → (HasText AttributeText a) ↔ ((bit : ℕ) × IsKnownBit bit × (a.0 ≡ 2 ^ bit))
 attribute_has_text a = (to, from) where
   to : HasText AttributeText a → (bit : ℕ) × IsKnownBit bit × (a.0 ≡ 2 ^ bit)
   to h = let k = text-constant h.0 a h.1 in (k.0.1, OneOf-map (λ (r : AttributeRow). r.1) attributes k.0 k.1, k.2)
@@ -156,10 +160,12 @@ shown-remaining bits = join-remaining (attribute_words bits) ∙ ap (remaining t
 below_fails : (bits value : ℕ) → bits < value → (bit_and bits value == value) ≡ false
 below_fails bits value h = let l = and_le_l bits value in grind (arith, nat_tests)
 
-none_above : (bits least : ℕ) (rows : List (ℕ × List ℕ)) → AllByRecursion (λ (row : ℕ × List ℕ). least ≤ row.0) rows → bits < least
+none_above : (bits least : ℕ) (rows : List (ℕ × List ℕ))
+    → AllByRecursion (λ (row : ℕ × List ℕ). least ≤ row.0) rows → bits < least
     → filter (λ (row : ℕ × List ℕ). bit_and bits row.0 == row.0) rows ≡ []
 none_above bits least [] all h = refl
-none_above bits least (row ∷ rows) all h = rw (below_fails bits row.0 (omega (arith, all.0))) (none_above bits least rows all.1 h)
+none_above bits least (row ∷ rows) all h =
+    rw (below_fails bits row.0 (omega (arith, all.0))) (none_above bits least rows all.1 h)
 
 late_rows : AllByRecursion (λ (row : ℕ × List ℕ). 2 ^ 21 ≤ row.0) (drop 8 shown_rows)
 unfolding attributes
@@ -188,34 +194,37 @@ spaced-filter : (p : AttributeRow → Bool) (rows : List AttributeRow)
 spaced-filter p [] = lit≤ tt
 spaced-filter p (row ∷ rows) = spaced-step (p row) [] row (filter p rows) rows (spaced-filter p rows)
 
--- all words have 100 bytes, with a space before each
-spaced-all : length (spaced (map (λ row. row.2) attributes)) ≡ 100
+-- the bytes of all words, with a space before each
+spaced-all : length (spaced (map (λ row. row.2) attributes)) ≡ LONGEST_SET + 1
 unfolding attributes
 spaced-all = refl
 
 -- the first word has no space before it
-remaining-short : (words : List (List ℕ)) (n : ℕ) → length (spaced words) ≤ n + 1 → length (remaining true words) ≤ n
+remaining-short : (words : List (List ℕ)) (n : ℕ) → length (spaced words) ≤ n + 1
+    → length (remaining true words) ≤ n
 remaining-short [] n h = omega arith
 remaining-short (w ∷ ws) n h =
     let p = length-append (space ∷ w) (spaced ws) in
     simp length-append (omega arith)
 
--- attributes are shown in at most 99 bytes
-pub attribute_short : (bits : ℕ) → length (attribute_shown bits) ≤ 99
+-- attributes are shown in no more bytes than all of them
+pub attribute_short : (bits : ℕ) → length (attribute_shown bits) ≤ LONGEST_SET
 attribute_short bits =
     let all = spaced-all in
     let few = spaced-filter (λ row. bit_at bits row.1 == 1) attributes in
-    let r = remaining-short (attribute_words bits) 99 (omega arith) in
+    let r = remaining-short (attribute_words bits) LONGEST_SET (omega arith) in
     rw (join-remaining (attribute_words bits)) r
 
 -- ---- the test that the code makes
 
 -- a set that passes the test of some row is the constant of that row
-any-one : (bits : ℕ) (rows : List AttributeRow) → list_any (λ (row : ℕ × List ℕ). row.0 == bits) (map (λ (row : AttributeRow). (2 ^ row.1, row.2)) rows) ≡ true
+any-one : (bits : ℕ) (rows : List AttributeRow)
+    → list_any (λ (row : ℕ × List ℕ). row.0 == bits) (map (λ (row : AttributeRow). (2 ^ row.1, row.2)) rows) ≡ true
     → (row : AttributeRow) × OneOf rows row × (bits ≡ 2 ^ row.1)
 any-one bits [] h = cc
 any-one bits (row ∷ rows) h = told (2 ^ row.1 == bits) refl h (any-one bits rows) where
-  told : (x : Bool) → (2 ^ row.1 == bits) ≡ x → (x || list_any (λ (row : ℕ × List ℕ). row.0 == bits) (map (λ (row : AttributeRow). (2 ^ row.1, row.2)) rows)) ≡ true
+  told : (x : Bool) → (2 ^ row.1 == bits) ≡ x
+      → (x || list_any (λ (row : ℕ × List ℕ). row.0 == bits) (map (λ (row : AttributeRow). (2 ^ row.1, row.2)) rows)) ≡ true
       → (list_any (λ (row : ℕ × List ℕ). row.0 == bits) (map (λ (row : AttributeRow). (2 ^ row.1, row.2)) rows) ≡ true → (row : AttributeRow) × OneOf rows row × (bits ≡ 2 ^ row.1))
       → (r : AttributeRow) × OneOf (row ∷ rows) r × (bits ≡ 2 ^ r.1)
   told true e f rest = (row, inl refl, sym ((Decides-eqb (2 ^ row.1) bits).0 e))
@@ -231,7 +240,8 @@ one-any bits (first ∷ rows) row (inl f) e =
 one-any bits (first ∷ rows) row (inr o) e = rw (one-any bits rows row o e) (or-true (2 ^ first.1 == bits))
 
 -- a set is one of the constants exactly where it has a text
-pub constant_told : (a : Attribute) → IsTrue (list_any (λ (row : ℕ × List ℕ). row.0 == a.0) shown_rows) ↔ (HasText AttributeText a)
+pub constant_told : (a : Attribute)
+    → IsTrue (list_any (λ (row : ℕ × List ℕ). row.0 == a.0) shown_rows) ↔ (HasText AttributeText a)
 constant_told a = (to, from) where
   to : IsTrue (list_any (λ (row : ℕ × List ℕ). row.0 == a.0) shown_rows) → HasText AttributeText a
   to h = let r = any-one a.0 attributes h in (r.0.2, AttributeText.word r.0 r.1 (inl refl) r.2)

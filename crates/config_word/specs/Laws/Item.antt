@@ -19,10 +19,11 @@ use Rattle.config_word.specs.Name.{HexPair, NameText, name_shown, word_names}
 use Rattle.config_text.specs.Numerals.{place_sum}
 use Rattle.config_text.specs.OneOf.{OneOf}
 use Rattle.config_text.specs.Laws.OneOf.{all-one, OneOf-map, OneOf-from_map, OneOf-front, OneOf-back, OneOf-from_append, OneOf-flat_map, OneOf-from_flat_map}
-use Rattle.config_text.specs.Value.{IsValueOf, Reads}
-use Rattle.config_text.specs.Laws.Value.{one_value_by}
+use Rattle.config_text.specs.Value.{Reads}
+use Rattle.config_text.specs.Laws.Value.{IsValueOf}
+use Rattle.config_text.specs.Laws.Value.{one_value_by, reads_by}
 use Rattle.config_word.specs.Item.{ItemText}
-use Rattle.config_word.specs.Reading.Item.{WordRow, name_row, attribute_item, attribute_rows, word_table, fits, found, of_length, decimal_from, palette_of, hex_pair_of, rgb_from, rgb_of, palette_item, rgb_item, item_of}
+use Rattle.config_word.specs.Reading.Item.{WordRow, name_row, attribute_item, attribute_rows, word_table, fits, found, known, of_length, decimal_from, palette_of, hex_pair_of, rgb_from, rgb_of, palette_item, rgb_item, item_of}
 
 -- ---- one row fits
 
@@ -41,7 +42,8 @@ are_apart [] = true
 are_apart (row ∷ rows) = is_new row rows && are_apart rows
 
 -- a text that fits a word is the word, ignoring ASCII case
-fits_cases : (folds : Bool) (t w : List ℕ) → cond folds (bytes_eq (lowered t) (lowered w)) (bytes_eq t w) ≡ true → lowered t ≡ lowered w
+fits_cases : (folds : Bool) (t w : List ℕ)
+    → cond folds (bytes_eq (lowered t) (lowered w)) (bytes_eq t w) ≡ true → lowered t ≡ lowered w
 fits_cases true t w h = (bytes_eq-Decides (lowered t) (lowered w)).0 h
 fits_cases false t w h = ap (map to_ascii_lowercase) ((bytes_eq-Decides t w).0 h)
 
@@ -50,7 +52,8 @@ fits-lowered : (row : WordRow) (t : List ℕ) → fits row t ≡ true → lowere
 fits-lowered row t h = fits_cases row.1 t row.0 h
 
 -- a row without its word in a list has another word than each row of the list
-is_new-apart : (row other : WordRow) (rows : List WordRow) → is_new row rows ≡ true → OneOf rows other → ¬ (lowered other.0 ≡ lowered row.0)
+is_new-apart : (row other : WordRow) (rows : List WordRow) → is_new row rows ≡ true → OneOf rows other
+    → ¬ (lowered other.0 ≡ lowered row.0)
 is_new-apart row other [] h o = absurd o
 is_new-apart row other (first ∷ rows) h (inl e) =
     λ same.
@@ -62,13 +65,15 @@ is_new-apart row other (first ∷ rows) h (inr o) =
     is_new-apart row other rows (and_parts (not (bytes_eq (lowered first.0) (lowered row.0))) (is_new row rows) h).1 o
 
 -- what a later row says is found where the first does not fit
-found-told : (first row : WordRow) (rows : List WordRow) (t : List ℕ) → ¬ (fits first t ≡ true) → found rows t ≡ Some row.2
+found-told : (first row : WordRow) (rows : List WordRow) (t : List ℕ) → ¬ (fits first t ≡ true)
+    → found rows t ≡ Some row.2
     → (x : Bool) → fits first t ≡ x → cond x (Some first.2) (found rows t) ≡ Some row.2
 found-told first row rows t no_fit rest true h = absurd (no_fit h)
 found-told first row rows t no_fit rest false h = rest
 
 -- the row that fits is the one that is found
-row-found : (rows : List WordRow) (row : WordRow) (t : List ℕ) → are_apart rows ≡ true → OneOf rows row → fits row t ≡ true → found rows t ≡ Some row.2
+row-found : (rows : List WordRow) (row : WordRow) (t : List ℕ) → are_apart rows ≡ true → OneOf rows row
+    → fits row t ≡ true → found rows t ≡ Some row.2
 row-found [] row t apart o f = absurd o
 row-found (first ∷ rows) row t apart (inl e) f =
     let g : fits first t ≡ true = rw (← e) f in rw (g, e) refl
@@ -84,15 +89,18 @@ abbrev FoundRow : List WordRow → List ℕ → Item → Type 0
 FoundRow rows t i = (row : WordRow) × OneOf rows row × (fits row t ≡ true) × (row.2 ≡ i)
 
 -- what is found behind a first row, or at it
-found-row-told : (first : WordRow) (rows : List WordRow) (t : List ℕ) (i : Item) → (found rows t ≡ Some i → FoundRow rows t i)
-    → (x : Bool) → fits first t ≡ x → cond x (Some first.2) (found rows t) ≡ Some i → FoundRow (first ∷ rows) t i
+found-row-told : (first : WordRow) (rows : List WordRow) (t : List ℕ) (i : Item)
+    → (found rows t ≡ Some i → FoundRow rows t i)
+    → (x : Bool) → fits first t ≡ x → cond x (Some first.2) (found rows t) ≡ Some i
+    → FoundRow (first ∷ rows) t i
 found-row-told first rows t i rest true f e = (first, inl refl, f, cc)
 found-row-told first rows t i rest false f e = let r = rest e in (r.0, inr r.1, r.2, r.3)
 
 -- what is found is what some row that fits says
 found-row : (rows : List WordRow) (t : List ℕ) (i : Item) → found rows t ≡ Some i → FoundRow rows t i
 found-row [] t i h = cc
-found-row (first ∷ rows) t i h = found-row-told first rows t i (λ e. found-row rows t i e) (fits first t) refl h
+found-row (first ∷ rows) t i h =
+    found-row-told first rows t i (λ e. found-row rows t i e) (fits first t) refl h
 
 -- no two of the 41 words are one, ignoring ASCII case
 word_table-apart : are_apart word_table ≡ true
@@ -116,7 +124,8 @@ unfolding attributes word_names
 word_table-starts = refl
 
 -- what the tests of the first byte answer there
-byte_marks : (c : ℕ) → is_word_byte c ≡ true → ((c == 35) ≡ false) × ((c == 43) ≡ false) × (is_ascii_digit c ≡ false)
+byte_marks : (c : ℕ) → is_word_byte c ≡ true
+    → ((c == 35) ≡ false) × ((c == 43) ≡ false) × (is_ascii_digit c ≡ false)
 byte_marks c h = grind (arith, nat_tests)
 
 -- such a byte is one in capitals too
@@ -131,17 +140,7 @@ starts-fits row t o f =
       told [] h = h
       told (c ∷ cs) h = lowered_byte c h
 
--- a text that begins as a word does stands for what the table says
-item_of-word : (t : List ℕ) → starts_word t ≡ true → item_of t ≡ found word_table t
-item_of-word [] h = refl
-item_of-word (c ∷ cs) h =
-    let m = byte_marks c h in rw (m.0, m.1, m.2) refl
-
--- a text that fits a row stands for what the row says
-row-item : (row : WordRow) (t : List ℕ) → OneOf word_table row → fits row t ≡ true → item_of t ≡ Some row.2
-row-item row t o f = item_of-word t (starts-fits row t o f) ∙ row-found word_table row t word_table-apart o f
-
--- only a word of the text's length fits
+-- a word that fits has the text's length
 length-fits : (row : WordRow) (t : List ℕ) → fits row t ≡ true → (length row.0 == length t) ≡ true
 length-fits row t f =
     let e : length (lowered t) ≡ length (lowered row.0) = ap length (fits-lowered row t f) in
@@ -151,22 +150,35 @@ length-fits row t f =
     grind (arith, nat_tests)
 
 -- a row of another length may be left out
-skipped : (row : WordRow) (t : List ℕ) (rest : Option Item) (x : Bool) → fits row t ≡ x → (length row.0 == length t) ≡ false
+skipped : (row : WordRow) (t : List ℕ) (rest : Option Item) (x : Bool) → fits row t ≡ x
+    → (length row.0 == length t) ≡ false
     → rest ≡ cond x (Some row.2) rest
 skipped row t rest true f no_fit = cc (length-fits row t f)
 skipped row t rest false f no_fit = refl
 
 -- one row more, of this length or of another
-found-of_length-told : (first : WordRow) (rows : List WordRow) (t : List ℕ) → found (of_length (length t) rows) t ≡ found rows t
+found_of_length-told : (first : WordRow) (rows : List WordRow) (t : List ℕ)
+    → found (of_length (length t) rows) t ≡ found rows t
     → (x : Bool) → (length first.0 == length t) ≡ x
     → found (cond x (first ∷ of_length (length t) rows) (of_length (length t) rows)) t ≡ found (first ∷ rows) t
-found-of_length-told first rows t rest true e = ap (cond (fits first t) (Some first.2)) rest
-found-of_length-told first rows t rest false e = rest ∙ skipped first t (found rows t) (fits first t) refl e
+found_of_length-told first rows t rest true e = ap (cond (fits first t) (Some first.2)) rest
+found_of_length-told first rows t rest false e = rest ∙ skipped first t (found rows t) (fits first t) refl e
 
 -- only a word of the text's length fits
-pub found-of_length : (rows : List WordRow) (t : List ℕ) → found (of_length (length t) rows) t ≡ found rows t
-found-of_length [] t = refl
-found-of_length (first ∷ rows) t = found-of_length-told first rows t (found-of_length rows t) (length first.0 == length t) refl
+found_of_length : (rows : List WordRow) (t : List ℕ) → found (of_length (length t) rows) t ≡ found rows t
+found_of_length [] t = refl
+found_of_length (first ∷ rows) t =
+    found_of_length-told first rows t (found_of_length rows t) (length first.0 == length t) refl
+
+-- a text that begins as a word does stands for what the table says
+item_of-word : (t : List ℕ) → starts_word t ≡ true → item_of t ≡ found word_table t
+item_of-word [] h = found_of_length word_table []
+item_of-word (c ∷ cs) h =
+    let m = byte_marks c h in rw (m.0, m.1, m.2) (found_of_length word_table (c ∷ cs))
+
+-- a text that fits a row stands for what the row says
+row-item : (row : WordRow) (t : List ℕ) → OneOf word_table row → fits row t ≡ true → item_of t ≡ Some row.2
+row-item row t o f = item_of-word t (starts-fits row t o f) ∙ row-found word_table row t word_table-apart o f
 
 -- ---- numbers
 
@@ -190,7 +202,8 @@ one_more n v k p h =
     omega arith
 
 -- the sum of one digit more
-place_sum-more : (d : ℕ) (ds : List ℕ) → digit_value d < 10 → place_sum (d ∷ ds) 10 ≡ (d - 48) * 10 ^ length ds + place_sum ds 10
+place_sum-more : (d : ℕ) (ds : List ℕ) → digit_value d < 10
+    → place_sum (d ∷ ds) 10 ≡ (d - 48) * 10 ^ length ds + place_sum ds 10
 place_sum-more d ds h = ap (λ x. x * 10 ^ length ds + place_sum ds 10) (digit-is d h).1
 
 -- digits whose sum is small enough are read to it
@@ -230,12 +243,14 @@ decimal-derived (d ∷ ds) n k small h =
     (is_ascii_digit d) (nat_le (n * 10 + (d - 48)) 255) refl refl h
 
 -- a number of the palette
-pub palette-found : (ds : List ℕ) → IsNumeral 10 ds → place_sum ds 10 ≤ 255 → palette_of ds ≡ Some (place_sum ds 10)
+pub palette-found : (ds : List ℕ) → IsNumeral 10 ds → place_sum ds 10 ≤ 255
+    → palette_of ds ≡ Some (place_sum ds 10)
 palette-found [] h small = absurd (omega (arith, h.0))
 palette-found (d ∷ ds) h small = decimal-found (d ∷ ds) 0 h.1 (omega arith) ∙ ap Some (omega arith)
 
 -- a number that is read is the sum of decimal digits
-pub palette-derived : (ds : List ℕ) (k : ℕ) → palette_of ds ≡ Some k → IsNumeral 10 ds × (k ≡ place_sum ds 10) × (k ≤ 255)
+pub palette-derived : (ds : List ℕ) (k : ℕ) → palette_of ds ≡ Some k
+    → IsNumeral 10 ds × (k ≡ place_sum ds 10) × (k ≤ 255)
 palette-derived [] k h = cc
 palette-derived (d ∷ ds) k h =
     let r = decimal-derived (d ∷ ds) 0 k (lit≤ tt) h in
@@ -264,11 +279,13 @@ unfolding attributes word_names
 minus_one-item = refl
 
 -- what the tests of the first byte answer at a digit
-digit_marks : (d : ℕ) → digit_value d < 10 → ((d == 35) ≡ false) × ((d == 43) ≡ false) × (is_ascii_digit d ≡ true)
+digit_marks : (d : ℕ) → digit_value d < 10
+    → ((d == 35) ≡ false) × ((d == 43) ≡ false) × (is_ascii_digit d ≡ true)
 digit_marks d h = let r = digit_from_value d h in grind (arith, nat_tests)
 
 -- decimal digits stand for the palette number that they write
-palette_item-found : (ds : List ℕ) → IsNumeral 10 ds → place_sum ds 10 ≤ 255 → palette_item ds ≡ Some (items.Name (names.Ansi (place_sum ds 10)))
+palette_item-found : (ds : List ℕ) → IsNumeral 10 ds → place_sum ds 10 ≤ 255
+    → palette_item ds ≡ Some (items.Name (names.Ansi (place_sum ds 10)))
 palette_item-found ds h small = rw (palette-found ds h small) refl
 
 -- a text that begins with a digit is read as a palette number
@@ -340,7 +357,8 @@ unfolding attributes
 reset-spelled = refl
 
 -- the same of a row
-reset-only : (row : AttributeRow) (w : List ℕ) → OneOf attributes row → (row.1 == 8) ≡ true → OneOf (row.2 ∷ row.3) w → w ≡ codes "reset"
+reset-only : (row : AttributeRow) (w : List ℕ) → OneOf attributes row → (row.1 == 8) ≡ true
+    → OneOf (row.2 ∷ row.3) w → w ≡ codes "reset"
 reset-only row w o e h =
     let p = all-one (λ (r : AttributeRow). not (r.1 == 8) || list_all (λ w. bytes_eq w (codes "reset")) (r.2 ∷ r.3)) attributes row reset-spelled o in
     let q : list_all (λ w. bytes_eq w (codes "reset")) (row.2 ∷ row.3) ≡ true = rw e at p in
@@ -395,9 +413,11 @@ rgb_item-derived ds v h = told (rgb_of ds) refl h where
   told None e f = cc
 
 -- digits that are read to a palette number write it, also behind `+`
-palette_item-derived : (t ds : List ℕ) (v : Item) → (t ≡ ds) ⊎ (t ≡ 43 ∷ ds) → palette_item ds ≡ Some v → ItemText t v
+palette_item-derived : (t ds : List ℕ) (v : Item) → (t ≡ ds) ⊎ (t ≡ 43 ∷ ds) → palette_item ds ≡ Some v
+    → ItemText t v
 palette_item-derived t ds v spelled h = told (palette_of ds) refl h where
-  told : (x : Option ℕ) → palette_of ds ≡ x → option_map (λ n. items.Name (names.Ansi n)) x ≡ Some v → ItemText t v
+  told : (x : Option ℕ) → palette_of ds ≡ x → option_map (λ n. items.Name (names.Ansi n)) x ≡ Some v
+      → ItemText t v
   told (Some k) e f =
       let same : items.Name (names.Ansi k) ≡ v = cc in
       let r = palette-derived ds k e in
@@ -405,20 +425,21 @@ palette_item-derived t ds v spelled h = told (palette_of ds) refl h where
   told None e f = cc
 
 -- what the table says of a text, the grammar says
-found-derived : (t : List ℕ) (v : Item) → found word_table t ≡ Some v → ItemText t v
-found-derived t v h = let r = found-row word_table t v h in rw (← r.3) (row-text r.0 t r.1 r.2)
+known-derived : (t : List ℕ) (v : Item) → known t ≡ Some v → ItemText t v
+known-derived t v h = let r = found-row word_table t v (sym (found_of_length word_table t) ∙ h) in rw (← r.3) (row-text r.0 t r.1 r.2)
 
 -- what is read of a text, the grammar says
 item-derived : (t : List ℕ) (v : Item) → item_of t ≡ Some v → ItemText t v
-item-derived [] v h = found-derived [] v h
+item-derived [] v h = known-derived [] v h
 item-derived (c ∷ cs) v h = told (c == 35) (c == 43) (is_ascii_digit c) refl refl h where
   told : (x y z : Bool) → (c == 35) ≡ x → (c == 43) ≡ y
-      → cond x (rgb_item cs) (cond y (palette_item cs) (cond z (palette_item (c ∷ cs)) (found word_table (c ∷ cs)))) ≡ Some v
+      → cond x (rgb_item cs) (cond y (palette_item cs) (cond z (palette_item (c ∷ cs)) (known (c ∷ cs)))) ≡ Some v
       → ItemText (c ∷ cs) v
   told true y z p q e = rw ((Decides-eqb c 35).0 p) (rgb_item-derived cs v e)
-  told false true z p q e = palette_item-derived (c ∷ cs) cs v (inr (ap (λ n. n ∷ cs) ((Decides-eqb c 43).0 q))) e
+  told false true z p q e =
+      palette_item-derived (c ∷ cs) cs v (inr (ap (λ n. n ∷ cs) ((Decides-eqb c 43).0 q))) e
   told false false true p q e = palette_item-derived (c ∷ cs) (c ∷ cs) v (inl refl) e
-  told false false false p q e = found-derived (c ∷ cs) v e
+  told false false false p q e = known-derived (c ∷ cs) v e
 
 -- ---- the laws
 
@@ -428,16 +449,16 @@ item-law = record { found = item-found; derived = item-derived }
 
 -- an answer that is what `item_of` gives reads the text
 pub item_reads : (t : List ℕ) (r : Option Item) → r ≡ item_of t → Reads ItemText t r
-item_reads t None e = λ v h. cc (e, item-found t v h)
-item_reads t (Some v) e = item-derived t v (sym e)
+item_reads t r e = reads_by item-law t r e
 
 -- no text is that of two items
 pub item_one_value : (t : List ℕ) (v w : Item) → ItemText t v → ItemText t w → v ≡ w
 item_one_value = one_value_by item-law
 
--- no text is and_parts a name's and an attribute's
+-- no text is both a name's and an attribute's
 pub not_both : (t : List ℕ) (n : Name) (a : Attribute) → NameText t n → ¬ (AttributeText t a)
-not_both t n a p q = let e : items.Name n ≡ items.Attribute a = item_one_value t (items.Name n) (items.Attribute a) p q in cc
+not_both t n a p q =
+    let e : items.Name n ≡ items.Attribute a = item_one_value t (items.Name n) (items.Attribute a) p q in cc
 
 -- the name of an item
 abbrev pub item_name : Option Item → Option Name
@@ -468,8 +489,10 @@ attribute-law = record {
   found = λ t a h. rw (attribute-found t a h) refl;
   derived = λ t a h. told t a (item_of t) refl h;
 } where
-  told : (t : List ℕ) (a : Attribute) (x : Option Item) → item_of t ≡ x → item_attribute x ≡ Some a → AttributeText t a
-  told t a (Some (items.Attribute b)) e f = let same : b ≡ a = cc in rw (← same) (item-derived t (items.Attribute b) e)
+  told : (t : List ℕ) (a : Attribute) (x : Option Item) → item_of t ≡ x → item_attribute x ≡ Some a
+      → AttributeText t a
+  told t a (Some (items.Attribute b)) e f =
+      let same : b ≡ a = cc in rw (← same) (item-derived t (items.Attribute b) e)
   told t a (Some (items.Name n)) e f = cc
   told t a None e f = cc
 
@@ -480,7 +503,8 @@ reads_name t (Some (items.Attribute a)) h = λ n p. not_both t n a p h
 reads_name t None h = λ n p. h (items.Name n) p
 
 -- the same of attributes
-pub reads_attribute : (t : List ℕ) (r : Option Item) → Reads ItemText t r → Reads AttributeText t (item_attribute r)
+pub reads_attribute : (t : List ℕ) (r : Option Item) → Reads ItemText t r
+    → Reads AttributeText t (item_attribute r)
 reads_attribute t (Some (items.Attribute a)) h = h
 reads_attribute t (Some (items.Name n)) h = λ a p. not_both t n a h p
 reads_attribute t None h = λ a p. h (items.Attribute a) p

@@ -1,16 +1,18 @@
 -- The laws of `Value` for names.
-use Rattle.std.proofs.Common.{◌≡◌, ℕ, ◌+◌, ◌-◌, ◌*◌, ◌/◌, ◌%◌, ◌^◌, ◌<◌, ◌≤◌, ◌⊎◌, inl, inr, Bool, true, false, ◌==◌, nat_le, List, [], ◌∷◌, ◌++◌, map, length, get_or, codes, decimal, refl, sym, ap, ◌∙◌, arith, lit<, lit≤}
+use Rattle.std.proofs.Common.{◌≡◌, ℕ, zero, suc, Some, ◌+◌, ◌-◌, ◌*◌, ◌/◌, ◌%◌, ◌^◌, ◌<◌, ◌≤◌, ◌⊎◌, inl, inr, Bool, true, false, ◌==◌, nat_le, List, [], ◌∷◌, ◌++◌, map, length, get_or, codes, decimal, refl, sym, ap, ◌∙◌, arith, lit<, lit≤}
 use Rattle.std.proofs.lemmas.Bool.Decides.{Decides-eqb, nat_tests}
 use Rattle.std.proofs.lemmas.Bool.{leb-true}
 use Rattle.std.proofs.lemmas.Fmt.{decimal-digits_value, decimal_digit, decimal_is_IsNumeral, first_decimal, length-decimal-le}
 use Rattle.std.proofs.lemmas.Str.Parse.{IsNumeralModel, digit_from_value, numerals_by_weight, tells_digits}
 use Rattle.std.specs.Char.{digit_char, digit_value, to_ascii_lowercase}
 use Rattle.std.specs.Int.{IsInRange}
-use Rattle.std.specs.List.{AllByRecursion, list_all}
+use Rattle.std.specs.List.{AllByRecursion, list_all, slice_get}
 use Rattle.std.specs.Str.Parse.{AllDigits, IsNumeral}
 use Rattle.config_word.specs.declared.name.Name.{Name}
 use Rattle.config_word.specs.declared.name.Name.TheVariants as names
+use Rattle.config_word.specs.declared.name.TheConstants.{LONGEST_NAME}
 use Rattle.config_word.specs.Name.{CanonicalName, HexPair, NameFits, NameText, hex_pair, lower_words, name_shown, word_names}
+use Rattle.config_word.specs.Orders.{name_place}
 use Rattle.config_text.specs.Bytes.{IsLeadingDigit, IsLowerHex}
 use Rattle.config_text.specs.Numerals.{place_sum}
 use Rattle.config_text.specs.OneOf.{OneOf}
@@ -30,7 +32,8 @@ name_decided = decided_by name-law
 -- ---- decimal numbers
 
 -- what a decimal digit adds to the sum of its text
-weight : (c : ℕ) (cs : List ℕ) → IsInRange 48 57 c → place_sum (c ∷ cs) 10 ≡ (c - 48) * 10 ^ length cs + place_sum cs 10
+weight : (c : ℕ) (cs : List ℕ) → IsInRange 48 57 c
+    → place_sum (c ∷ cs) 10 ≡ (c - 48) * 10 ^ length cs + place_sum cs 10
 weight c cs h =
     let v : digit_value c ≡ c - 48 = grind (arith, nat_tests) in
     ap (λ x. x * 10 ^ length cs + place_sum cs 10) v
@@ -88,7 +91,8 @@ shown_digit : (n : ℕ) → n < 16 → IsLowerHex (digit_char n) × (digit_value
 shown_digit n h = grind (arith, nat_tests)
 
 -- two lower-case digits are what their number is shown as
-hex_pair-back : (a b : ℕ) → IsLowerHex a → IsLowerHex b → hex_pair (16 * digit_value a + digit_value b) ≡ a ∷ b ∷ []
+hex_pair-back : (a b : ℕ) → IsLowerHex a → IsLowerHex b
+    → hex_pair (16 * digit_value a + digit_value b) ≡ a ∷ b ∷ []
 hex_pair-back a b h k =
     let p = lower_digit a h in
     let q = lower_digit b k in
@@ -115,11 +119,13 @@ unfolding word_names lower_words
 shown_words = refl
 
 -- six digits, in three pairs
-six : (a b c d e f : ℕ) (x y z : List ℕ) → x ≡ a ∷ b ∷ [] → y ≡ c ∷ d ∷ [] → z ≡ e ∷ f ∷ [] → 35 ∷ a ∷ b ∷ c ∷ d ∷ e ∷ f ∷ [] ≡ 35 ∷ x ++ y ++ z
+six : (a b c d e f : ℕ) (x y z : List ℕ) → x ≡ a ∷ b ∷ [] → y ≡ c ∷ d ∷ [] → z ≡ e ∷ f ∷ []
+    → 35 ∷ a ∷ b ∷ c ∷ d ∷ e ∷ f ∷ [] ≡ 35 ∷ x ++ y ++ z
 six a b c d e f x y z p q r = rw (p, q, r) refl
 
 -- six lower-case digits are what their color is shown as
-rgb-shown : (ds : List ℕ) → length ds ≡ 6 → AllByRecursion IsLowerHex ds → IsShown NameText name_shown (codes "#" ++ ds)
+rgb-shown : (ds : List ℕ) → length ds ≡ 6 → AllByRecursion IsLowerHex ds
+    → IsShown NameText name_shown (codes "#" ++ ds)
 rgb-shown (a ∷ b ∷ c ∷ d ∷ e ∷ f ∷ []) l h = record {
   value = names.Rgb (16 * digit_value a + digit_value b) (16 * digit_value c + digit_value d) (16 * digit_value e + digit_value f);
   reads_to = NameText.pairs a b c d e f _ _ _ refl (pair_of a b h.0 h.1.0) (pair_of c d h.1.1.0 h.1.1.1.0) (pair_of e f h.1.1.1.1.0 h.1.1.1.1.1.0) refl;
@@ -150,7 +156,8 @@ pub name_canonical_reads : (t : List ℕ) → CanonicalName t → IsAccepted Nam
 name_canonical_reads = canonical_reads_by canonical-shown
 
 -- a name has one canonical text at most
-pub name_one_text : (s t : List ℕ) (v : Name) → CanonicalName s → CanonicalName t → NameText s v → NameText t v → s ≡ t
+pub name_one_text : (s t : List ℕ) (v : Name) → CanonicalName s → CanonicalName t → NameText s v
+    → NameText t v → s ≡ t
 name_one_text = one_text_by name_one_value canonical-shown
 
 -- ---- shown texts
@@ -159,29 +166,18 @@ name_one_text = one_text_by name_one_value canonical-shown
 abbrev NameKind : Name → Type 0
 NameKind v = OneOf word_names v ⊎ (((n : ℕ) × (v ≡ names.Ansi n)) ⊎ ((r g b : ℕ) × (v ≡ names.Rgb r g b)))
 
+-- what stands at a place of a list is one of the list
+one_at : (ns : List Name) (place : ℕ) (v : Name) → slice_get ns place ≡ Some v → OneOf ns v
+one_at [] place v h = cc
+one_at (n ∷ ns) zero v h = let same : n ≡ v = cc in inl (sym same)
+one_at (n ∷ ns) (suc place) v h = inr (one_at ns place v h)
+
 -- which of the three a name is
 name_told : (v : Name) → NameKind v
 unfolding word_names
-name_told names.Normal = inl (inl refl)
-name_told names.Default = inl (inr (inl refl))
-name_told names.Black = inl (inr (inr (inl refl)))
-name_told names.BrightBlack = inl (inr (inr (inr (inl refl))))
-name_told names.Red = inl (inr (inr (inr (inr (inl refl)))))
-name_told names.BrightRed = inl (inr (inr (inr (inr (inr (inl refl))))))
-name_told names.Green = inl (inr (inr (inr (inr (inr (inr (inl refl)))))))
-name_told names.BrightGreen = inl (inr (inr (inr (inr (inr (inr (inr (inl refl))))))))
-name_told names.Yellow = inl (inr (inr (inr (inr (inr (inr (inr (inr (inl refl)))))))))
-name_told names.BrightYellow = inl (inr (inr (inr (inr (inr (inr (inr (inr (inr (inl refl))))))))))
-name_told names.Blue = inl (inr (inr (inr (inr (inr (inr (inr (inr (inr (inr (inl refl)))))))))))
-name_told names.BrightBlue = inl (inr (inr (inr (inr (inr (inr (inr (inr (inr (inr (inr (inl refl))))))))))))
-name_told names.Magenta = inl (inr (inr (inr (inr (inr (inr (inr (inr (inr (inr (inr (inr (inl refl)))))))))))))
-name_told names.BrightMagenta = inl (inr (inr (inr (inr (inr (inr (inr (inr (inr (inr (inr (inr (inr (inl refl))))))))))))))
-name_told names.Cyan = inl (inr (inr (inr (inr (inr (inr (inr (inr (inr (inr (inr (inr (inr (inr (inl refl)))))))))))))))
-name_told names.BrightCyan = inl (inr (inr (inr (inr (inr (inr (inr (inr (inr (inr (inr (inr (inr (inr (inr (inl refl))))))))))))))))
-name_told names.White = inl (inr (inr (inr (inr (inr (inr (inr (inr (inr (inr (inr (inr (inr (inr (inr (inr (inl refl)))))))))))))))))
-name_told names.BrightWhite = inl (inr (inr (inr (inr (inr (inr (inr (inr (inr (inr (inr (inr (inr (inr (inr (inr (inr (inl refl))))))))))))))))))
 name_told (names.Ansi n) = inr (inl (n, refl))
 name_told (names.Rgb r g b) = inr (inr (r, g, b, refl))
+name_told v = inl (one_at word_names (name_place v) v refl)
 
 -- a name without numbers
 abbrev is_word : Name → Bool
@@ -194,14 +190,15 @@ words-are : list_all is_word word_names ≡ true
 unfolding word_names
 words-are = refl
 
--- the words have at most 13 bytes
-words-short : list_all (λ v. nat_le (length (name_shown v)) 13) word_names ≡ true
+-- no word is longer than the longest
+words-short : list_all (λ v. nat_le (length (name_shown v)) LONGEST_NAME) word_names ≡ true
 unfolding word_names
 words-short = refl
 
--- what a name is shown as is a canonical text of it, of at most 13 bytes
+-- what a name is shown as is a canonical text of it, no longer than the longest word
 abbrev ShownWell : Name → Type 0
-ShownWell v = NameText (name_shown v) v × CanonicalName (name_shown v) × (length (name_shown v) ≤ 13)
+ShownWell v =
+    NameText (name_shown v) v × CanonicalName (name_shown v) × (length (name_shown v) ≤ LONGEST_NAME)
 
 -- a palette number is shown well
 ansi-shown : (n : ℕ) → n ≤ 255 → ShownWell (names.Ansi n)
@@ -235,13 +232,14 @@ shown-well v fits = told (name_told v) fits where
   told (inl o) h = (
     NameText.word o refl,
     CanonicalName.word (rw (← shown_words) (OneOf-map name_shown word_names v o)),
-    leb-true (length (name_shown v)) 13 (all-one (λ (w : Name). nat_le (length (name_shown w)) 13) word_names v words-short o),
+    leb-true (length (name_shown v)) LONGEST_NAME (all-one (λ (w : Name). nat_le (length (name_shown w)) LONGEST_NAME) word_names v words-short o),
   )
   told (inr (inl (n, e))) h = rw e (ansi-shown n (rw e at h))
-  told (inr (inr (r, g, b, e))) h = let k : NameFits (names.Rgb r g b) = rw e at h in rw e (rgb-shown_well r g b k.0 k.1 k.2)
+  told (inr (inr (r, g, b, e))) h =
+      let k : NameFits (names.Rgb r g b) = rw e at h in rw e (rgb-shown_well r g b k.0 k.1 k.2)
 
--- a name is shown in at most 13 bytes
-pub name_short : (v : Name) → NameFits v → length (name_shown v) ≤ 13
+-- a name is shown in no more bytes than the longest word
+pub name_short : (v : Name) → NameFits v → length (name_shown v) ≤ LONGEST_NAME
 name_short v h = (shown-well v h).2
 
 -- a word has no number that could be too large
@@ -259,8 +257,10 @@ pub name_fits : (t : List ℕ) (v : Name) → NameText t v → NameFits v
 name_fits t v (NameText.word o s) = word-fits v (all-one is_word word_names v words-are o)
 name_fits t v (NameText.minus_one e f) = rw f tt
 name_fits t v (NameText.palette ds k s h sum small f) = rw f small
-name_fits t v (NameText.pairs a b c d e f r g u is x y z w) = rw w (pair-small a b r x, pair-small c d g y, pair-small e f u z)
-name_fits t v (NameText.doubled a c e r g u is x y z w) = rw w (pair-small a a r x, pair-small c c g y, pair-small e e u z)
+name_fits t v (NameText.pairs a b c d e f r g u is x y z w) =
+    rw w (pair-small a b r x, pair-small c d g y, pair-small e f u z)
+name_fits t v (NameText.doubled a c e r g u is x y z w) =
+    rw w (pair-small a a r x, pair-small c c g y, pair-small e e u z)
 
 -- what a name is shown as is its canonical text
 pub name_shown_is_text : (v : Name) → HasText NameText v → IsTextOf NameText CanonicalName v (name_shown v)

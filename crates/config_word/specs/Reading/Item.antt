@@ -43,6 +43,10 @@ found (row ∷ rows) t = if fits row t then Some row.2 else found rows t
 abbrev pub of_length : ℕ → List WordRow → List WordRow
 of_length n rows = filter (λ row. length row.0 == n) rows
 
+-- what a text stands for among the words of its length
+abbrev pub known : List ℕ → Option Item
+known t = found (of_length (length t) word_table) t
+
 -- the number of decimal digits that follow those of n, where it is at most 255
 abbrev pub decimal_from : List ℕ → ℕ → Option ℕ
 decimal_from [] n = Some n
@@ -91,8 +95,8 @@ plus_sign = 43
 
 -- what a text stands for, told by its first byte: `#`, `+`, a digit, or that of a word
 abbrev pub item_of : List ℕ → Option Item
-item_of [] = found word_table []
+item_of [] = known []
 item_of (c ∷ cs) =
     if c == hash_sign then rgb_item cs
     else (if c == plus_sign then palette_item cs
-    else (if is_ascii_digit c then palette_item (c ∷ cs) else found word_table (c ∷ cs)))
+    else (if is_ascii_digit c then palette_item (c ∷ cs) else known (c ∷ cs)))

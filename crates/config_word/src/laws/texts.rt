@@ -3,15 +3,22 @@ ghost use Rattle.std.specs.Prelude.{◌≡◌, ℕ, List};
 ghost use Rattle.config_text.specs.Value.{IsTextOf};
 ghost use Rattle.config_word.specs.declared.attribute.Attribute.{Attribute};
 ghost use Rattle.config_word.specs.declared.item.Item.{Item};
-ghost use Rattle.config_word.specs.declared.name.Name.{Name};
 ghost use Rattle.config_word.specs.Attribute.{AttributeText};
 ghost use Rattle.config_word.specs.Item.{ItemText};
 ghost use Rattle.config_word.specs.Name.{NameText, CanonicalName, NameFits, name_shown};
+
+use crate::name::Name;
 
 /// Every name has a text: the one that it is shown as, which is canonical and read as that name.
 pub fn name_text()
     ensures shown { (n : Name) → NameFits n → IsTextOf NameText CanonicalName n (name_shown n) }
     ensures fits { (t : List ℕ) (n : Name) → NameText t n → NameFits n }
+{}
+
+/// Each number of a name is a byte. A proof knows it of a name that is passed by value, and not of one inside
+/// another value: there it calls this.
+pub fn numbers_fit(name: Name)
+    ensures { NameFits name }
 {}
 
 /// A word stands for one item, and no text is both a name and an attribute.

@@ -1,5 +1,4 @@
-use Rattle.std.proofs.Common.{true, rules}
 use Rattle.config_checks.proofs.reason.path_reason.Goals as goal
 
-pub returns-in-Some : goal.returns-in-Some
-returns-in-Some c = (true, c.in-Some.path.now, search rules, c.unmarked_reason.ensures)
+pub returns : goal.returns
+returns c = (c.cut_mark.result.0, c.cut_mark.result.1.now, c.cut_mark.ensures, c.unmarked_reason.ensures)

@@ -1,9 +1,6 @@
-use Rattle.std.proofs.Common.{◌≡◌, ◌++◌, map, length}
-use Rattle.config_checks.specs.Rows.{fields_of}
+use Rattle.std.proofs.Common.{◌≡◌, map, flat_map}
+use Rattle.config_checks.specs.Rows.{field_if_some}
 use Rattle.config_checks.proofs.table.fields_of.Given as goal
 
 abbrev pub invariant-loop-field : goal.invariant-loop-field
-invariant-loop-field l = map (λ f. f.now) l.fields.items ++ fields_of l.rest ≡ fields_of l.fn.line
-
-abbrev pub decreases-loop-field : goal.decreases-loop-field
-decreases-loop-field l = length l.rest
+invariant-loop-field l = map (λ f. f.now) l.fields.items ≡ flat_map field_if_some (map (λ f. f.now) l.yielded)

@@ -1,5 +1,9 @@
+use Rattle.std.proofs.Common.{◌≤◌, ◌-◌, length}
 use Rattle.config_color.specs.Split.{IsWithoutSpace}
 use Rattle.config_color.proofs.color.first_word.Given as goal
 
 abbrev pub invariant-loop-at : goal.invariant-loop-at
-invariant-loop-at l = IsWithoutSpace l.text l.at
+invariant-loop-at l = (l.at ≤ length l.text) × IsWithoutSpace l.text l.at
+
+abbrev pub decreases-loop-at : goal.decreases-loop-at
+decreases-loop-at l = length l.text - l.at

@@ -1,5 +1,5 @@
 use Rattle.std.proofs.Common.{arith}
-use Rattle.config_color.specs.Laws.Space.{begins_not, narrow_bytes, double_bytes, triple_bytes}
+use Rattle.config_color.specs.Laws.Space.{begins_not, start_not}
 use Rattle.config_color.proofs.space.space_length.Goals as goal
 
 pub returns-in_default-clause-none : goal.returns-in_default-clause-none
@@ -19,5 +19,4 @@ returns-in_default-5-clause-none c =
     λ _. begins_not c.args.bytes.now (λ l h. cc (c.is_narrow.ensures.1 h, c.if-is_narrow.false)) (λ l h. cc (c.is_double.ensures.1 h, c.if-is_double.false)) (λ l h. cc (c.is_triple.ensures.1 h, c.if-is_triple.false))
 
 pub returns-in-len1-up-clause-none : goal.returns-in-len1-up-clause-none
-returns-in-len1-up-clause-none c =
-    λ _. begins_not c.args.bytes.now (λ l h. let k = narrow_bytes _ h in grind arith) (λ l h. let k = double_bytes _ _ h in grind arith) (λ l h. let k = triple_bytes _ _ _ h in grind arith)
+returns-in-len1-up-clause-none c = λ _. start_not c.args.bytes.now (omega arith) (omega arith)

@@ -4,7 +4,8 @@ use Rattle.config_path.specs.Interpolation.{HasForm, below, IsOneName}
 use Rattle.config_path.specs.Interpolation.Form.{below_prefix, below_home, below_user}
 use Rattle.config_path.proofs.parts.parts_of.Goals as goal
 
-home_form : (value path name : List ℕ) (rest : Option (List ℕ)) → value ≡ 126 ∷ path → path ≡ below name rest → true ≡ (length name == 0) → HasForm value (below_home rest)
+home_form : (value path name : List ℕ) (rest : Option (List ℕ)) → value ≡ 126 ∷ path → path ≡ below name rest
+    → true ≡ (length name == 0) → HasForm value (below_home rest)
 home_form value path [] rest v p e = v ∙ ap (λ t. 126 ∷ t) p
 home_form value path (x ∷ xs) rest v p e = absurd (grind (arith, nat_tests))
 
@@ -20,7 +21,7 @@ pub returns-then-is_empty-2-clause-made : goal.returns-then-is_empty-2-clause-ma
 returns-then-is_empty-2-clause-made g c =
     λ r made. record {
       form = below_home _;
-      has_form = home_form _ _ _ _ c.in-Some-past.ensures c.name_and_rest.ensures.whole c.if-is_empty-2.ensures;
+      has_form = home_form _ _ _ _ c.in-Some-strip_front.ensures c.name_and_rest.ensures.whole c.if-is_empty-2.ensures;
       gives = c.below_given-then-is_empty-2.ensures.made r made;
     }
 
@@ -28,6 +29,6 @@ pub returns-clause-made : goal.returns-clause-made
 returns-clause-made g c =
     λ r made. record {
       form = below_user _ _;
-      has_form = user_form _ _ _ _ c.in-Some-past.ensures c.name_and_rest.ensures.whole c.name_and_rest.ensures.name c.if-is_empty-2.ensures;
+      has_form = user_form _ _ _ _ c.in-Some-strip_front.ensures c.name_and_rest.ensures.whole c.name_and_rest.ensures.name c.if-is_empty-2.ensures;
       gives = c.below_user.ensures.made r made;
     }

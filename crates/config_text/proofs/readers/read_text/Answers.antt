@@ -13,4 +13,5 @@ text_read grammar refusal s t (Ok v) e h = rw (← e) h
 text_read grammar refusal s t (Err x) e h = rw (← e) ((h.0.0, ap bstr_bytes h.0.1), h.1)
 
 pub returns : goal.returns
-returns g c = text_read g.V.Value.grammar g.V.TryRead.refusal _ c.args.input.now _ c.from.ensures c.read_bytes.ensures
+returns g c =
+    text_read g.V.Value.grammar g.V.TryRead.refusal _ c.args.input.now _ c.from.ensures c.read_bytes.ensures

@@ -8,16 +8,20 @@ use Rattle.gix_config_value_c.proofs.paths.put_parts.Goals as goal
 length_of : (a b c : List ℕ) → length (a ++ b ++ c) ≡ length a + length b + length c
 length_of a b c = grind (arith, length-append)
 
-is_text : (dir slash rest d s r : List ℕ) (most : ℕ) → dir ≡ d → slash ≡ s → rest ≡ r → IsUtf8 dir → IsUtf8 slash → IsUtf8 rest
+is_text : (dir slash rest d s r : List ℕ) (most : ℕ) → dir ≡ d → slash ≡ s → rest ≡ r → IsUtf8 dir
+    → IsUtf8 slash → IsUtf8 rest
     → length dir + length slash + length rest ≤ most
     → (dir ++ slash ++ rest ≡ d ++ s ++ r) × IsUtf8 (dir ++ slash ++ rest) × (length (dir ++ slash ++ rest) ≤ most)
 is_text dir slash rest d s r most p q t u v w fits =
     (cc, IsUtf8-append (dir ++ slash) rest (IsUtf8-append dir slash u v) w, omega (arith, length_of dir slash rest))
 
 filled : (dir slash rest old one two new : List ℕ) (first second end : ℕ)
-    → first ≡ 0 + length dir → take first one ≡ take 0 old ++ dir → ((n : ℕ) → first ≤ n → drop n one ≡ drop n old)
-    → second ≡ first + length slash → take second two ≡ take first one ++ slash → ((n : ℕ) → second ≤ n → drop n two ≡ drop n one)
-    → end ≡ second + length rest → take end new ≡ take second two ++ rest → ((n : ℕ) → end ≤ n → drop n new ≡ drop n two)
+    → first ≡ 0 + length dir → take first one ≡ take 0 old ++ dir → ((n : ℕ) → first ≤ n
+    → drop n one ≡ drop n old)
+    → second ≡ first + length slash → take second two ≡ take first one ++ slash → ((n : ℕ) → second ≤ n
+    → drop n two ≡ drop n one)
+    → end ≡ second + length rest → take end new ≡ take second two ++ rest → ((n : ℕ) → end ≤ n
+    → drop n new ≡ drop n two)
     → new ≡ (dir ++ slash ++ rest) ++ drop (length (dir ++ slash ++ rest)) old
 filled dir slash rest old one two new first second end e f k e' f' k' e'' f'' k'' =
     let size : end ≡ length (dir ++ slash ++ rest) = omega (arith, length_of dir slash rest) in

@@ -6,10 +6,19 @@ use Rattle.config_integer.specs.Laws.Amount.{amount_refused}
 use Rattle.config_integer.proofs.amount.AmountTryRead.try_read.Goals as goal
 
 pub returns-in_default : goal.returns-in_default
-returns-in_default c = (c.in_default.ensures, amount_refused c.args.text.now faults.Integer c.in_default.ensures)
+returns-in_default c =
+    (c.in_default.ensures, amount_refused c.args.text.now faults.Integer c.in_default.ensures)
 
 pub returns-in-None : goal.returns-in-None
 returns-in-None c =
-    let r : AmountRefusal c.args.text.now faults.Overflow =
-    (product c.in-Some.integer, record { integer = c.in-Some.integer; text = c.in-Some.ensures; number = refl }, c.in-None.ensures) in
+    let r : AmountRefusal c.args.text.now faults.Overflow = (
+      product c.in-Some.integer,
+      record {
+        integer =
+            c.in-Some.integer;
+        text = c.in-Some.ensures;
+        number = refl;
+      },
+      c.in-None.ensures,
+    ) in
     (r, amount_refused c.args.text.now faults.Overflow r)

@@ -1,6 +1,7 @@
 use Rattle.std.proofs.Common.{rules}
 use Rattle.config_path.specs.contracts.path.PathHash.TheImpl.Laws.{respects_eq-law}
-use Rattle.config_path.specs.contracts.path.PathOrd.TheImpl.Laws.{matches_eq-law, matches_partial_cmp-law, total-law}
+use Rattle.config_path.specs.contracts.path.PathOrd.TheImpl.Laws.{matches_eq-law, matches_partial_cmp-law}
+use Rattle.config_path.specs.contracts.path.PathOrd.TheImpl.Laws.{total-law}
 use Rattle.config_path.proofs.laws.paths.path_order.Goals as goal
 
 pub returns-clause-order : goal.returns-clause-order

@@ -1,4 +1,4 @@
-use Rattle.std.proofs.Common.{arith, ap, sym, true, ◌∙◌, ◌++◌, length}
+use Rattle.std.proofs.Common.{true, ◌++◌, length, sym, ap, ◌∙◌, arith}
 use Rattle.config_word.specs.Laws.Attribute.{attribute_short, shown-remaining}
 use Rattle.config_word.specs.Reading.Attribute.{remaining}
 use Rattle.config_word.proofs.attribute.Attribute.push_to.Goals as goal

@@ -1,0 +1,315 @@
+"""The classes of differences between Git and this library. docs/DIFFERENCES.md has a row for each, with its reason.
+
+Run as a program, it compares the page: each class has one row, with its versions and a text in which it is shown, and
+each row of each table says what was run. Its last line is 'N passed, M failed'.
+
+A class is decided by a rule over a question and its two answers; no two rules hold of one. It is expected in the
+versions that it names: where they run it has to be seen, in others it must not be.
+"""
+import collections
+import pathlib
+import re
+import sys
+
+from calls import MARK, PREFIX, is_utf8
+
+# what is asked: the kind of the question, its text, and for a path the home directory, if there is one
+Question = collections.namedtuple("Question", "kind text home", defaults=[None])
+# a question and its answers, each None where the text is refused. user: the directory of the user that the text names,
+# if there is one. install: the directory where Git is installed
+Case = collections.namedtuple("Case", "question user install ours git")
+# when: the versions in which it is expected. shown: questions in which it is seen then.
+# plain: where a rule is wide, what is asked besides: a text that `reader` has to answer as the text itself
+Class = collections.namedtuple("Class", "name kinds when rule shown plain reader", defaults=[None, None])
+# the versions of what, from which one on, and up to which one; None: without an end
+When = collections.namedtuple("When", "of since before", defaults=["Git", None, None])
+
+# what Git answers where the value counts as not set
+NOT_SET = "not set"
+NUMBERS = ("int", "bool", "bool-or-int")
+SMALL_NUMBERS = ("bool", "bool-or-int")
+HOME = b"/home/u"
+SPACE = re.compile(rb"[\t\n\v\f\r ]+")
+NUMBER = re.compile(rb"([+-]?)(?:0[xX]([0-9a-fA-F]+)|0[bB]([01]+)|(0[0-7]*)|([1-9][0-9]*))([kKmMgG]?)")
+BINARY = re.compile(rb"[+-]?0[bB]")
+# white space of Unicode at which Git does not cut a color text
+FOREIGN = re.compile(rb"[\v\f]|\xc2[\x85\xa0]|\xe1\x9a\x80|\xe2\x80[\x80-\x8a\xa8\xa9\xaf]|\xe2\x81\x9f|\xe3\x80\x80")
+WORD = rb"(?<![^\t\n\v\f\r ])%s(?![^\t\n\v\f\r ])"
+THREE_DIGITS = re.compile(WORD % rb"#([0-9a-fA-F])([0-9a-fA-F])([0-9a-fA-F])")
+MINUS_ZERO = re.compile(WORD % rb"-0+(1?)")
+
+
+# numbers
+
+def amount(text):
+    """The number that an integer text means, of any size, or None."""
+    match = NUMBER.fullmatch(text)
+    if match is None:
+        return None
+    sign, *magnitudes, suffix = match.groups()
+    number = next(int(digits, base) for digits, base in zip(magnitudes, (16, 2, 8, 10)) if digits)
+    number *= 1024 ** b" kmg".index(suffix.lower() or b" ")
+    return -number if sign == b"-" else number
+
+
+def number_shown(kind, number):
+    return str(number != 0).lower().encode() if kind == "bool" else b"%d" % number
+
+
+def is_number_of_ours_alone(case):
+    """The library answers the number that the text is, and Git refuses it."""
+    number = amount(case.question.text)
+    return number is not None and case.git is None and case.ours == number_shown(case.question.kind, number)
+
+
+def is_beyond(case):
+    """The number is outside of those that Git holds, which have no least one beyond the greatest."""
+    return abs(amount(case.question.text)) >= (2 ** 63 if case.question.kind == "int" else 2 ** 31)
+
+
+def white_space_before_a_number(case):
+    space = SPACE.match(case.question.text)
+    number = amount(case.question.text[space.end():]) if space else None
+    return number is not None and case.ours is None and case.git == number_shown(case.question.kind, number)
+
+
+def number_out_of_range(case):
+    return is_number_of_ours_alone(case) and is_beyond(case)
+
+
+def binary_digits(case):
+    is_binary = BINARY.match(case.question.text) is not None
+    return is_binary and is_number_of_ours_alone(case) and not is_beyond(case)
+
+
+def suffix_alone(case):
+    is_suffix = re.fullmatch(rb"[kKmMgG]", case.question.text) is not None
+    return is_suffix and case.ours is None and case.git == number_shown(case.question.kind, 0)
+
+
+# colors
+
+def is_color_of_ours_alone(case):
+    return case.ours is not None and case.git is None
+
+
+def unknown_white_space(case):
+    return is_color_of_ours_alone(case) and FOREIGN.search(case.question.text) is not None
+
+
+def three_digits(case):
+    is_there = THREE_DIGITS.search(case.question.text) is not None
+    return is_there and is_color_of_ours_alone(case) and not unknown_white_space(case)
+
+
+def minus_zero(case):
+    return case.ours is None and case.git is not None and MINUS_ZERO.search(case.question.text) is not None
+
+
+def word_default(case):
+    is_there = b"default" in case.question.text.lower().split()
+    return is_there and is_color_of_ours_alone(case) and not unknown_white_space(case) and not three_digits(case)
+
+
+def word_reset(case):
+    is_there = b"reset" in case.question.text.lower().split()
+    is_other = unknown_white_space(case) or three_digits(case) or word_default(case)
+    return is_there and is_color_of_ours_alone(case) and not is_other
+
+
+def plain_color(text):
+    """The text without what the two read otherwise: who reads this text as a color has to read that one alike."""
+    text = FOREIGN.sub(b" ", text)
+    text = THREE_DIGITS.sub(rb"#\1\1\2\2\3\3", text)
+    return MINUS_ZERO.sub(lambda match: b"-1" if match[1] else b"0", text)
+
+
+# paths
+
+def directory_and_rest(case):
+    """The directory that a `~` or a `~user` stands for, and what is behind its slash; None where there is none."""
+    name, slash, rest = case.question.text.partition(b"/")
+    directory = case.question.home if name == b"~" else case.user
+    return (directory, rest) if slash and name.startswith(b"~") and directory is not None else None
+
+
+def is_expanded_by_git(case):
+    """Git put the rest behind a directory and a slash; behind the prefix alone it takes an absolute rest for itself."""
+    text = case.question.text
+    if text.startswith(PREFIX):
+        rest = text[len(PREFIX):]
+        return case.git == (rest if rest.startswith(b"/") else case.install + b"/" + rest)
+    parts = directory_and_rest(case)
+    return case.git == (text if parts is None else b"/".join(parts))
+
+
+def empty_path(case):
+    return case.question.text == b"" and case.ours is None and case.git == b""
+
+
+def empty_home(case):
+    directory, rest = directory_and_rest(case) or (None, None)
+    return directory == b"" and rest[:1] != b"/" and case.ours == rest and is_expanded_by_git(case)
+
+
+def home_with_slash(case):
+    directory, rest = directory_and_rest(case) or (b"", None)
+    is_joined = directory[-1:] == b"/" and rest[:1] != b"/" and case.ours == directory + rest
+    return is_joined and is_expanded_by_git(case)
+
+
+def second_slash(case):
+    _, rest = directory_and_rest(case) or (None, b"")
+    return rest[:1] == b"/" and case.ours == rest and is_expanded_by_git(case)
+
+
+def no_utf8(case):
+    is_refused = case.ours is None and not is_utf8(case.question.text) and not case.question.text.startswith(MARK)
+    return is_refused and is_expanded_by_git(case)
+
+
+def is_marked(case):
+    """The text has the mark; a second one, behind it, the library takes for a part of the path."""
+    text = case.question.text
+    rest = text.removeprefix(MARK)
+    is_kept = case.ours == (rest if is_utf8(rest) else None)
+    return text.startswith(MARK) and (is_kept or not rest.startswith(MARK))
+
+
+def mark_is_kept(case):
+    return is_marked(case) and case.git == case.question.text
+
+
+def file_is_missing(case):
+    return is_marked(case) and case.git == NOT_SET
+
+
+def without_mark(text):
+    """The path behind the mark, or the text itself where that would be marked again."""
+    rest = text.removeprefix(MARK)
+    return text if rest.startswith(MARK) else rest
+
+
+def prefix_is_kept(case):
+    return case.question.text.startswith(PREFIX) and case.git == case.question.text
+
+
+def numbers(*texts, kinds=NUMBERS):
+    return [Question(kind, text) for kind in kinds for text in texts]
+
+
+def colors(*texts):
+    return [Question("color", text) for text in texts]
+
+
+def paths(*texts, home=HOME):
+    return [Question("path", text, home) for text in texts]
+
+
+CLASSES = [
+    Class("white space before a number", NUMBERS, When(), white_space_before_a_number,
+          numbers(b" 1", b"\t-0x10k", b"\v7", b"\f\r0")),
+    Class("the least number", ["int"], When(), number_out_of_range,
+          numbers(b"-9223372036854775808", b"-8589934592g", kinds=["int"])),
+    Class("a number beyond 32 bits", SMALL_NUMBERS, When(), number_out_of_range,
+          numbers(b"2147483648", b"-2147483648", b"2g", b"-9223372036854775808", kinds=SMALL_NUMBERS)),
+    Class("binary digits", NUMBERS, When("glibc", before=(2, 38)), binary_digits, numbers(b"0b1", b"-0B101k", b"+0b0")),
+    Class("a suffix alone", NUMBERS, When(before=(2, 39)), suffix_alone, numbers(b"k", b"G")),
+    Class("white space that Git does not know", ["color"], When(), unknown_white_space,
+          colors(b"red\vblue", b"\xc2\xa0", b"bold\xe3\x80\x80red", b"#fff\f"), plain_color, "ours"),
+    Class("three hexadecimal digits", ["color"], When(before=(2, 46)), three_digits,
+          colors(b"#fff", b"bold #F1b red"), plain_color, "ours"),
+    Class("a minus sign and zeros", ["color"], When(), minus_zero, colors(b"-0", b"-01", b"red -00 bold"),
+          plain_color, "git"),
+    Class("the word default", ["color"], When(before=(2, 35)), word_default, colors(b"default", b"red DEFAULT")),
+    Class("reset among other words", ["color"], When(before=(2, 35)), word_reset, colors(b"reset red", b"bold Reset")),
+    Class("an empty path", ["path"], When(), empty_path, paths(b"")),
+    Class("an empty home", ["path"], When(), empty_home, paths(b"~/x", b"~/", home=b"")),
+    Class("a home that ends in a slash", ["path"], When(), home_with_slash, paths(b"~/x", b"~/", home=b"/h/")),
+    Class("a second slash", ["path"], When(), second_slash, paths(b"~//x", b"~//")),
+    Class("a path that is no UTF-8", ["path"], When(), no_utf8, paths(b"\xff", b"~/\xff", b"x/\xe2\x82")),
+    Class("the mark of an optional path", ["path"], When(before=(2, 52)), mark_is_kept,
+          paths(MARK + b"/x", MARK + b"~/x", MARK), without_mark, "ours"),
+    Class("an optional file that is missing", ["path"], When(since=(2, 52)), file_is_missing,
+          paths(MARK + b"/no/such/file"), without_mark, "ours"),
+    Class("the prefix", ["path"], When(before=(2, 34)), prefix_is_kept, paths(b"%(prefix)/x")),
+]
+
+
+def dotted(version):
+    return ".".join(map(str, version))
+
+
+def versions(when):
+    """The versions, as the document says them."""
+    words = [] if when.of == "Git" else [when.of]
+    words += [f"since {dotted(when.since)}"] if when.since else []
+    words += [f"before {dotted(when.before)}"] if when.before else []
+    return " ".join(words) or "each"
+
+
+def is_expected(when, running):
+    """Whether the versions that run are among these; `running` has the version of each thing."""
+    version = running[when.of]
+    return (when.since is None or version >= when.since) and (when.before is None or version < when.before)
+
+
+def of(case):
+    """The classes to which a difference belongs."""
+    return [one for one in CLASSES if case.question.kind in one.kinds and one.rule(case)]
+
+
+# the page
+
+PAGE = pathlib.Path(__file__).resolve().parent.parent / "docs/DIFFERENCES.md"
+# what each row may say of the two, and the version of Git of which those that name one speak
+RUN = re.compile(r"neither|crate 0\.21\.1(, Git 2\.39\.5)?|Git 2\.39\.5")
+RUNNING = {"Git": (2, 39), "glibc": (2, 36)}
+
+
+def tables(page):
+    """The rows of each table, the first of them its head."""
+    for lines in re.findall(r"(?:^\|.*\n)+", page, re.MULTILINE):
+        rows = [line.strip("|").split("|") for line in lines.splitlines() if not line.startswith("|---")]
+        yield [[cell.strip() for cell in row] for row in rows]
+
+
+def written(text):
+    """The text as a row writes it, with the escapes of C."""
+    return "`" + text.decode(errors="backslashreplace").replace("\v", "\\v") + "`"
+
+
+def faults_of_class(one, rows):
+    """What is wrong with the row of a class, if anything."""
+    if len(rows) != 1:
+        return [f"{len(rows)} rows"]
+    _, git, _, said, run = rows[0]
+    is_seen, wanted = is_expected(one.when, RUNNING), versions(one.when)
+    faults = [] if said == wanted else [f"versions {said!r}, not {wanted!r}"]
+    if ("Git" in run) != is_seen:
+        faults.append(f"run {run!r}, and it is {'' if is_seen else 'not '}expected in the Git that was run")
+    shown = [written(question.text) for question in one.shown if question.text]
+    if shown and not any(text in git for text in shown):
+        faults.append("none of the texts in which it is shown")
+    return faults
+
+
+def main():
+    found = list(tables((PAGE).read_text(encoding="utf-8")))
+    faults = [f"a table without a last column `Run`: {table[0]}" for table in found if table[0][-1] != "Run"]
+    rows = [row for table in found for row in table[1:]]
+    faults += [f"{row[0]}: says not what was run, but {row[-1]!r}" for row in rows if not RUN.fullmatch(row[-1])]
+    of_git = next((table[1:] for table in found if table[0][0] == "Class"), [])
+    for one in CLASSES:
+        own = [row for row in of_git if row[0] == one.name]
+        faults += [f"{one.name}: {fault}" for fault in faults_of_class(one, own)]
+    names = [one.name for one in CLASSES]
+    faults += [f"{row[0]}: no class has this name" for row in of_git if row[0] not in names]
+    for fault in faults:
+        print(fault)
+    print(f"{len(rows) + len(names) - len(faults)} passed, {len(faults)} failed")
+    return 1 if faults else 0
+
+
+if __name__ == "__main__":
+    sys.exit(main())

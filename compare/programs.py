@@ -1,0 +1,36 @@
+"""Asks programs that answer a line for each line of their input; the Rust crate's, which bench/upstream builds, too."""
+import pathlib
+import subprocess
+import sys
+
+ROOT = pathlib.Path(__file__).resolve().parent.parent
+
+
+class Wrong(Exception):
+    """A program ended otherwise than it is to, or is not built."""
+
+
+class Missing(Exception):
+    """There is nothing here to compare with."""
+
+
+def answers(command, lines):
+    """One answer for each line. Neither has its LF."""
+    data = b"".join(line + b"\n" for line in lines)
+    run = subprocess.run([str(word) for word in command], input=data, stdout=subprocess.PIPE, check=False)
+    given = run.stdout.split(b"\n")
+    if given.pop() != b"" or len(given) != len(lines) or run.returncode not in (0, 1):
+        raise Wrong(f"{command[0]} ended with status {run.returncode} after {len(given)} answers to {len(lines)} lines")
+    return given
+
+
+def rust_crate():
+    """The program over the Rust crate."""
+    build = [sys.executable, ROOT / "bench/upstream/build.py"]
+    run = subprocess.run(build, stdout=subprocess.PIPE, text=True, check=False)
+    said = run.stdout.strip()
+    if said.startswith("skipped: "):
+        raise Missing(said.removeprefix("skipped: "))
+    if run.returncode != 0:
+        raise Wrong(said)
+    return pathlib.Path(said) / "upstream"

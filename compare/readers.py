@@ -1,0 +1,178 @@
+"""The two that read: the library's programs and the installed Git. Each answers questions; None says refused. A color
+of the library is turned into the codes that Git prints."""
+import concurrent.futures
+import os
+import pathlib
+import platform
+import pwd
+import re
+import shutil
+import subprocess
+
+import calls
+from classes import NOT_SET, Question, dotted
+from programs import Missing, Wrong, answers
+
+FIRST_VERSION = (2, 30)
+REFUSED = 128
+USERS = 4
+NAMES = ["black", "red", "green", "yellow", "blue", "magenta", "cyan", "white"]
+ATTRIBUTES = {"bold": 1, "dim": 2, "italic": 3, "ul": 4, "blink": 5, "reverse": 7, "strike": 9,
+              "nobold": 22, "nodim": 22, "noitalic": 23, "noul": 24, "noblink": 25, "noreverse": 27, "nostrike": 29}
+BACKGROUND = 10
+
+
+def of_palette(number, ground):
+    """The first sixteen have codes of their own."""
+    if number < 8:
+        return f"{30 + ground + number}"
+    if number < 16:
+        return f"{90 + ground + number - 8}"
+    return f"{38 + ground};5;{number}"
+
+
+def of_name(name, ground):
+    """The code of a foreground, at 0, or of a background; None where the color stays as it is."""
+    if name == "normal":
+        return None
+    if name == "default":
+        return f"{39 + ground}"
+    if name.isdigit():
+        return of_palette(int(name), ground)
+    if name.startswith("#"):
+        return f"{38 + ground};2;" + ";".join(str(int(pair, 16)) for pair in re.findall("..", name[1:]))
+    if name.startswith("bright"):
+        return f"{90 + ground + NAMES.index(name[len('bright'):])}"
+    return f"{30 + ground + NAMES.index(name)}"
+
+
+def escape_code(text):
+    """The bytes that switch a terminal to the color: the attributes by rising code, then the two names."""
+    words = text.decode().split()
+    names = [word for word in words if word != "reset" and word not in ATTRIBUTES]
+    codes = sorted({ATTRIBUTES[word] for word in words if word in ATTRIBUTES})
+    codes += [code for name, ground in zip(names, (0, BACKGROUND)) if (code := of_name(name, ground))]
+    if "reset" in words:
+        codes.insert(0, "")
+    return f"\033[{';'.join(map(str, codes))}m".encode() if codes else b""
+
+
+def text_of(answer):
+    """The canonical text of an answer of the program, or None."""
+    return answer[len(b"ok "):] if answer.startswith(b"ok ") else None
+
+
+def value(question, given):
+    """What the answers to the lines of a question say, in the terms of Git."""
+    amount, boolean, color = (given[kind + b" " + question.text] for kind in (b"amount", b"boolean", b"color"))
+    if question.kind == "color":
+        return None if color is None else escape_code(color)
+    if question.kind == "int" or question.kind == "bool-or-int" and amount is not None:
+        return amount
+    return boolean
+
+
+class Library:
+    """The library, by its two programs."""
+
+    def __init__(self, program, paths_program, install):
+        self.program = program
+        self.paths_program = paths_program
+        self.install = install
+
+    def answers(self, questions):
+        lines = [kind + b" " + question.text for question in questions if question.kind != "path"
+                 for kind in (b"amount", b"boolean", b"color")]
+        given = dict(zip(lines, map(text_of, answers([self.program], lines))))
+        asked = [question for question in questions if question.kind == "path"]
+        paths = dict(zip(asked, self.paths(asked)))
+        return [paths[question] if question.kind == "path" else value(question, given) for question in questions]
+
+    def paths(self, questions):
+        """The answers to paths; the lookup knows the user that the path names, if the machine does."""
+        lines = []
+        for question in questions:
+            name, home = user_of(question.text)
+            lines.append(calls.line(question.text, self.install, question.home, {} if home is None else {name: home}))
+        outcomes = [answer.split(b"\t")[3:] for answer in answers([self.paths_program], lines)]
+        return [bytes.fromhex(outcome[1].decode()) if outcome[0] == b"ok" else None for outcome in outcomes]
+
+
+class Git:
+    """The installed Git, over files in a folder of its own."""
+
+    def __init__(self, command, folder):
+        found = shutil.which(command)
+        if found is None:
+            raise Missing(f"no {command} is installed")
+        self.command = os.path.abspath(found)
+        self.folder = pathlib.Path(folder)
+        self.said = subprocess.check_output([self.command, "--version"]).decode().strip()
+        self.version = tuple(map(int, re.search(r"(\d+)\.(\d+)", self.said).groups()))
+        if self.version < FIRST_VERSION:
+            raise Missing(f"{self.said}, and Git from {dotted(FIRST_VERSION)} on is compared")
+
+    def config(self, name, values, arguments, home):
+        """Runs `git config` over a file with these values, one for each line."""
+        file = self.folder / name
+        file.write_bytes(b"[a]\n" + b"".join(b'\tb = "' + escaped(value) + b'"\n' for value in values))
+        known = {"PATH": os.environ["PATH"], "LC_ALL": "C", "GIT_CONFIG_NOSYSTEM": "1", "GIT_CONFIG_GLOBAL": os.devnull}
+        if home is not None:
+            known["HOME"] = os.fsdecode(home)
+        command = [self.command, "config", "--file", file, *arguments, "a.b"]
+        return subprocess.run(command, env=known, cwd=self.folder, capture_output=True, check=False)
+
+    def answer(self, name, question):
+        """The answer to a question, whose file has this name."""
+        how = ["--get-color"] if question.kind == "color" else [f"--type={question.kind}", "--null", "--get"]
+        run = self.config(name, [question.text], how, question.home)
+        if run.returncode == 0 and question.kind == "color":
+            return run.stdout
+        if run.returncode == 0 and run.stdout.endswith(b"\0"):
+            return run.stdout[:-1]
+        if run.returncode == 1 and not run.stdout:
+            return NOT_SET
+        if run.returncode != REFUSED:
+            raise Wrong(f"git ended with status {run.returncode} at {question}: {run.stderr!r}")
+        return None
+
+    def answers(self, questions):
+        with concurrent.futures.ThreadPoolExecutor() as pool:
+            return list(pool.map(self.answer, map(str, range(len(questions))), questions))
+
+    def lost(self, wanted):
+        """The texts that a file does not carry as they are."""
+        *given, _ = self.config("all", wanted, ["--null", "--get-all"], None).stdout.split(b"\0")
+        if len(given) != len(wanted):
+            return wanted
+        return [text for text, carried in zip(wanted, given) if text != carried]
+
+    def install(self):
+        """The directory that stands for the prefix; where Git does not know the prefix, any."""
+        given = self.answer("prefix", Question("path", calls.PREFIX))
+        return b"/usr" if given in (None, calls.PREFIX) else given.removesuffix(b"/")
+
+
+def escaped(text):
+    return text.replace(b"\\", b"\\\\").replace(b'"', b'\\"').replace(b"\n", b"\\n")
+
+
+def user_of(text):
+    """The user that a path names, and that user's home directory, or None."""
+    name = text.partition(b"/")[0].removeprefix(b"~") if text.startswith(b"~") else b""
+    try:
+        return name, os.fsencode(pwd.getpwnam(name.decode()).pw_dir)
+    except (KeyError, UnicodeDecodeError):
+        return name, None
+
+
+def users():
+    """A few users of the machine, of different homes."""
+    by_home = {entry.pw_dir: entry.pw_name for entry in reversed(pwd.getpwall())}
+    return [name.encode() for name in list(by_home.values())[::-1][:USERS]]
+
+
+def c_library():
+    """The version of glibc, or one below all where the machine has another C library."""
+    name, version = platform.libc_ver()
+    return tuple(map(int, version.split("."))) if name == "glibc" else (0,)

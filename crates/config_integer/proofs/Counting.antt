@@ -1,0 +1,72 @@
+-- One turn of the count of digits, and its end at a byte that is no digit.
+use Rattle.std.proofs.Common.{◌≡◌, refl, sym, ap, ◌∙◌, subst, arith, ℕ, zero, suc, ◌+◌, ◌-◌, ◌*◌, ◌<◌, ◌≤◌}
+use Rattle.std.proofs.Common.{add-one}
+use Rattle.std.proofs.Common.{List, [], ◌∷◌, length, get_or, take, drop, length-drop, drop-cons, Option, Some}
+use Rattle.std.proofs.lemmas.Bool.Decides.{nat_tests}
+use Rattle.std.proofs.lemmas.List.{take_all, take_rest}
+use Rattle.std.specs.Option.{option_map}
+use Rattle.std.specs.Char.{digit_value}
+use Rattle.config_text.specs.Value.{Reads}
+use Rattle.config_text.specs.Laws.Value.{read_by}
+use Rattle.config_integer.specs.declared.suffix.Suffix.{Suffix}
+use Rattle.config_integer.specs.Suffix.{SuffixText}
+use Rattle.config_integer.specs.Reading.Integer.{number_from, number_and_suffix, suffix_of}
+use Rattle.config_integer.specs.Laws.Suffix.{suffix_of_is}
+
+-- a digit moves the count on by one byte
+pub one_digit : (base limit n m at b : ℕ) (t : List ℕ) → at < length t → b ≡ get_or t at 0
+    → digit_value b < base
+    → m ≡ n * base + digit_value b → m ≤ limit
+    → number_from base limit n (drop at t) ≡ number_from base limit m (drop (at + 1) t)
+one_digit base limit n m at b t within byte digit sum small =
+    rw (drop-cons t at 0) (rw (add-one) (grind (arith, nat_tests)))
+
+-- the first byte is a digit once one byte is counted
+pub first_digit : (base at b : ℕ) (t : List ℕ) → (0 < at → digit_value (get_or t 0 0) < base)
+    → b ≡ get_or t at 0
+    → digit_value b < base → digit_value (get_or t 0 0) < base
+first_digit base zero b t before byte digit = subst (λ x. digit_value x < base) byte digit
+first_digit base (suc at) b t before byte digit = before (omega arith)
+
+number_start : (base limit : ℕ) (t : List ℕ) → base ≤ 36 → digit_value (get_or t 0 0) < base
+    → number_and_suffix base limit t ≡ number_from base limit 0 t
+number_start base limit [] h d = absurd (omega arith)
+number_start base limit (c ∷ cs) h d = grind (arith, nat_tests)
+
+number_end : (base limit n at b : ℕ) (t : List ℕ) → at < length t → b ≡ get_or t at 0 → base ≤ digit_value b
+    → number_from base limit n (drop at t) ≡ option_map (λ s. (n, Some s)) (suffix_of (drop at t))
+number_end base limit n at b t within byte other = rw (drop-cons t at 0) (grind (arith, nat_tests))
+
+-- a zero that another zero follows changes no number
+two_zeros : (base limit : ℕ) (ds : List ℕ) → 0 < base → base ≤ 16
+    → number_and_suffix base limit (48 ∷ ds) ≡ number_and_suffix base limit (48 ∷ 48 ∷ ds)
+two_zeros base limit ds low high =
+    let d : digit_value 48 < base = low in
+    number_start base limit (48 ∷ ds) (omega arith) d
+    ∙ sym (one_digit base limit 0 0 0 48 (48 ∷ 48 ∷ ds) (omega arith) refl d (omega arith) (omega arith))
+    ∙ sym (number_start base limit (48 ∷ 48 ∷ ds) (omega arith) d)
+
+pub without_zero : (base limit : ℕ) (t : List ℕ) → 2 ≤ length t → get_or t 0 0 ≡ 48 → get_or t 1 0 ≡ 48
+    → 0 < base → base ≤ 16
+    → number_and_suffix base limit (take (length t - 1) (drop 1 t)) ≡ number_and_suffix base limit t
+without_zero base limit t long first second low high =
+    ap (number_and_suffix base limit) (take_rest t 1) ∙ dropped t long first second where
+      dropped : (t : List ℕ) → 2 ≤ length t → get_or t 0 0 ≡ 48 → get_or t 1 0 ≡ 48
+          → number_and_suffix base limit (drop 1 t) ≡ number_and_suffix base limit t
+      dropped [] long first second = absurd (omega arith)
+      dropped (x ∷ []) long first second = absurd (omega arith)
+      dropped (x ∷ y ∷ ds) long first second = rw (first, second) (two_zeros base limit ds low high)
+
+-- after a digit, a byte that is no digit ends the count: the rest is a suffix, or the text is refused
+pub ended : (base limit n at b : ℕ) (t : List ℕ) (r o : Option Suffix) → r ≡ o → at < length t → base ≤ 36
+    → digit_value (get_or t 0 0) < base → b ≡ get_or t at 0 → base ≤ digit_value b
+    → number_from base limit 0 t ≡ number_from base limit n (drop at t)
+    → Reads SuffixText (take (length t - at) (drop at t)) r
+    → option_map (λ s. (n, Some s)) o ≡ number_and_suffix base limit t
+ended base limit n at b t r o same within low first byte other invariant reads =
+    ap (option_map (λ s. (n, Some s)))
+    (sym same ∙ read_by suffix_of_is _ r reads ∙ ap suffix_of (whole at t within))
+    ∙ sym (number_start base limit t low first ∙ invariant ∙ number_end base limit n at b t within byte other)
+  where
+    whole : (at : ℕ) (t : List ℕ) → at < length t → take (length t - at) (drop at t) ≡ drop at t
+    whole at t h = take_all _ _ (omega (arith, length-drop at t))

@@ -1,0 +1,11 @@
+use Rattle.std.proofs.Common.{rules, ◌≡◌, ◌∙◌, slice_index}
+use Rattle.config_integer.proofs.Counting.{without_zero}
+use Rattle.config_integer.proofs.magnitude.without_zeros.Goals as goal
+
+pub loop-rest-preserved : goal.loop-rest-preserved
+loop-rest-preserved c =
+    let first : slice_index c.loop-rest.rest.now 0 ≡ 48 = search rules in
+    let second : slice_index c.loop-rest.rest.now 1 ≡ 48 = search rules in
+    λ base limit low high.
+    without_zero base limit c.loop-rest.rest.now c.in-48.len_at_least first second low high
+    ∙ c.loop-rest.invariant base limit low high

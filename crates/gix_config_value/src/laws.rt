@@ -1,0 +1,9 @@
+//! Laws over the definitions, each the contract of a function that does nothing. Those of another crate that
+//! callers cite are here too.
+
+pub mod equality;
+pub mod kinds;
+
+pub use config_color::laws::colors;
+pub use config_text::laws::settings;
+pub use config_word::laws::texts;

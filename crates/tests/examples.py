@@ -1,0 +1,106 @@
+#!/usr/bin/env python3
+"""Runs each example of the libraries' comments, and README.md's first one, as a test, over a copy of the library.
+
+An example is a fenced block of Rust. Of a line of it that begins with `# ` these two bytes are left out. Each public
+type and each call of CALLS has to have an example, and a section of docs/GRAMMAR.md that a comment cites has to be
+there. `rt try` runs the examples: nothing of them is proved. The last line is 'N passed, M failed'.
+"""
+import pathlib
+import re
+import subprocess
+import sys
+import tempfile
+
+ROOT = pathlib.Path(__file__).resolve().parent.parent.parent
+# each library, with the calls that a user meets first
+CALLS = {
+    "config_text": ("text", "lookup", "normalize_as"),
+    "config_integer": ("from_bytes", "to_decimal"),
+    "config_boolean": (),
+    "config_word": ("word",),
+    "config_color": ("compose", "space_at"),
+    "config_path": ("interpolate", "home_for_user"),
+    "gix_config_value": ("from_str", "normalize", "same", "refusal", "run"),
+}
+COMMENT = re.compile(r"^ *//[/!] ?(.*)$")
+ITEM = re.compile(r"^ *(?:pub )?(struct|enum|trait|fn) (\w+)")
+FENCED = re.compile(r"^```(\w*)\n(.*?)^```$", re.MULTILINE | re.DOTALL)
+CITED = re.compile(r"docs/GRAMMAR\.md, ([A-Z][^.]*)")
+AT_THE_ROOT = ("Boolean", "Color", "Error", "Fault", "Integer", "Path", "Returned")
+
+
+def comments(file):
+    """Each comment of a file, with the line of the item that follows it and its attributes."""
+    taken = []
+    for line in file.read_text(encoding="utf-8").split("\n"):
+        if COMMENT.match(line):
+            taken.append(COMMENT.match(line).group(1))
+        elif not (taken and line.lstrip().startswith("#[")):
+            yield "\n".join(taken), ITEM.match(line), line.startswith("pub ")
+            taken = []
+
+
+def blocks(text):
+    return [block for language, block in FENCED.findall(text) if language in ("", "rust")]
+
+
+def test(name, block):
+    """A test that runs the lines of an example. What they need and do not have is put before them."""
+    body = re.sub(r"^# |^\s*\n", "", block, flags=re.MULTILINE)
+    if "use gix_config_value::" not in body:
+        names = ", ".join(name for name in AT_THE_ROOT if re.search(rf"\b{name}\b", body))
+        body = f"use gix_config_value::{{{names}}};\n{body}"
+    if re.search(r"\balloc\b", body):
+        body = f"let alloc = rt.alloc();\n{body}"
+    return f"\n#[test]\nfn {name}(rt: HostRuntime) -> Result<(), Fail> {{\n{body}Ok(())\n}}\n"
+
+
+def run(tests):
+    """The name of each test, and whether it passes. Where they are not run, their end is printed."""
+    with tempfile.TemporaryDirectory() as folder:
+        root = pathlib.Path(folder)
+        subprocess.run(["sh", ROOT / "vendor.sh", root], check=True)
+        with open(root / "crates.txt", "a", encoding="utf-8") as listed:
+            listed.write("examples: bstr " + " ".join(CALLS) + "\n")
+        (root / "crates/examples/src").mkdir(parents=True)
+        text = "#![tactic(auto)]\nuse std::test::Fail;\n" + "".join(test(*named) for named in tests.items())
+        (root / "crates/examples/src/lib.rt").write_text(text, encoding="utf-8")
+        said = subprocess.run(["rt", "try", "--test"], cwd=root / "crates/examples", stdout=subprocess.PIPE,
+                              stderr=subprocess.STDOUT, text=True, check=False).stdout
+    found = dict(re.findall(r"^test (\S+) \.\.\. (\w+)$", said, re.MULTILINE))
+    if found.keys() != tests.keys():
+        print(said[-2000:])
+    return [(f"the example {name} does not pass", found.get(name) == "ok") for name in tests]
+
+
+def main():
+    results = []
+    sections = re.findall(r"^## ([^(\n]*\w)", (ROOT / "docs/GRAMMAR.md").read_text(encoding="utf-8"), re.MULTILINE)
+    tests = {"readme": blocks((ROOT / "README.md").read_text(encoding="utf-8"))[0]}
+    for crate, calls in CALLS.items():
+        missing = set(calls)
+        for file in sorted((ROOT / "crates" / crate / "src").rglob("*.rt")):
+            for comment, item, is_public in comments(file):
+                kind, name = item.groups() if item else ("", "page")
+                found = blocks(comment)
+                if is_public and kind in ("struct", "enum", "trait"):
+                    results.append((f"{file}: {name} has no example", bool(found)))
+                if found:
+                    missing.discard(name)
+                for block in found:
+                    label = f"{file.stem}_{re.sub(r'(?<=[a-z])(?=[A-Z])', '_', name).lower()}"
+                    tests[label + "_too" * (label in tests)] = block
+                for cited in CITED.findall(" ".join(comment.split())):
+                    is_there = any(cited.startswith(section) for section in sections)
+                    results.append((f"{file}: docs/GRAMMAR.md has no section {cited}", is_there))
+        results.append((f"{crate} has calls without an example: {missing}", not missing))
+    results += run(tests)
+    for fault, is_right in results:
+        if not is_right:
+            print(fault)
+    passed = sum(is_right for _, is_right in results)
+    print(f"{passed} passed, {len(results) - passed} failed")
+    return passed != len(results)
+
+
+sys.exit(main())

@@ -1,0 +1,7 @@
+//! Memory that is refused: no contract says that an error is returned only if memory was refused, nor how
+//! often a call asks for it. Under `rt try` each call is made with ample memory alone.
+
+mod interpolation;
+mod json;
+mod marks;
+mod runs;

@@ -1,0 +1,79 @@
+//! Paths made in each way, and cloned.
+
+use crate::support::{Host, asks_once, can_starve, equal, starved};
+use bstr::{BStr, BString};
+use gix_config_value::Path;
+use std::alloc::AllocError;
+use std::borrow::CowSlice;
+use std::test::Fail;
+
+/// A text, and the flag and the bytes of its path.
+type Row<'t> = (&'t str, bool, &'t str);
+
+static ROWS: [Row<'static>; 4] = [
+    (":(optional):(optional)x", true, ":(optional)x"),
+    (":(optional)", true, ""),
+    ("/etc/gitconfig", false, "/etc/gitconfig"),
+    (
+        ":(optional)~/a/path/that/is/longer/than/the/smallest/blocks/of/memory/are",
+        true,
+        "~/a/path/that/is/longer/than/the/smallest/blocks/of/memory/are",
+    ),
+];
+
+/// Whether the path has the flag and the bytes of the row.
+fn is_path(path: &Path, row: Row<'_>) -> bool {
+    path.is_optional == row.1
+        && path.as_bytes() == row.2.as_bytes()
+        && path.as_bstr() == BStr::from(row.2)
+}
+
+/// The way makes the row's path by one request for memory of so many bytes.
+fn makes<W: Fn() -> Result<Path, AllocError>>(
+    rt: &impl Host,
+    row: Row<'_>,
+    size: usize,
+    way: W,
+) -> Result<(), Fail>
+    requires { W.IsAlwaysCallable way }
+{
+    asks_once(rt, (row, size), size, AllocError, way, |made| match made {
+        Ok(path) => is_path(path, row),
+        Err(_) => false,
+    })
+}
+
+#[test]
+fn makes_paths_by_one_request(rt: HostRuntime) -> Result<(), Fail> {
+    let alloc = rt.alloc();
+    for row in ROWS {
+        let (text, _, rest) = row;
+        let cow = || Path::from_cow(alloc, CowSlice::Borrowed(text.as_bytes()));
+        makes(&rt, row, text.len(), cow)?;
+        makes(&rt, row, rest.len(), || Path::from_text(alloc, text))?;
+        let bstr = || Path::from_bstr(alloc, BStr::from(text));
+        makes(&rt, row, rest.len(), bstr)?;
+        let path = Path::from_text(alloc, text)?;
+        makes(&rt, row, rest.len(), || path.clone(alloc))?;
+    }
+    Ok(())
+}
+
+#[test]
+fn makes_paths_of_owned_bytes_without_memory(rt: HostRuntime) -> Result<(), Fail> {
+    let starves = can_starve(&rt)?;
+    let alloc = rt.alloc();
+    for row in &ROWS {
+        for starve in [false, starves] {
+            let text = BString::from_slice(alloc, row.0.as_bytes())?;
+            let cow = CowSlice::Owned(Vec::from_slice(alloc, row.0.as_bytes())?);
+            let hoard = if starve { Some(starved(&rt)?) } else { None };
+            let from_text = Path::from(text);
+            let from_cow = Path::from_cow(alloc, cow);
+            drop(hoard);
+            equal(&rt, is_path(&from_text, *row), true, *row);
+            equal(&rt, is_path(&from_cow?, *row), true, *row);
+        }
+    }
+    Ok(())
+}

@@ -1,0 +1,106 @@
+//! Memory taken from the process, so that its requests for memory are refused, but for the blocks that it
+//! gives back.
+//!
+//! A test makes each call once before that, so that the stack has grown as far as the call needs it: a
+//! process that holds all its addresses cannot grow it.
+
+use crate::support::{Host, equal};
+use std::alloc::{AllocError, Global};
+use std::env;
+use std::fmt::Debug;
+use std::test::Fail;
+
+/// How many blocks a hoard has room for.
+const ROOM: usize = 1 << 17;
+
+/// All the memory that the process can still get, until it is dropped. Its blocks are never touched, so they
+/// cost addresses alone.
+#[derive(Drop)]
+pub struct Hoard {
+    blocks: Vec<Vec<u8>>,
+}
+
+/// Takes blocks, large ones first, until a request for one byte is refused, and small ones of each size,
+/// since the C library keeps freed blocks by their sizes.
+pub fn starved(rt: &impl Host) -> Result<Hoard, Fail> {
+    let mut blocks = Vec::with_capacity(rt.alloc(), ROOM)?;
+    for shift in 0..36u32 {
+        take_all(rt.alloc(), &mut blocks, (1usize << 46) >> shift);
+    }
+    for eighths in 0..256usize {
+        take_all(rt.alloc(), &mut blocks, 2048 - 8 * eighths);
+    }
+    equal(rt, blocks.len() < ROOM, true, "the hoard is full");
+    is_starved(rt);
+    Ok(Hoard { blocks })
+}
+
+/// Takes blocks of this size until one is refused or there is no room for more of them.
+fn take_all(alloc: Global, blocks: &mut Vec<Vec<u8>>, size: usize) {
+    for _ in blocks.len()..ROOM {
+        let Ok(block) = Vec::with_capacity(alloc, size) else {
+            return;
+        };
+        if blocks.push(block).is_err() {
+            return;
+        }
+    }
+}
+
+/// The next request for memory is refused, for one byte too.
+fn is_starved(rt: &impl Host) {
+    let is_refused = Vec::<u8>::with_capacity(rt.alloc(), 1).is_err();
+    equal(rt, is_refused, true, "memory is left");
+}
+
+/// Whether the process can be starved. `rt try` runs it by a loader, with memory that cannot be used up:
+/// there the tests of refused memory show what is answered with ample memory alone.
+pub fn can_starve(rt: &impl Host) -> Result<bool, Fail> {
+    Ok(!env::current_exe(rt)?.ends_with("ld-linux-x86-64.so.2"))
+}
+
+/// A block of each size, to be given back.
+pub fn spares(alloc: Global, sizes: &[usize]) -> Result<Vec<Vec<u8>>, AllocError> {
+    let mut blocks = Vec::with_capacity(alloc, sizes.len())?;
+    for size in sizes {
+        blocks.push(Vec::with_capacity(alloc, *size)?)?;
+    }
+    Ok(blocks)
+}
+
+/// The call gives what it should with ample memory, and with one block of this size alone. With no memory it
+/// fails with the error, but of the size 0 it gives what it should then too.
+pub fn asks_once<T, E, R, C, G>(
+    rt: &impl Host,
+    row: R,
+    size: usize,
+    error: E,
+    call: C,
+    is_right: G,
+) -> Result<(), Fail>
+where
+    T: Drop,
+    E: Copy + PartialEq + Debug,
+    R: Copy + Debug,
+    C: Fn() -> Result<T, E>,
+    G: Fn(&Result<T, E>) -> bool,
+    requires call { C.IsAlwaysCallable call }
+    requires is_right { G.IsAlwaysCallable is_right }
+{
+    equal(rt, is_right(&call()), true, row);
+    if !can_starve(rt)? {
+        return Ok(());
+    }
+    let mut spare = spares(rt.alloc(), &[size])?;
+    let hoard = starved(rt)?;
+    let starving = call();
+    is_starved(rt);
+    spare.clear();
+    let given = call();
+    is_starved(rt);
+    drop(hoard);
+    equal(rt, is_right(&given), true, row);
+    equal(rt, is_right(&starving), size == 0, row);
+    equal(rt, size == 0 || starving.err() == Some(error), true, row);
+    Ok(())
+}

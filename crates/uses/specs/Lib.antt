@@ -1,0 +1,5 @@
+pub mod Entries
+pub mod Precedence
+pub mod Paths
+pub mod PushDefault
+pub mod Laws

@@ -1,0 +1,25 @@
+-- What `push.default` may be: one of five words, of which one has an old name.
+use Rattle.std.specs.Prelude.{◌≡◌, ℕ, ◌⊎◌, List, codes}
+use Rattle.uses.specs.declared.push_default.PushDefault.{PushDefault}
+use Rattle.uses.specs.declared.push_default.PushDefault.TheVariants.{Nothing, Current, Upstream, Simple, Matching}
+
+-- the texts of a value: its word, or the old name of `upstream`
+abbrev pub PushDefaultText : List ℕ → PushDefault → Type 0
+PushDefaultText t Nothing = t ≡ codes "nothing"
+PushDefaultText t Current = t ≡ codes "current"
+PushDefaultText t Upstream = (t ≡ codes "upstream") ⊎ (t ≡ codes "tracking")
+PushDefaultText t Simple = t ≡ codes "simple"
+PushDefaultText t Matching = t ≡ codes "matching"
+
+-- how a value is shown
+abbrev pub push_default_shown : PushDefault → List ℕ
+push_default_shown Nothing = codes "nothing"
+push_default_shown Current = codes "current"
+push_default_shown Upstream = codes "upstream"
+push_default_shown Simple = codes "simple"
+push_default_shown Matching = codes "matching"
+
+-- the canonical texts: the words alone
+abbrev pub CanonicalPushDefault : List ℕ → Type 0
+CanonicalPushDefault t = (t ≡ codes "nothing") ⊎ (t ≡ codes "current") ⊎ (t ≡ codes "upstream") ⊎ (t ≡ codes "simple")
+    ⊎ (t ≡ codes "matching")

@@ -1,0 +1,22 @@
+//! Defaults that a program writes as Git would. Their values are known when the program is proved, so that no
+//! caller has to think of a refusal.
+ghost use Rattle.std.specs.Prelude.{◌≡◌, None, Some};
+ghost use Rattle.config_word.specs.declared.attribute.TheConstants.Attribute.{BOLD};
+ghost use Rattle.config_word.specs.declared.name.Name.TheVariants as names;
+
+use gix_config_value::{Color, Integer};
+
+/// The most bytes of an object that is shown.
+pub fn default_limit() -> usize
+    ensures { result ≡ 10485760 }
+{
+    Integer::from_bytes::<usize>(b"10m").unwrap()
+}
+
+/// The color of a warning.
+pub fn default_warning() -> Color
+    ensures names { (result.foreground ≡ Some names.BrightRed) × (result.background ≡ None) }
+    ensures attributes { result.attributes ≡ BOLD }
+{
+    Color::try_from("bold brightred").unwrap()
+}

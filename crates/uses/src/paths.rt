@@ -1,0 +1,40 @@
+//! Paths interpolated without a lookup of users, and with one over a passwd text.
+ghost use Rattle.std.specs.Prelude.{None, Some};
+ghost use Rattle.bstr.specs.Owned.{bstring_bytes};
+ghost use Rattle.gix_config_value.specs.Interpolation.{Form, HasForm};
+ghost use Rattle.gix_config_value.specs.Passwd.{home_in};
+ghost use Rattle.uses.specs.Paths.{PathTable};
+
+use gix_config_value::Path;
+use gix_config_value::path::interpolate::{Context, Error, absent, home_for_user};
+use std::alloc::Global;
+
+/// The path, if `~` is this home directory and no user is looked up.
+pub fn path_at_home<'p>(alloc: Global, path: &'p Path, home: &str) -> Result<String, Error<'p>>
+    ensures { (form : Form) → HasForm (bstring_bytes path.now.value) form
+        → PathTable None (Some home.now) None (bstring_bytes path.now.value) form result }
+{
+    path.interpolate(
+        alloc,
+        Context {
+            git_install_dir: None,
+            home_dir: Some(home),
+            home_for_user: absent(|_name: &str| None),
+        },
+    )
+}
+
+/// The path, if `~user` is the home directory that the passwd text has for that user.
+pub fn path_of_user<'p>(alloc: Global, path: &'p Path, passwd: &str) -> Result<String, Error<'p>>
+    ensures { (form : Form) → HasForm (bstring_bytes path.now.value) form
+        → PathTable None None (Some (home_in passwd.now)) (bstring_bytes path.now.value) form result }
+{
+    path.interpolate(
+        alloc,
+        Context {
+            git_install_dir: None,
+            home_dir: None,
+            home_for_user: Some(|name: &str| home_for_user(passwd, name)),
+        },
+    )
+}

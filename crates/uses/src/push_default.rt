@@ -1,0 +1,85 @@
+//! A kind of value of the caller's own: what `push.default` may be. As a [`Value`] its type gets `lookup`,
+//! `normalize_as` and the other generic calls of the library.
+ghost use Rattle.std.specs.Prelude.{◌≡◌, codes, MatchResult};
+ghost use Rattle.std.proofs.Common.{rules};
+ghost use Rattle.gix_config_value.specs.Settings.{entry_texts, Finds, DecidingIsRefused};
+ghost use Rattle.uses.specs.declared.push_default.PushDefault.TheVariants as values;
+ghost use Rattle.uses.specs.PushDefault.{PushDefaultText, CanonicalPushDefault, push_default_shown};
+ghost use Rattle.uses.specs.Laws.PushDefault as laws;
+
+use bstr::BStr;
+use gix_config_value::canonical::{CanonicalText, Value};
+use gix_config_value::settings::{Refused, lookup};
+
+/// What `git push` pushes by default, by the words of git-config(1).
+#[derive(Clone, Copy, PartialEq, Eq, Debug)]
+pub enum PushDefault {
+    Nothing,
+    Current,
+    /// `upstream`, or its old name `tracking`.
+    Upstream,
+    Simple,
+    Matching,
+}
+
+impl Value for PushDefault {
+    ghost grammar = { PushDefaultText };
+
+    ghost canonical = { CanonicalPushDefault };
+
+    ghost displayed = { push_default_shown };
+
+    fn read(input: BStr<'_>) -> Option<PushDefault> {
+        let text = input.as_bytes();
+        if text == b"nothing".as_slice() {
+            Some(PushDefault::Nothing)
+        } else if text == b"current".as_slice() {
+            Some(PushDefault::Current)
+        } else if text == b"upstream".as_slice() || text == b"tracking".as_slice() {
+            Some(PushDefault::Upstream)
+        } else if text == b"simple".as_slice() {
+            Some(PushDefault::Simple)
+        } else if text == b"matching".as_slice() {
+            Some(PushDefault::Matching)
+        } else {
+            None
+        }
+    }
+
+    fn has_text(&self) -> bool {
+        true
+    }
+
+    fn write_to(&self, text: &mut CanonicalText) {
+        text.push_str(match self {
+            PushDefault::Nothing => "nothing",
+            PushDefault::Current => "current",
+            PushDefault::Upstream => "upstream",
+            PushDefault::Simple => "simple",
+            PushDefault::Matching => "matching",
+        });
+    }
+
+    ghost one_value = { laws.push_default_one_value };
+
+    ghost one_text = { laws.push_default_one_text };
+
+    ghost canonical_reads = { laws.push_default_canonical_reads };
+
+    ghost shown_is_text = { laws.push_default_shown_is_text };
+
+    ghost decided = { laws.push_default_decided };
+
+    ghost equal_is_same = { Prim.search rules };
+}
+
+/// What the entries say of `push.default`: the value of the last one that sets it, or `simple` if no entry
+/// does.
+pub fn push_default<'a>(entries: &[(&[u8], &'a [u8])]) -> Result<PushDefault, Refused<'a>>
+    ensures { MatchResult result
+        (Finds PushDefaultText (entry_texts entries.now) (codes "push.default") values.Simple)
+        (λ r. DecidingIsRefused PushDefaultText (entry_texts entries.now) (codes "push.default")
+        r.index r.input.now) }
+{
+    lookup(entries, b"push.default", PushDefault::Simple)
+}
