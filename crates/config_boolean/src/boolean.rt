@@ -1,5 +1,5 @@
 //! Booleans: words in any case, and numbers.
-ghost use Rattle.std.specs.Prelude.{◌↔◌, IsTrue, ◌≡◌, Some};
+ghost use Rattle.std.specs.Prelude.{◌↔◌, IsTrue, ◌≡◌, MatchBool, MatchOption, Some};
 ghost use Rattle.bstr.specs.Owned.{bstring_bytes};
 ghost use Rattle.std.specs.Cow.{cow_slice_items};
 ghost use Rattle.std.proofs.Common.{rules};
@@ -10,6 +10,7 @@ ghost use Rattle.config_boolean.specs.Laws.Boolean.{boolean_canonical_reads, boo
 ghost use Rattle.config_boolean.specs.Boolean.{Affirms, Denies, BooleanText, CanonicalBoolean, boolean_shown};
 ghost use Rattle.serde_json.specs.Data.{boolean};
 ghost use Rattle.config_text.specs.Json.{IsJson};
+ghost use Rattle.config_text.specs.Value.{Reads};
 
 use bstr::{BStr, BString};
 use config_integer::amount::Amount;
@@ -68,16 +69,42 @@ fn denies(text: &[u8]) -> bool
         || equals_ignoring_case(text, b"false")
 }
 
-/// The boolean of a text that is no word: whether the amount that it writes is not zero.
+/// The truth value that a word names, or the empty text, or `None` for any other text.
+#[inline(always)]
+fn word(text: &[u8]) -> Option<bool>
+    ensures { MatchOption result ((¬ Affirms text.now) × (¬ Denies text.now))
+        (λ b. MatchBool b (Affirms text.now) (Denies text.now)) }
+{
+    if affirms(text) {
+        Some(true)
+    } else if denies(text) {
+        Some(false)
+    } else {
+        None
+    }
+}
+
+/// The boolean of a text that is no word: whether the amount that it writes is not zero, or `None` if it
+/// writes no amount.
 #[inline(never)]
-fn read_amount(text: &[u8]) -> Result<Boolean, Fault>
+fn read_amount(text: &[u8]) -> Option<Boolean>
     requires affirms { ¬ (Affirms text.now) }
     requires denies { ¬ (Denies text.now) }
-    ensures { ReadsFault BooleanText (Always faults.Boolean) text.now result }
+    ensures { Reads BooleanText text.now result }
 {
     match Amount::try_read(text) {
-        Ok(Amount(number)) => Ok(Boolean(number != 0)),
-        Err(_) => Err(Fault::Boolean),
+        Ok(Amount(number)) => Some(Boolean(number != 0)),
+        Err(_) => None,
+    }
+}
+
+/// The boolean that the text writes, or `None` if it writes none.
+fn boolean_of(text: &[u8]) -> Option<Boolean>
+    ensures { Reads BooleanText text.now result }
+{
+    match word(text) {
+        Some(value) => Some(Boolean(value)),
+        None => read_amount(text),
     }
 }
 
@@ -104,13 +131,7 @@ impl TryRead for Boolean {
 
     /// The boolean that the text writes, or `Fault::Boolean` if it writes none.
     fn try_read(text: &[u8]) -> Result<Boolean, Fault> {
-        if affirms(text) {
-            return Ok(Boolean(true));
-        }
-        if denies(text) {
-            return Ok(Boolean(false));
-        }
-        read_amount(text)
+        boolean_of(text).ok_or(Fault::Boolean)
     }
 }
 
@@ -196,7 +217,7 @@ impl Value for Boolean {
 
     /// The boolean that the input writes, or `None` if it writes none.
     fn read(input: BStr<'_>) -> Option<Boolean> {
-        Boolean::try_read(input.as_bytes()).ok()
+        boolean_of(input.as_bytes())
     }
 
     /// Both booleans have a text.

@@ -1,11 +1,11 @@
 //! Colors: what text is drawn with, read from a text and shown as one.
-ghost use Rattle.std.specs.Prelude.{◌↔◌, IsTrue, ◌≡◌, ◌+◌, ◌<◌, ◌≤◌, [], None, Some, length, slice_range};
+ghost use Rattle.std.specs.Prelude.{◌↔◌, IsTrue, ◌≡◌, ◌+◌, ◌<◌, ◌≤◌, [], None, Some, MatchOption, length, slice_range};
 ghost use Rattle.std.specs.Cow.{cow_slice_items};
 ghost use Rattle.bstr.specs.Owned.{bstring_bytes};
 ghost use Rattle.config_text.specs.declared.errors.Fault.TheVariants as faults;
 ghost use Rattle.config_color.specs.Color.{ColorText, CanonicalColor, PartFits, color_shown, no_color};
 ghost use Rattle.config_color.specs.Laws.Color.{color_one_value, color_decided};
-ghost use Rattle.config_color.specs.Reading.Color.{next_name, with_item, read_from, names_shown, ArePlain};
+ghost use Rattle.config_color.specs.Reading.Color.{next_name, with_item, read_from, names_shown, ArePlain, EndsWord};
 ghost use Rattle.config_color.specs.Laws.ColorShown.{color_equal, color_canonical_reads, color_one_text};
 ghost use Rattle.config_color.specs.Laws.ColorShown.{color_shown_is_text};
 ghost use Rattle.config_word.specs.contracts.name.NameValue.TheImpl.Laws.{equal_is_same-law as name_equal};
@@ -214,7 +214,38 @@ fn is_plain_run(text: &[u8], at: usize) -> bool
     is_plain
 }
 
-/// The first word of a text. Its bytes after the first sixteen are looked at in runs where they are plain.
+/// Where the plain runs from `start` on end.
+fn end_of_runs(text: &[u8], start: usize) -> usize
+    requires clear { IsWithoutSpace text.now start }
+    requires within { start ≤ length text.now }
+    ensures clear { IsWithoutSpace text.now result }
+    ensures within { result ≤ length text.now }
+{
+    let mut at = start;
+    while text.len() - at >= RUN && is_plain_run(text, at) {
+        at += RUN;
+    }
+    at
+}
+
+/// The word that ends at a place from `start` on and before `end`, if there is white space there.
+#[inline(always)]
+fn word_between(text: &[u8], start: usize, end: usize) -> Option<FirstWord>
+    requires clear { IsWithoutSpace text.now start }
+    requires within { end ≤ length text.now }
+    ensures { MatchOption result (IsWithoutSpace text.now end)
+        (λ first. EndsWord text.now first.length first.space) }
+{
+    for at in start..end {
+        let space = space_at(text, at);
+        if space > 0 {
+            return Some(FirstWord { length: at, space });
+        }
+    }
+    None
+}
+
+/// The first word of a text. What follows its first bytes is looked at in runs as far as they are plain.
 #[inline(always)]
 fn first_word(text: &[u8]) -> FirstWord
     ensures clear { IsWithoutSpace text.now result.length }
@@ -223,17 +254,13 @@ fn first_word(text: &[u8]) -> FirstWord
         → Space (slice_range text.now result.length (result.length + result.space)) }
     ensures last { result.space ≡ 0 → result.length ≡ length text.now }
 {
-    let mut at = 0;
-    while at < text.len() {
-        if at >= RUN && text.len() - at >= RUN && is_plain_run(text, at) {
-            at += RUN;
-        } else {
-            let space = space_at(text, at);
-            if space > 0 {
-                return FirstWord { length: at, space };
-            }
-            at += 1;
-        }
+    let near = text.len().min(RUN);
+    if let Some(first) = word_between(text, 0, near) {
+        return first;
+    }
+    let start = end_of_runs(text, near);
+    if let Some(first) = word_between(text, start, text.len()) {
+        return first;
     }
     FirstWord {
         length: text.len(),
@@ -261,15 +288,13 @@ fn color_of(input: &[u8]) -> Option<Color>
 {
     let mut color = Color::default();
     let mut rest = past_spaces(input);
-    loop {
+    while !rest.is_empty() {
         let first = first_word(rest);
         let (text, after) = rest.split_at(first.length);
         color = color.with_word(text)?;
-        if first.space == 0 {
-            return Some(color);
-        }
         rest = past_spaces(&after[first.space..]);
     }
+    Some(color)
 }
 
 impl TryRead for Color {

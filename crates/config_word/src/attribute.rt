@@ -12,8 +12,9 @@ ghost use Rattle.config_text.specs.Value.{HasText, IsTextOf, Reads};
 ghost use Rattle.std.proofs.Common.{rules};
 ghost use Rattle.config_text.specs.Json.{GivesJsonText};
 
-use crate::item::{Item, word};
+use crate::item::Item;
 use crate::name::LONGEST_NAME;
+use crate::words::known_word;
 use bitflags::{Flag, Flags, bitflag_items};
 use bstr::BStr;
 use config_text::errors::{Error, Fault};
@@ -215,7 +216,7 @@ impl Attribute {
 fn attribute_of(text: &[u8]) -> Option<Attribute>
     ensures { Reads AttributeText text.now result }
 {
-    match word(text)? {
+    match known_word(text)? {
         Item::Attribute(attribute) => Some(attribute),
         Item::Name(_) => None,
     }

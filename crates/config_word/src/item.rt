@@ -1,8 +1,9 @@
 //! The words of a color text, and the numbers beside them.
-ghost use Rattle.std.specs.Prelude.{◌≡◌};
+ghost use Rattle.std.specs.Prelude.{◌≡◌, ◌<◌, SomeIff};
+ghost use Rattle.std.specs.Char.{digit_value};
 ghost use Rattle.config_text.specs.Value.{Reads};
 ghost use Rattle.config_word.specs.Item.{ItemText};
-ghost use Rattle.config_word.specs.Reading.Item.{hex_pair_of, item_of, palette_of, rgb_from, rgb_of};
+ghost use Rattle.config_word.specs.Reading.Item.{hex_pair_of, item_of, palette_of, rgb_of};
 
 use crate::attribute::Attribute;
 use crate::name::Name;
@@ -42,28 +43,21 @@ fn palette_number(digits: &[u8]) -> Option<u8>
     Some(number)
 }
 
+/// The value of a hexadecimal digit.
+#[inline(always)]
+fn hex_value(digit: u8) -> Option<u8>
+    ensures { SomeIff result (digit_value digit < 16) (digit_value digit) }
+{
+    let value = digit_of(digit);
+    if value < 16 { Some(value) } else { None }
+}
+
 /// The number that two hexadecimal digits write.
 #[inline(always)]
 fn hex_pair(high: u8, low: u8) -> Option<u8>
     ensures { result ≡ hex_pair_of high low }
 {
-    let (high, low) = (digit_of(high), digit_of(low));
-    if high < 16 && low < 16 {
-        Some(16 * high + low)
-    } else {
-        None
-    }
-}
-
-/// The color of red, green and blue, if there are all three.
-#[inline(always)]
-fn rgb_from(red: Option<u8>, green: Option<u8>, blue: Option<u8>) -> Option<Name>
-    ensures { result ≡ rgb_from red green blue }
-{
-    match (red, green, blue) {
-        (Some(red), Some(green), Some(blue)) => Some(Name::Rgb(red, green, blue)),
-        _ => None,
-    }
+    Some(16 * hex_value(high)? + hex_value(low)?)
 }
 
 /// The color of six hexadecimal digits, or of three, each of which is taken twice.
@@ -71,8 +65,12 @@ fn rgb(digits: &[u8]) -> Option<Name>
     ensures { result ≡ rgb_of digits.now }
 {
     match digits {
-        [a, b, c, d, e, f] => rgb_from(hex_pair(*a, *b), hex_pair(*c, *d), hex_pair(*e, *f)),
-        [a, c, e] => rgb_from(hex_pair(*a, *a), hex_pair(*c, *c), hex_pair(*e, *e)),
+        [a, b, c, d, e, f] => Some(Name::Rgb(
+            hex_pair(*a, *b)?,
+            hex_pair(*c, *d)?,
+            hex_pair(*e, *f)?,
+        )),
+        [a, c, e] => Some(Name::Rgb(hex_pair(*a, *a)?, hex_pair(*c, *c)?, hex_pair(*e, *e)?)),
         _ => None,
     }
 }

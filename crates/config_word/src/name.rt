@@ -91,50 +91,6 @@ pub enum Name {
 /// The bytes of the longest word of a name, `brightmagenta`.
 pub const LONGEST_NAME: usize = 13;
 
-/// The words of the eighteen names that are words, in the order of [`Name`].
-pub const WORDS: [&str; 18] = [
-    "normal",
-    "default",
-    "black",
-    "brightblack",
-    "red",
-    "brightred",
-    "green",
-    "brightgreen",
-    "yellow",
-    "brightyellow",
-    "blue",
-    "brightblue",
-    "magenta",
-    "brightmagenta",
-    "cyan",
-    "brightcyan",
-    "white",
-    "brightwhite",
-];
-
-/// The names of [`WORDS`].
-const NAMES: [Name; 18] = [
-    Name::Normal,
-    Name::Default,
-    Name::Black,
-    Name::BrightBlack,
-    Name::Red,
-    Name::BrightRed,
-    Name::Green,
-    Name::BrightGreen,
-    Name::Yellow,
-    Name::BrightYellow,
-    Name::Blue,
-    Name::BrightBlue,
-    Name::Magenta,
-    Name::BrightMagenta,
-    Name::Cyan,
-    Name::BrightCyan,
-    Name::White,
-    Name::BrightWhite,
-];
-
 /// Appends the two lower-case hexadecimal digits of a byte.
 fn push_hex(text: &mut CanonicalText, byte: u8)
     requires { length text.old.bytes + 2 ≤ LONGEST_TEXT }
@@ -199,15 +155,32 @@ impl Name {
         }
     }
 
-    /// The name of the word at this place among [`WORDS`], or `None` after the last.
+    /// The name at this place in the order of declaration, or `None` if it has numbers or if there is no name.
     #[inline(always)]
+    #[tactic(auto, unfolding(crate::specs::Name::word_names))]
     pub fn at_place(place: u8) -> Option<Name>
         ensures { result ≡ slice_get word_names place }
     {
-        if place < 18 {
-            Some(NAMES[usize::from(place)])
-        } else {
-            None
+        match place {
+            0 => Some(Name::Normal),
+            1 => Some(Name::Default),
+            2 => Some(Name::Black),
+            3 => Some(Name::BrightBlack),
+            4 => Some(Name::Red),
+            5 => Some(Name::BrightRed),
+            6 => Some(Name::Green),
+            7 => Some(Name::BrightGreen),
+            8 => Some(Name::Yellow),
+            9 => Some(Name::BrightYellow),
+            10 => Some(Name::Blue),
+            11 => Some(Name::BrightBlue),
+            12 => Some(Name::Magenta),
+            13 => Some(Name::BrightMagenta),
+            14 => Some(Name::Cyan),
+            15 => Some(Name::BrightCyan),
+            16 => Some(Name::White),
+            17 => Some(Name::BrightWhite),
+            _ => None,
         }
     }
 
@@ -218,16 +191,38 @@ impl Name {
         requires { length text.old.bytes + LONGEST_NAME ≤ LONGEST_TEXT }
         ensures { text.new.bytes ≡ text.old.bytes ++ name_shown self }
     {
-        match self {
-            Name::Ansi(number) => text.push_str(Buffer::new().format(number)),
+        let word = match self {
+            Name::Normal => "normal",
+            Name::Default => "default",
+            Name::Black => "black",
+            Name::BrightBlack => "brightblack",
+            Name::Red => "red",
+            Name::BrightRed => "brightred",
+            Name::Green => "green",
+            Name::BrightGreen => "brightgreen",
+            Name::Yellow => "yellow",
+            Name::BrightYellow => "brightyellow",
+            Name::Blue => "blue",
+            Name::BrightBlue => "brightblue",
+            Name::Magenta => "magenta",
+            Name::BrightMagenta => "brightmagenta",
+            Name::Cyan => "cyan",
+            Name::BrightCyan => "brightcyan",
+            Name::White => "white",
+            Name::BrightWhite => "brightwhite",
+            Name::Ansi(number) => {
+                text.push_str(Buffer::new().format(number));
+                return;
+            }
             Name::Rgb(red, green, blue) => {
                 text.push('#');
                 push_hex(text, red);
                 push_hex(text, green);
                 push_hex(text, blue);
+                return;
             }
-            word => text.push_str(WORDS[usize::from(word.place())]),
-        }
+        };
+        text.push_str(word);
     }
 
     /// The name as it is shown, which is its canonical text, of at most `LONGEST_NAME` bytes.

@@ -12,12 +12,13 @@ use config_text::words::{equals, equals_ignoring_case};
 /// What the first of these words that the text is stands for, or `None`. Before each word is how it is
 /// compared.
 macro_rules! first_of {
-    ($text:ident, $($compared:ident $word:literal => $kind:ident::$constant:ident),+) => {{
+    ($text:ident, $($compared:ident $word:literal => $kind:ident::$constant:ident),+) => {
         $(if $compared($text, $word) {
-            return Some(Item::$kind($kind::$constant));
-        })+
-        None
-    }};
+            Some(Item::$kind($kind::$constant))
+        } else)+ {
+            None
+        }
+    };
 }
 
 /// What a word of two bytes stands for.

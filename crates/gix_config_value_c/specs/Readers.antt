@@ -1,5 +1,5 @@
 -- What a reader answers in C.
-use Rattle.std.specs.Prelude.{◌≡◌, ℕ, List, Option, None, Some}
+use Rattle.std.specs.Prelude.{◌≡◌, ℕ, List}
 use Rattle.config_text.specs.declared.errors.Fault.{Fault}
 use Rattle.gix_config_value.specs.Value.{IsRefused}
 use Rattle.gix_config_value_c.specs.declared.status.TheConstants.{OK, REFUSED}
@@ -8,12 +8,6 @@ use Rattle.gix_config_value_c.specs.Numbers.{fault_number}
 -- the number of a fault with which a text is refused
 abbrev pub Faults : (List ℕ → Fault → Type 0) → List ℕ → ℕ → Type 0
 Faults refusal t number = (f : Fault) × refusal t f × (number ≡ fault_number f)
-
--- the value that the grammar gives the text; or none, and the number of its fault is put into `fault`
-abbrev pub Reads : {V : Type 0} → (List ℕ → V → Type 0) → (List ℕ → Fault → Type 0) → List ℕ → ℕ → ℕ
-    → Option V → Type 0
-Reads grammar refusal t fault fault' (Some v) = grammar t v × (fault' ≡ fault)
-Reads grammar refusal t fault fault' None = IsRefused grammar t × Faults refusal t fault'
 
 -- no fault: the number is 0
 abbrev pub NoFault : List ℕ → ℕ → Type 0

@@ -14,7 +14,7 @@ ghost use Rattle.gix_config_value.specs.Attribute.{AttributeText};
 ghost use Rattle.gix_config_value.specs.Color.{ColorText};
 ghost use Rattle.gix_config_value_c.specs.Numbers.{suffix_number, flag_number};
 ghost use Rattle.gix_config_value_c.specs.Structs.{integer_struct, name_struct, color_struct};
-ghost use Rattle.gix_config_value_c.specs.Readers.{ReadsInto, Reads, Faults, NoFault};
+ghost use Rattle.gix_config_value_c.specs.Readers.{ReadsInto, Faults, NoFault};
 
 use crate::faults::fault_number;
 use crate::numbers::{flag_number, suffix_number};
@@ -26,20 +26,6 @@ use gix_config_value::canonical::TryRead;
 use gix_config_value::color::{Attribute, Name};
 use gix_config_value::integer::{Amount, Suffix};
 use gix_config_value::{Boolean, Color, Integer};
-
-/// The value of a text, or `None`, and the number of the fault in `fault`.
-#[inline(always)]
-fn read<V: TryRead>(text: &[u8], fault: &mut u32) -> Option<V>
-    ensures { Reads V.grammar V.refusal text.now fault.old fault.new result }
-{
-    match V::try_read(text) {
-        Ok(value) => Some(value),
-        Err(reason) => {
-            *fault = fault_number(reason);
-            None
-        }
-    }
-}
 
 /// Reads a suffix, as its number. A refused text has no fault: `fault` is then 0.
 #[unsafe(no_mangle)]
@@ -65,11 +51,16 @@ pub extern "C" fn gcv_raw_read_integer(text: &[u8], out: &mut GcvInteger, fault:
     ensures { ReadsInto integer_struct IntegerText (Faults (Always faults.Integer))
         text.now out.old out.new fault.old fault.new result }
 {
-    let Some(integer) = read::<Integer>(text, fault) else {
-        return REFUSED;
-    };
-    *out = integer_struct(integer);
-    OK
+    match Integer::try_read(text) {
+        Ok(integer) => {
+            *out = integer_struct(integer);
+            OK
+        }
+        Err(reason) => {
+            *fault = fault_number(reason);
+            REFUSED
+        }
+    }
 }
 
 /// Reads an amount, as its number.
@@ -78,11 +69,16 @@ pub extern "C" fn gcv_raw_read_amount(text: &[u8], out: &mut i64, fault: &mut u3
     ensures { ReadsInto (λ v. v.0) AmountText (Faults AmountRefusal)
         text.now out.old out.new fault.old fault.new result }
 {
-    let Some(amount) = read::<Amount>(text, fault) else {
-        return REFUSED;
-    };
-    *out = amount.0;
-    OK
+    match Amount::try_read(text) {
+        Ok(amount) => {
+            *out = amount.0;
+            OK
+        }
+        Err(reason) => {
+            *fault = fault_number(reason);
+            REFUSED
+        }
+    }
 }
 
 /// Reads a boolean, as 0 or 1.
@@ -91,11 +87,16 @@ pub extern "C" fn gcv_raw_read_boolean(text: &[u8], out: &mut u32, fault: &mut u
     ensures { ReadsInto (λ v. flag_number v.0) BooleanText (Faults (Always faults.Boolean))
         text.now out.old out.new fault.old fault.new result }
 {
-    let Some(boolean) = read::<Boolean>(text, fault) else {
-        return REFUSED;
-    };
-    *out = flag_number(boolean.0);
-    OK
+    match Boolean::try_read(text) {
+        Ok(boolean) => {
+            *out = flag_number(boolean.0);
+            OK
+        }
+        Err(reason) => {
+            *fault = fault_number(reason);
+            REFUSED
+        }
+    }
 }
 
 /// Reads a color's name.
@@ -104,11 +105,16 @@ pub extern "C" fn gcv_raw_read_name(text: &[u8], out: &mut GcvName, fault: &mut 
     ensures { ReadsInto name_struct NameText (Faults (Always faults.Color))
         text.now out.old out.new fault.old fault.new result }
 {
-    let Some(name) = read::<Name>(text, fault) else {
-        return REFUSED;
-    };
-    *out = name_struct(name);
-    OK
+    match Name::try_read(text) {
+        Ok(name) => {
+            *out = name_struct(name);
+            OK
+        }
+        Err(reason) => {
+            *fault = fault_number(reason);
+            REFUSED
+        }
+    }
 }
 
 /// Reads an attribute, as its bits.
@@ -117,11 +123,16 @@ pub extern "C" fn gcv_raw_read_attribute(text: &[u8], out: &mut u32, fault: &mut
     ensures { ReadsInto (λ a. a.0) AttributeText (Faults (Always faults.Color))
         text.now out.old out.new fault.old fault.new result }
 {
-    let Some(attribute) = read::<Attribute>(text, fault) else {
-        return REFUSED;
-    };
-    *out = attribute.bits();
-    OK
+    match Attribute::try_read(text) {
+        Ok(attribute) => {
+            *out = attribute.bits();
+            OK
+        }
+        Err(reason) => {
+            *fault = fault_number(reason);
+            REFUSED
+        }
+    }
 }
 
 /// Reads a color.
@@ -130,9 +141,14 @@ pub extern "C" fn gcv_raw_read_color(text: &[u8], out: &mut GcvColor, fault: &mu
     ensures { ReadsInto color_struct ColorText (Faults (Always faults.Color))
         text.now out.old out.new fault.old fault.new result }
 {
-    let Some(color) = read::<Color>(text, fault) else {
-        return REFUSED;
-    };
-    *out = color_struct(color);
-    OK
+    match Color::try_read(text) {
+        Ok(color) => {
+            *out = color_struct(color);
+            OK
+        }
+        Err(reason) => {
+            *fault = fault_number(reason);
+            REFUSED
+        }
+    }
 }

@@ -88,16 +88,18 @@ const fn tagged(tag: u32) -> GcvName
 pub(crate) fn name_struct(name: Name) -> GcvName
     ensures { result ≡ name_struct name }
 {
-    let word = tagged(u32::from(name.place()) + 1);
-    match name {
-        Name::Ansi(palette) => GcvName { palette, ..word },
-        Name::Rgb(red, green, blue) => GcvName {
-            red,
-            green,
-            blue,
-            ..word
-        },
-        _ => word,
+    let tag = u32::from(name.place()) + 1;
+    let (palette, red, green, blue) = match name {
+        Name::Ansi(palette) => (palette, 0, 0, 0),
+        Name::Rgb(red, green, blue) => (0, red, green, blue),
+        _ => (0, 0, 0, 0),
+    };
+    GcvName {
+        tag,
+        palette,
+        red,
+        green,
+        blue,
     }
 }
 

@@ -3,7 +3,7 @@ use Rattle.std.proofs.Common.{◌≡◌, ◌≢◌, take, drop, slice_range, ℕ
 use Rattle.std.specs.Int.RustNames.{bit_or}
 use Rattle.std.specs.Int.Bits.{or_zero_l, or_zero_r}
 use Rattle.std.proofs.lemmas.Bool.Decides.{nat_tests}
-use Rattle.std.proofs.lemmas.List.{append-nil, take_all}
+use Rattle.std.proofs.lemmas.List.{append-nil, drop_all, take_all}
 use Rattle.std.proofs.lemmas.Nat.Bits.{bit_at_or, same_from_bits}
 use Rattle.config_color.specs.declared.color.Color.{Color}
 use Rattle.config_word.specs.declared.attribute.Attribute.{Attribute}
@@ -237,15 +237,27 @@ read_piece c [] ws = refl
 read_piece c (x ∷ t) ws =
     and_then_both (option_and_then (λ i. with_item c i) (word_item (x ∷ t))) (λ d. read_from d ws)
 
--- a text whose first word is n bytes long, and s bytes of white space behind it
-pub read_step : (c : Color) (text : List ℕ) (n s : ℕ) → IsWithoutSpace text n → n + s ≤ length text
-    → Space (slice_range text n (n + s))
-    → read_from c (words text) ≡ option_and_then (λ d. read_from d (words (drop (n + s) text))) (read_from c (piece (take n text)))
-read_step c text n s h l k = ap (λ ws. read_from c ws) (words_step text n s h l k) ∙ read_piece c (take n text) (words (drop (n + s) text))
+-- what follows the last word reads to the color itself
+at_end : (o : Option Color) → o ≡ option_and_then (λ d. read_from d (words [])) o
+unfolding words
+at_end None = refl
+at_end (Some d) = refl
 
-pub read_last : (c : Color) (text : List ℕ) → IsWithoutSpace text (length text)
-    → read_from c (words text) ≡ read_from c (piece text)
-read_last c text h = ap (λ ws. read_from c ws) (words_last text h)
+-- a text whose first word is n bytes long, with s bytes of white space after it, or at its end
+read_step : (c : Color) (text : List ℕ) (n s : ℕ) → IsWithoutSpace text n → n + s ≤ length text
+    → (0 < s → Space (slice_range text n (n + s))) → (s ≡ 0 → n ≡ length text)
+    → read_from c (words text) ≡ option_and_then (λ d. read_from d (words (drop (n + s) text))) (read_from c (piece (take n text)))
+read_step c text n s clear within parted last =
+    elim (eqb_told s 0) [
+      | inl z ↦
+          let all : n ≡ length text = last z.1 in
+          let clear_all : IsWithoutSpace text (length text) = subst (λ (n : ℕ). IsWithoutSpace text n) all clear in
+          rw (take_all n text (omega arith), drop_all (n + s) text (omega arith))
+          (ap (λ ws. read_from c ws) (words_last text clear_all) ∙ at_end (read_from c (piece text)))
+      | inr z ↦
+          let some : 0 < s = grind (arith, nat_tests) in
+          ap (λ ws. read_from c ws) (words_step text n s clear within (parted some)) ∙ read_piece c (take n text) (words (drop (n + s) text))
+    ]
 
 -- the walk: what the words of the input read to is what the color so far and the words of the rest read to
 pub walk_refused : (input rest : List ℕ) (c : Color) (n s : ℕ)
@@ -254,31 +266,18 @@ pub walk_refused : (input rest : List ℕ) (c : Color) (n s : ℕ)
     → (s ≡ 0 → n ≡ length rest)
     → read_from c (piece (take n rest)) ≡ None → Reads ColorText input None
 walk_refused input rest c n s same clear within parted last e =
-    elim (eqb_told s 0) [
-      | inl z ↦
-          let all : n ≡ length rest = last z.1 in
-          let clear_all : IsWithoutSpace rest (length rest) = subst (λ (n : ℕ). IsWithoutSpace rest n) all clear in
-          let last_word = ap (λ t. read_from c (piece t)) (sym (take_all n rest (omega arith))) in
-          reads_by color_of-value input None (sym (same ∙ (read_last c rest clear_all ∙ (last_word ∙ e))))
-      | inr z ↦
-          let some : 0 < s = grind (arith, nat_tests) in
-          let more = ap (λ o. option_and_then (λ d. read_from d (words (drop (n + s) rest))) o) e in
-          reads_by color_of-value input None (sym (same ∙ (read_step c rest n s clear within (parted some) ∙ more)))
-    ]
-
-pub walk_done : (input rest : List ℕ) (c d : Color) (n s : ℕ)
-    → read_from no_color (words input) ≡ read_from c (words rest)
-    → IsWithoutSpace rest n → (s ≡ 0 → n ≡ length rest) → s ≡ 0
-    → read_from c (piece (take n rest)) ≡ Some d → ColorText input d
-walk_done input rest c d n s same clear last z e =
-    let all : n ≡ length rest = last z in
-    let clear_all : IsWithoutSpace rest (length rest) = subst (λ (n : ℕ). IsWithoutSpace rest n) all clear in
-    color_of-value.derived input d (same ∙ (read_last c rest clear_all ∙ (ap (λ t. read_from c (piece t)) (sym (take_all n rest (omega arith))) ∙ e)))
+    let more = ap (λ o. option_and_then (λ d. read_from d (words (drop (n + s) rest))) o) e in
+    reads_by color_of-value input None (sym (same ∙ (read_step c rest n s clear within parted last ∙ more)))
 
 pub walk_goes_on : (input rest : List ℕ) (c d : Color) (n s : ℕ)
     → read_from no_color (words input) ≡ read_from c (words rest)
-    → IsWithoutSpace rest n → n + s ≤ length rest → (0 < s → Space (slice_range rest n (n + s))) → ¬ (s ≡ 0)
+    → IsWithoutSpace rest n → n + s ≤ length rest → (0 < s → Space (slice_range rest n (n + s)))
+    → (s ≡ 0 → n ≡ length rest)
     → read_from c (piece (take n rest)) ≡ Some d
     → read_from no_color (words input) ≡ read_from d (words (drop (n + s) rest))
-walk_goes_on input rest c d n s same clear within parted z e =
-    same ∙ (read_step c rest n s clear within (parted (omega arith)) ∙ ap (λ o. option_and_then (λ d. read_from d (words (drop (n + s) rest))) o) e)
+walk_goes_on input rest c d n s same clear within parted last e =
+    same ∙ (read_step c rest n s clear within parted last ∙ ap (λ o. option_and_then (λ d. read_from d (words (drop (n + s) rest))) o) e)
+
+pub walk_done : (input : List ℕ) (c : Color) → read_from no_color (words input) ≡ read_from c (words []) → ColorText input c
+unfolding words
+walk_done input c same = color_of-value.derived input c same

@@ -1,6 +1,6 @@
 -- Color text as a function, from the front: what the code computes, proved in `Laws.Color` to be `ColorText`. The
 -- contracts of private functions cite it, and no public one does.
-use Rattle.std.specs.Prelude.{ℕ, ◌<◌, ◌≤◌, List, [], ◌∷◌, ◌++◌, slice_index, Option, None, Some}
+use Rattle.std.specs.Prelude.{ℕ, ◌+◌, ◌<◌, ◌≤◌, List, [], ◌∷◌, ◌++◌, length, slice_index, slice_range, Option, None, Some}
 use Rattle.std.specs.Int.RustNames.{bit_or}
 use Rattle.std.specs.List.{join_with_byte}
 use Rattle.std.specs.Option.{option_and_then}
@@ -10,6 +10,8 @@ use Rattle.config_word.specs.declared.name.Name.{Name}
 use Rattle.config_word.specs.declared.item.Item.{Item}
 use Rattle.config_word.specs.declared.item.Item.TheVariants as items
 use Rattle.config_color.specs.Color.{no_color, part_shown}
+use Rattle.config_color.specs.Space.{Space}
+use Rattle.config_color.specs.Split.{IsWithoutSpace}
 use Rattle.config_word.specs.Reading.Item.{item_of}
 use Rattle.config_color.specs.Split.{words}
 
@@ -52,3 +54,9 @@ names_shown f b = join_with_byte space (part_shown f ++ part_shown b)
 -- the bytes from one place on and before another are such that no white space begins with them
 abbrev pub ArePlain : List ℕ → ℕ → ℕ → Type 0
 ArePlain text from to = (k : ℕ) → from ≤ k → k < to → (32 < slice_index text k) × (slice_index text k < 194)
+
+-- the first white space of the text comes after so many bytes, and has so many
+abbrev pub EndsWord : List ℕ → ℕ → ℕ → Type 0
+EndsWord text before space =
+    IsWithoutSpace text before × (before + space ≤ length text) × (0 < space)
+    × Space (slice_range text before (before + space))

@@ -180,6 +180,10 @@ item_of-word (c ∷ cs) h =
 row-item : (row : WordRow) (t : List ℕ) → OneOf word_table row → fits row t ≡ true → item_of t ≡ Some row.2
 row-item row t o f = item_of-word t (starts-fits row t o f) ∙ row-found word_table row t word_table-apart o f
 
+-- and so it does among the words of its length
+row-known : (row : WordRow) (t : List ℕ) → OneOf word_table row → fits row t ≡ true → known t ≡ Some row.2
+row-known row t o f = found_of_length word_table t ∙ row-found word_table row t word_table-apart o f
+
 -- ---- numbers
 
 -- a digit value below 10 is that of a decimal digit
@@ -333,16 +337,21 @@ reset-known = inr (inr (inr (inr (inr (inr (inr (inl refl)))))))
 attribute_is : (a : Attribute) (bit : ℕ) → a.0 ≡ 2 ^ bit → attribute_item bit ≡ items.Attribute a
 attribute_is a bit e = ap (λ n. items.Attribute (record { 0 = n })) (sym e)
 
--- the text of an attribute stands for the attribute
+-- the text of an attribute fits a row of the attribute
+attribute-row : (t : List ℕ) (a : Attribute) → AttributeText t a
+    → (row : WordRow) × OneOf word_table row × (fits row t ≡ true) × (row.2 ≡ items.Attribute a)
+attribute-row t a (AttributeText.word row o h e) =
+    ((t, row.1 == 8, attribute_item row.1), spelling-row row t o h, fits-self t (row.1 == 8) (attribute_item row.1), attribute_is a row.1 e)
+attribute-row t a (AttributeText.reset s e) =
+    ((codes "reset", true, attribute_item 8), spelling-row (codes "RESET", 8, codes "reset", []) (codes "reset") reset-known (inl refl),
+    (bytes_eq-Decides (lowered t) (lowered (codes "reset"))).1 s, attribute_is a 8 e)
+
+-- so it stands for the attribute
 attribute-found : (t : List ℕ) (a : Attribute) → AttributeText t a → item_of t ≡ Some (items.Attribute a)
-attribute-found t a (AttributeText.word row o h e) =
-    row-item (t, row.1 == 8, attribute_item row.1) t (spelling-row row t o h) (fits-self t (row.1 == 8) (attribute_item row.1))
-    ∙ ap Some (attribute_is a row.1 e)
-attribute-found t a (AttributeText.reset s e) =
-    row-item (codes "reset", true, attribute_item 8) t
-    (spelling-row (codes "RESET", 8, codes "reset", []) (codes "reset") reset-known (inl refl))
-    ((bytes_eq-Decides (lowered t) (lowered (codes "reset"))).1 s)
-    ∙ ap Some (attribute_is a 8 e)
+attribute-found t a h = let r = attribute-row t a h in row-item r.0 t r.1 r.2 ∙ ap Some r.3
+
+attribute-known : (t : List ℕ) (a : Attribute) → AttributeText t a → known t ≡ Some (items.Attribute a)
+attribute-known t a h = let r = attribute-row t a h in row-known r.0 t r.1 r.2 ∙ ap Some r.3
 
 -- the text of an item stands for the item
 item-found : (t : List ℕ) (v : Item) → ItemText t v → item_of t ≡ Some v
@@ -496,15 +505,14 @@ attribute-law = record {
   told t a (Some (items.Name n)) e f = cc
   told t a None e f = cc
 
--- an answer that reads the text as an item reads it as a name, or as an attribute
+-- an answer that reads the text as an item reads it as a name
 pub reads_name : (t : List ℕ) (r : Option Item) → Reads ItemText t r → Reads NameText t (item_name r)
 reads_name t (Some (items.Name n)) h = h
 reads_name t (Some (items.Attribute a)) h = λ n p. not_both t n a p h
 reads_name t None h = λ n p. h (items.Name n) p
 
--- the same of attributes
-pub reads_attribute : (t : List ℕ) (r : Option Item) → Reads ItemText t r
-    → Reads AttributeText t (item_attribute r)
-reads_attribute t (Some (items.Attribute a)) h = h
-reads_attribute t (Some (items.Name n)) h = λ a p. not_both t n a h p
-reads_attribute t None h = λ a p. h (items.Attribute a) p
+-- what the words say of a text reads it as an attribute
+pub known_reads : (t : List ℕ) (r : Option Item) → r ≡ known t → Reads AttributeText t (item_attribute r)
+known_reads t (Some (items.Attribute a)) e = known-derived t (items.Attribute a) (sym e)
+known_reads t (Some (items.Name n)) e = λ a p. let k = attribute-known t a p in cc
+known_reads t None e = λ a p. let k = attribute-known t a p in cc

@@ -18,5 +18,4 @@ returns-in-Ok c =
     counted c.in-Ok.field-0 c.in-Ok.ensures (truth_of c.in-Ok.field-0.0 c.in-Ok.ensures.in_range)
 
 pub returns-in-Err : goal.returns-in-Err
-returns-in-Err c =
-    (refl, boolean_refused c.args.text.now c.requires.affirms c.requires.denies c.in-Err.ensures.1)
+returns-in-Err c = boolean_refused c.args.text.now c.requires.affirms c.requires.denies c.in-Err.ensures.1

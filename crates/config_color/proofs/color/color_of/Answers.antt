@@ -1,5 +1,6 @@
-use Rattle.std.proofs.Common.{Option, drop, sym, ap, subst, ◌∙◌}
-use Rattle.std.proofs.lemmas.List.{take_rest, drop-drop}
+use Rattle.std.proofs.Common.{Option, drop, sym, ap, subst, ◌∙◌, arith}
+use Rattle.std.proofs.lemmas.List.{take_rest, drop-drop, nil_from_length}
+use Rattle.std.proofs.lemmas.Bool.Decides.{nat_tests}
 use Rattle.config_color.specs.declared.color.Color.{Color}
 use Rattle.config_color.specs.Color.{ColorText}
 use Rattle.config_color.specs.Laws.Color.{walk_refused, walk_done, walk_goes_on}
@@ -13,22 +14,20 @@ returns-in_err-color c =
     let first = c.first_word-first in
     let piece_read = rw c.split_at.ensures.front at c.with_word.ensures in
     subst (λ (r : Option Color). Reads ColorText c.args.input.now r) (sym c.from_residual.ensures)
-    (walk_refused c.args.input.now c.loop-color.rest.now c.loop-color.color first.result.length first.result.space c.loop-color.invariant
+    (walk_refused c.args.input.now c.loop-rest.rest.now c.loop-rest.color first.result.length first.result.space c.loop-rest.invariant
     first.ensures.clear first.ensures.within first.ensures.parted first.ensures.last (sym piece_read ∙ c.in_err-color.was))
 
-pub returns-then-first-eq0 : goal.returns-then-first-eq0
-returns-then-first-eq0 c =
+pub loop-rest-preserved : goal.loop-rest-preserved
+loop-rest-preserved c =
     let first = c.first_word-first in
     let piece_read = rw c.split_at.ensures.front at c.with_word.ensures in
-    walk_done c.args.input.now c.loop-color.rest.now c.loop-color.color c.in_ok-color.color first.result.length first.result.space c.loop-color.invariant
-    first.ensures.clear first.ensures.last c.if-first-eq0.true (sym piece_read ∙ c.in_ok-color.was)
-
-pub loop-color-preserved : goal.loop-color-preserved
-loop-color-preserved c =
-    let first = c.first_word-first in
-    let piece_read = rw c.split_at.ensures.front at c.with_word.ensures in
-    let h = walk_goes_on c.args.input.now c.loop-color.rest.now c.loop-color.color c.in_ok-color.color first.result.length first.result.space c.loop-color.invariant
-    first.ensures.clear first.ensures.within first.ensures.parted c.if-first-eq0.false (sym piece_read ∙ c.in_ok-color.was) in
+    let h = walk_goes_on c.args.input.now c.loop-rest.rest.now c.loop-rest.color c.in_ok-color.color first.result.length first.result.space c.loop-rest.invariant
+    first.ensures.clear first.ensures.within first.ensures.parted first.ensures.last (sym piece_read ∙ c.in_ok-color.was) in
     let e = ap (λ t. drop c.first_word-first.result.space t) c.split_at.ensures.back in
-    h ∙ (ap (λ t. read_from c.in_ok-color.color (words t)) (sym (take_rest c.split_at.result.1.now c.first_word-first.result.space ∙ (e ∙ drop-drop c.first_word-first.result.space c.first_word-first.result.length c.loop-color.rest.now)))
-    ∙ ap (read_from c.in_ok-color.color) (sym c.past_spaces-rest-in-loop-color.ensures.same))
+    h ∙ (ap (λ t. read_from c.in_ok-color.color (words t)) (sym (take_rest c.split_at.result.1.now c.first_word-first.result.space ∙ (e ∙ drop-drop c.first_word-first.result.space c.first_word-first.result.length c.loop-rest.rest.now)))
+    ∙ ap (read_from c.in_ok-color.color) (sym c.past_spaces-rest-in-loop-rest.ensures.same))
+
+pub returns : goal.returns
+returns c =
+    let no_more = nil_from_length c.loop-rest.rest.now (grind (arith, nat_tests)) in
+    walk_done c.args.input.now c.loop-rest.color (c.loop-rest.invariant ∙ ap (λ t. read_from c.loop-rest.color (words t)) no_more)

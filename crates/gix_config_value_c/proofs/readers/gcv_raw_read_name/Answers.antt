@@ -1,6 +1,9 @@
 use Rattle.std.proofs.Common.{refl}
-use Rattle.gix_config_value_c.specs.Readers.ReadsInto.{read}
+use Rattle.gix_config_value_c.specs.Readers.ReadsInto.{read, refused}
 use Rattle.gix_config_value_c.proofs.readers.gcv_raw_read_name.Goals as goal
 
-pub returns : goal.returns
-returns c = read c.in-Some.name c.in-Some.ensures.0 c.name_struct.ensures c.in-Some.ensures.1 refl
+pub returns-in-Ok : goal.returns-in-Ok
+returns-in-Ok c = read c.in-Ok.name c.in-Ok.ensures c.name_struct.ensures refl refl
+
+pub returns-in-Err : goal.returns-in-Err
+returns-in-Err c = refused c.in-Err.ensures.1 (c.in-Err.reason, c.in-Err.ensures.0, c.fault_number.ensures) refl refl

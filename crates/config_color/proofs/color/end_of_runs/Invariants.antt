@@ -1,6 +1,6 @@
 use Rattle.std.proofs.Common.{◌≤◌, ◌-◌, length}
 use Rattle.config_color.specs.Split.{IsWithoutSpace}
-use Rattle.config_color.proofs.color.first_word.Given as goal
+use Rattle.config_color.proofs.color.end_of_runs.Given as goal
 
 abbrev pub invariant-loop-at : goal.invariant-loop-at
 invariant-loop-at l = (l.at ≤ length l.text) × IsWithoutSpace l.text l.at
