@@ -1,11 +1,14 @@
 #!/usr/bin/env python3
 """The tests of the program config_check: python3 run.py PROGRAM [--seed N] [--inputs N] [--seconds N]
 
-It prints what failed, a line for each group, the classes of differences from Git, and last
-'N passed, M failed'. The run is the same for the same seed and number of mutated entries. A large
-input may take so many seconds. Without Git or its manual, what needs it says so and counts nothing.
+The groups run next to each other. It prints what failed, a line for each group as it ends, the
+classes of differences from Git, and last 'N passed, M failed'. The run is the same for the same seed
+and number of mutated entries. A large input may take so many seconds. Without Git or its manual, what
+needs it says so and counts nothing.
 """
 import argparse
+import concurrent.futures
+import os
 import random
 import sys
 import tempfile
@@ -38,13 +41,14 @@ def groups(program, seed, count):
 
 
 def run_group(group, check):
-    """Runs a group; where its tests cannot go on, whatever the reason, one more has failed."""
+    """Runs a group, and returns it; if its tests cannot go on, whatever the reason, one more has failed."""
     try:
         check(group)
     except Exception as error:
         group.failed += 1
         print(f"{group.name}: broken off by {error!r}")
     group.report()
+    return group
 
 
 def main():
@@ -58,11 +62,11 @@ def main():
     passed = failed = 0
     with tempfile.TemporaryDirectory() as folder:
         program = Program(arguments.program, folder)
-        for name, check in groups(program, arguments.seed, arguments.inputs):
-            group = Group(name)
-            run_group(group, check)
-            passed += group.passed
-            failed += group.failed
+        checks = [(Group(name), check) for name, check in groups(program, arguments.seed, arguments.inputs)]
+        with concurrent.futures.ThreadPoolExecutor(len(os.sched_getaffinity(0))) as pool:
+            for group in pool.map(run_group, *zip(*checks)):
+                passed += group.passed
+                failed += group.failed
     print(f"{passed} passed, {failed} failed")
     return 1 if failed else 0
 
