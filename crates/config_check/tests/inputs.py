@@ -10,7 +10,6 @@ from checking import arguments, by_plain_reader
 
 ENTRIES_OF_AN_INPUT = 1000
 TINY_INPUTS = 300
-LARGE_INPUT = 100_000
 SECONDS_FOR_A_LARGE_INPUT = 5
 SECONDS_BETWEEN_PIECES = 0.0005
 # beside what a program may read at once
@@ -43,16 +42,16 @@ def cut(group, program):
             compare(group, program, how, data[:end], scope=scope, origin=origin)
 
 
-def large(group, program, draw):
-    """Very many entries, in a few seconds, and very long ones."""
+def large(group, program, draw, count):
+    """So many entries, in a few seconds, and very long ones."""
     how = arguments(program.settings(rows.SETTINGS), canonical=True)
-    data = made.whole(draw, LARGE_INPUT)
+    data = made.whole(draw, count)
     wanted = by_plain_reader(made.ROWS, data, canonical=True)
     before = time.monotonic()
     came = program.run(how, data)
     seconds = time.monotonic() - before
-    group.expect(f"{LARGE_INPUT} entries", wanted, came)
-    took = f"{seconds:.1f} s for {LARGE_INPUT:,} entries"
+    group.expect(f"{count} entries", wanted, came)
+    took = f"{seconds:.1f} s for {count:,} entries"
     group.expect(took, True, seconds < SECONDS_FOR_A_LARGE_INPUT)
     group.notes.append(took)
     long = [b"x" * LARGE_VALUE, b"\xe2\x82\xac\xff\\" * (LARGE_VALUE // 5)]

@@ -1,10 +1,10 @@
 #!/usr/bin/env python3
-"""The tests of the program config_check: python3 run.py PROGRAM [--seed N] [--inputs N] [--seconds N]
+"""The tests of the program config_check: python3 run.py PROGRAM [--seed N] [--inputs N] [--large N]
 
 The groups run next to each other. It prints what failed, a line for each group as it ends, the
 classes of differences from Git, and last 'N passed, M failed'. The run is the same for the same seed
-and number of mutated entries. A large input may take so many seconds. Without Git or its manual, what
-needs it says so and counts nothing.
+and numbers of mutated entries and of those of a large input. Without Git or its manual, what needs it
+says so and counts nothing.
 """
 import argparse
 import concurrent.futures
@@ -22,7 +22,7 @@ import repository
 from checking import Group, Program
 
 
-def groups(program, seed, count):
+def groups(program, seed, count, large):
     """The name of each group, and what runs it; each draws by itself, so that none changes another."""
     def draw():
         return random.Random(seed)
@@ -34,7 +34,7 @@ def groups(program, seed, count):
         ("inputs that arrive in pieces", lambda group: inputs.pieces(group, program, draw())),
         ("a repository", lambda group: repository.check(group, program)),
         ("the types of Git", lambda group: git_types.check(group, program, draw())),
-        ("large inputs", lambda group: inputs.large(group, program, draw())),
+        ("large inputs", lambda group: inputs.large(group, program, draw(), large)),
         ("mutated inputs", lambda group: inputs.mutated(group, program, draw(), count)),
         ("closed and full outputs, and a terminal", lambda group: endings.check(group, program)),
     ]
@@ -56,13 +56,12 @@ def main():
     arguments.add_argument("program")
     arguments.add_argument("--seed", type=int, default=1)
     arguments.add_argument("--inputs", type=int, default=100_000)
-    arguments.add_argument("--seconds", type=float, default=inputs.SECONDS_FOR_A_LARGE_INPUT)
+    arguments.add_argument("--large", type=int, default=100_000)
     arguments = arguments.parse_args()
-    inputs.SECONDS_FOR_A_LARGE_INPUT = arguments.seconds
     passed = failed = 0
     with tempfile.TemporaryDirectory() as folder:
         program = Program(arguments.program, folder)
-        checks = [(Group(name), check) for name, check in groups(program, arguments.seed, arguments.inputs)]
+        checks = [(Group(name), check) for name, check in groups(program, arguments.seed, arguments.inputs, arguments.large)]
         with concurrent.futures.ThreadPoolExecutor(len(os.sched_getaffinity(0))) as pool:
             for group in pool.map(run_group, *zip(*checks)):
                 passed += group.passed

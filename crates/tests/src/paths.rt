@@ -1,7 +1,7 @@
 //! Paths: their order, homes in passwd texts, and what no context has. The table of interpolation stands in
 //! `crates/path_answers/stdin` and `stdout`, and the constructors in `memory`.
 
-use crate::support::{equal, rise};
+use crate::support::{Host, equal, rise};
 use gix_config_value::Path;
 use gix_config_value::path::interpolate::{Context, Error, absent, home_for_user};
 use std::test::Fail;
@@ -20,23 +20,24 @@ fn paths_rise_by_bytes_and_then_by_flags(rt: HostRuntime) -> Result<(), Fail> {
     Ok(())
 }
 
-#[test]
-fn has_nothing_by_default(rt: HostRuntime) -> Result<(), Fail> {
+/// A context without anything refuses the path with this error.
+fn refuses_by_default(rt: &impl Host, text: &str, error: Error) -> Result<(), Fail> {
     let alloc = rt.alloc();
     let nothing = Context {
         home_for_user: absent(|_name: &str| None),
         ..Context::default()
     };
-    for (text, error) in [
-        ("%(prefix)/x", Error::InstallDirMissing),
-        ("~", Error::HomeMissing),
-        ("~bob", Error::LookupMissing),
-    ] {
-        let path = Path::from_text(alloc, text)?;
-        let refused = path.interpolate(alloc, nothing).err();
-        equal(&rt, refused, Some(error), text);
-    }
+    let path = Path::from_text(alloc, text)?;
+    let refused = path.interpolate(alloc, nothing).err();
+    equal(rt, refused, Some(error), text);
     Ok(())
+}
+
+#[test]
+fn has_nothing_by_default(rt: HostRuntime) -> Result<(), Fail> {
+    refuses_by_default(&rt, "%(prefix)/x", Error::InstallDirMissing)?;
+    refuses_by_default(&rt, "~", Error::HomeMissing)?;
+    refuses_by_default(&rt, "~bob", Error::LookupMissing)
 }
 
 /// Only the second line has seven fields.

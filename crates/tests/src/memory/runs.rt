@@ -1,7 +1,7 @@
 //! Runs of the program in which the growth of a line is refused.
 
 use crate::support::six_lines::{ANSWERS, INPUT};
-use crate::support::{Reader, Turn, Writer, can_starve, equal, spares, starved};
+use crate::support::{Host, Reader, Turn, Writer, can_starve, equal, spares, starved};
 use gix_config_value::program::{RunError, run};
 use std::alloc::AllocError;
 use std::test::Fail;
@@ -63,25 +63,22 @@ fn refuses_the_growth_of_a_line(rt: HostRuntime) -> Result<(), Fail> {
     Ok(())
 }
 
+/// The whole lines are answered, with ample memory or with none.
+fn answers_whole_lines(rt: &impl Host, input: &[u8], starve: bool) -> Result<(), Fail> {
+    let alloc = rt.alloc();
+    let mut writer = Writer::new(alloc, 1000, usize::MAX)?;
+    let hoard = if starve { Some(starved(rt)?) } else { None };
+    let outcome = run(alloc, &mut Reader::new(input, usize::MAX), &mut writer);
+    drop(hoard);
+    equal(rt, outcome, Ok(false), starve);
+    equal(rt, whole_answers(&writer.held), Some(ANSWERS.len()), starve);
+    Ok(())
+}
+
 #[test]
 fn needs_no_memory_for_whole_lines(rt: HostRuntime) -> Result<(), Fail> {
-    let starves = can_starve(&rt)?;
-    let alloc = rt.alloc();
-    let mut input = Vec::from_slice(alloc, INPUT)?;
+    let mut input = Vec::from_slice(rt.alloc(), INPUT)?;
     input.push(b'\n')?;
-    let mut writer = Writer::new(alloc, 1000, usize::MAX)?;
-    for starve in [false, starves] {
-        writer.held.clear();
-        let hoard = if starve { Some(starved(&rt)?) } else { None };
-        let outcome = run(alloc, &mut Reader::new(&input, usize::MAX), &mut writer);
-        drop(hoard);
-        equal(&rt, outcome, Ok(false), ("starved", starve));
-        equal(
-            &rt,
-            whole_answers(&writer.held),
-            Some(ANSWERS.len()),
-            ("starved", starve),
-        );
-    }
-    Ok(())
+    answers_whole_lines(&rt, &input, false)?;
+    answers_whole_lines(&rt, &input, can_starve(&rt)?)
 }
