@@ -24,6 +24,8 @@ import sys
 import threading
 import time
 
+from programs import Wrong
+
 KINDS = [b"suffix", b"integer", b"amount", b"boolean", b"name", b"attribute", b"color"]
 RISING = [b"bold", b"dim", b"italic", b"ul", b"blink", b"reverse", b"strike", b"reset",
           b"nodim", b"nobold", b"noitalic", b"noul", b"noblink", b"noreverse", b"nostrike"]
@@ -45,7 +47,7 @@ SHOWN = 20
 SECONDS_FOR_A_BATCH = 120
 
 
-class Ended(Exception):
+class Ended(Wrong):
     """The program ended before it was told to."""
 
 

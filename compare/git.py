@@ -24,7 +24,7 @@ import tempfile
 import classes
 import texts
 from classes import Case
-from programs import Missing, Wrong
+from programs import Wrong, counted
 from readers import Git, Library, c_library, user_of, users
 
 SHOWN = 20
@@ -126,16 +126,7 @@ def main():
     arguments.add_argument("--git", default="git")
     arguments = arguments.parse_args()
     with tempfile.TemporaryDirectory() as folder:
-        try:
-            passed, failed = compare(arguments, folder)
-        except Missing as missing:
-            print(f"skipped: {missing}")
-            passed, failed = 0, 0
-        except Wrong as wrong:
-            print(wrong)
-            passed, failed = 0, 1
-    print(f"{passed} passed, {failed} failed")
-    return 1 if failed else 0
+        return counted(lambda: compare(arguments, folder))
 
 
 if __name__ == "__main__":

@@ -14,6 +14,20 @@ class Missing(Exception):
     """There is nothing here to compare with."""
 
 
+def counted(compare):
+    """Compares, prints what passed and what failed, and returns the exit status."""
+    passed = failed = 0
+    try:
+        passed, failed = compare()
+    except Missing as missing:
+        print(f"skipped: {missing}")
+    except Wrong as wrong:
+        print(wrong)
+        failed = 1
+    print(f"{passed} passed, {failed} failed")
+    return 1 if failed else 0
+
+
 def answers(command, lines):
     """One answer for each line. Neither has its LF."""
     data = b"".join(line + b"\n" for line in lines)

@@ -18,7 +18,7 @@ import sys
 
 import calls
 import fuzz
-from programs import ROOT, Missing, Wrong, answers, rust_crate
+from programs import ROOT, Missing, answers, counted, rust_crate
 
 HERE = pathlib.Path(__file__).resolve().parent
 SHOWN = 20
@@ -78,7 +78,11 @@ def write(file, rows):
 
 def make(arguments):
     """Writes lines and calls that the Rust crate has answered."""
-    upstream, draw, folder = rust_crate(), random.Random(arguments.seed), arguments.make
+    try:
+        upstream = rust_crate()
+    except Missing as missing:
+        sys.exit(str(missing))
+    draw, folder = random.Random(arguments.seed), arguments.make
     chosen = lines(draw, upstream, arguments.lines)
     folder.mkdir(parents=True, exist_ok=True)
     write(folder / "lines.txt", [line for line, _ in chosen])
@@ -133,19 +137,10 @@ def main():
     arguments.add_argument("--lines", type=int, default=10_000)
     arguments.add_argument("--calls", type=int, default=1_500)
     arguments = arguments.parse_args()
-    passed = failed = 0
-    try:
-        if arguments.make:
-            return make(arguments)
-        found = asked_again() if arguments.again else replayed(arguments.program, arguments.folder)
-        passed, failed = compared(*found)
-    except Missing as missing:
-        print(f"skipped: {missing}")
-    except Wrong as wrong:
-        print(wrong)
-        failed = 1
-    print(f"{passed} passed, {failed} failed")
-    return 1 if failed else 0
+    if arguments.make:
+        return make(arguments)
+    asked = asked_again if arguments.again else lambda: replayed(arguments.program, arguments.folder)
+    return counted(lambda: compared(*asked()))
 
 
 if __name__ == "__main__":

@@ -24,7 +24,7 @@ import calls
 import fuzz
 import texts
 from classes import CLASSES
-from programs import Missing, Wrong, answers, rust_crate
+from programs import answers, counted, rust_crate
 
 SHOWN = 20
 BATCH = 1000
@@ -182,16 +182,7 @@ def main():
     arguments.add_argument("--lines", type=int, default=100_000)
     arguments.add_argument("--calls", type=int, default=10_000)
     arguments = arguments.parse_args()
-    try:
-        passed, failed = compare(arguments, rust_crate())
-    except Missing as missing:
-        print(f"skipped: {missing}")
-        passed, failed = 0, 0
-    except (fuzz.Ended, Wrong) as wrong:
-        print(wrong)
-        passed, failed = 0, 1
-    print(f"{passed} passed, {failed} failed")
-    return 1 if failed else 0
+    return counted(lambda: compare(arguments, rust_crate()))
 
 
 if __name__ == "__main__":

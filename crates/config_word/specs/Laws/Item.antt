@@ -342,9 +342,12 @@ attribute-row : (t : List ℕ) (a : Attribute) → AttributeText t a
     → (row : WordRow) × OneOf word_table row × (fits row t ≡ true) × (row.2 ≡ items.Attribute a)
 attribute-row t a (AttributeText.word row o h e) =
     ((t, row.1 == 8, attribute_item row.1), spelling-row row t o h, fits-self t (row.1 == 8) (attribute_item row.1), attribute_is a row.1 e)
-attribute-row t a (AttributeText.reset s e) =
-    ((codes "reset", true, attribute_item 8), spelling-row (codes "RESET", 8, codes "reset", []) (codes "reset") reset-known (inl refl),
-    (bytes_eq-Decides (lowered t) (lowered (codes "reset"))).1 s, attribute_is a 8 e)
+attribute-row t a (AttributeText.reset s e) = (
+  (codes "reset", true, attribute_item 8),
+  spelling-row (codes "RESET", 8, codes "reset", []) (codes "reset") reset-known (inl refl),
+  (bytes_eq-Decides (lowered t) (lowered (codes "reset"))).1 s,
+  attribute_is a 8 e,
+)
 
 -- so it stands for the attribute
 attribute-found : (t : List ℕ) (a : Attribute) → AttributeText t a → item_of t ≡ Some (items.Attribute a)
