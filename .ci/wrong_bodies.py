@@ -2,8 +2,7 @@
 
 CONTRIBUTING.md has the form of their files. As many as possible are laid into one copy of the crate, and the functions
 that they name are checked once, over the libraries that `rt check` or `rt ci` left. If that opens other goals, each is
-tried by itself, and the goals that it opens are printed. With WHILE=PID a crate waits for its proof while that process
-runs. The last line is 'N passed, M failed'.
+tried by itself, and the goals that it opens are printed. The last line is 'N passed, M failed'.
 """
 import collections
 import concurrent.futures
@@ -14,7 +13,6 @@ import shutil
 import subprocess
 import sys
 import tempfile
-import time
 
 ROOT = pathlib.Path(__file__).resolve().parent.parent
 KIT = pathlib.Path(os.path.realpath(shutil.which("rt") or "rt")).parent.parent
@@ -99,9 +97,6 @@ def rounds(edits):
 
 def tried(name):
     """What is wrong with each wrong body of a crate, by its name."""
-    gate, proof = pathlib.Path("/proc", os.environ.get("WHILE", "none")), ROOT / f"crates/{name}/out/rlib/{name}.rlib"
-    while gate.exists() and not proof.exists():
-        time.sleep(1)
     with tempfile.TemporaryDirectory() as room:
         crate = Crate(name, room)
         edits = [edit_of(file) for file in sorted((crate.folder / "wrong_bodies").glob("*.edit"))]

@@ -4,8 +4,7 @@
 #
 # `rt lib` takes nothing that `rt ci` makes, so it would prove those libraries once more. In its place this calls what
 # it calls, `rattle build`: that proves the crate itself and compiles it. Where `rt ci` has put back what earlier checks
-# had kept, `rt lib` takes that, and is called. With WHILE=PID it waits, while that process runs, for the proof of the
-# front door. The last line is 'N passed, M failed'.
+# had kept, `rt lib` takes that, and is called. The last line is 'N passed, M failed'.
 set -u
 cd -- "$(dirname -- "$0")/../.." || exit
 crate=gix_config_value_c
@@ -32,10 +31,6 @@ build() {
         --jobs 1 -o "$archive")
 }
 
-front=crates/gix_config_value/out/rlib
-while kill -0 "${WHILE:-none}" 2> /dev/null && { [ ! -f $front/gix_config_value.rlib ] || [ -f $front/stamp ]; }; do
-    sleep 1
-done
 if build "$1"; then
     echo "1 passed, 0 failed"
 else

@@ -59,21 +59,24 @@ fn makes_paths_by_one_request(rt: HostRuntime) -> Result<(), Fail> {
     Ok(())
 }
 
+/// The row's path is made of owned bytes, with ample memory or with none.
+fn makes_of_owned_bytes(rt: &impl Host, row: Row<'_>, starve: bool) -> Result<(), Fail> {
+    let text = BString::from_slice(rt.alloc(), row.0.as_bytes())?;
+    let cow = CowSlice::Owned(Vec::from_slice(rt.alloc(), row.0.as_bytes())?);
+    let hoard = if starve { Some(starved(rt)?) } else { None };
+    let from_text = Path::from(text);
+    let from_cow = Path::from_cow(rt.alloc(), cow);
+    drop(hoard);
+    equal(rt, is_path(&from_text, row), true, row);
+    equal(rt, is_path(&from_cow?, row), true, row);
+    Ok(())
+}
+
 #[test]
 fn makes_paths_of_owned_bytes_without_memory(rt: HostRuntime) -> Result<(), Fail> {
-    let starves = can_starve(&rt)?;
-    let alloc = rt.alloc();
     for row in &ROWS {
-        for starve in [false, starves] {
-            let text = BString::from_slice(alloc, row.0.as_bytes())?;
-            let cow = CowSlice::Owned(Vec::from_slice(alloc, row.0.as_bytes())?);
-            let hoard = if starve { Some(starved(&rt)?) } else { None };
-            let from_text = Path::from(text);
-            let from_cow = Path::from_cow(alloc, cow);
-            drop(hoard);
-            equal(&rt, is_path(&from_text, *row), true, *row);
-            equal(&rt, is_path(&from_cow?, *row), true, *row);
-        }
+        makes_of_owned_bytes(&rt, *row, false)?;
+        makes_of_owned_bytes(&rt, *row, can_starve(&rt)?)?;
     }
     Ok(())
 }
