@@ -1,11 +1,13 @@
 //! Colors: what text is drawn with, read from a text and shown as one.
-ghost use Rattle.std.specs.Prelude.{◌↔◌, IsTrue, ◌≡◌, ◌+◌, ◌<◌, ◌≤◌, [], None, Some, MatchOption, length, slice_range};
+ghost use Rattle.std.specs.Prelude.{◌↔◌, IsTrue, ◌≡◌, ◌+◌, ◌<◌, ◌≤◌, [], None, Some, length, slice_range};
+ghost use Rattle.std.specs.Prelude.{MatchOption};
 ghost use Rattle.std.specs.Cow.{cow_slice_items};
 ghost use Rattle.bstr.specs.Owned.{bstring_bytes};
 ghost use Rattle.config_text.specs.declared.errors.Fault.TheVariants as faults;
 ghost use Rattle.config_color.specs.Color.{ColorText, CanonicalColor, PartFits, color_shown, no_color};
 ghost use Rattle.config_color.specs.Laws.Color.{color_one_value, color_decided};
-ghost use Rattle.config_color.specs.Reading.Color.{next_name, with_item, read_from, names_shown, ArePlain, EndsWord};
+ghost use Rattle.config_color.specs.Reading.Color.{next_name, with_item, read_from, names_shown};
+ghost use Rattle.config_color.specs.Reading.Color.{ArePlain, EndsWord};
 ghost use Rattle.config_color.specs.Laws.ColorShown.{color_equal, color_canonical_reads, color_one_text};
 ghost use Rattle.config_color.specs.Laws.ColorShown.{color_shown_is_text};
 ghost use Rattle.config_word.specs.contracts.name.NameValue.TheImpl.Laws.{equal_is_same-law as name_equal};

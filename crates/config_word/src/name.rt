@@ -155,7 +155,7 @@ impl Name {
         }
     }
 
-    /// The name at this place in the order of declaration, or `None` if it has numbers or if there is no name.
+    /// The name at this place in the order of declaration, or `None` if that has numbers or there is none.
     #[inline(always)]
     #[tactic(auto, unfolding(crate::specs::Name::word_names))]
     pub fn at_place(place: u8) -> Option<Name>
