@@ -6,7 +6,7 @@ use Rattle.std.specs.Io.KnownBytes.{Consumes}
 use Rattle.std.proofs.KnownBytes.{Consumes-nil, Consumes-trans}
 use Rattle.config_checks.specs.declared.options.Options.{Options}
 use Rattle.config_checks.specs.Keys.{IsWithout}
-use Rattle.config_checks.specs.Entries.{Entry, IsCutBefore, EndsKnown, head, nul, shown_field}
+use Rattle.config_checks.specs.Entries.{Entry, IsField, IsCutBefore, EndsKnown, head, nul, shown_field}
 use Rattle.config_checks.specs.Reading.Fields.{ReadsField, ReadsShown, BreaksField, BreaksShown, BreaksEntry}
 
 -- ---- one read after another
@@ -20,15 +20,13 @@ ends_both (Some xs) (Some ys) w a first second = second
 
 pub record IsShown (is_shown : Bool) (u v : Option (List ℕ)) (field : List ℕ) : Type 0 where
   pub consumed : Consumes u v (shown_field is_shown field)
-  pub without : IsWithout nul field
+  pub is_field : IsField is_shown field
 
 pub shown_read : (is_shown : Bool) (u v : Option (List ℕ)) (field : List ℕ)
     → ReadsShown is_shown u v field true → IsShown is_shown u v field
-shown_read true u v field read = record { consumed = read.0; without = read.1 }
-shown_read false u v field read = record {
-  consumed = subst (λ l. Consumes u l []) (sym read.0) (Consumes-nil u);
-  without = subst (IsWithout nul) (sym read.1) (λ k d below. absurd (omega arith));
-}
+shown_read true u v field read = record { consumed = read.0; is_field = read.1 }
+shown_read false u v field read =
+    record { consumed = subst (λ l. Consumes u l []) (sym read.0) (Consumes-nil u); is_field = read.1 }
 
 shown_cut : (is_shown : Bool) (u v : Option (List ℕ)) (field : List ℕ) → ReadsShown is_shown u v field false
     → (is_shown ≡ true) × ReadsField u v field false
@@ -45,6 +43,13 @@ shown_broken false u v broken = absurd broken
 pub without_none : IsWithout nul []
 without_none k d below = absurd (omega arith)
 
+pub no_field : (is_shown : Bool) → IsField is_shown []
+no_field true = without_none
+no_field false = refl
+
+shown_without : (is_shown : Bool) (field : List ℕ) → is_shown ≡ true → IsWithout nul field → IsField is_shown field
+shown_without is_shown field shown without = rw shown without
+
 -- how an entry ended before its setting
 abbrev pub EndsBefore : Options → Option (List ℕ) → Option (List ℕ) → Type 0
 EndsBefore options u v = (rest : List ℕ) × Consumes u v rest × EndsKnown u v × IsCutBefore options rest
@@ -58,14 +63,18 @@ cut_in_scope options u v scope read some =
       cut.1.2,
       record {
         entry = record { scope = scope; origin = []; setting = [] };
-        is_entry = record { scope = cut.1.1; origin = without_none; setting = without_none };
+        is_entry = record {
+          scope = shown_without options.scope scope cut.0 cut.1.1;
+          origin = no_field options.origin;
+          setting = without_none;
+        };
         missing = nul ∷ shown_field options.origin [];
         some = some;
         parts = rw cut.0 (append_assoc scope (nul ∷ []) (shown_field options.origin []));
       },
     )
 
-some_front : (a : List ℕ) (b : ℕ) (c : List ℕ) → (a ++ b ∷ c) ≢ []
+pub some_front : (a : List ℕ) (b : ℕ) (c : List ℕ) → (a ++ b ∷ c) ≢ []
 some_front [] b c none = absurd (cc (none))
 some_front (x ∷ a) b c none = absurd (cc (none))
 
@@ -91,7 +100,11 @@ cut_in_origin options u v w scope origin first second some =
       ends_both u v w _ before.consumed cut.1.2,
       record {
         entry = record { scope = scope; origin = origin; setting = [] };
-        is_entry = record { scope = before.without; origin = cut.1.1; setting = without_none };
+        is_entry = record {
+          scope = before.is_field;
+          origin = shown_without options.origin origin cut.0 cut.1.1;
+          setting = without_none;
+        };
         missing = nul ∷ [];
         some = some_before options.scope scope origin some;
         parts = rw cut.0 (sym (append_assoc (shown_field options.scope scope) origin (nul ∷ [])));
@@ -114,7 +127,7 @@ cut_before_setting options u v w x scope origin setting first second third none 
       ends_both u w x _ read third.2,
       record {
         entry = entry;
-        is_entry = record { scope = before.without; origin = behind.without; setting = without_none };
+        is_entry = record { scope = before.is_field; origin = behind.is_field; setting = without_none };
         missing = [];
         some = some_head options scope origin shown;
         parts = sym (append-nil (head options entry));
@@ -148,7 +161,11 @@ broken_in_scope options u v broken =
       part.1.3,
       record {
         entry = record { scope = part.1.1; origin = []; setting = [] };
-        is_entry = record { scope = part.1.4; origin = without_none; setting = without_none };
+        is_entry = record {
+          scope = shown_without options.scope part.1.1 part.0 part.1.4;
+          origin = no_field options.origin;
+          setting = without_none;
+        };
         missing = part.1.2 ++ (shown_field options.origin [] ++ nul ∷ []);
         parts =
             ap (λ is_shown. (shown_field is_shown part.1.1 ++ shown_field options.origin []) ++ nul ∷ []) part.0
@@ -166,7 +183,11 @@ broken_in_origin options u v w scope first broken =
       Consumes-trans u v w _ _ before.consumed part.1.3,
       record {
         entry = record { scope = scope; origin = part.1.1; setting = [] };
-        is_entry = record { scope = before.without; origin = part.1.4; setting = without_none };
+        is_entry = record {
+          scope = before.is_field;
+          origin = shown_without options.origin part.1.1 part.0 part.1.4;
+          setting = without_none;
+        };
         missing = part.1.2 ++ (nul ∷ []);
         parts =
             ap (λ is_shown. (shown_field options.scope scope ++ shown_field is_shown part.1.1) ++ nul ∷ []) part.0
@@ -185,7 +206,7 @@ broken_in_setting options u v w x scope origin first second part =
       Consumes-trans u w x _ _ (Consumes-trans u v w _ _ before.consumed behind.consumed) part.3,
       record {
         entry = record { scope = scope; origin = origin; setting = part.1 };
-        is_entry = record { scope = before.without; origin = behind.without; setting = part.4 };
+        is_entry = record { scope = before.is_field; origin = behind.is_field; setting = part.4 };
         missing = part.2;
         parts = ap (λ l. front ++ l) part.5 ∙ sym (append_assoc front part.0 part.2);
       },

@@ -1,9 +1,16 @@
 -- Texts shown piece by piece.
 use Rattle.std.proofs.Common.{◌≡◌, ◌-◌, ◌<◌, ◌≤◌, ℕ, zero, suc, List, [], ◌∷◌, ◌++◌, length, take, drop, refl}
-use Rattle.std.proofs.Common.{sym, ap, ◌∙◌, arith, length-drop, append-nil, false, ◌==◌}
+use Rattle.std.proofs.Common.{sym, ap, ◌∙◌, arith, length-drop, false, ◌==◌}
 use Rattle.bstr.specs.Utf8.{decoded}
 use Rattle.bstr.proofs.lemmas.PieceLemmas.{piece-bounds}
-use Rattle.config_checks.specs.Findings.{piece_shown, shown_past, shown}
+use Rattle.std.proofs.Common.{Bor, Some, get_or}
+use Rattle.std.proofs.lemmas.List.{take_rest}
+use Rattle.config_checks.specs.declared.kind.WordList.{WordList}
+use Rattle.config_checks.specs.declared.kind.SettingKind.{SettingKind}
+use Rattle.config_checks.specs.declared.kind.SettingKind.TheVariants as kinds
+use Rattle.config_checks.specs.Findings.{AppendsPart, piece_shown, shown_past, shown, listed, words_text, no_word_front}
+use Rattle.config_checks.specs.Findings.{no_word_text}
+use Rattle.config_checks.proofs.WriteLemmas.{part_after}
 
 -- what is shown past some bytes is what follows them
 shown_past_drop : (n : ℕ) (t : List ℕ) → shown_past n t ≡ shown (drop n t)
@@ -35,8 +42,20 @@ pub not_empty : (t : List ℕ) → false ≡ (length t == 0) → 0 < length t
 not_empty [] none = absurd (cc)
 not_empty (b ∷ bs) none = omega arith
 
--- nothing is left
-pub all_shown : (out before t rest : List ℕ) → rest ≡ [] → out ++ shown rest ≡ before ++ shown t
-    → out ≡ before ++ shown t
+-- nothing is shown of nothing
+pub none_shown : (t : List ℕ) → t ≡ [] → shown t ≡ []
 unfolding shown_past
-all_shown out before t rest none so_far = sym (append-nil out) ∙ rw none at so_far
+none_shown t none = rw none refl
+
+-- words are the first one, and then the others
+pub words_cut : (words : List (Bor (List ℕ))) (d : Bor (List ℕ)) → 1 ≤ length words
+    → words_text words ≡ shown (get_or words 0 d).now ++ listed (take (length words - 1) (drop 1 words))
+words_cut [] d some = absurd (omega arith)
+words_cut (w ∷ ws) d some = ap (λ l. shown w.now ++ listed l) (sym (take_rest (w ∷ ws) 1))
+
+-- after what stands before its words
+pub no_word_part : (old mid new : List ℕ) (kind : SettingKind) (list : WordList) (words : List (Bor (List ℕ)))
+    → kind ≡ kinds.Word list → words ≡ list.words.items → mid ≡ old ++ no_word_front list.or_bool
+    → AppendsPart (Some mid) (Some new) (words_text words) → AppendsPart (Some old) (Some new) (no_word_text kind)
+no_word_part old mid new kind list words is same front part = rw is
+    (part_after (Some old) (Some mid) (Some new) (no_word_front list.or_bool) (words_text list.words.items) front (rw same at part))

@@ -39,27 +39,31 @@ head options entry = shown_field options.scope entry.scope ++ shown_field option
 abbrev pub entry_bytes : Options → Entry → List ℕ
 entry_bytes options entry = head options entry ++ (entry.setting ++ nul ∷ [])
 
--- no NUL stands in a field
-pub record IsEntry (entry : Entry) : Type 0 where
-  pub scope : IsWithout nul entry.scope
-  pub origin : IsWithout nul entry.origin
+-- no NUL stands in a field, and nothing in one that is not shown
+abbrev pub IsField : Bool → List ℕ → Type 0
+IsField true field = IsWithout nul field
+IsField false field = field ≡ []
+
+pub record IsEntry (options : Options) (entry : Entry) : Type 0 where
+  pub scope : IsField options.scope entry.scope
+  pub origin : IsField options.origin entry.origin
   pub setting : IsWithout nul entry.setting
 
 -- the input is these entries, each ended by NUL, and a rest
 pub record IsCut (options : Options) (input : List ℕ) (entries : List Entry) (rest : List ℕ) : Type 0 where
   pub joined : input ≡ flat_map (entry_bytes options) entries ++ rest
-  pub each : All IsEntry entries
+  pub each : All (IsEntry options) entries
 
 -- a rest that is an entry but for the NUL that ends it
 pub record IsCutOff (options : Options) (rest : List ℕ) (last : Entry) : Type 0 where
-  pub entry : IsEntry last
+  pub entry : IsEntry options last
   pub some : last.setting ≢ []
   pub parts : rest ≡ head options last ++ last.setting
 
 -- a rest that ends before a setting: something of the fields that stand before it, or all of them
 pub record IsCutBefore (options : Options) (rest : List ℕ) : Type 0 where
   pub entry : Entry
-  pub is_entry : IsEntry entry
+  pub is_entry : IsEntry options entry
   pub missing : List ℕ
   pub some : rest ≢ []
   pub parts : head options entry ≡ rest ++ missing
@@ -67,7 +71,7 @@ pub record IsCutBefore (options : Options) (rest : List ℕ) : Type 0 where
 -- something of an entry, or nothing, or all of it
 pub record IsBegun (options : Options) (rest : List ℕ) : Type 0 where
   pub entry : Entry
-  pub is_entry : IsEntry entry
+  pub is_entry : IsEntry options entry
   pub missing : List ℕ
   pub parts : entry_bytes options entry ≡ rest ++ missing
 

@@ -1,8 +1,9 @@
 -- The line of a finding.
-use Rattle.std.specs.Prelude.{ℕ, zero, suc, ◌-◌, ◌/◌, ◌%◌, ◌==◌, ◌&&◌, ◌||◌, nat_lt, List, [], ◌∷◌, ◌++◌}
+use Rattle.std.specs.Prelude.{◌≡◌, ℕ, zero, suc, ◌-◌, ◌/◌, ◌%◌, ◌==◌, ◌&&◌, ◌||◌, nat_lt, List, [], ◌∷◌, ◌++◌}
 use Rattle.std.specs.Prelude.{take, flat_map}
 use Rattle.std.specs.Prelude.{codes, Bool, true, false, Option, None, Some, if◌then◌else◌}
 use Rattle.std.specs.Char.{digit_char}
+use Rattle.std.specs.Io.KnownBytes.{Appends}
 use denote.Ref.{Bor}
 use Rattle.bstr.specs.Utf8.{decoded}
 use Rattle.config_text.specs.Faults.{fault_text}
@@ -12,6 +13,15 @@ use Rattle.config_checks.specs.declared.reason.Reason.{Reason}
 use Rattle.config_checks.specs.declared.reason.Reason.TheVariants.{NoValue, Refused, OutOfRange, EmptyPath}
 use Rattle.config_checks.specs.declared.reason.Reason.TheVariants.{IllFormedPath, NoWord, NotCanonical}
 use Rattle.config_checks.specs.declared.reason.Reason.TheVariants.{OtherCase}
+
+-- ---- what is left of a text after an error
+
+-- what was held is kept, and some first bytes of the text were appended, or none of them, or all
+pub record AppendsPart (held holds : Option (List ℕ)) (text : List ℕ) : Type 0 where
+  pub written : List ℕ
+  pub missing : List ℕ
+  pub appended : Appends held holds written
+  pub parts : text ≡ written ++ missing
 
 -- ---- texts shown safely
 
@@ -61,9 +71,13 @@ abbrev pub words_text : List (Bor (List ℕ)) → List ℕ
 words_text [] = []
 words_text (word ∷ words) = shown word.now ++ listed words
 
+-- what stands before the words of a list
+abbrev pub no_word_front : (or_bool : Bool) → List ℕ
+no_word_front true = codes "no boolean, and none of: "
+no_word_front false = codes "none of: "
+
 abbrev pub no_word_text : SettingKind → List ℕ
-no_word_text (kinds.Word list) =
-    (if list.or_bool then codes "no boolean, and none of: " else codes "none of: ") ++ words_text list.words.items
+no_word_text (kinds.Word list) = no_word_front list.or_bool ++ words_text list.words.items
 no_word_text _ = []
 
 abbrev pub reason_text : SettingKind → Reason → List ℕ

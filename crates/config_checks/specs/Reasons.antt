@@ -176,3 +176,8 @@ pub record HasFinding (wants_canonical : Bool) (kind : SettingKind) (value : Opt
   pub reason : Option Reason
   pub judged : HasReason kind value reason
   pub found : IsFoundBehind wants_canonical kind value reason r
+
+-- the same finding: two that give canonical texts give the same bytes
+abbrev pub IsSameFinding : Option Reason → Option Reason → Type 0
+IsSameFinding (Some (NotCanonical c)) (Some (NotCanonical d)) = c.bytes ≡ d.bytes
+IsSameFinding a b = a ≡ b

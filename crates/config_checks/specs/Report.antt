@@ -1,8 +1,9 @@
 -- What a check writes: a line for each finding, in the order of the entries.
-use Rattle.std.specs.Prelude.{◌≡◌, ◌⊎◌, ℕ, ◌+◌, ◌-◌, codes, List, [], ◌∷◌, ◌++◌, Bool, Option, None, Some}
-use Rattle.std.specs.Prelude.{if◌then◌else◌}
+use Rattle.std.specs.Prelude.{◌≡◌, ◌≢◌, ◌⊎◌, ℕ, ◌+◌, ◌-◌, codes, List, [], ◌∷◌, ◌++◌, Bool, Option, None}
+use Rattle.std.specs.Prelude.{Some, if◌then◌else◌}
 use Rattle.std.specs.Fmt.{decimal}
 use Rattle.std.specs.Io.KnownBytes.{Consumes, Appends}
+use Rattle.gix_config_value.specs.Answers.{OneBegins}
 use Rattle.config_checks.specs.declared.options.Options.{Options}
 use Rattle.config_checks.specs.declared.row.Row.{Row}
 use Rattle.config_checks.specs.declared.kind.SettingKind.{SettingKind}
@@ -61,6 +62,12 @@ pub data Report (rows : List Row) (options : Options) : List Entry → List ℕ 
       → ReportsEntry rows options entry key value s line s'
       → Report rows options (entries ++ entry ∷ []) (output ++ line) s'
 
+-- the lines of all entries of an input, and what is said of them at its end
+pub record IsReport (rows : List Row) (options : Options) (input output : List ℕ) (s : Summary) : Type 0 where
+  pub entries : List Entry
+  pub whole : IsInput options input entries s.is_cut_off
+  pub lines : Report rows options entries output s.counts
+
 -- how the counts are shown
 abbrev pub summary_shown : Summary → List ℕ
 summary_shown s =
@@ -72,18 +79,15 @@ summary_shown s =
 -- ---- what a check did to its reader and its writer
 
 -- `unread` and `left` are what the reader had left before and after, `contents` and `contents'` what the
--- writer held: the
--- reader was read to its end, and what was written is the lines of its entries
+-- writer held: the reader was read to its end, and what was written is the report of what was read
 pub record Completes (rows : List Row) (options : Options) (unread left contents contents' : Option (List ℕ))
     (s : Summary) : Type 0 where
   pub input : List ℕ
   pub output : List ℕ
-  pub entries : List Entry
   pub consumed : Consumes unread left input
   pub at_end : EndsKnown unread left
   pub appended : Appends contents contents' output
-  pub whole : IsInput options input entries s.is_cut_off
-  pub report : Report rows options entries output s.counts
+  pub report : IsReport rows options input output s
 
 -- some entries were read, and what was written begins their lines
 pub record BeginsReport (rows : List Row) (options : Options) (entries : List Entry) (output : List ℕ)
@@ -98,12 +102,25 @@ AreRead options unread left input entries =
     ((rest : List ℕ) × IsCut options input entries rest × IsBegun options rest)
     ⊎ ((is_cut_off : Bool) × EndsKnown unread left × IsInput options input entries is_cut_off)
 
--- after a failed read the lines of all entries that were read are written, after another error a beginning of
--- them
+-- the lines of all entries but the last one, which has a line too
+pub record LacksLastLine (rows : List Row) (options : Options) (entries : List Entry) (output : List ℕ)
+    : Type 0 where
+  pub before : List Entry
+  pub last : Entry
+  pub line : List ℕ
+  pub s : Counts
+  pub s' : Counts
+  pub parts : entries ≡ before ++ last ∷ []
+  pub report : Report rows options before output s
+  pub whole : Report rows options entries (output ++ line) s'
+  pub some : line ≢ []
+
+-- after a failed read the lines of all entries that were read are written, after a failed write a beginning of
+-- them; and where there was no memory for the line of the last one, the lines of all others
 abbrev pub WritesAfter : CheckError → List Row → Options → List Entry → List ℕ → Type 0
 WritesAfter (Read e) rows options entries output = (s : Counts) × Report rows options entries output s
 WritesAfter (Write e) rows options entries output = BeginsReport rows options entries output
-WritesAfter (Memory e) rows options entries output = BeginsReport rows options entries output
+WritesAfter (Memory e) rows options entries output = LacksLastLine rows options entries output
 
 pub record Fails (rows : List Row) (options : Options) (unread left contents contents' : Option (List ℕ))
     (e : CheckError) : Type 0 where
@@ -114,3 +131,12 @@ pub record Fails (rows : List Row) (options : Options) (unread left contents con
   pub appended : Appends contents contents' output
   pub read : AreRead options unread left input entries
   pub written : WritesAfter e rows options entries output
+
+-- ---- two checks
+
+-- what two checks wrote that read the same entries and ended with this error: the same, but for a failed write,
+-- after which one of them may have come further
+abbrev pub AgreeAfter : CheckError → List ℕ → List ℕ → Type 0
+AgreeAfter (Read e) a b = a ≡ b
+AgreeAfter (Write e) a b = OneBegins a b
+AgreeAfter (Memory e) a b = a ≡ b

@@ -1,9 +1,10 @@
 //! The check of all settings that Git would read.
-ghost use Rattle.std.specs.Prelude.{◌≡◌, Some, OnOk, OnErr, IfOk, IfErr};
+ghost use Rattle.std.specs.Prelude.{◌≡◌, ℕ, List, ◌++◌, Some, OnOk, OnErr, IfOk, IfErr};
 ghost use Rattle.std.specs.Io.KnownBytes.{Appends, Keeps};
-ghost use Rattle.config_checks.specs.Report.{summary_shown, Completes, Fails};
+ghost use Rattle.config_checks.specs.Report.{summary_shown, Completes, Fails, IsReport};
 ghost use Rattle.config_checks.specs.Reading.Fields.{entry_of};
-ghost use Rattle.config_checks.specs.Reading.Steps.{AppendsPart, HasRoom, Reports, ReportsPart, IsNoRead};
+ghost use Rattle.config_checks.specs.Findings.{AppendsPart};
+ghost use Rattle.config_checks.specs.Reading.Steps.{HasRoom, Reports, ReportsPart, IsWrite};
 
 use crate::entry::{Buffers, EntryEnd};
 use crate::finding::Finding;
@@ -99,9 +100,8 @@ impl Progress {
         requires { HasRoom self.old.counts }
         ensures ok { OnOk result (Reports rows.now options.now (entry_of entry.now)
             self.old.counts self.new.counts (W.contents writer.old) (W.contents writer.new)) }
-        ensures err { OnErr result (ReportsPart rows.now options.now (entry_of entry.now)
+        ensures err { IfErr result (ReportsPart rows.now options.now (entry_of entry.now)
             self.old.counts (W.contents writer.old) (W.contents writer.new)) }
-        ensures no_read { IfErr result IsNoRead }
     {
         self.counts.entries += 1;
         let (key, value) = entry.setting();
@@ -133,7 +133,7 @@ impl Progress {
         ensures counts { IfOk result (λ s. s.counts ≡ self.now.counts) }
         ensures cut_off { IfOk result (λ s. s.is_cut_off ≡ is_cut_off) }
         ensures kept { Keeps (W.contents writer.old) (W.contents writer.new) }
-        ensures no_read { IfErr result IsNoRead }
+        ensures write { IfErr result IsWrite }
     {
         writer.flush().map_err(CheckError::Write)?;
         Ok(Summary {
@@ -151,9 +151,10 @@ impl Progress {
 /// - `Read`: a read failed, or the input has not ended after 18446744073709551615 entries. The lines of all
 ///   entries that were read whole are then written.
 /// - `Write`: a write or the flush at the end failed, or a write took no byte.
-/// - `Memory`: there was no memory for a line.
+/// - `Memory`: there was no memory for the line of an entry. The lines of all entries before it are then
+///   written.
 ///
-/// After `Write` and `Memory`, what was written is a beginning of the lines.
+/// After `Write`, what was written is a beginning of the lines.
 ///
 /// The clauses are about readers whose bytes the prover knows, and writers whose contents it knows. It knows
 /// neither for standard input and output: for them the clauses say what `check` does with any reader and any
@@ -188,4 +189,42 @@ pub fn check<R: BufRead, W: Write>(
         }
     }
     Err(CheckError::Read(io::Error::from(ErrorKind::Other)))
+}
+
+/// Checks an input in memory, as [`check`] does, and appends the lines to `out`. Only memory can be missing
+/// here, since reads of a slice and writes to a vector do not fail otherwise. Then `out` is as it was.
+///
+/// ```rust
+/// use config_checks::check::check_over;
+/// use config_checks::options::Options;
+/// use config_checks::table::read_rows;
+///
+/// let mut rows = Vec::new(alloc);
+/// assert!(rt; read_rows(alloc, b"push.default word nothing current", &mut rows).is_ok());
+/// let options = Options { scope: false, origin: false, canonical: false, color: false };
+/// let mut out = Vec::new(alloc);
+/// let summary = check_over(alloc, &rows, &options, b"push.default\nmaybe\0", &mut out)?;
+/// assert_eq!(rt; summary.counts.findings, 1);
+/// assert_eq!(rt; out.as_slice(), b"1\tpush.default\tmaybe\tnone of: nothing, current\n".as_slice());
+/// ```
+pub fn check_over(
+    alloc: Global,
+    rows: &[Row<'_>],
+    options: &Options,
+    input: &[u8],
+    out: &mut Vec<u8>,
+) -> Result<Summary, AllocError>
+    ensures report { IfOk result (λ summary. (lines : List ℕ) × (out.new.items ≡ out.old.items ++ lines)
+        × IsReport rows.now options.now input.now lines summary) }
+    ensures unchanged { OnErr result (out.new.items ≡ out.old.items) }
+{
+    let length = out.len();
+    let mut reader = input;
+    match check(alloc, rows, options, &mut reader, out) {
+        Ok(summary) => Ok(summary),
+        Err(_) => {
+            out.truncate(length);
+            Err(AllocError)
+        }
+    }
 }

@@ -1,9 +1,10 @@
 //! A finding, and the line that is written for it.
 ghost use Rattle.std.specs.Prelude.{◌≡◌, ◌<◌, ◌++◌, [], length, flat_map, option_copied};
-ghost use Rattle.std.specs.Prelude.{OnOk, MatchOption, IfSome};
+ghost use Rattle.std.specs.Prelude.{OnOk, OnErr, MatchOption, IfSome, Some};
 ghost use Rattle.std.specs.Char.{digit_char};
 ghost use Rattle.config_checks.specs.Findings.{hex, is_control, piece_shown, shown, value_shown};
 ghost use Rattle.config_checks.specs.Findings.{range_text, words_text, no_word_text, reason_text, painted};
+ghost use Rattle.config_checks.specs.Findings.{AppendsPart};
 ghost use Rattle.config_checks.specs.Reading.Fields.{entry_of};
 ghost use Rattle.config_checks.specs.Report.{field_shown, front_shown, setting_shown, finding_line};
 
@@ -29,7 +30,9 @@ fn digit(number: u8) -> u8
 
 /// Appends each byte as `\xNN`.
 fn push_hex(out: &mut Vec<u8>, bytes: &[u8]) -> Result<(), AllocError>
-    ensures { OnOk result (out.new.items ≡ out.old.items ++ flat_map hex bytes.now) }
+    ensures ok { OnOk result (out.new.items ≡ out.old.items ++ flat_map hex bytes.now) }
+    ensures err { OnErr result
+        (AppendsPart (Some out.old.items) (Some out.new.items) (flat_map hex bytes.now)) }
 {
     for byte in bytes {
         out.extend_from_slice(&[b'\\', b'x', digit(*byte / 16), digit(*byte % 16)])?;
@@ -46,7 +49,9 @@ fn is_control(character: char) -> bool
 
 /// Appends the bytes of a character, or bytes that are no character.
 fn push_piece(out: &mut Vec<u8>, character: Option<char>, bytes: &[u8]) -> Result<(), AllocError>
-    ensures { OnOk result (out.new.items ≡ out.old.items ++ piece_shown character bytes.now) }
+    ensures ok { OnOk result (out.new.items ≡ out.old.items ++ piece_shown character bytes.now) }
+    ensures err { OnErr result
+        (AppendsPart (Some out.old.items) (Some out.new.items) (piece_shown character bytes.now)) }
 {
     match character {
         None => push_hex(out, bytes),
@@ -71,9 +76,12 @@ fn first_piece(text: &[u8]) -> Option<(Option<char>, &[u8], &[u8])>
     Some((character, bytes, rest))
 }
 
-/// Appends a text: control characters and invalid UTF-8 as `\xNN`, and a backslash twice.
+/// Appends a text: control characters and invalid UTF-8 as `\xNN`, and a backslash twice. If there is no
+/// memory for all of it, `out` keeps what it had, and some first bytes of the text may follow.
 pub fn push_shown(out: &mut Vec<u8>, text: &[u8]) -> Result<(), AllocError>
-    ensures { OnOk result (out.new.items ≡ out.old.items ++ shown text.now) }
+    ensures ok { OnOk result (out.new.items ≡ out.old.items ++ shown text.now) }
+    ensures err { OnErr result
+        (AppendsPart (Some out.old.items) (Some out.new.items) (shown text.now)) }
 {
     let mut rest = text;
     while let Some((character, bytes, tail)) = first_piece(rest) {
@@ -95,7 +103,9 @@ fn range_text(kind: &SettingKind<'_>) -> &'static str
 
 /// Appends words, with `, ` between them.
 fn push_words(out: &mut Vec<u8>, words: &[&[u8]]) -> Result<(), AllocError>
-    ensures { OnOk result (out.new.items ≡ out.old.items ++ words_text words.now) }
+    ensures ok { OnOk result (out.new.items ≡ out.old.items ++ words_text words.now) }
+    ensures err { OnErr result
+        (AppendsPart (Some out.old.items) (Some out.new.items) (words_text words.now)) }
 {
     let [first, rest @ ..] = words else {
         return Ok(());
@@ -110,7 +120,9 @@ fn push_words(out: &mut Vec<u8>, words: &[&[u8]]) -> Result<(), AllocError>
 
 /// Appends that a text is no word of a kind.
 fn push_no_word(out: &mut Vec<u8>, kind: &SettingKind<'_>) -> Result<(), AllocError>
-    ensures { OnOk result (out.new.items ≡ out.old.items ++ no_word_text kind.now) }
+    ensures ok { OnOk result (out.new.items ≡ out.old.items ++ no_word_text kind.now) }
+    ensures err { OnErr result
+        (AppendsPart (Some out.old.items) (Some out.new.items) (no_word_text kind.now)) }
 {
     let SettingKind::Word(list) = kind else {
         return Ok(());
@@ -123,13 +135,16 @@ fn push_no_word(out: &mut Vec<u8>, kind: &SettingKind<'_>) -> Result<(), AllocEr
     push_words(out, &list.words)
 }
 
-/// Appends the text of a reason.
+/// Appends the text of a reason. If there is no memory for all of it, `out` keeps what it had, and some first
+/// bytes of the text may follow.
 pub fn push_reason(
     out: &mut Vec<u8>,
     kind: &SettingKind<'_>,
     reason: &Reason<'_>,
 ) -> Result<(), AllocError>
-    ensures { OnOk result (out.new.items ≡ out.old.items ++ reason_text kind.now reason.now) }
+    ensures ok { OnOk result (out.new.items ≡ out.old.items ++ reason_text kind.now reason.now) }
+    ensures err { OnErr result
+        (AppendsPart (Some out.old.items) (Some out.new.items) (reason_text kind.now reason.now)) }
 {
     match reason {
         Reason::NoValue => out.extend_from_slice(b"no value"),

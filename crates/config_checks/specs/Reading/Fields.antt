@@ -42,7 +42,7 @@ BreaksShown false unread left = ⊥
 
 -- how an entry was read
 abbrev pub ReadsEntry : Options → Option (List ℕ) → Option (List ℕ) → Entry → EntryEnd → Type 0
-ReadsEntry options unread left entry Nul = Consumes unread left (entry_bytes options entry) × IsEntry entry
+ReadsEntry options unread left entry Nul = Consumes unread left (entry_bytes options entry) × IsEntry options entry
 ReadsEntry options unread left entry CutOff =
     (rest : List ℕ) × Consumes unread left rest × EndsKnown unread left × IsCutOff options rest entry
 ReadsEntry options unread left entry CutBefore =

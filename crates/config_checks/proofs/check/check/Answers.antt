@@ -33,11 +33,11 @@ loop-preserved g c =
 
 pub returns-in-Err-clause-fails : goal.returns-in-Err-clause-fails
 returns-in-Err-clause-fails g c =
-    fails_reading _ _ _ _ _ _ _ _ _ c.loop.invariant.so_far c.in-Err.ensures.err (λ no_read. no_read)
+    fails_reading _ _ _ _ _ _ _ _ _ c.loop.invariant.so_far c.in-Err.ensures.err
 
 pub returns-clause-fails : goal.returns-clause-fails
 returns-clause-fails g c = fails_reading _ _ _ _ _ _ _ _ _ c.loop.invariant.so_far
-    (breaks_nowhere c.args.rows.now c.args.options.now (g.R.Read.remaining c.loop.reader)) (λ no_read. no_read)
+    (breaks_nowhere c.args.rows.now c.args.options.now (g.R.Read.remaining c.loop.reader))
 
 pub returns-in-Ok-Nothing-clause-completes : goal.returns-in-Ok-Nothing-clause-completes
 returns-in-Ok-Nothing-clause-completes g c = ended _ _ _ _ (λ m counts is.
@@ -51,7 +51,7 @@ returns-in-Ok-Nothing-clause-fails g c = end_failed _ _ c.loop.progress.counts f
     ends_whole _ _ _ _ _ _ _ _ (entry_of c.read.new.self) _ m c.loop.invariant.so_far
     (read_to _ _ _ (entry_of c.read.new.self) c.in-Ok-Nothing.field-0-is c.in-Ok-Nothing.ensures.ok)
     c.end-in-Ok-Nothing.ensures.kept counts is)
-    c.end-in-Ok-Nothing.result c.end-in-Ok-Nothing.ensures.no_read
+    c.end-in-Ok-Nothing.result c.end-in-Ok-Nothing.ensures.write
 
 pub returns-in-Ok-CutBefore-clause-completes : goal.returns-in-Ok-CutBefore-clause-completes
 returns-in-Ok-CutBefore-clause-completes g c = ended _ _ _ _ (λ m counts is.
@@ -65,7 +65,7 @@ returns-in-Ok-CutBefore-clause-fails g c = end_failed _ _ c.loop.progress.counts
     ends_before _ _ _ _ _ _ _ _ (entry_of c.read.new.self) _ m c.loop.invariant.so_far
     (read_to _ _ _ (entry_of c.read.new.self) c.in-Ok-CutBefore.field-0-is c.in-Ok-CutBefore.ensures.ok)
     c.end-in-Ok-CutBefore.ensures.kept counts is)
-    c.end-in-Ok-CutBefore.result c.end-in-Ok-CutBefore.ensures.no_read
+    c.end-in-Ok-CutBefore.result c.end-in-Ok-CutBefore.ensures.write
 
 pub returns-in-Ok-CutOff-clause-completes : goal.returns-in-Ok-CutOff-clause-completes
 returns-in-Ok-CutOff-clause-completes g c = ended _ _ _ _ (λ m counts is.
@@ -80,18 +80,18 @@ returns-in-Ok-CutOff-clause-fails g c =
     ends_cut_off _ _ _ _ _ _ _ _ _ _ _ _ m c.loop.invariant.so_far
     (read_to _ _ _ (entry_of c.read.new.self) c.in-Ok-CutOff.field-0-is c.in-Ok-CutOff.ensures.ok)
     c.in_ok-report-in-Ok-CutOff.ensures.ok c.end.ensures.kept counts is)
-    c.end.result c.end.ensures.no_read
+    c.end.result c.end.ensures.write
 
 pub returns-in_err-report-in-Ok-Nul-clause-fails : goal.returns-in_err-report-in-Ok-Nul-clause-fails
 returns-in_err-report-in-Ok-Nul-clause-fails g c =
     let failed = c.in_err-report-in-Ok-Nul in
-    passed_on (Fails _ _ _ _ _ _) _ _ c.from_residual.ensures.1 (fails_whole _ _ _ _ _ _ _ _ _ _ failed.field-0.0
-    c.loop.invariant.so_far failed.ensures.err failed.ensures.no_read
+    passed_on (Fails _ _ _ _ _ _) _ _ c.from_residual.ensures.1 (fails_whole _ _ _ _ _ _ _ _ _ _
+    c.loop.invariant.so_far failed.field-0.0 failed.ensures.err
     (read_to _ _ _ (entry_of c.read.new.self) c.in-Ok-Nul.field-0-is c.in-Ok-Nul.ensures.ok))
 
 pub returns-in_err-report-in-Ok-CutOff-clause-fails : goal.returns-in_err-report-in-Ok-CutOff-clause-fails
 returns-in_err-report-in-Ok-CutOff-clause-fails g c =
     let failed = c.in_err-report-in-Ok-CutOff in
     passed_on (Fails _ _ _ _ _ _) _ _ c.from_residual-in_err-report-in-Ok-CutOff.ensures.1
-    (fails_cut_off _ _ _ _ _ _ _ _ _ _ failed.field-0.0 c.loop.invariant.so_far failed.ensures.err failed.ensures.no_read
+    (fails_cut_off _ _ _ _ _ _ _ _ _ _ c.loop.invariant.so_far failed.field-0.0 failed.ensures.err
     (read_to _ _ _ (entry_of c.read.new.self) c.in-Ok-CutOff.field-0-is c.in-Ok-CutOff.ensures.ok))

@@ -1,6 +1,21 @@
-use Rattle.config_checks.proofs.ShownLemmas.{all_shown}
+use Rattle.std.proofs.Common.{Some}
+use Rattle.config_checks.specs.Findings.{AppendsPart}
+use Rattle.config_checks.proofs.EntryLemmas.{on_err}
+use Rattle.config_checks.proofs.WriteLemmas.{nothing_written, written_more, part_more, written_all}
+use Rattle.config_checks.proofs.ShownLemmas.{none_shown}
 use Rattle.config_checks.proofs.finding.push_shown.Goals as goal
 
-pub returns : goal.returns
-returns c =
-    all_shown c.loop-character.out.items c.args.out.now.items c.args.text.now c.loop-character.rest.now c.in_default.ensures.shown c.loop-character.invariant
+pub loop-character-init : goal.loop-character-init
+loop-character-init c = nothing_written _ _
+
+pub loop-character-preserved : goal.loop-character-preserved
+loop-character-preserved c =
+    written_more (Some _) (Some _) (Some _) _ _ _ _ c.in-Some.ensures.shown c.loop-character.invariant c.in_ok-push_piece.ensures.ok
+
+pub returns-in_err-push_piece-clause-err : goal.returns-in_err-push_piece-clause-err
+returns-in_err-push_piece-clause-err c =
+    on_err c.from_residual.result (AppendsPart _ _ _) (part_more (Some _) (Some _) (Some _) _ _ _ _ c.in-Some.ensures.shown c.loop-character.invariant c.in_err-push_piece.ensures.err)
+
+pub returns-clause-ok : goal.returns-clause-ok
+returns-clause-ok c =
+    written_all (Some _) (Some _) _ _ (none_shown c.loop-character.rest.now c.in_default.ensures.shown) c.loop-character.invariant
