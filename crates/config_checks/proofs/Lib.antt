@@ -6,3 +6,5 @@ mod EntryLemmas
 mod WriteLemmas
 mod CheckLemmas
 mod TableLemmas
+mod OneFinding
+mod OneReport

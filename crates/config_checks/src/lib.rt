@@ -7,6 +7,7 @@ pub mod finding;
 pub mod git;
 pub mod key;
 pub mod kind;
+pub mod laws;
 pub mod options;
 pub mod reason;
 pub mod row;
