@@ -1,5 +1,5 @@
-//! Laws over the definitions, each the contract of a function that does nothing: a setting has one finding, and
-//! an input one report.
+//! Laws over the definitions, each the contract of a function that does nothing: a setting has one finding,
+//! and an input one report.
 ghost use Rattle.std.specs.Prelude.{◌≡◌, ℕ, List, Bool, Option};
 ghost use Rattle.config_checks.specs.declared.kind.SettingKind.{SettingKind};
 ghost use Rattle.config_checks.specs.declared.reason.Reason.{Reason};
@@ -24,11 +24,11 @@ pub fn one_finding()
         → IsSameFinding a b }
 {}
 
-/// An input has one report. Two checks that read the same entries and ended with the same error wrote the same,
-/// except that after a failed write one of them may have written more.
+/// An input has one report. Two checks that read the same entries and ended with the same error wrote the
+/// same. Only after a failed write one of them may have written more.
 pub fn one_report()
     ensures one { (rows : List Row) (options : Options) (input a b : List ℕ) (s t : Summary)
         → IsReport rows options input a s → IsReport rows options input b t → (a ≡ b) × (s ≡ t) }
-    ensures failed { (rows : List Row) (options : Options) (entries : List Entry) (a b : List ℕ) (e : CheckError)
-        → WritesAfter e rows options entries a → WritesAfter e rows options entries b → AgreeAfter e a b }
+    ensures failed { (rows : List Row) (options : Options) (entries : List Entry) (a b : List ℕ)
+        (e : CheckError) → WritesAfter e rows options entries a → WritesAfter e rows options entries b → AgreeAfter e a b }
 {}

@@ -347,8 +347,8 @@ pub fn run<R: Read, W: Write>(
     answer_input(alloc, reader, &mut output)
 }
 
-/// Answers the lines of an input in memory, as [`run`] does, and appends the answers to `out`. Only memory can
-/// be missing here, since reads of a slice and writes to a vector do not fail otherwise. Then `out` is as it was.
+/// Answers the lines of an input in memory, as [`run`] does, and appends the answers to `out`. The only error
+/// is that memory runs out, since a slice can always be read. Then `out` is as it was.
 ///
 /// ```rust
 /// use gix_config_value::program::run_over;
