@@ -11,23 +11,28 @@ use Rattle.config_word.specs.Attribute.{AttributeText}
 use Rattle.config_color.specs.Split.{words}
 
 -- a color's names: its foreground, then its background, those that there are
-abbrev pub color_words : Color → List Name
-color_words c = option_to_list c.foreground ++ option_to_list c.background
+abbrev pub color_names : Color → List Name
+color_names c = option_to_list c.foreground ++ option_to_list c.background
 
 -- the composition: the names of a and then those of b are placed anew, and the attributes are united
 pub record Composition (a b c : Color) : Type 0 where
-  pub placed : Placed (color_words a ++ color_words b) c.foreground c.background
+  pub placed : Placed (color_names a ++ color_names b) c.foreground c.background
   pub united : c.attributes.0 ≡ bit_or a.attributes.0 b.attributes.0
 
 -- the answer of `compose`: the composition, which then has a text, and none where the names are more than two,
 -- for which there is no composition
 abbrev pub Composes : Color → Color → Option Color → Type 0
-Composes a b None = (2 < length (color_words a ++ color_words b)) × ((c : Color) → ¬ (Composition a b c))
+Composes a b None = (2 < length (color_names a ++ color_names b)) × ((c : Color) → ¬ (Composition a b c))
 Composes a b (Some c) = Composition a b c × HasText ColorText c
 
 -- both texts have a color, and c is their composition
 abbrev pub Joined : List ℕ → List ℕ → Color → Type 0
 Joined front back c = (a : Color) × (b : Color) × ColorText front a × ColorText back b × Composition a b c
+
+-- both texts have a color, and the names of the two colors are more than two
+abbrev pub HaveTooManyNames : List ℕ → List ℕ → Type 0
+HaveTooManyNames front back =
+    (a : Color) × (b : Color) × ColorText front a × ColorText back b × (2 < length (color_names a ++ color_names b))
 
 -- the words of both texts have the same names in the same order, and attributes of the same bits
 abbrev pub SameWords : List ℕ → List ℕ → Type 0
