@@ -20,7 +20,7 @@ use Rattle.gix_config_value.specs.Answers.{AnswersAllBut}
 use Rattle.gix_config_value.specs.Reading.Steps.{CompletesLines, AnswersLast, CutsLine, OutputState}
 use Rattle.gix_config_value.specs.Reading.Steps.{SendsBytes, SendsAnswer, AppendsAnswer, FailsSending}
 use Rattle.gix_config_value.specs.Reading.Steps.{RunState, with_more, Advances, FailsWithin, AnswersUpTo}
-use Rattle.gix_config_value.proofs.KindLemmas.{kind_told, kind_decided}
+use Rattle.gix_config_value.proofs.KindLemmas.{kind_told, kind_normalizes}
 use Rattle.std.proofs.KnownBytes.{Appends-nil, Appends-trans}
 
 -- ---- lists
@@ -102,11 +102,13 @@ CompletesLines-trans line p line' q line'' ok ok' ok'' first second t u = record
 pub line_decided : (line : List ℕ) → (outcome : Outcome) × LineOutcome line outcome
 line_decided line = elim (kind_told (line_head line)) [
   | inr none ↦ (unknown_kind, none)
-  | inl found ↦ elim (kind_decided found.0 (line_value line)) [
-    | inl text ↦ (accepted text.0, (found.0, found.1, text.1))
-    | inr none ↦ (refused, (found.0, found.1, none))
-  ]
-]
+  | inl found ↦ given found (kind_normalizes found.0 (line_value line))
+] where
+  given : (found : (kind : Kind) × (kind_name kind ≡ line_head line))
+      → (r : Option (List ℕ)) × Normalizes (KindGrammar found.0) (KindCanonical found.0) (line_value line) r
+      → (outcome : Outcome) × LineOutcome line outcome
+  given found (Some s, is) = (accepted s, (found.0, found.1, is))
+  given found (None, is) = (refused, (found.0, found.1, is))
 
 abbrev pub CompletesSome : List ℕ → Bool → List ℕ → Type 0
 CompletesSome line ok bytes =

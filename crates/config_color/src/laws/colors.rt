@@ -1,10 +1,10 @@
 //! Laws about colors and about the words of their texts.
-ghost use Rattle.std.specs.Prelude.{◌≡◌, ◌≤◌, ◌↔◌, ◌++◌, ℕ, List, length, None};
+ghost use Rattle.std.specs.Prelude.{◌≡◌, ◌≤◌, ◌↔◌, ◌⊎◌, ◌++◌, ℕ, List, length, None};
 ghost use Rattle.config_color.specs.declared.color.Color.{Color};
 ghost use Rattle.config_color.specs.Color.{ColorText, PartFits, AreKnown};
-ghost use Rattle.config_color.specs.Composition.{Joined, Moves};
+ghost use Rattle.config_color.specs.Composition.{Joined, HaveTooManyNames, Moves};
 ghost use Rattle.config_color.specs.Space.{Space};
-ghost use Rattle.config_text.specs.Value.{HasText};
+ghost use Rattle.config_text.specs.Value.{HasText, IsRefused};
 ghost use Rattle.config_color.specs.Split.{piece, words};
 
 /// A color has a text exactly if each of its set bits has a constant, and it has no background
@@ -44,11 +44,15 @@ pub fn joined_words()
         → words (before ++ space ++ rest) ≡ words before ++ words rest }
 {}
 
-/// Two texts joined by white space have a color exactly if both have one and these have a
-/// composition, which is the color.
-pub fn joined_colors()
-    ensures { (front space back : List ℕ) (c : Color) → Space space
+/// Two texts joined by white space have a color exactly if both have one and these have a composition,
+/// which is the color. They are refused exactly if one of them is refused, or if the names of their colors
+/// are more than two.
+pub fn joined()
+    ensures read { (front space back : List ℕ) (c : Color) → Space space
         → (ColorText (front ++ space ++ back) c) ↔ (Joined front back c) }
+    ensures refused { (front space back : List ℕ) → Space space
+        → (IsRefused ColorText (front ++ space ++ back))
+        ↔ (IsRefused ColorText front ⊎ IsRefused ColorText back ⊎ HaveTooManyNames front back) }
 {}
 
 /// Texts whose words are the same but for one whole attribute word have the same color, or none. That word
