@@ -1,8 +1,8 @@
 #!/usr/bin/env python3
 """Prints what a claim rests on: each word that its clauses cite, those that these cite, and so on, std's included.
 
-    python3 docs/words.py               the lines of each kind's grammar and canonical texts, and of the headline
-    python3 docs/words.py headline      the clauses of the headline, and the text of each word
+    python3 docs/words.py               the lines of the headline, and of each kind's grammar and canonical texts
+    python3 docs/words.py headline      the clauses of the headline, and the text of each word; `joined`: for colors
     python3 docs/words.py Boolean       the same for a kind, here its two members of `impl Value`
     python3 docs/words.py value::normalize_as Value::read kind::normalize     for calls: MODULE::CALL, or TYPE::CALL
     python3 docs/words.py IntegerText   for a definition
@@ -13,15 +13,15 @@ as numbers and strings, has no text. The library of the toolchain is found by `r
 import functools
 import pathlib
 import re
+import signal
 import subprocess
 import sys
 
 ROOT = pathlib.Path(__file__).resolve().parent.parent
 CRATES = ROOT / "crates"
 KINDS = ("Suffix", "Integer", "Amount", "Boolean", "Name", "Attribute", "Color")
-# what the headline says; of these, the calls that are there
-HEADLINE = ("value::meaning", "value::one_meaning", "colors::joined")
-BEFORE = ("Value::read", "value::normalize_as", "value::same_as")
+# the calls whose clauses are the sentence of docs/READING.md, for any kind and for colors
+SENTENCE = {"headline": ("value::meaning", "value::one_meaning"), "joined": ("colors::joined",)}
 # where the libraries are to which `lib.`, `mathlib.` and the like lead; all others are folders of the logic
 PLACES = {"mathlib": "antt/port/mathlib/src", "seplogic": "antt/port/seplogic/src", "native": "antt/lib/native/src",
           "text": "antt/lib/native-text/src"}
@@ -257,11 +257,8 @@ def members(claim):
 
 
 def claims_of(word):
-    if word == "headline":
-        found = [claim_of_call(path) for path in HEADLINE]
-        return list(filter(None, found)) or [claim_of_call(path) for path in BEFORE]
-    if "::" in word:
-        return list(filter(None, [claim_of_call(word)]))
+    if word in SENTENCE or "::" in word:
+        return list(filter(None, map(claim_of_call, SENTENCE.get(word, (word,)))))
     found = claim_of_kind(word)
     if found:
         return [found]
@@ -277,7 +274,7 @@ def counts(word):
 def table():
     """The rows of docs/READING.md's table."""
     rows = ["| Claim | Lines here | Lines of the toolchain |", "|---|---|---|"]
-    return rows + ["| `{}` | {} | {} |".format(claim, *counts(claim)) for claim in (*KINDS, "headline")]
+    return rows + ["| `{}` | {} | {} |".format(claim, *counts(claim)) for claim in (*SENTENCE, *KINDS)]
 
 
 def main():
@@ -298,4 +295,6 @@ def main():
 
 
 if __name__ == "__main__":
+    # for `| head`
+    signal.signal(signal.SIGPIPE, signal.SIG_DFL)
     sys.exit(main())
