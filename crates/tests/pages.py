@@ -152,6 +152,15 @@ def answers():
     yield "answers", literals(spec("gix_config_value", "Answers", "outcome_text")), told
 
 
+def places():
+    """The files of definitions that the pages name, as `config_text` `Value`."""
+    for page in ("docs/GRAMMAR.md", "docs/READING.md"):
+        text = " ".join((ROOT / page).read_text("utf-8").split())
+        named = [(crate, file) for crate, files in re.findall(r"`(\w+)`((?:,? `[A-Z]\w+`)+)", text) for file in spans(files)
+                 if (words.CRATES / crate / "specs").is_dir()]
+        yield page, [it for it in named if not (words.CRATES / it[0] / f"specs/{it[1]}.antt").exists()], []
+
+
 def lengths():
     code = (words.CRATES / "config_text/src/value.rt").read_text("utf-8")
     longest = re.findall(r"LONGEST_TEXT: usize = (\d+)", code)
@@ -174,7 +183,7 @@ def reading():
 
 def main():
     results = examples.results()
-    for compared in (suffixes, integers, booleans, names, attributes, spaces, paths, answers, lengths, reading):
+    for compared in (suffixes, integers, booleans, names, attributes, spaces, paths, answers, lengths, places, reading):
         try:
             results += [(f"{what}: {known} in specs/, {told} on the page", known == told) for what, known, told in compared()]
         except (AttributeError, IndexError, KeyError, TypeError, ValueError) as error:
