@@ -233,15 +233,19 @@ def claim_of_kind(kind):
 
 
 def claim_of_call(path):
-    """The clauses of a call, by its module or its type and its name."""
+    """The clauses of a call, by its module or its type and its name. For a trait's call, members of the `impl`."""
     above, name = path.split("::")[-2:]
     for file in sources():
         text = file.read_text("utf-8")
-        blocks = re.findall(rf"^(?:pub )?(?:trait|impl\b.*) {above}\b.*?^\}}", text, re.MULTILINE | re.DOTALL)
+        begins = rf"^(?:pub trait {above}\b|impl\b[^\n]* {above}(?:<[^\n]*>)? \{{)"
+        blocks = re.findall(begins + r".*?^\}", text, re.MULTILINE | re.DOTALL)
         for block in [text] * (file.stem == above) + blocks:
-            found = re.search(rf"^( *)(?:pub )?fn {name}\b.*?(?:;$|^\1\{{|\{{\s*\}}$)", block, re.MULTILINE | re.DOTALL)
+            found = re.search(rf"^( *)(?:pub )?fn {name}\b.*?(?:;$|\{{$|\{{\s*\}}$)", block, re.MULTILINE | re.DOTALL)
             if found and re.search(r"\b(requires|ensures)\b", found[0]):
                 return Word(path, file, found[0].rstrip(" {}"))
+            owed = re.findall(r"^ *ghost \w+ = \{.*?\};", block, re.MULTILINE | re.DOTALL)
+            if found and owed and block.startswith("impl"):
+                return Word(path, file, "\n".join([block.split("\n")[0], *owed, found[0].rstrip(" {}")]))
     return None
 
 
