@@ -16,6 +16,7 @@ sys.path.insert(0, str(ROOT / "docs"))
 import words  # noqa: E402
 
 LIBRARY = tuple(examples.CALLS)
+KEYWORDS = "abbrev|data|mutual|pub|record|unfoldable|unfolding|Unit|use|where"
 PAGE = (ROOT / "docs/GRAMMAR.md").read_text("utf-8")
 SECTIONS = dict(re.findall(r"^## ([^(\n]*\w)[^\n]*\n(.*?)(?=^## |\Z)", PAGE, re.MULTILINE | re.DOTALL))
 NUMBERS = dict(zip("first second third fourth fifth sixth seventh".split(), range(1, 8)))
@@ -156,8 +157,8 @@ def places():
     """The files of definitions that the pages name, as `config_text` `Value`."""
     for page in ("docs/GRAMMAR.md", "docs/READING.md"):
         text = " ".join((ROOT / page).read_text("utf-8").split())
-        named = [(crate, file) for crate, files in re.findall(r"`(\w+)`((?:,? `[A-Z]\w+`)+)", text) for file in spans(files)
-                 if (words.CRATES / crate / "specs").is_dir()]
+        found = re.findall(r"`(\w+)`((?:,? `[A-Z]\w+`)+)", text)
+        named = [(crate, file) for crate, files in found if (words.CRATES / crate).is_dir() for file in spans(files)]
         yield page, [it for it in named if not (words.CRATES / it[0] / f"specs/{it[1]}.antt").exists()], []
 
 
@@ -176,16 +177,19 @@ def reading():
     for crate in LIBRARY:
         for file in sorted((words.CRATES / crate / "specs").glob("*.antt")):
             used = [name for name, (module, _) in words.opened(file).names.items() if not module.startswith(own)]
+            text = re.sub('"[^"]*"|◌', " ", words.without_comments(file.read_text("utf-8")))
+            used += sorted(set(re.findall(r"[^\s\w(){};,.\[\]]+|Type \d|\[\]|\b(?:%s)\b" % KEYWORDS, text)))
             missing = [name for name in used if not all(
                 re.search(rf"(?<!\w){re.escape(part)}(?!\w)", explained) for part in name.split("◌"))]
-            yield f"docs/READING.md, words of {crate} {file.stem}", missing, []
+            yield f"docs/READING.md, signs of {crate} {file.stem}", missing, []
 
 
 def main():
     results = examples.results()
     for compared in (suffixes, integers, booleans, names, attributes, spaces, paths, answers, lengths, places, reading):
         try:
-            results += [(f"{what}: {known} in specs/, {told} on the page", known == told) for what, known, told in compared()]
+            for what, known, told in compared():
+                results.append((f"{what}: {known} in the code, {told} on the page", known == told))
         except (AttributeError, IndexError, KeyError, TypeError, ValueError) as error:
             results.append((f"{compared.__name__} has another form than this script knows: {error!r}", False))
     for fault, is_right in results:
