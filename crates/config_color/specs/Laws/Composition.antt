@@ -172,3 +172,12 @@ pub places_refuse : (a b : Color) → HasText ColorText a → HasText ColorText 
 places_refuse a b (s, p) (t, q) e =
     let l = places_none a.foreground a.background b.foreground b.background (background_beside s a p) (background_beside t b q) e in
     (l, λ c k. absurd (omega (arith, Placed-short (color_names a ++ color_names b) c.foreground c.background k.placed)))
+
+-- two colors have one composition, or none
+pub composes_one : (a b : Color) (r s : Option Color) → Composes a b r → Composes a b s → r ≡ s
+composes_one a b None None p q = refl
+composes_one a b None (Some d) p q = absurd (p.1 d q.0)
+composes_one a b (Some c) None p q = absurd (q.1 c p.0)
+composes_one a b (Some c) (Some d) (k, t) (m, u) =
+    let placed = Placed-one (color_names a ++ color_names b) c.foreground c.background d.foreground d.background k.placed m.placed in
+    ap Some (same_color c d placed.0 placed.1 (k.united ∙ sym m.united))

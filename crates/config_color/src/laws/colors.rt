@@ -1,8 +1,8 @@
 //! Laws about colors and about the words of their texts.
-ghost use Rattle.std.specs.Prelude.{◌≡◌, ◌↔◌, ◌⊎◌, ◌++◌, ℕ, List, None};
+ghost use Rattle.std.specs.Prelude.{◌≡◌, ◌↔◌, ◌⊎◌, ◌++◌, ℕ, List, Option, None};
 ghost use Rattle.config_color.specs.declared.color.Color.{Color};
 ghost use Rattle.config_color.specs.Color.{ColorText, PartFits, AreKnown};
-ghost use Rattle.config_color.specs.Composition.{Joined, HaveTooManyNames, Moves};
+ghost use Rattle.config_color.specs.Composition.{Composes, Joined, HaveTooManyNames, Moves};
 ghost use Rattle.config_color.specs.Space.{Space};
 ghost use Rattle.config_text.specs.Value.{HasText, IsRefused};
 ghost use Rattle.config_color.specs.Split.{Words};
@@ -43,6 +43,12 @@ pub fn joined()
     ensures refused { (front space back : List ℕ) → Space space
         → (IsRefused ColorText (front ++ space ++ back))
         ↔ (IsRefused ColorText front ⊎ IsRefused ColorText back ⊎ HaveTooManyNames front back) }
+{}
+
+/// For two colors there is only one answer of `compose`: their one composition, or `None` where they have
+/// none.
+pub fn one_composition()
+    ensures { (a b : Color) (r s : Option Color) → Composes a b r → Composes a b s → r ≡ s }
 {}
 
 /// Texts whose words are the same but for one whole attribute word have the same color, or none. That word
