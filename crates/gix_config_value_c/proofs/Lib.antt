@@ -1,4 +1,3 @@
-pub mod Buffers
 pub mod Entries
 pub mod Lookup
 pub mod NameTags
