@@ -1,3 +1,5 @@
 pub mod Entries
 pub mod Lookup
 pub mod NameTags
+pub mod NumbersApart
+pub mod StructsApart
