@@ -1,13 +1,12 @@
 -- The composition of two colors, and what it says of joined texts and of texts that mean the same.
-use Rattle.std.specs.Prelude.{◌≡◌, ℕ, ◌<◌, ◌↔◌, List, ◌∷◌, ◌++◌, length, Option, None, Some, Bool, IsTrue, MatchOption}
+use Rattle.std.specs.Prelude.{◌≡◌, ℕ, ◌<◌, ◌↔◌, List, ◌∷◌, ◌++◌, length, Option, None, Some, Bool, IsTrue}
 use Rattle.std.specs.Option.{option_to_list}
 use Rattle.std.specs.Int.RustNames.{bit_or}
-use Rattle.arrayvec.specs.ArrayString.{ArrayString}
 use Rattle.config_color.specs.declared.color.Color.{Color}
 use Rattle.config_word.specs.declared.name.Name.{Name}
-use Rattle.config_color.specs.Color.{TextRead, Placed, ColorText, CanonicalColor}
+use Rattle.config_color.specs.Color.{TextRead, Placed, ColorText}
 use Rattle.config_color.specs.Space.{Space}
-use Rattle.config_text.specs.Value.{IsAccepted, HasText, IsTextOf}
+use Rattle.config_text.specs.Value.{IsAccepted, HasText}
 use Rattle.config_word.specs.Attribute.{AttributeText}
 
 -- a color's names: its foreground, then its background, those that there are
@@ -33,14 +32,6 @@ Joined front back c = (a : Color) × (b : Color) × ColorText front a × ColorTe
 abbrev pub HaveTooManyNames : List ℕ → List ℕ → Type 0
 HaveTooManyNames front back =
     (a : Color) × (b : Color) × ColorText front a × ColorText back b × (2 < length (color_names a ++ color_names b))
-
--- the answer for a text, by what stands before and what follows any spelling of white space in it: the canonical
--- text of the composition of their colors, and none where there is no such color
-abbrev pub Joins : List ℕ → Option ArrayString → Type 0
-Joins t result =
-    (front space back : List ℕ) → Space space → t ≡ front ++ space ++ back
-    → MatchOption result ((c : Color) → ¬ (Joined front back c))
-    (λ s. (c : Color) × Joined front back c × IsTextOf ColorText CanonicalColor c s.bytes)
 
 -- the words of both texts have the same names in the same order, and attributes of the same bits
 pub record SameWords (a b : List ℕ) : Type 0 where

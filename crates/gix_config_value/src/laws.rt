@@ -2,6 +2,7 @@
 //! callers cite are here too.
 
 pub mod equality;
+pub mod headline;
 pub mod kinds;
 
 pub use config_color::laws::colors;

@@ -1,19 +1,18 @@
 -- The laws of composition: the color of a joined text is the composition of its parts' colors, and what follows
--- from that for the answers of `normalize` and `same`.
+-- from that for `same`.
 use Rattle.std.proofs.Common.{◌≡◌, ℕ, ◌+◌, ◌<◌, ◌≤◌, ◌↔◌, ◌⊎◌, inl, inr, List, [], ◌∷◌, ◌++◌, length, codes, Option, Some, None, Bool, refl, sym, ap, subst, ◌∙◌, append_assoc, length-append, arith}
-use Rattle.arrayvec.specs.ArrayString.{ArrayString}
 use Rattle.std.proofs.lemmas.Option.{some_pair_parts}
 use Rattle.std.proofs.lemmas.Bool.Decides.{leb_tells}
 use Rattle.std.specs.Int.RustNames.{bit_or}
 use Rattle.std.specs.Option.{option_to_list}
 use Rattle.config_color.specs.declared.color.Color.{Color}
 use Rattle.config_word.specs.declared.name.Name.{Name}
-use Rattle.config_color.specs.Color.{WordsRead, TextRead, Placed, ColorText, CanonicalColor}
+use Rattle.config_color.specs.Color.{WordsRead, TextRead, Placed, ColorText}
 use Rattle.config_color.specs.Laws.Color.{read_words, text_read, WordsRead-join, PartsRead, WordsRead-split, WordsRead-one, Placed-words, Placed-short, Placed-one, placing, same_color, color_one_value, color_decided}
 use Rattle.config_color.specs.Reading.Color.{places_of}
-use Rattle.config_color.specs.Composition.{color_names, Composition, Composes, Joined, HaveTooManyNames, Joins, SameWords, ComparesWords}
+use Rattle.config_color.specs.Composition.{color_names, Composition, Composes, Joined, HaveTooManyNames, SameWords, ComparesWords}
 use Rattle.config_color.specs.Space.{Space}
-use Rattle.config_text.specs.Value.{IsAccepted, IsRefused, HasText, Normalizes, Compares}
+use Rattle.config_text.specs.Value.{IsAccepted, IsRefused, HasText, Compares}
 use Rattle.config_color.specs.Reading.Split.{words}
 use Rattle.config_color.specs.Laws.Split.{words_joined, space_byte}
 
@@ -95,17 +94,17 @@ joined_refused front space back s = (λ r. told r (color_decided front) (color_d
         ap (λ (v : Color). color_names v ++ color_names w) (color_one_value front v a t p) ∙ ap (λ (w : Color). color_names a ++ color_names w) (color_one_value back w b u q) in
         omega (arith, l, ap length same, Placed-short (color_names a ++ color_names b) c.foreground c.background k.placed)
 
--- what `normalize` answers for a color text is said for every place at which white space stands in it
-pub normalizes_joins : (t : List ℕ) (result : Option ArrayString)
-    → Normalizes ColorText CanonicalColor t result → Joins t result
-normalizes_joins t None refused = λ front space back s e c j. refused c (subst (λ (t : List ℕ). ColorText t c) (sym e) (joined_reads front space back c s j))
-normalizes_joins t (Some r) (c, h, k) = λ front space back s e. (c, reads_joined front space back c s (subst (λ (t : List ℕ). ColorText t c) e h), k)
-
 -- what `same` answers for color texts is said by their words
-pub compares_words : (a b : List ℕ) (result : Option Bool) → Compares ColorText CanonicalColor a b result
+pub compares_words : (a b : List ℕ) (result : Option Bool) → Compares ColorText a b result
     → ComparesWords a b result
 compares_words a b None refused = tt
-compares_words a b (Some same) (v, w, p, q, k, texts) = (λ e. agree (k.0 e), λ s. k.1 (meet s)) where
+compares_words a b (Some same) (v, w, compared) = (λ e. agree (compared.equal.0 e), λ s. compared.equal.1 (meet s)) where
+  p : ColorText a v
+  p = compared.first
+
+  q : ColorText b w
+  q = compared.second
+
   agree : v ≡ w → SameWords a b
   agree e =
       let names : q.names ≡ p.names = sym (Placed-words q.names w.foreground w.background q.placed) ∙ (ap (λ (c : Color). color_names c) (sym e) ∙ Placed-words p.names v.foreground v.background p.placed) in
