@@ -2,9 +2,9 @@
 //!
 //! Answers wait in a buffer. They are written out when it is full, before the next read and at the end. Lines
 //! within one read are answered from its slice; only a line that crosses the end of a read is gathered.
-ghost use Rattle.std.specs.Prelude.{◌≡◌, ◌+◌, ◌≤◌, ◌<◌, [], length, OnOk, IfOk, IfErr};
+ghost use Rattle.std.specs.Prelude.{◌≡◌, ℕ, ◌+◌, ◌≤◌, ◌<◌, List, [], ◌++◌, length, OnOk, OnErr, IfOk, IfErr};
 ghost use Rattle.gix_config_value.specs.Answers.{ended, line_head, line_value, IsUnbroken, Completes, Fails};
-ghost use Rattle.gix_config_value.specs.Answers.{status_of};
+ghost use Rattle.gix_config_value.specs.Answers.{Answers, status_of};
 ghost use Rattle.gix_config_value.specs.Reading.Steps.{AppendsAnswer, output_state, SendsBytes, SendsAnswer};
 ghost use Rattle.gix_config_value.specs.Reading.Steps.{FailsSending, run_state, with_more, Advances};
 ghost use Rattle.gix_config_value.specs.Reading.Steps.{FailsWithin, AnswersUpTo, EndsAnswered, EndsEarly};
@@ -345,6 +345,33 @@ pub fn run<R: Read, W: Write>(
         writer,
     };
     answer_input(alloc, reader, &mut output)
+}
+
+/// Answers the lines of an input in memory, as [`run`] does, and appends the answers to `out`. Only memory can
+/// be missing here, since reads of a slice and writes to a vector do not fail otherwise. Then `out` is as it was.
+///
+/// ```rust
+/// use gix_config_value::program::run_over;
+///
+/// let mut out = Vec::new(alloc);
+/// let all_accepted = run_over(alloc, b"integer 0x10K\n", &mut out)?;
+/// assert!(rt; all_accepted);
+/// assert_eq!(rt; out.as_slice(), b"ok 16k\n".as_slice());
+/// ```
+pub fn run_over(alloc: Global, input: &[u8], out: &mut Vec<u8>) -> Result<bool, AllocError>
+    ensures answers { IfOk result (λ ok. (output : List ℕ)
+        × (out.new.items ≡ out.old.items ++ output) × Answers input.now output ok) }
+    ensures unchanged { OnErr result (out.new.items ≡ out.old.items) }
+{
+    let length = out.len();
+    let mut reader = input;
+    match run(alloc, &mut reader, out) {
+        Ok(all_accepted) => Ok(all_accepted),
+        Err(_) => {
+            out.truncate(length);
+            Err(AllocError)
+        }
+    }
 }
 
 /// The exit status of a run: 0 if every line was accepted, 1 if some line was not, and 2 after an error.

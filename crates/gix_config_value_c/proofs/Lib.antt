@@ -1,4 +1,5 @@
-pub mod Buffers
 pub mod Entries
 pub mod Lookup
 pub mod NameTags
+pub mod NumbersApart
+pub mod StructsApart

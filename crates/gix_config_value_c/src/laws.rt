@@ -1,0 +1,4 @@
+//! Laws of the C interface, each the contract of a function that does nothing.
+
+pub mod numbers;
+pub mod structs;
