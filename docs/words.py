@@ -8,7 +8,8 @@
     python3 docs/words.py IntegerText   for a definition
 
 A word comes after those that it cites. Lines of comments are printed and not counted. What the prover itself has, such
-as numbers and strings, has no text. The library of the toolchain is found by `rt doc`.
+as numbers and strings, has no text. The library of the toolchain is found by `rt doc`. A type of the code is printed
+as it is declared, and the types of its fields are not followed.
 """
 import functools
 import pathlib
@@ -112,11 +113,11 @@ class File:
                 word = self.words.setdefault(name, Word(name, self.file, ""))
                 word.text, kept = "\n".join([*kept, line]), []
             elif re.match("--|infix|#", line):
-                kept, word = [*kept, line], None
+                kept.append(line)
             elif not line.strip() or re.match(rf"({MARKS} )*(use|mod) ", line):
                 kept = []
             elif word:
-                word.text += "\n" + line
+                word.text, kept = "\n".join([word.text, *kept, line]), []
         for word in list(self.words.values()):
             word.lines = without_comments(word.text).count("\n") + 1
             # the cases of a type lead to it

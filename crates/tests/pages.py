@@ -162,6 +162,11 @@ def places():
         yield page, [it for it in named if not (words.CRATES / it[0] / f"specs/{it[1]}.antt").exists()], []
 
 
+def bodies():
+    said = re.findall(r"lays (\d+) wrong bodies", (ROOT / "docs/EVIDENCE.md").read_text("utf-8"))
+    yield "wrong bodies", [str(len(list(words.CRATES.glob("*/wrong_bodies/*.edit"))))], said
+
+
 def lengths():
     code = (words.CRATES / "config_text/src/value.rt").read_text("utf-8")
     longest = re.findall(r"LONGEST_TEXT: usize = (\d+)", code)
@@ -186,7 +191,7 @@ def reading():
 
 def main():
     results = examples.results()
-    for compared in (suffixes, integers, booleans, names, attributes, spaces, paths, answers, lengths, places, reading):
+    for compared in (suffixes, integers, booleans, names, attributes, spaces, paths, answers, lengths, places, bodies, reading):
         try:
             for what, known, told in compared():
                 results.append((f"{what}: {known} in the code, {told} on the page", known == told))
