@@ -1,6 +1,6 @@
 -- How the steps of a run compose, and that every line and every input has answers.
 use Rattle.std.proofs.Common.{length, Result, Ok, Err, OnOk, IfErr, ◌+◌, take, drop, take-append-drop, ◌≡◌, ℕ}
-use Rattle.std.proofs.Common.{inl, inr, List, [], ◌∷◌, ◌++◌, ◌&&◌, flat_map, Bool, true, Option, refl, sym}
+use Rattle.std.proofs.Common.{inl, inr, Some, None, List, [], ◌∷◌, ◌++◌, ◌&&◌, flat_map, Bool, true, Option, refl, sym}
 use Rattle.std.proofs.Common.{ap, ◌∙◌, append_assoc, append-nil, subst}
 use Rattle.std.specs.List.{AllByRecursion, AllZip, list_all}
 use Rattle.std.specs.Result.{IsErrAnd}
@@ -10,6 +10,9 @@ use Rattle.std.proofs.lemmas.List.Folds.{list_all-append}
 use Rattle.std.proofs.lemmas.Grind.{flat_map-append}
 use Rattle.std.proofs.lemmas.List.{nil_from_length}
 use Rattle.std.proofs.lemmas.Bool.Decides.{eqb_tells}
+use Rattle.config_text.specs.Value.{Normalizes}
+use Rattle.gix_config_value.specs.declared.kind.Kind.{Kind}
+use Rattle.gix_config_value.specs.Kinds.{kind_name, KindGrammar, KindCanonical}
 use Rattle.gix_config_value.specs.declared.program.RunError.{RunError}
 use Rattle.gix_config_value.specs.declared.program.RunError.TheVariants.{Write}
 use Rattle.gix_config_value.specs.Answers.Outcome.{accepted, refused, unknown_kind}

@@ -1,6 +1,6 @@
 //! The headline of the library, stated once for each kind: what is read, with which value, and its one canonical
 //! text. `Headline` of specs/Headline.antt says it with no word of the library but the grammars.
-ghost use Rattle.std.specs.Prelude.{◌≡◌, Some, option_map};
+ghost use Rattle.std.specs.Prelude.{◌≡◌, ◌++◌, ℕ, List, option_map};
 ghost use Rattle.bstr.specs.BStr.{bstr_bytes};
 ghost use Rattle.gix_config_value.specs.Suffix.{SuffixText, CanonicalSuffix};
 ghost use Rattle.gix_config_value.specs.Integer.{IntegerText, CanonicalInteger};
@@ -9,13 +9,14 @@ ghost use Rattle.gix_config_value.specs.Boolean.{BooleanText, CanonicalBoolean};
 ghost use Rattle.gix_config_value.specs.Name.{NameText, CanonicalName};
 ghost use Rattle.gix_config_value.specs.Attribute.{AttributeText, CanonicalAttribute};
 ghost use Rattle.gix_config_value.specs.Color.{ColorText, CanonicalColor};
-ghost use Rattle.uses.specs.Headline.{Headline};
+ghost use Rattle.gix_config_value.specs.Space.{Space};
+ghost use Rattle.uses.specs.Headline.{Headline, JoinedHeadline};
 
 use bstr::BStr;
 use gix_config_value::canonical::{CanonicalText, Value};
 use gix_config_value::color::{Attribute, Color, Name};
 use gix_config_value::integer::{Amount, Integer, Suffix};
-use gix_config_value::laws::headline::{meaning, one_meaning};
+use gix_config_value::laws::headline::{joined, meaning, one_meaning};
 use gix_config_value::Boolean;
 
 /// The value of a text of any kind, and its canonical text.
@@ -81,4 +82,13 @@ pub fn color(input: BStr<'_>) -> (Option<Color>, Option<CanonicalText>)
         (option_map (λ text. text.bytes) result.1) }
 {
     value_and_text::<Color>(input)
+}
+
+/// The color of a text in which white space joins two texts, at each place at which white space is.
+pub fn color_of_joined(joined_texts: BStr<'_>) -> Option<Color>
+    ensures { (front space back : List ℕ) → Space space
+        → bstr_bytes joined_texts.entry ≡ front ++ space ++ back → JoinedHeadline front back result }
+{
+    joined();
+    Color::read(joined_texts)
 }

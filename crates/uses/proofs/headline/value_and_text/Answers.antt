@@ -1,4 +1,4 @@
-use Rattle.uses.proofs.Headline.{says_headline}
+use Rattle.uses.proofs.HeadlineLemmas.{says_headline}
 use Rattle.uses.proofs.headline.value_and_text.Goals as goal
 
 pub returns : goal.returns
