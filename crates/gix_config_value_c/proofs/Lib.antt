@@ -2,4 +2,5 @@ pub mod Entries
 pub mod Lookup
 pub mod NameTags
 pub mod NumbersApart
+pub mod OneAnswer
 pub mod StructsApart

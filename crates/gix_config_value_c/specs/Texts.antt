@@ -1,5 +1,5 @@
 -- Texts of a kind that is chosen at run time, in C.
-use Rattle.std.specs.Prelude.{◌≡◌, ◌⊎◌, ℕ, List, Bool, Option, None, Some}
+use Rattle.std.specs.Prelude.{◌≡◌, ◌⊎◌, ℕ, List, Bool, None, Some}
 use Rattle.gix_config_value.specs.declared.kind.Kind.{Kind}
 use Rattle.gix_config_value.specs.Kinds.{KindGrammar, KindCanonical}
 use Rattle.gix_config_value.specs.Value.{IsRefused, Normalizes, Compares}
