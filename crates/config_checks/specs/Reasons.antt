@@ -7,7 +7,7 @@ use denote.Ref.{Bor}
 use Rattle.config_text.specs.declared.errors.Fault.{Fault}
 use Rattle.config_text.specs.declared.errors.Fault.TheVariants as faults
 use Rattle.config_text.specs.SameWord.{SameWord}
-use Rattle.config_text.specs.Value.{IsRefused, IsAccepted, IsTextOf}
+use Rattle.config_text.specs.Value.{IsRefused, IsAccepted, Normalizes}
 use Rattle.config_text.specs.Refusals.{Always}
 use Rattle.gix_config_value.specs.Boolean.{BooleanText, CanonicalBoolean}
 use Rattle.gix_config_value.specs.Integer.{IntegerText, CanonicalInteger}
@@ -126,16 +126,12 @@ HasReason (kinds.Word list) (Some t) r = IsJudgedByWords list t r
 
 -- ---- the canonical text that an accepted text should be
 
--- the canonical text of the value of the text
-abbrev pub IsCanonicalOf : {V : Type 0} → (List ℕ → V → Type 0) → (List ℕ → Type 0) → List ℕ → List ℕ → Type 0
-IsCanonicalOf {V} grammar canonical t c = (v : V) × grammar t v × IsTextOf grammar canonical v c
-
 -- nothing where the text is canonical, and else the canonical text
 abbrev pub IsRespelled : {V : Type 0} → (List ℕ → V → Type 0) → (List ℕ → Type 0) → List ℕ → Option Reason
     → Type 0
-IsRespelled grammar canonical t None = IsCanonicalOf grammar canonical t t
+IsRespelled grammar canonical t None = Normalizes grammar canonical t (Some t)
 IsRespelled grammar canonical t (Some (NotCanonical c)) =
-    IsCanonicalOf grammar canonical t c.bytes × (c.bytes ≢ t)
+    Normalizes grammar canonical t (Some c.bytes) × (c.bytes ≢ t)
 IsRespelled grammar canonical t (Some _) = ⊥
 
 pub record IsRespelledBoolOrInt (t : List ℕ) (r : Option Reason) : Type 0 where

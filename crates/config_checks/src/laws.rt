@@ -30,5 +30,6 @@ pub fn one_report()
     ensures one { (rows : List Row) (options : Options) (input a b : List ℕ) (s t : Summary)
         → IsReport rows options input a s → IsReport rows options input b t → (a ≡ b) × (s ≡ t) }
     ensures failed { (rows : List Row) (options : Options) (entries : List Entry) (a b : List ℕ)
-        (e : CheckError) → WritesAfter e rows options entries a → WritesAfter e rows options entries b → AgreeAfter e a b }
+        (e : CheckError) → WritesAfter e rows options entries a → WritesAfter e rows options entries b
+        → AgreeAfter e a b }
 {}

@@ -1,47 +1,44 @@
 -- The composition of two colors, and what it says of joined texts and of texts that mean the same.
-use Rattle.std.specs.Prelude.{◌≡◌, ℕ, ◌<◌, ◌↔◌, List, ◌∷◌, ◌++◌, length, Option, None, Some, Bool, IsTrue, MatchOption}
+use Rattle.std.specs.Prelude.{◌≡◌, ℕ, ◌<◌, ◌↔◌, List, ◌∷◌, ◌++◌, length, Option, None, Some, Bool, IsTrue}
 use Rattle.std.specs.Option.{option_to_list}
 use Rattle.std.specs.Int.RustNames.{bit_or}
-use Rattle.arrayvec.specs.ArrayString.{ArrayString}
 use Rattle.config_color.specs.declared.color.Color.{Color}
 use Rattle.config_word.specs.declared.name.Name.{Name}
-use Rattle.config_color.specs.Color.{WordsRead, Placed, ColorText, CanonicalColor}
+use Rattle.config_color.specs.Color.{TextRead, Placed, ColorText}
 use Rattle.config_color.specs.Space.{Space}
-use Rattle.config_text.specs.Value.{IsAccepted, HasText, IsTextOf}
+use Rattle.config_text.specs.Value.{IsAccepted, HasText}
 use Rattle.config_word.specs.Attribute.{AttributeText}
-use Rattle.config_color.specs.Split.{words}
 
 -- a color's names: its foreground, then its background, those that there are
-abbrev pub color_words : Color → List Name
-color_words c = option_to_list c.foreground ++ option_to_list c.background
+abbrev pub color_names : Color → List Name
+color_names c = option_to_list c.foreground ++ option_to_list c.background
 
 -- the composition: the names of a and then those of b are placed anew, and the attributes are united
 pub record Composition (a b c : Color) : Type 0 where
-  pub placed : Placed (color_words a ++ color_words b) c.foreground c.background
+  pub placed : Placed (color_names a ++ color_names b) c.foreground c.background
   pub united : c.attributes.0 ≡ bit_or a.attributes.0 b.attributes.0
 
 -- the answer of `compose`: the composition, which then has a text, and none where the names are more than two,
 -- for which there is no composition
 abbrev pub Composes : Color → Color → Option Color → Type 0
-Composes a b None = (2 < length (color_words a ++ color_words b)) × ((c : Color) → ¬ (Composition a b c))
+Composes a b None = (2 < length (color_names a ++ color_names b)) × ((c : Color) → ¬ (Composition a b c))
 Composes a b (Some c) = Composition a b c × HasText ColorText c
 
 -- both texts have a color, and c is their composition
 abbrev pub Joined : List ℕ → List ℕ → Color → Type 0
 Joined front back c = (a : Color) × (b : Color) × ColorText front a × ColorText back b × Composition a b c
 
--- the answer for a text, by what stands before and what follows any spelling of white space in it: the canonical
--- text of the composition of their colors, and none where there is no such color
-abbrev pub Joins : List ℕ → Option ArrayString → Type 0
-Joins t result =
-    (front space back : List ℕ) → Space space → t ≡ front ++ space ++ back
-    → MatchOption result ((c : Color) → ¬ (Joined front back c))
-    (λ s. (c : Color) × Joined front back c × IsTextOf ColorText CanonicalColor c s.bytes)
+-- both texts have a color, and the names of the two colors are more than two
+abbrev pub HaveTooManyNames : List ℕ → List ℕ → Type 0
+HaveTooManyNames front back =
+    (a : Color) × (b : Color) × ColorText front a × ColorText back b × (2 < length (color_names a ++ color_names b))
 
 -- the words of both texts have the same names in the same order, and attributes of the same bits
-abbrev pub SameWords : List ℕ → List ℕ → Type 0
-SameWords a b =
-    (names : List Name) × (bits : ℕ) × WordsRead (words a) names bits × WordsRead (words b) names bits
+pub record SameWords (a b : List ℕ) : Type 0 where
+  pub names : List Name
+  pub bits : ℕ
+  pub first : TextRead a names bits
+  pub second : TextRead b names bits
 
 -- two lists of words that differ in one whole attribute word, which stands at another place of the second list, or at
 -- one more place of it

@@ -2,9 +2,7 @@
 --
 -- A grammar relates texts to the values that it gives them. A canonical grammar is a set of texts,
 -- written without reference to how values are shown.
-use Rattle.std.specs.Prelude.{◌≡◌, ℕ, ◌≤◌, ◌↔◌, ◌⊎◌, List, [], length, Option, None, Some, Bool, true, false}
-use Rattle.std.specs.Prelude.{IsTrue}
-use Rattle.arrayvec.specs.ArrayString.{ArrayString}
+use Rattle.std.specs.Prelude.{◌≡◌, ℕ, ◌≤◌, ◌↔◌, ◌⊎◌, List, length, Option, None, Some, Bool, IsTrue}
 use Rattle.config_text.specs.declared.value.TheConstants.{LONGEST_TEXT}
 
 -- the grammar gives the text no value
@@ -30,30 +28,33 @@ pub record IsTextOf {V : Type 0} (grammar : List ℕ → V → Type 0) (canonica
   pub reads_to : grammar s v
   pub short : length s ≤ LONGEST_TEXT
 
--- the answer of a normalizer: a canonical text that reads to the value of the input, and none only where
--- the input has no value
-abbrev pub Normalizes : {V : Type 0} → (List ℕ → V → Type 0) → (List ℕ → Type 0) → List ℕ → Option ArrayString
+-- what a text means: this value and no other, and this text, the only canonical one that reads to the value
+pub record HasMeaning {V : Type 0} (grammar : List ℕ → V → Type 0) (canonical : List ℕ → Type 0) (t : List ℕ) (v : V) (s : List ℕ) : Type 0 where
+  pub derived : grammar t v
+  pub one_value : (w : V) → grammar t w → w ≡ v
+  pub text : IsTextOf grammar canonical v s
+  pub only_text : (r : List ℕ) → canonical r → grammar r v → r ≡ s
+
+-- a value and a text are what the input means; without both, the grammar gives the input no value
+abbrev pub Means : {V : Type 0} → (List ℕ → V → Type 0) → (List ℕ → Type 0) → List ℕ → Option V
+    → Option (List ℕ) → Type 0
+Means grammar canonical t None None = IsRefused grammar t
+Means grammar canonical t (Some v) (Some s) = HasMeaning grammar canonical t v s
+Means grammar canonical t _ _ = ⊥
+
+-- the text that a normalizer gives for the input, or no text if the grammar gives the input no value
+abbrev pub Normalizes : {V : Type 0} → (List ℕ → V → Type 0) → (List ℕ → Type 0) → List ℕ → Option (List ℕ)
     → Type 0
 Normalizes grammar canonical t None = IsRefused grammar t
-Normalizes {V} grammar canonical t (Some s) = (v : V) × grammar t v × IsTextOf grammar canonical v s.bytes
+Normalizes {V} grammar canonical t (Some s) = (v : V) × HasMeaning grammar canonical t v s
 
--- the same, where the text is written into a text of the caller's, and that is left empty where the input has
--- no value
-abbrev pub Fills : {V : Type 0} → (List ℕ → V → Type 0) → (List ℕ → Type 0) → List ℕ → List ℕ → Bool → Type 0
-Fills grammar canonical t written false = IsRefused grammar t × (written ≡ [])
-Fills {V} grammar canonical t written true = (v : V) × grammar t v × IsTextOf grammar canonical v written
+-- two texts have these values, and `same` says whether these are equal
+pub record AreCompared {V : Type 0} (grammar : List ℕ → V → Type 0) (a b : List ℕ) (v w : V) (same : Bool) : Type 0 where
+  pub first : grammar a v
+  pub second : grammar b w
+  pub equal : IsTrue same ↔ (v ≡ w)
 
--- no other canonical text reads to the value of the input
-abbrev pub IsOnlyText : {V : Type 0} → (List ℕ → V → Type 0) → (List ℕ → Type 0) → List ℕ → Option ArrayString
-    → Type 0
-IsOnlyText grammar canonical t None = Unit {0}
-IsOnlyText {V} grammar canonical t (Some s) =
-    (v : V) (r : List ℕ) → grammar t v → canonical r → grammar r v → r ≡ s.bytes
-
--- the answer to whether two texts mean the same: none only where one of them has no value, and else whether
--- the values are equal, which is whether their canonical texts are
-abbrev pub Compares : {V : Type 0} → (List ℕ → V → Type 0) → (List ℕ → Type 0) → List ℕ → List ℕ → Option Bool
-    → Type 0
-Compares grammar canonical a b None = IsRefused grammar a ⊎ IsRefused grammar b
-Compares {V} grammar canonical a b (Some same) = (v w : V) × grammar a v × grammar b w × (IsTrue same ↔ (v ≡ w))
-    × ((s t : List ℕ) → IsTextOf grammar canonical v s → IsTextOf grammar canonical w t → (IsTrue same ↔ (s ≡ t)))
+-- whether two texts mean the same, or nothing if one of them has no value
+abbrev pub Compares : {V : Type 0} → (List ℕ → V → Type 0) → List ℕ → List ℕ → Option Bool → Type 0
+Compares grammar a b None = IsRefused grammar a ⊎ IsRefused grammar b
+Compares {V} grammar a b (Some same) = (v : V) × (w : V) × AreCompared grammar a b v w same

@@ -1,8 +1,8 @@
 //! What it means for a text to be read as a value, and for a value to have one canonical text.
-ghost use Rattle.std.specs.Prelude.{◌≡◌, ℕ, ◌↔◌, ◌⊎◌, List, [], IsSomeAnd, IsTrue};
+ghost use Rattle.std.specs.Prelude.{◌≡◌, ℕ, ◌↔◌, ◌⊎◌, List, [], IsTrue, Some, None, option_map, if◌then◌else◌, false};
 ghost use Rattle.bstr.specs.BStr.{bstr_bytes};
-ghost use Rattle.config_text.specs.Value.{IsRefused, IsAccepted, HasText, Reads, IsTextOf, Normalizes, Fills};
-ghost use Rattle.config_text.specs.Value.{IsOnlyText, Compares};
+ghost use Rattle.config_text.specs.Value.{IsRefused, IsAccepted, HasText, Reads, IsTextOf};
+ghost use Rattle.config_text.specs.Value.{HasMeaning, Means, Normalizes, Compares};
 
 use arrayvec::ArrayString;
 use bstr::BStr;
@@ -89,7 +89,7 @@ pub trait Value: Copy + Eq {
 }
 
 /// The canonical text that reads to the value of the input, or `None` if the input has no value. A canonical
-/// input is returned byte for byte.
+/// input is returned byte for byte, by the law [`one_meaning`].
 ///
 /// ```rust
 /// use bstr::BStr;
@@ -100,10 +100,8 @@ pub trait Value: Copy + Eq {
 /// assert_eq!(rt; text.as_str(), "red blue bold ul");
 /// ```
 pub fn normalize_as<V: Value>(input: BStr<'_>) -> Option<CanonicalText>
-    ensures answer { Normalizes V.grammar V.canonical (bstr_bytes input.entry) result }
-    ensures only { IsOnlyText V.grammar V.canonical (bstr_bytes input.entry) result }
-    ensures unchanged { V.canonical (bstr_bytes input.entry)
-        → IsSomeAnd result (λ s. s.bytes ≡ bstr_bytes input.entry) }
+    ensures { Normalizes V.grammar V.canonical (bstr_bytes input.entry)
+        (option_map (λ text. text.bytes) result) }
 {
     let value = V::read(input)?;
     Some(value.text())
@@ -112,7 +110,9 @@ pub fn normalize_as<V: Value>(input: BStr<'_>) -> Option<CanonicalText>
 /// Replaces the text by the canonical text that reads to the value of the input, and returns whether the
 /// input has a value. If it has none, the text is left empty.
 pub fn normalize_into_as<V: Value>(input: BStr<'_>, text: &mut CanonicalText) -> bool
-    ensures { Fills V.grammar V.canonical (bstr_bytes input.entry) text.new.bytes result }
+    ensures text { Normalizes V.grammar V.canonical (bstr_bytes input.entry)
+        (if result then Some text.new.bytes else None) }
+    ensures empty { result ≡ false → text.new.bytes ≡ [] }
 {
     text.clear();
     match V::read(input) {
@@ -126,9 +126,38 @@ pub fn normalize_into_as<V: Value>(input: BStr<'_>, text: &mut CanonicalText) ->
 
 /// Whether two texts of a type mean the same, or `None` if the type's grammar gives one of them no value.
 pub fn same_as<V: Value>(a: BStr<'_>, b: BStr<'_>) -> Option<bool>
-    ensures { Compares V.grammar V.canonical (bstr_bytes a.entry) (bstr_bytes b.entry) result }
+    ensures { Compares V.grammar (bstr_bytes a.entry) (bstr_bytes b.entry) result }
 {
     let left = V::read(a)?;
     let right = V::read(b)?;
     Some(left == right)
 }
+
+/// What the input means: its value, and the only canonical text that reads to this value. Both are `None` if
+/// the input has no value. The text has at most 127 bytes, and no memory is taken for it.
+///
+/// ```rust
+/// use bstr::BStr;
+/// use gix_config_value::Boolean;
+/// use gix_config_value::laws::headline::meaning;
+///
+/// let (value, text) = meaning::<Boolean>(BStr::from("0x10"));
+/// assert_eq!(rt; value, Some(Boolean(true)));
+/// assert_eq!(rt; text.ok_or("no boolean")?.as_str(), "true");
+/// ```
+pub fn meaning<V: Value>(input: BStr<'_>) -> (Option<V>, Option<CanonicalText>)
+    ensures { Means V.grammar V.canonical (bstr_bytes input.entry) result.0
+        (option_map (λ text. text.bytes) result.1) }
+{
+    (V::read(input), normalize_as::<V>(input))
+}
+
+/// Values are equal exactly if their canonical texts are, so accepted texts mean the same exactly if their
+/// normalized texts are equal. A text has one meaning, and a canonical text is its own normalized text.
+pub fn one_meaning<V: Value>()
+    ensures values { (v w : V) (s t : List ℕ) → IsTextOf V.grammar V.canonical v s
+        → IsTextOf V.grammar V.canonical w t → (v ≡ w) ↔ (s ≡ t) }
+    ensures one { (text s t : List ℕ) (v w : V) → HasMeaning V.grammar V.canonical text v s
+        → HasMeaning V.grammar V.canonical text w t → (v ≡ w) × (s ≡ t) }
+    ensures unchanged { (s : List ℕ) → V.canonical s → (v : V) × HasMeaning V.grammar V.canonical s v s }
+{}

@@ -1,32 +1,18 @@
 -- What holds of every kind: its name tells it apart, and each text is refused or has a canonical text.
-use Rattle.std.proofs.Common.{◌≡◌, ◌≢◌, ℕ, ◌⊎◌, inl, inr, List, [], ◌∷◌}
+use Rattle.std.proofs.Common.{◌≡◌, ◌≢◌, ℕ, ◌⊎◌, inl, inr, List, [], ◌∷◌, Option, Some, None}
 use Rattle.std.specs.List.{AllByRecursion}
 use Rattle.gix_config_value.specs.declared.kind.Kind.{Kind}
 use Rattle.gix_config_value.specs.declared.kind.Kind.TheVariants as kinds
 use Rattle.gix_config_value.specs.Kinds.{kind_name, KindGrammar, KindCanonical}
-use Rattle.config_text.specs.Value.{IsAccepted, IsRefused, HasText, IsTextOf}
-use Rattle.config_text.specs.Laws.Value.{text_told}
-use Rattle.config_integer.specs.Suffix.{SuffixText, CanonicalSuffix, suffix_shown}
-use Rattle.config_integer.specs.Integer.{IntegerText, CanonicalInteger, integer_shown}
-use Rattle.config_integer.specs.Amount.{AmountText, CanonicalAmount, amount_shown}
-use Rattle.config_boolean.specs.Boolean.{BooleanText, CanonicalBoolean, boolean_shown}
-use Rattle.config_word.specs.Name.{NameText, CanonicalName, name_shown}
-use Rattle.config_word.specs.Attribute.{AttributeText, CanonicalAttribute, attribute_shown}
-use Rattle.config_color.specs.Color.{ColorText, CanonicalColor, color_shown}
-use Rattle.config_integer.specs.contracts.suffix.SuffixValue.TheImpl.Laws.{decided-law as suffix_decided}
-use Rattle.config_integer.specs.contracts.suffix.SuffixValue.TheImpl.Laws.{shown_is_text-law as suffix_shown_is_text}
-use Rattle.config_integer.specs.contracts.integer.IntegerValue.TheImpl.Laws.{decided-law as integer_decided}
-use Rattle.config_integer.specs.contracts.integer.IntegerValue.TheImpl.Laws.{shown_is_text-law as integer_shown_is_text}
-use Rattle.config_integer.specs.contracts.amount.AmountValue.TheImpl.Laws.{decided-law as amount_decided}
-use Rattle.config_integer.specs.contracts.amount.AmountValue.TheImpl.Laws.{shown_is_text-law as amount_shown_is_text}
-use Rattle.config_boolean.specs.contracts.boolean.BooleanValue.TheImpl.Laws.{decided-law as boolean_decided}
-use Rattle.config_boolean.specs.contracts.boolean.BooleanValue.TheImpl.Laws.{shown_is_text-law as boolean_shown_is_text}
-use Rattle.config_word.specs.contracts.name.NameValue.TheImpl.Laws.{decided-law as name_decided}
-use Rattle.config_word.specs.contracts.name.NameValue.TheImpl.Laws.{shown_is_text-law as name_shown_is_text}
-use Rattle.config_word.specs.contracts.attribute.AttributeValue.TheImpl.Laws.{decided-law as attribute_decided}
-use Rattle.config_word.specs.contracts.attribute.AttributeValue.TheImpl.Laws.{shown_is_text-law as attribute_shown_is_text}
-use Rattle.config_color.specs.contracts.color.ColorValue.TheImpl.Laws.{decided-law as color_decided}
-use Rattle.config_color.specs.contracts.color.ColorValue.TheImpl.Laws.{shown_is_text-law as color_shown_is_text}
+use Rattle.config_text.specs.Value.{IsAccepted, IsRefused, HasText, IsTextOf, Normalizes}
+use Rattle.config_text.specs.Laws.Value.{text_told, means_shown}
+use Rattle.config_integer.specs.contracts.suffix.SuffixValue.TheImpl.Laws as suffix
+use Rattle.config_integer.specs.contracts.integer.IntegerValue.TheImpl.Laws as integer
+use Rattle.config_integer.specs.contracts.amount.AmountValue.TheImpl.Laws as amount
+use Rattle.config_boolean.specs.contracts.boolean.BooleanValue.TheImpl.Laws as boolean
+use Rattle.config_word.specs.contracts.name.NameValue.TheImpl.Laws as name
+use Rattle.config_word.specs.contracts.attribute.AttributeValue.TheImpl.Laws as attribute
+use Rattle.config_color.specs.contracts.color.ColorValue.TheImpl.Laws as color
 
 -- a text is the name of one of these kinds, or of none of them
 named_among : (kinds : List Kind) (head : List ℕ)
@@ -54,33 +40,32 @@ kind_told head =
       ])
     ]
 
--- a text has a value, and s is a canonical text of that value
-abbrev pub HasCanonicalText : {V : Type 0} → (List ℕ → V → Type 0) → (List ℕ → Type 0) → List ℕ → Type 0
-HasCanonicalText {V} grammar canonical t =
-    (s : List ℕ) × ((v : V) × grammar t v × IsTextOf grammar canonical v s)
-
--- from two laws of `Value`: a text that is not refused has a canonical text of the same value
-decided_with : {V : Type 0} (grammar : List ℕ → V → Type 0) (canonical : List ℕ → Type 0) (displayed : V → List ℕ)
-    → ((t : List ℕ) → IsAccepted grammar t ⊎ IsRefused grammar t)
+-- from the laws of `Value`: a text is refused, or a normalizer gives it a text
+normalized : {V : Type 0} {grammar : List ℕ → V → Type 0} {canonical : List ℕ → Type 0} {displayed : V → List ℕ}
+    → ((t : List ℕ) (v w : V) → grammar t v → grammar t w → v ≡ w)
+    → ((s t : List ℕ) (v : V) → canonical s → canonical t → grammar s v → grammar t v → s ≡ t)
     → ((v : V) → HasText grammar v → IsTextOf grammar canonical v (displayed v))
-    → (t : List ℕ) → HasCanonicalText grammar canonical t ⊎ IsRefused grammar t
-decided_with grammar canonical displayed decided shown t = elim (decided t) [
-  | inl found ↦ inl (displayed found.0, (found.0, found.1, shown found.0 (t, found.1)))
-  | inr refused ↦ inr refused
+    → ((t : List ℕ) → IsAccepted grammar t ⊎ IsRefused grammar t)
+    → (t : List ℕ) → (r : Option (List ℕ)) × Normalizes grammar canonical t r
+normalized {displayed = displayed} one_value one_text shown decided t = elim (decided t) [
+  | inl found ↦ (Some (displayed found.0), (found.0, means_shown one_value one_text shown t found.0 found.1))
+  | inr refused ↦ (None, refused)
 ]
 
--- a text that is not refused has a canonical text of the same value
-pub kind_decided : (kind : Kind) (t : List ℕ)
-    → HasCanonicalText (KindGrammar kind) (KindCanonical kind) t ⊎ IsRefused (KindGrammar kind) t
-kind_decided kinds.Suffix t =
-    decided_with SuffixText CanonicalSuffix suffix_shown suffix_decided suffix_shown_is_text t
-kind_decided kinds.Integer t =
-    decided_with IntegerText CanonicalInteger integer_shown integer_decided integer_shown_is_text t
-kind_decided kinds.Amount t =
-    decided_with AmountText CanonicalAmount amount_shown amount_decided amount_shown_is_text t
-kind_decided kinds.Boolean t =
-    decided_with BooleanText CanonicalBoolean boolean_shown boolean_decided boolean_shown_is_text t
-kind_decided kinds.Name t = decided_with NameText CanonicalName name_shown name_decided name_shown_is_text t
-kind_decided kinds.Attribute t = decided_with AttributeText CanonicalAttribute (λ a. attribute_shown a.0) attribute_decided attribute_shown_is_text t
-kind_decided kinds.Color t =
-    decided_with ColorText CanonicalColor color_shown color_decided color_shown_is_text t
+-- a normalizer gives each text of each kind a text, or none
+pub kind_normalizes : (kind : Kind) (t : List ℕ)
+    → (r : Option (List ℕ)) × Normalizes (KindGrammar kind) (KindCanonical kind) t r
+kind_normalizes kinds.Suffix t =
+    normalized suffix.one_value-law suffix.one_text-law suffix.shown_is_text-law suffix.decided-law t
+kind_normalizes kinds.Integer t =
+    normalized integer.one_value-law integer.one_text-law integer.shown_is_text-law integer.decided-law t
+kind_normalizes kinds.Amount t =
+    normalized amount.one_value-law amount.one_text-law amount.shown_is_text-law amount.decided-law t
+kind_normalizes kinds.Boolean t =
+    normalized boolean.one_value-law boolean.one_text-law boolean.shown_is_text-law boolean.decided-law t
+kind_normalizes kinds.Name t =
+    normalized name.one_value-law name.one_text-law name.shown_is_text-law name.decided-law t
+kind_normalizes kinds.Attribute t =
+    normalized attribute.one_value-law attribute.one_text-law attribute.shown_is_text-law attribute.decided-law t
+kind_normalizes kinds.Color t =
+    normalized color.one_value-law color.one_text-law color.shown_is_text-law color.decided-law t

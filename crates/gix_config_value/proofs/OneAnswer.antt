@@ -1,12 +1,11 @@
 -- A line has one outcome, and an input one output.
-use Rattle.std.proofs.Common.{◌≡◌, ◌≢◌, ℕ, inl, inr, List, [], ◌∷◌, ◌++◌, Bool, true, refl, sym, ap, subst}
+use Rattle.std.proofs.Common.{◌≡◌, ◌≢◌, ℕ, inl, inr, List, [], ◌∷◌, ◌++◌, Bool, true, Option, Some, refl, sym, ap, subst}
 use Rattle.std.proofs.Common.{◌∙◌, flat_map, append_assoc, append-nil}
 use Rattle.std.specs.List.{AllByRecursion, AllZip, list_all}
 use Rattle.gix_config_value.specs.declared.kind.Kind.{Kind}
-use Rattle.gix_config_value.specs.declared.kind.Kind.TheVariants as kinds
 use Rattle.gix_config_value.specs.declared.program.RunError.{RunError}
 use Rattle.gix_config_value.specs.declared.program.RunError.TheVariants.{Read, Write, Memory}
-use Rattle.gix_config_value.specs.Kinds.{kind_name, KindValue, KindGrammar, KindCanonical}
+use Rattle.gix_config_value.specs.Kinds.{kind_name, KindGrammar, KindCanonical}
 use Rattle.gix_config_value.specs.Answers.{Outcome, ended, IsUnbroken, IsCut, counted_lines, line_value}
 use Rattle.gix_config_value.specs.Answers.{LineOutcome, outcome_text, is_accepted, LinesAnswered, Answers}
 use Rattle.gix_config_value.specs.Answers.{IsBeginningOfAnswers, AnswersAllBut, AnswersLines}
@@ -14,63 +13,26 @@ use Rattle.gix_config_value.specs.Answers.{OneBegins, AgreeAfter}
 use Rattle.gix_config_value.specs.Answers.Outcome.{accepted, refused, unknown_kind}
 use Rattle.gix_config_value.proofs.StepLemmas.{takes_any, last_any, Answers-last}
 use Rattle.config_text.specs.Bytes.{line_feed}
-use Rattle.config_text.specs.Value.{IsRefused, IsTextOf}
-use Rattle.config_integer.specs.contracts.suffix.SuffixValue.TheImpl.Laws.{one_value-law as suffix_one_value}
-use Rattle.config_integer.specs.contracts.suffix.SuffixValue.TheImpl.Laws.{one_text-law as suffix_one_text}
-use Rattle.config_integer.specs.contracts.integer.IntegerValue.TheImpl.Laws.{one_value-law as integer_one_value}
-use Rattle.config_integer.specs.contracts.integer.IntegerValue.TheImpl.Laws.{one_text-law as integer_one_text}
-use Rattle.config_integer.specs.contracts.amount.AmountValue.TheImpl.Laws.{one_value-law as amount_one_value}
-use Rattle.config_integer.specs.contracts.amount.AmountValue.TheImpl.Laws.{one_text-law as amount_one_text}
-use Rattle.config_boolean.specs.contracts.boolean.BooleanValue.TheImpl.Laws.{one_value-law as boolean_one_value}
-use Rattle.config_boolean.specs.contracts.boolean.BooleanValue.TheImpl.Laws.{one_text-law as boolean_one_text}
-use Rattle.config_word.specs.contracts.name.NameValue.TheImpl.Laws.{one_value-law as name_one_value}
-use Rattle.config_word.specs.contracts.name.NameValue.TheImpl.Laws.{one_text-law as name_one_text}
-use Rattle.config_word.specs.contracts.attribute.AttributeValue.TheImpl.Laws.{one_value-law as attribute_one_value}
-use Rattle.config_word.specs.contracts.attribute.AttributeValue.TheImpl.Laws.{one_text-law as attribute_one_text}
-use Rattle.config_color.specs.contracts.color.ColorValue.TheImpl.Laws.{one_value-law as color_one_value}
-use Rattle.config_color.specs.contracts.color.ColorValue.TheImpl.Laws.{one_text-law as color_one_text}
+use Rattle.config_text.specs.Value.{IsRefused, Normalizes}
 
 -- ---- the outcome of a line
 
-pub kind_one_value : (kind : Kind) (t : List ℕ) (v w : KindValue kind) → KindGrammar kind t v → KindGrammar kind t w
-    → v ≡ w
-kind_one_value kinds.Suffix = suffix_one_value
-kind_one_value kinds.Integer = integer_one_value
-kind_one_value kinds.Amount = amount_one_value
-kind_one_value kinds.Boolean = boolean_one_value
-kind_one_value kinds.Name = name_one_value
-kind_one_value kinds.Attribute = attribute_one_value
-kind_one_value kinds.Color = color_one_value
-
-pub kind_one_text : (kind : Kind) (s t : List ℕ) (v : KindValue kind) → KindCanonical kind s → KindCanonical kind t
-    → KindGrammar kind s v → KindGrammar kind t v → s ≡ t
-kind_one_text kinds.Suffix = suffix_one_text
-kind_one_text kinds.Integer = integer_one_text
-kind_one_text kinds.Amount = amount_one_text
-kind_one_text kinds.Boolean = boolean_one_text
-kind_one_text kinds.Name = name_one_text
-kind_one_text kinds.Attribute = attribute_one_text
-kind_one_text kinds.Color = color_one_text
-
--- s is a canonical text of the value that t has
-abbrev IsAnswer : (kind : Kind) → List ℕ → List ℕ → Type 0
-IsAnswer kind t s = (v : KindValue kind) × KindGrammar kind t v × IsTextOf (KindGrammar kind) (KindCanonical kind) v s
-
-kind_one_answer : (kind : Kind) (t r s : List ℕ) → IsAnswer kind t r → IsAnswer kind t s → r ≡ s
-kind_one_answer kind t r s a b =
-    let same : b.0 ≡ a.0 = kind_one_value kind t b.0 a.0 b.1 a.1 in
-    kind_one_text kind r s a.0 a.2.canonical_text b.2.canonical_text a.2.reads_to (subst (KindGrammar kind s) same b.2.reads_to)
+line_text : (line r s : List ℕ) (kind : Kind)
+    → Normalizes (KindGrammar kind) (KindCanonical kind) (line_value line) (Some r)
+    → Normalizes (KindGrammar kind) (KindCanonical kind) (line_value line) (Some s) → r ≡ s
+line_text line r s kind a b =
+    b.1.only_text r a.1.text.canonical_text (subst (λ v. KindGrammar kind r v) (b.1.one_value a.0 a.1.derived) a.1.text.reads_to)
 
 pub line_outcome : ((k l : Kind) → kind_name k ≡ kind_name l → k ≡ l) → (line : List ℕ) (a b : Outcome)
     → LineOutcome line a → LineOutcome line b → a ≡ b
 line_outcome one_name line (accepted r) (accepted s) a b =
-    ap accepted (kind_one_answer a.0 (line_value line) r s a.2
-    (subst (λ k. IsAnswer k (line_value line) s) (one_name b.0 a.0 (b.1 ∙ sym a.1)) b.2))
+    ap accepted (line_text line r s a.0 a.2
+    (subst (λ k. Normalizes (KindGrammar k) (KindCanonical k) (line_value line) (Some s)) (one_name b.0 a.0 (b.1 ∙ sym a.1)) b.2))
 line_outcome one_name line (accepted r) refused a b =
-    absurd (subst (λ k. IsRefused (KindGrammar k) (line_value line)) (one_name b.0 a.0 (b.1 ∙ sym a.1)) b.2 a.2.0 a.2.1)
+    absurd (subst (λ k. IsRefused (KindGrammar k) (line_value line)) (one_name b.0 a.0 (b.1 ∙ sym a.1)) b.2 a.2.0 a.2.1.derived)
 line_outcome one_name line (accepted r) unknown_kind a b = absurd (b a.0 a.1)
 line_outcome one_name line refused (accepted s) a b =
-    absurd (subst (λ k. IsRefused (KindGrammar k) (line_value line)) (one_name a.0 b.0 (a.1 ∙ sym b.1)) a.2 b.2.0 b.2.1)
+    absurd (subst (λ k. IsRefused (KindGrammar k) (line_value line)) (one_name a.0 b.0 (a.1 ∙ sym b.1)) a.2 b.2.0 b.2.1.derived)
 line_outcome one_name line refused refused a b = refl
 line_outcome one_name line refused unknown_kind a b = absurd (b a.0 a.1)
 line_outcome one_name line unknown_kind (accepted s) a b = absurd (a b.0 b.1)

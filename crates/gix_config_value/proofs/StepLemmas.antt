@@ -1,6 +1,6 @@
 -- How the steps of a run compose, and that every line and every input has answers.
 use Rattle.std.proofs.Common.{length, Result, Ok, Err, OnOk, IfErr, ◌+◌, take, drop, take-append-drop, ◌≡◌, ℕ}
-use Rattle.std.proofs.Common.{inl, inr, List, [], ◌∷◌, ◌++◌, ◌&&◌, flat_map, Bool, true, Option, refl, sym}
+use Rattle.std.proofs.Common.{inl, inr, Some, None, List, [], ◌∷◌, ◌++◌, ◌&&◌, flat_map, Bool, true, Option, refl, sym}
 use Rattle.std.proofs.Common.{ap, ◌∙◌, append_assoc, append-nil, subst}
 use Rattle.std.specs.List.{AllByRecursion, AllZip, list_all}
 use Rattle.std.specs.Result.{IsErrAnd}
@@ -10,6 +10,9 @@ use Rattle.std.proofs.lemmas.List.Folds.{list_all-append}
 use Rattle.std.proofs.lemmas.Grind.{flat_map-append}
 use Rattle.std.proofs.lemmas.List.{nil_from_length}
 use Rattle.std.proofs.lemmas.Bool.Decides.{eqb_tells}
+use Rattle.config_text.specs.Value.{Normalizes}
+use Rattle.gix_config_value.specs.declared.kind.Kind.{Kind}
+use Rattle.gix_config_value.specs.Kinds.{kind_name, KindGrammar, KindCanonical}
 use Rattle.gix_config_value.specs.declared.program.RunError.{RunError}
 use Rattle.gix_config_value.specs.declared.program.RunError.TheVariants.{Write}
 use Rattle.gix_config_value.specs.Answers.Outcome.{accepted, refused, unknown_kind}
@@ -20,7 +23,7 @@ use Rattle.gix_config_value.specs.Answers.{AnswersAllBut}
 use Rattle.gix_config_value.specs.Reading.Steps.{CompletesLines, AnswersLast, CutsLine, OutputState}
 use Rattle.gix_config_value.specs.Reading.Steps.{SendsBytes, SendsAnswer, AppendsAnswer, FailsSending}
 use Rattle.gix_config_value.specs.Reading.Steps.{RunState, with_more, Advances, FailsWithin, AnswersUpTo}
-use Rattle.gix_config_value.proofs.KindLemmas.{kind_told, kind_decided}
+use Rattle.gix_config_value.proofs.KindLemmas.{kind_told, kind_normalizes}
 use Rattle.std.proofs.KnownBytes.{Appends-nil, Appends-trans}
 
 -- ---- lists
@@ -102,11 +105,13 @@ CompletesLines-trans line p line' q line'' ok ok' ok'' first second t u = record
 pub line_decided : (line : List ℕ) → (outcome : Outcome) × LineOutcome line outcome
 line_decided line = elim (kind_told (line_head line)) [
   | inr none ↦ (unknown_kind, none)
-  | inl found ↦ elim (kind_decided found.0 (line_value line)) [
-    | inl text ↦ (accepted text.0, (found.0, found.1, text.1))
-    | inr none ↦ (refused, (found.0, found.1, none))
-  ]
-]
+  | inl found ↦ given found (kind_normalizes found.0 (line_value line))
+] where
+  given : (found : (kind : Kind) × (kind_name kind ≡ line_head line))
+      → (r : Option (List ℕ)) × Normalizes (KindGrammar found.0) (KindCanonical found.0) (line_value line) r
+      → (outcome : Outcome) × LineOutcome line outcome
+  given found (Some s, is) = (accepted s, (found.0, found.1, is))
+  given found (None, is) = (refused, (found.0, found.1, is))
 
 abbrev pub CompletesSome : List ℕ → Bool → List ℕ → Type 0
 CompletesSome line ok bytes =

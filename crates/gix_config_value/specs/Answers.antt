@@ -3,15 +3,15 @@
 -- The input is cut into lines at LF. Each line has one outcome, and the output is what the outcomes are shown
 -- as, in order.
 use Rattle.std.specs.Prelude.{◌≡◌, ◌≢◌, ◌⊎◌, ℕ, ◌==◌, List, [], ◌∷◌, ◌++◌, flat_map, Bool, true, false}
-use Rattle.std.specs.Prelude.{codes, Option, Result, Ok, Err}
+use Rattle.std.specs.Prelude.{codes, Option, None, Some, Result, Ok, Err}
 use Rattle.std.specs.List.{AllByRecursion, AllZip, list_all, before_first, after_first}
 use Rattle.std.specs.Io.KnownBytes.{Consumes, Appends, IsAtEnd}
 use Rattle.gix_config_value.specs.declared.kind.Kind.{Kind}
 use Rattle.gix_config_value.specs.declared.program.RunError.{RunError}
 use Rattle.gix_config_value.specs.declared.program.RunError.TheVariants.{Read, Write, Memory}
-use Rattle.gix_config_value.specs.Kinds.{kind_name, KindValue, KindGrammar, KindCanonical}
+use Rattle.gix_config_value.specs.Kinds.{kind_name, KindGrammar, KindCanonical}
 use Rattle.config_text.specs.Bytes.{line_feed, space}
-use Rattle.config_text.specs.Value.{IsRefused, IsTextOf}
+use Rattle.config_text.specs.Value.{Normalizes}
 
 -- ---- lines
 
@@ -50,13 +50,16 @@ pub data Outcome : Type 0 where
   refused : Outcome
   unknown_kind : Outcome
 
--- accepted with a canonical text that has the value of the line's text, refused where the kind's grammar
--- gives the text no value, and unknown where the head of the line is no kind's name
+-- the head of the line names this kind, whose normalizer gives this text for the line's text, or no text
+abbrev pub NormalizesLine : List ℕ → Option (List ℕ) → Type 0
+NormalizesLine line text = (kind : Kind) × (kind_name kind ≡ line_head line)
+    × Normalizes (KindGrammar kind) (KindCanonical kind) (line_value line) text
+
+-- accepted with the canonical text of the line's text, refused if the kind's grammar gives the text no value,
+-- and unknown if the head of the line is no kind's name
 abbrev pub LineOutcome : List ℕ → Outcome → Type 0
-LineOutcome line (accepted s) = (kind : Kind) × (kind_name kind ≡ line_head line)
-    × ((v : KindValue kind) × KindGrammar kind (line_value line) v × IsTextOf (KindGrammar kind) (KindCanonical kind) v s)
-LineOutcome line refused =
-    (kind : Kind) × (kind_name kind ≡ line_head line) × IsRefused (KindGrammar kind) (line_value line)
+LineOutcome line (accepted s) = NormalizesLine line (Some s)
+LineOutcome line refused = NormalizesLine line None
 LineOutcome line unknown_kind = (kind : Kind) → kind_name kind ≢ line_head line
 
 -- the line that says an outcome

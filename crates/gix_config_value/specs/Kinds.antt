@@ -1,7 +1,6 @@
 -- The kinds of value: for each its name, its values, its grammar, its canonical grammar, and why a text is
 -- refused.
 use Rattle.std.specs.Prelude.{◌≡◌, ◌≢◌, ℕ, List, codes, Bool, Option, None, Some, Result, Ok, Err}
-use Rattle.arrayvec.specs.ArrayString.{ArrayString}
 use Rattle.gix_config_value.specs.declared.kind.Kind.{Kind}
 use Rattle.gix_config_value.specs.declared.kind.Kind.TheVariants as kinds
 use Rattle.gix_config_value.specs.declared.refusal.Refusal.{Refusal}
@@ -25,7 +24,7 @@ use Rattle.config_boolean.specs.Boolean.{BooleanText, CanonicalBoolean}
 use Rattle.config_word.specs.Name.{NameText, CanonicalName}
 use Rattle.config_word.specs.Attribute.{AttributeText, CanonicalAttribute}
 use Rattle.config_color.specs.Color.{ColorText, CanonicalColor}
-use Rattle.config_color.specs.Composition.{Joins, ComparesWords}
+use Rattle.config_color.specs.Composition.{ComparesWords}
 
 -- the name that a line begins with
 abbrev pub kind_name : Kind → List ℕ
@@ -97,12 +96,6 @@ WhyRefused grammar reason t (Some r) = reason r × IsRefused grammar t
 abbrev pub refusal_text : Refusal → List ℕ
 refusal_text refusals.Suffix = codes "Suffixes are k, m and g, in either case"
 refusal_text (refusals.Fault fault) = fault_text fault
-
--- what a normalizer says of a text in which white space stands: for colors, what follows from the texts
--- beside it
-abbrev pub KindJoins : Kind → List ℕ → Option ArrayString → Type 0
-KindJoins kinds.Color t result = Joins t result
-KindJoins _ t result = Unit {0}
 
 -- what a comparison says of the words of two texts: for colors, that these decide
 abbrev pub KindComparesWords : Kind → List ℕ → List ℕ → Option Bool → Type 0

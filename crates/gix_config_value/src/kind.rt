@@ -1,9 +1,9 @@
 //! The kinds of value, as a choice made at run time.
-ghost use Rattle.std.specs.Prelude.{◌≡◌, ◌≢◌, Some, MatchOption, IsSomeAnd};
+ghost use Rattle.std.specs.Prelude.{◌≡◌, ◌≢◌, [], Some, None, MatchOption, option_map, if◌then◌else◌, false};
 ghost use Rattle.bstr.specs.BStr.{bstr_bytes};
-ghost use Rattle.gix_config_value.specs.Kinds.{kind_name, NamesKind, KindGrammar, KindCanonical, KindJoins};
+ghost use Rattle.gix_config_value.specs.Kinds.{kind_name, NamesKind, KindGrammar, KindCanonical};
 ghost use Rattle.gix_config_value.specs.Kinds.{KindComparesWords, KindRefusal, WhyRefused, IsFaultOf};
-ghost use Rattle.config_text.specs.Value.{Normalizes, Fills, IsOnlyText, Compares};
+ghost use Rattle.config_text.specs.Value.{Normalizes, Compares};
 ghost use Rattle.gix_config_value.specs.declared.kind.Kind as kind;
 
 use crate::refusal::Refusal;
@@ -140,9 +140,9 @@ pub(crate) fn kind_by_name(name: &[u8]) -> Option<Kind>
     }
 }
 
-/// The canonical text of this kind that reads to the value of the input. `None` exactly where the kind's
-/// grammar gives the input no value. A canonical input is answered byte for byte. White space in a color text
-/// parts it into two: the answer is the canonical text of their composition.
+/// The canonical text of this kind that reads to the value of the input. `None` exactly if the kind's grammar
+/// gives the input no value. A canonical input is returned byte for byte. White space in a color text parts it
+/// into two, and the canonical text is that of their composition: [`laws::headline`](crate::laws::headline).
 ///
 /// [`refusal`] says why an input is refused. docs/GRAMMAR.md has a section for each kind.
 ///
@@ -155,13 +155,8 @@ pub(crate) fn kind_by_name(name: &[u8]) -> Option<Kind>
 /// assert_eq!(rt; normalize(Kind::Integer, BStr::from("0x10kb")), None);
 /// ```
 pub fn normalize(kind: Kind, input: BStr<'_>) -> Option<CanonicalText>
-    ensures answer { Normalizes (KindGrammar kind) (KindCanonical kind)
-        (bstr_bytes input.entry) result }
-    ensures only { IsOnlyText (KindGrammar kind) (KindCanonical kind)
-        (bstr_bytes input.entry) result }
-    ensures unchanged { KindCanonical kind (bstr_bytes input.entry)
-        → IsSomeAnd result (λ s. s.bytes ≡ bstr_bytes input.entry) }
-    ensures joined { KindJoins kind (bstr_bytes input.entry) result }
+    ensures { Normalizes (KindGrammar kind) (KindCanonical kind) (bstr_bytes input.entry)
+        (option_map (λ text. text.bytes) result) }
 {
     match kind {
         Kind::Suffix => normalize_as::<Suffix>(input),
@@ -178,7 +173,9 @@ pub fn normalize(kind: Kind, input: BStr<'_>) -> Option<CanonicalText>
 /// the kind's grammar gives the input a value; if it gives none, the text is left empty. It is `normalize`
 /// without a copy of the text.
 pub fn normalize_into(kind: Kind, input: BStr<'_>, text: &mut CanonicalText) -> bool
-    ensures { Fills (KindGrammar kind) (KindCanonical kind) (bstr_bytes input.entry) text.new.bytes result }
+    ensures text { Normalizes (KindGrammar kind) (KindCanonical kind) (bstr_bytes input.entry)
+        (if result then Some text.new.bytes else None) }
+    ensures empty { result ≡ false → text.new.bytes ≡ [] }
 {
     match kind {
         Kind::Suffix => normalize_into_as::<Suffix>(input, text),
@@ -245,8 +242,7 @@ pub fn refusal(kind: Kind, input: BStr<'_>) -> Option<Refusal>
 /// assert_eq!(rt; same(Kind::Color, a, BStr::from("rde ul")), None);
 /// ```
 pub fn same(kind: Kind, a: BStr<'_>, b: BStr<'_>) -> Option<bool>
-    ensures answer { Compares (KindGrammar kind) (KindCanonical kind)
-        (bstr_bytes a.entry) (bstr_bytes b.entry) result }
+    ensures answer { Compares (KindGrammar kind) (bstr_bytes a.entry) (bstr_bytes b.entry) result }
     ensures words { KindComparesWords kind (bstr_bytes a.entry) (bstr_bytes b.entry) result }
 {
     match kind {

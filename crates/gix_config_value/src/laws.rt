@@ -3,6 +3,7 @@
 
 pub mod answers;
 pub mod equality;
+pub mod headline;
 pub mod kinds;
 
 pub use config_color::laws::colors;

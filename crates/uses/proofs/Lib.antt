@@ -2,3 +2,4 @@ pub mod Places
 pub mod Joined
 pub mod PathRows
 mod EntryFacts
+mod HeadlineLemmas

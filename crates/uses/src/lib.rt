@@ -6,10 +6,12 @@
 //!   source.
 //! - `push_default` reads what `push.default` may be, as a kind of value of one's own.
 //! - `paths` interpolates paths, without users and with those of a passwd text.
+//! - `headline` states for each kind what is read, with which value, and its one canonical text.
 //! - `literals` has defaults that are written as texts, with a reader computed on a literal.
 #![tactic(auto)]
 
 pub mod entries;
+pub mod headline;
 pub mod literals;
 pub mod paths;
 pub mod precedence;

@@ -1,18 +1,19 @@
 -- The laws of composition: the color of a joined text is the composition of its parts' colors, and what follows
--- from that for the answers of `normalize` and `same`.
-use Rattle.std.proofs.Common.{◌≡◌, ℕ, ◌+◌, ◌<◌, ◌≤◌, List, [], ◌∷◌, ◌++◌, length, codes, Option, Some, None, Bool, refl, sym, ap, subst, ◌∙◌, append_assoc, length-append, arith}
-use Rattle.arrayvec.specs.ArrayString.{ArrayString}
+-- from that for `same`.
+use Rattle.std.proofs.Common.{◌≡◌, ℕ, ◌+◌, ◌<◌, ◌≤◌, ◌↔◌, ◌⊎◌, inl, inr, List, [], ◌∷◌, ◌++◌, length, codes, Option, Some, None, Bool, refl, sym, ap, subst, ◌∙◌, append_assoc, length-append, arith}
 use Rattle.std.proofs.lemmas.Option.{some_pair_parts}
+use Rattle.std.proofs.lemmas.Bool.Decides.{leb_tells}
+use Rattle.std.specs.Int.RustNames.{bit_or}
 use Rattle.std.specs.Option.{option_to_list}
 use Rattle.config_color.specs.declared.color.Color.{Color}
 use Rattle.config_word.specs.declared.name.Name.{Name}
-use Rattle.config_color.specs.Color.{WordsRead, Placed, ColorText, CanonicalColor}
-use Rattle.config_color.specs.Laws.Color.{WordsRead-join, PartsRead, WordsRead-split, WordsRead-one, Placed-words, Placed-short, Placed-one, placing, same_color}
+use Rattle.config_color.specs.Color.{WordsRead, TextRead, Placed, ColorText}
+use Rattle.config_color.specs.Laws.Color.{read_words, text_read, WordsRead-join, PartsRead, WordsRead-split, WordsRead-one, Placed-words, Placed-short, Placed-one, placing, same_color, color_one_value, color_decided}
 use Rattle.config_color.specs.Reading.Color.{places_of}
-use Rattle.config_color.specs.Composition.{color_words, Composition, Composes, Joined, Joins, SameWords, ComparesWords}
+use Rattle.config_color.specs.Composition.{color_names, Composition, Composes, Joined, HaveTooManyNames, SameWords, ComparesWords}
 use Rattle.config_color.specs.Space.{Space}
-use Rattle.config_text.specs.Value.{HasText, Normalizes, Compares}
-use Rattle.config_color.specs.Split.{words}
+use Rattle.config_text.specs.Value.{IsAccepted, IsRefused, HasText, Compares}
+use Rattle.config_color.specs.Reading.Split.{words}
 use Rattle.config_color.specs.Laws.Split.{words_joined, space_byte}
 
 -- a color that has a text has a background only beside a foreground
@@ -29,20 +30,20 @@ pub joined_reads : (front space back : List ℕ) (c : Color) → Space space →
     → ColorText (front ++ space ++ back) c
 joined_reads front space back c s (a, b, p, q, k) =
     let w = sym (words_joined front space back s) ∙ ap words (sym (append_assoc front space back)) in
-    let r = WordsRead-join (words front) (words back) p.names q.names a.attributes.0 b.attributes.0 p.read q.read in
+    let r = WordsRead-join (read_words p.read) (read_words q.read) in
     record {
       names = p.names ++ q.names;
-      read = subst (λ (ws : List (List ℕ)). WordsRead ws (p.names ++ q.names) c.attributes.0) w (subst (λ (i : ℕ). WordsRead (words front ++ words back) (p.names ++ q.names) i) (sym k.united) r);
+      read = text_read (front ++ space ++ back) (subst (λ (ws : List (List ℕ)). WordsRead ws (p.names ++ q.names) c.attributes.0) w (subst (λ (i : ℕ). WordsRead (words front ++ words back) (p.names ++ q.names) i) (sym k.united) r));
       placed = subst (λ (ns : List Name). Placed ns c.foreground c.background)
-          (ap (λ ns. ns ++ color_words b) (Placed-words p.names a.foreground a.background p.placed) ∙ ap (λ ms. p.names ++ ms) (Placed-words q.names b.foreground b.background q.placed)) k.placed;
+          (ap (λ ns. ns ++ color_names b) (Placed-words p.names a.foreground a.background p.placed) ∙ ap (λ ms. p.names ++ ms) (Placed-words q.names b.foreground b.background q.placed)) k.placed;
     }
 
 -- the color of a joined text is the composition of the colors of its parts
 pub reads_joined : (front space back : List ℕ) (c : Color) → Space space
     → ColorText (front ++ space ++ back) c → Joined front back c
-reads_joined front space back c s h = parted (WordsRead-split (words front) (words back) h.names c.attributes.0 read) where
+reads_joined front space back c s h = parted (WordsRead-split (words front) (words back) read) where
   read : WordsRead (words front ++ words back) h.names c.attributes.0
-  read = subst (λ (ws : List (List ℕ)). WordsRead ws h.names c.attributes.0) (ap words (append_assoc front space back) ∙ words_joined front space back s) h.read
+  read = subst (λ (ws : List (List ℕ)). WordsRead ws h.names c.attributes.0) (ap words (append_assoc front space back) ∙ words_joined front space back s) (read_words h.read)
 
   parted : PartsRead (words front) (words back) h.names c.attributes.0 → Joined front back c
   parted r =
@@ -51,36 +52,69 @@ reads_joined front space back c s h = parted (WordsRead-split (words front) (wor
       let b = placing r.back_names (omega arith) in
       let front_color : Color = record { foreground = a.0; background = a.1; attributes = record { 0 = r.front_bits } } in
       let back_color : Color = record { foreground = b.0; background = b.1; attributes = record { 0 = r.back_bits } } in
-      let names : h.names ≡ color_words front_color ++ color_words back_color =
-      r.all_names ∙ (ap (λ ns. ns ++ r.back_names) (sym (Placed-words r.front_names a.0 a.1 a.2)) ∙ ap (λ ms. color_words front_color ++ ms) (sym (Placed-words r.back_names b.0 b.1 b.2))) in (
+      let names : h.names ≡ color_names front_color ++ color_names back_color =
+      r.all_names ∙ (ap (λ ns. ns ++ r.back_names) (sym (Placed-words r.front_names a.0 a.1 a.2)) ∙ ap (λ ms. color_names front_color ++ ms) (sym (Placed-words r.back_names b.0 b.1 b.2))) in (
         front_color,
         back_color,
-        record { names = r.front_names; read = r.front; placed = a.2 },
-        record { names = r.back_names; read = r.back; placed = b.2 },
+        record { names = r.front_names; read = text_read front r.front; placed = a.2 },
+        record { names = r.back_names; read = text_read back r.back; placed = b.2 },
         record { placed = subst (λ (ns : List Name). Placed ns c.foreground c.background) names h.placed; united = r.all_bits },
       )
 
--- what `normalize` answers for a color text is said for every place at which white space stands in it
-pub normalizes_joins : (t : List ℕ) (result : Option ArrayString)
-    → Normalizes ColorText CanonicalColor t result → Joins t result
-normalizes_joins t None refused = λ front space back s e c j. refused c (subst (λ (t : List ℕ). ColorText t c) (sym e) (joined_reads front space back c s j))
-normalizes_joins t (Some r) (c, h, k) = λ front space back s e. (c, reads_joined front space back c s (subst (λ (t : List ℕ). ColorText t c) e h), k)
+-- a joined text is refused exactly where a part is refused or the names are too many
+pub joined_refused : (front space back : List ℕ) → Space space
+    → (IsRefused ColorText (front ++ space ++ back))
+    ↔ (IsRefused ColorText front ⊎ IsRefused ColorText back ⊎ HaveTooManyNames front back)
+joined_refused front space back s = (λ r. told r (color_decided front) (color_decided back), refuse) where
+  told : IsRefused ColorText (front ++ space ++ back)
+      → IsAccepted ColorText front ⊎ IsRefused ColorText front
+      → IsAccepted ColorText back ⊎ IsRefused ColorText back
+      → IsRefused ColorText front ⊎ IsRefused ColorText back ⊎ HaveTooManyNames front back
+  told r (inr p) q = inl p
+  told r (inl p) (inr q) = inr (inl q)
+  told r (inl (a, p)) (inl (b, q)) =
+      let names = color_names a ++ color_names b in
+      elim (leb_tells (length names) 2) [
+        | inl l ↦
+            let k = placing names l.1 in
+            let c : Color = record { foreground = k.0; background = k.1; attributes = record { 0 = bit_or a.attributes.0 b.attributes.0 } } in
+            absurd (r c (joined_reads front space back c s (a, b, p, q, record { placed = k.2; united = refl })))
+        | inr l ↦ inr (inr (a, b, p, q, l.1))
+      ]
+
+  refuse : IsRefused ColorText front ⊎ IsRefused ColorText back ⊎ HaveTooManyNames front back
+      → IsRefused ColorText (front ++ space ++ back)
+  refuse h c t = parted h (reads_joined front space back c s t) where
+    parted : IsRefused ColorText front ⊎ IsRefused ColorText back ⊎ HaveTooManyNames front back → Joined front back c
+        → ⊥
+    parted (inl r) (a, b, p, q, k) = r a p
+    parted (inr (inl r)) (a, b, p, q, k) = r b q
+    parted (inr (inr (v, w, t, u, l))) (a, b, p, q, k) =
+        let same : color_names v ++ color_names w ≡ color_names a ++ color_names b =
+        ap (λ (v : Color). color_names v ++ color_names w) (color_one_value front v a t p) ∙ ap (λ (w : Color). color_names a ++ color_names w) (color_one_value back w b u q) in
+        omega (arith, l, ap length same, Placed-short (color_names a ++ color_names b) c.foreground c.background k.placed)
 
 -- what `same` answers for color texts is said by their words
-pub compares_words : (a b : List ℕ) (result : Option Bool) → Compares ColorText CanonicalColor a b result
+pub compares_words : (a b : List ℕ) (result : Option Bool) → Compares ColorText a b result
     → ComparesWords a b result
 compares_words a b None refused = tt
-compares_words a b (Some same) (v, w, p, q, k, texts) = (λ e. agree (k.0 e), λ s. k.1 (meet s)) where
+compares_words a b (Some same) (v, w, compared) = (λ e. agree (compared.equal.0 e), λ s. compared.equal.1 (meet s)) where
+  p : ColorText a v
+  p = compared.first
+
+  q : ColorText b w
+  q = compared.second
+
   agree : v ≡ w → SameWords a b
   agree e =
-      let names : q.names ≡ p.names = sym (Placed-words q.names w.foreground w.background q.placed) ∙ (ap (λ (c : Color). color_words c) (sym e) ∙ Placed-words p.names v.foreground v.background p.placed) in
+      let names : q.names ≡ p.names = sym (Placed-words q.names w.foreground w.background q.placed) ∙ (ap (λ (c : Color). color_names c) (sym e) ∙ Placed-words p.names v.foreground v.background p.placed) in
       let bits : w.attributes.0 ≡ v.attributes.0 = ap (λ (c : Color). c.attributes.0) (sym e) in
-      (p.names, v.attributes.0, p.read, subst (λ (ns : List Name). WordsRead (words b) ns v.attributes.0) names (subst (λ (i : ℕ). WordsRead (words b) q.names i) bits q.read))
+      record { names = p.names; bits = v.attributes.0; first = p.read; second = subst (λ (ns : List Name). TextRead b ns v.attributes.0) names (subst (λ (i : ℕ). TextRead b q.names i) bits q.read) }
 
   meet : SameWords a b → v ≡ w
-  meet (names, bits, r, s) =
-      let m = WordsRead-one (words a) p.names names v.attributes.0 bits p.read r in
-      let o = WordsRead-one (words b) q.names names w.attributes.0 bits q.read s in
+  meet s =
+      let m = WordsRead-one (read_words p.read) (read_words s.first) in
+      let o = WordsRead-one (read_words q.read) (read_words s.second) in
       let placed = Placed-one p.names v.foreground v.background w.foreground w.background p.placed
       (subst (λ (ns : List Name). Placed ns w.foreground w.background) (o.0 ∙ sym m.0) q.placed) in
       same_color v w placed.0 placed.1 (m.1 ∙ sym o.1)
@@ -129,11 +163,20 @@ places_none (Some n) (Some o) (Some m) (Some k) p q e = omega arith
 
 pub places_compose : (a b : Color) (f g : Option Name) → HasText ColorText a → HasText ColorText b
     → places_of a.foreground a.background b.foreground b.background ≡ Some (f, g)
-    → Placed (color_words a ++ color_words b) f g
+    → Placed (color_names a ++ color_names b) f g
 places_compose a b f g (s, p) (t, q) e = places_some a.foreground a.background b.foreground b.background f g (background_beside s a p) (background_beside t b q) e
 
 pub places_refuse : (a b : Color) → HasText ColorText a → HasText ColorText b
     → places_of a.foreground a.background b.foreground b.background ≡ None → Composes a b None
 places_refuse a b (s, p) (t, q) e =
     let l = places_none a.foreground a.background b.foreground b.background (background_beside s a p) (background_beside t b q) e in
-    (l, λ c k. absurd (omega (arith, Placed-short (color_words a ++ color_words b) c.foreground c.background k.placed)))
+    (l, λ c k. absurd (omega (arith, Placed-short (color_names a ++ color_names b) c.foreground c.background k.placed)))
+
+-- two colors have one composition, or none
+pub composes_one : (a b : Color) (r s : Option Color) → Composes a b r → Composes a b s → r ≡ s
+composes_one a b None None p q = refl
+composes_one a b None (Some d) p q = absurd (p.1 d q.0)
+composes_one a b (Some c) None p q = absurd (q.1 c p.0)
+composes_one a b (Some c) (Some d) (k, t) (m, u) =
+    let placed = Placed-one (color_names a ++ color_names b) c.foreground c.background d.foreground d.background k.placed m.placed in
+    ap Some (same_color c d placed.0 placed.1 (k.united ∙ sym m.united))

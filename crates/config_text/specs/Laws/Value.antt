@@ -4,7 +4,7 @@ use Rattle.std.proofs.Common.{ap, ◌∙◌}
 use Rattle.std.specs.Str.{bytes_eq}
 use Rattle.std.proofs.lemmas.Slice.Eq.{bytes_eq-Decides}
 use Rattle.std.specs.Bool.{Decides}
-use Rattle.config_text.specs.Value.{IsAccepted, IsRefused, Reads}
+use Rattle.config_text.specs.Value.{IsAccepted, IsRefused, HasText, Reads, IsTextOf, HasMeaning}
 
 -- a grammar as a function: it answers the value that the grammar gives, and none where it gives none
 pub record IsValueOf {V : Type 0} (grammar : List ℕ → V → Type 0) (value_of : List ℕ → Option V) : Type 0 where
@@ -66,6 +66,20 @@ pub canonical_reads_by : {V : Type 0} {grammar : List ℕ → V → Type 0} {sho
     → ((t : List ℕ) → canonical t → IsShown grammar shown t) → (t : List ℕ) → canonical t
     → IsAccepted grammar t
 canonical_reads_by law t p = let k = law t p in (k.value, k.reads_to)
+
+-- a text with a value means this value and the text that shows it
+pub means_shown : {V : Type 0} {grammar : List ℕ → V → Type 0} {canonical : List ℕ → Type 0} {displayed : V → List ℕ}
+    → ((t : List ℕ) (v w : V) → grammar t v → grammar t w → v ≡ w)
+    → ((s t : List ℕ) (v : V) → canonical s → canonical t → grammar s v → grammar t v → s ≡ t)
+    → ((v : V) → HasText grammar v → IsTextOf grammar canonical v (displayed v))
+    → (t : List ℕ) (v : V) → grammar t v → HasMeaning grammar canonical t v (displayed v)
+means_shown {displayed = displayed} one_value one_text shown t v h =
+    let text = shown v (t, h) in record {
+      derived = h;
+      one_value = λ w k. one_value t w v k h;
+      text = text;
+      only_text = λ r p k. one_text r (displayed v) v p text.canonical_text k text.reads_to;
+    }
 
 -- a fact is told if it holds, or it does not
 abbrev pub Told : Type 0 → Type 0

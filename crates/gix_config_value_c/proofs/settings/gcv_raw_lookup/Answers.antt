@@ -26,14 +26,14 @@ slice_bounds-text-end c =
 pub returns-in-Some-normalize : goal.returns-in-Some-normalize
 returns-in-Some-normalize c =
     let last = rw (c.in-Some-last_entry.is, c.in-Some-last.is) at (is_last c.args.name.now c.args.bytes.now c.args.lengths.now _ c.last_entry.ensures) in
-    let found = rw (c.new.ensures ∙ last.2.1.stands) at c.in-Some-normalize.ensures.answer in
+    let found = rw (c.new.ensures ∙ last.2.1.stands) at c.in-Some-normalize.ensures in
     decided c.in-Some.kind last.0 last.2.0 record { kind_is = c.in-Some.ensures; entries = last.1 } last.2.1
-    (inl ((found.0, found.1), refl))
+    (inl ((found.0, found.1.derived), refl))
 
 pub returns-in-None : goal.returns-in-None
 returns-in-None c =
     let last = rw (c.in-Some-last_entry.is, c.in-Some-last.is) at (is_last c.args.name.now c.args.bytes.now c.args.lengths.now _ c.last_entry.ensures) in
-    let refused = rw (c.new.ensures ∙ last.2.1.stands) at c.in-None.ensures.answer in
+    let refused = rw (c.new.ensures ∙ last.2.1.stands) at c.in-None.ensures in
     decided c.in-Some.kind last.0 last.2.0 record {
       kind_is =
           c.in-Some.ensures;
