@@ -14,8 +14,7 @@ use Rattle.gix_config_value.specs.Color.{ColorText, CanonicalColor}
 use Rattle.gix_config_value.specs.Path.{Marked}
 use Rattle.config_integer.specs.contracts.amount.AmountValue.TheImpl.Laws.{one_value-law as amount_one_value}
 use Rattle.config_integer.specs.contracts.amount.AmountValue.TheImpl.Laws.{decided-law as amount_decided}
-use Rattle.gix_config_value.specs.declared.kind.Kind.TheVariants as values
-use Rattle.gix_config_value.proofs.OneAnswer.{kind_one_value, kind_one_text}
+use Rattle.gix_config_value.proofs.OneAnswer.{text_once}
 use Rattle.config_checks.specs.declared.kind.WordList.{WordList}
 use Rattle.config_checks.specs.declared.kind.SettingKind.{SettingKind}
 use Rattle.config_checks.specs.declared.kind.SettingKind.TheVariants as kinds
@@ -24,7 +23,7 @@ use Rattle.config_checks.specs.declared.reason.Reason.TheVariants.{Refused, OutO
 use Rattle.config_checks.specs.declared.reason.Reason.TheVariants.{IllFormedPath, NoWord, NotCanonical}
 use Rattle.config_checks.specs.declared.reason.Reason.TheVariants.{OtherCase}
 use Rattle.config_checks.specs.Reasons.{IsJudged, IsWithin, IsJudgedWithin, IsJudgedUnmarked, IsJudgedByWords}
-use Rattle.config_checks.specs.Reasons.{IsWord, IsFirstWord, HasReason, IsCanonicalOf}
+use Rattle.config_checks.specs.Reasons.{IsWord, IsFirstWord, HasReason}
 use Rattle.config_checks.specs.Reasons.{IsRespelled, IsRespelledAs, IsRespelledByWords, HasSpelling, IsFoundBehind}
 use Rattle.config_checks.specs.Reasons.{HasFinding, IsSameFinding}
 use Rattle.config_checks.proofs.WordLemmas.{no_first}
@@ -150,30 +149,25 @@ same_finding a = refl
 as_same : (a b : Option Reason) → a ≡ b → IsSameFinding a b
 as_same a b same = subst (IsSameFinding a) same (same_finding a)
 
-module _ {V : Type 0} (grammar : List ℕ → V → Type 0) (canonical : List ℕ → Type 0) (one_value : (t : List ℕ) (v w : V) → grammar t v → grammar t w → v ≡ w)
-    (one_text : (s t : List ℕ) (v : V) → canonical s → canonical t → grammar s v → grammar t v → s ≡ t) (t : List ℕ) where
-  canonical_once : (c d : List ℕ) → IsCanonicalOf grammar canonical t c → IsCanonicalOf grammar canonical t d → c ≡ d
-  canonical_once c d p q = one_text c d p.0 p.2.canonical_text q.2.canonical_text p.2.reads_to
-      (subst (grammar d) (one_value t q.0 p.0 q.1 p.1) q.2.reads_to)
-
+module _ {V : Type 0} (grammar : List ℕ → V → Type 0) (canonical : List ℕ → Type 0) (t : List ℕ) where
   respelled_once : (a b : Option Reason) → IsRespelled grammar canonical t a → IsRespelled grammar canonical t b
       → IsSameFinding a b
   respelled_once None None p q = refl
-  respelled_once None (Some (NotCanonical d)) p q = absurd (q.1 (canonical_once d.bytes t q.0 p))
+  respelled_once None (Some (NotCanonical d)) p q = absurd (q.1 (text_once grammar canonical t d.bytes t q.0 p))
   respelled_once None (Some _) p q = absurd q
-  respelled_once (Some (NotCanonical c)) None p q = absurd (p.1 (canonical_once c.bytes t p.0 q))
+  respelled_once (Some (NotCanonical c)) None p q = absurd (p.1 (text_once grammar canonical t c.bytes t p.0 q))
   respelled_once (Some (NotCanonical c)) (Some (NotCanonical d)) p q =
-      canonical_once c.bytes d.bytes p.0 q.0
+      text_once grammar canonical t c.bytes d.bytes p.0 q.0
   respelled_once (Some (NotCanonical c)) (Some _) p q = absurd q
   respelled_once (Some _) b p q = absurd p
 
 boolean_once : (t : List ℕ) (a b : Option Reason) → IsRespelled BooleanText CanonicalBoolean t a
     → IsRespelled BooleanText CanonicalBoolean t b → IsSameFinding a b
-boolean_once = respelled_once BooleanText CanonicalBoolean (kind_one_value values.Boolean) (kind_one_text values.Boolean)
+boolean_once = respelled_once BooleanText CanonicalBoolean
 
 integer_once : (t : List ℕ) (a b : Option Reason) → IsRespelled IntegerText CanonicalInteger t a
     → IsRespelled IntegerText CanonicalInteger t b → IsSameFinding a b
-integer_once = respelled_once IntegerText CanonicalInteger (kind_one_value values.Integer) (kind_one_text values.Integer)
+integer_once = respelled_once IntegerText CanonicalInteger
 
 -- the first word of a list that a text is
 module _ (list : WordList) (t : List ℕ) where
@@ -218,7 +212,7 @@ spelling_once kinds.BoolOrInt (Some t) a b p q = elim (amount_decided t) [
   | inr none ↦ boolean_once t a b (p.other none) (q.other none)
 ]
 spelling_once kinds.Color (Some t) a b p q =
-    respelled_once ColorText CanonicalColor (kind_one_value values.Color) (kind_one_text values.Color) t a b p q
+    respelled_once ColorText CanonicalColor t a b p q
 spelling_once kinds.Path (Some t) a b p q = as_same a b (p ∙ sym q)
 spelling_once (kinds.Word list) (Some t) a b p q = respelled_words_once list t a b p q
 

@@ -17,16 +17,16 @@ use Rattle.config_text.specs.Value.{IsRefused, Normalizes}
 
 -- ---- the outcome of a line
 
-line_text : (line r s : List ℕ) (kind : Kind)
-    → Normalizes (KindGrammar kind) (KindCanonical kind) (line_value line) (Some r)
-    → Normalizes (KindGrammar kind) (KindCanonical kind) (line_value line) (Some s) → r ≡ s
-line_text line r s kind a b =
-    b.1.only_text r a.1.text.canonical_text (subst (λ v. KindGrammar kind r v) (b.1.one_value a.0 a.1.derived) a.1.text.reads_to)
+-- a text is normalized to one text
+pub text_once : {V : Type 0} (grammar : List ℕ → V → Type 0) (canonical : List ℕ → Type 0) (t r s : List ℕ)
+    → Normalizes grammar canonical t (Some r) → Normalizes grammar canonical t (Some s) → r ≡ s
+text_once grammar canonical t r s a b =
+    b.1.only_text r a.1.text.canonical_text (subst (grammar r) (b.1.one_value a.0 a.1.derived) a.1.text.reads_to)
 
 pub line_outcome : ((k l : Kind) → kind_name k ≡ kind_name l → k ≡ l) → (line : List ℕ) (a b : Outcome)
     → LineOutcome line a → LineOutcome line b → a ≡ b
 line_outcome one_name line (accepted r) (accepted s) a b =
-    ap accepted (line_text line r s a.0 a.2
+    ap accepted (text_once (KindGrammar a.0) (KindCanonical a.0) (line_value line) r s a.2
     (subst (λ k. Normalizes (KindGrammar k) (KindCanonical k) (line_value line) (Some s)) (one_name b.0 a.0 (b.1 ∙ sym a.1)) b.2))
 line_outcome one_name line (accepted r) refused a b =
     absurd (subst (λ k. IsRefused (KindGrammar k) (line_value line)) (one_name b.0 a.0 (b.1 ∙ sym a.1)) b.2 a.2.0 a.2.1.derived)
