@@ -1,7 +1,7 @@
 -- What git-config(1) says of booleans, on its own examples: a definition with a wrong word does not check.
-use Rattle.std.proofs.Common.{ℕ, Bool, true, false, List, [], ◌∷◌, codes, refl}
+use Rattle.std.proofs.Common.{◌≡◌, ℕ, Bool, true, false, List, [], ◌∷◌, map, codes, refl}
 use Rattle.config_boolean.specs.declared.boolean.Boolean.{Boolean}
-use Rattle.config_boolean.specs.Boolean.{BooleanText}
+use Rattle.config_boolean.specs.Boolean.{BooleanText, boolean_shown}
 use Rattle.config_boolean.proofs.OnLiterals.{boolean_on_literals, boolean_of_is}
 use Rattle.config_text.proofs.OnLiterals.{AreRead, AreRefused, all_read, all_refused}
 
@@ -40,6 +40,23 @@ literals_of_false =
 pub false_is_read : AreRead BooleanText literals_of_false
 unfolding boolean_on_literals
 false_is_read = all_read boolean_of_is literals_of_false refl
+
+-- as Git reads other numbers: `git -c a.b=-2 config --type=bool a.b` answers `true`
+abbrev numbers : List (List ℕ × Boolean)
+numbers =
+    (codes "2", boolean true)
+    ∷ (codes "-2", boolean true)
+    ∷ (codes "1k", boolean true)
+    ∷ (codes "0k", boolean false)
+    ∷ []
+
+pub numbers_are_read : AreRead BooleanText numbers
+unfolding boolean_on_literals
+numbers_are_read = all_read boolean_of_is numbers refl
+
+-- and as it answers
+pub booleans_are_shown : map boolean_shown (boolean true ∷ boolean false ∷ []) ≡ codes "true" ∷ codes "false" ∷ []
+booleans_are_shown = refl
 
 -- near misses
 abbrev no_booleans : List (List ℕ)

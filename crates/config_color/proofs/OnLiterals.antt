@@ -4,7 +4,7 @@ use Rattle.std.specs.Prelude.{⊤}
 use Rattle.config_color.specs.declared.color.Color.{Color}
 use Rattle.config_color.specs.Color.{ColorText}
 use Rattle.config_color.specs.Space.{spellings}
-use Rattle.config_color.specs.Split.{after_space, words}
+use Rattle.config_color.specs.Reading.Split.{after_space, words}
 use Rattle.config_color.specs.Reading.Color.{word_item, color_of}
 use Rattle.config_color.specs.Laws.Color.{color_of-value}
 use Rattle.config_word.proofs.OnLiterals.{item_on_literals}

@@ -10,7 +10,7 @@ use Rattle.config_word.specs.declared.name.Name.{Name}
 use Rattle.config_text.specs.Bytes.{space}
 use Rattle.config_word.specs.Attribute.{AttributeText, IsKnownBit, attribute_shown, rising_words}
 use Rattle.config_word.specs.Name.{NameText, CanonicalName, NameFits, name_shown}
-use Rattle.config_color.specs.Split.{words}
+use Rattle.config_color.specs.Split.{Words}
 
 -- the color of no word: no names and no attributes
 abbrev pub no_color : Color
@@ -18,11 +18,18 @@ no_color = record { foreground = None; background = None; attributes = record { 
 
 -- each word is a name text or an attribute text: the names that the words have, in order, and the union of the
 -- attributes' bits
-abbrev pub WordsRead : List (List ℕ) → List Name → ℕ → Type 0
-WordsRead [] names bits = (names ≡ []) × (bits ≡ 0)
-WordsRead (w ∷ ws) names bits =
-    ((n : Name) × (more : List Name) × NameText w n × (names ≡ n ∷ more) × WordsRead ws more bits)
-    ⊎ ((a : Attribute) × (more : ℕ) × AttributeText w a × (bits ≡ bit_or a.0 more) × WordsRead ws names more)
+pub data WordsRead : List (List ℕ) → List Name → ℕ → Type 0 where
+  nothing : WordsRead [] [] 0
+  name : {w : List ℕ} {ws : List (List ℕ)} {n : Name} {names : List Name} {bits : ℕ}
+      → NameText w n → WordsRead ws names bits → WordsRead (w ∷ ws) (n ∷ names) bits
+  attribute : {w : List ℕ} {ws : List (List ℕ)} {a : Attribute} {names : List Name} {bits : ℕ}
+      → AttributeText w a → WordsRead ws names bits → WordsRead (w ∷ ws) names (bit_or a.0 bits)
+
+-- the words of the text have these names and bits
+pub record TextRead (t : List ℕ) (names : List Name) (bits : ℕ) : Type 0 where
+  pub words : List (List ℕ)
+  pub cut : Words t words
+  pub read : WordsRead words names bits
 
 -- the first name is the foreground, the second the background, each none where there is no such name; there is
 -- no place for a third
@@ -35,7 +42,7 @@ Placed (n ∷ m ∷ o ∷ names) foreground background = ⊥
 -- color text: its words are read, and their names placed
 pub record ColorText (t : List ℕ) (c : Color) : Type 0 where
   pub names : List Name
-  pub read : WordsRead (words t) names c.attributes.0
+  pub read : TextRead t names c.attributes.0
   pub placed : Placed names c.foreground c.background
 
 -- the text of a name, if there is one

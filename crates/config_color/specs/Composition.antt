@@ -4,11 +4,10 @@ use Rattle.std.specs.Option.{option_to_list}
 use Rattle.std.specs.Int.RustNames.{bit_or}
 use Rattle.config_color.specs.declared.color.Color.{Color}
 use Rattle.config_word.specs.declared.name.Name.{Name}
-use Rattle.config_color.specs.Color.{WordsRead, Placed, ColorText}
+use Rattle.config_color.specs.Color.{TextRead, Placed, ColorText}
 use Rattle.config_color.specs.Space.{Space}
 use Rattle.config_text.specs.Value.{IsAccepted, HasText}
 use Rattle.config_word.specs.Attribute.{AttributeText}
-use Rattle.config_color.specs.Split.{words}
 
 -- a color's names: its foreground, then its background, those that there are
 abbrev pub color_names : Color → List Name
@@ -35,9 +34,11 @@ HaveTooManyNames front back =
     (a : Color) × (b : Color) × ColorText front a × ColorText back b × (2 < length (color_names a ++ color_names b))
 
 -- the words of both texts have the same names in the same order, and attributes of the same bits
-abbrev pub SameWords : List ℕ → List ℕ → Type 0
-SameWords a b =
-    (names : List Name) × (bits : ℕ) × WordsRead (words a) names bits × WordsRead (words b) names bits
+pub record SameWords (a b : List ℕ) : Type 0 where
+  pub names : List Name
+  pub bits : ℕ
+  pub first : TextRead a names bits
+  pub second : TextRead b names bits
 
 -- two lists of words that differ in one whole attribute word, which stands at another place of the second list, or at
 -- one more place of it

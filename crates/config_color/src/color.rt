@@ -14,7 +14,8 @@ ghost use Rattle.config_word.specs.contracts.name.NameValue.TheImpl.Laws.{equal_
 ghost use Rattle.config_text.specs.Refusals.{Always, ReadsFault, ReadsBytes, ReadsText, ReadsOwned};
 ghost use Rattle.config_color.specs.Space.{Space};
 ghost use Rattle.config_text.specs.Value.{HasText, Reads};
-ghost use Rattle.config_color.specs.Split.{IsWithoutSpace, piece, words};
+ghost use Rattle.config_color.specs.Split.{piece};
+ghost use Rattle.config_color.specs.Reading.Split.{IsWithoutSpace, words};
 
 use crate::space::space_at;
 use bitflags::Flags;

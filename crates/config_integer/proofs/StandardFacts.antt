@@ -1,12 +1,13 @@
 -- What git-config(1) says of integers, on examples: a definition with a wrong letter, factor or base does not
 -- check. As Git and C read them, and not on that page, are `0x`, `0b`, a leading `0`, `g`, signs, both ends
 -- of the range, and the refused rows.
-use Rattle.std.proofs.Common.{ℕ, ℤ, pos, negsuc, List, [], ◌∷◌, codes, Option, Some, None, refl}
+use Rattle.std.proofs.Common.{◌≡◌, ℕ, ℤ, pos, negsuc, List, [], ◌∷◌, map, codes, Option, Some, None, refl}
 use Rattle.config_integer.specs.declared.integer.Integer.{Integer}
 use Rattle.config_integer.specs.declared.suffix.Suffix.{Suffix}
 use Rattle.config_integer.specs.declared.suffix.Suffix.TheVariants.{Kibi, Mebi, Gibi}
 use Rattle.config_integer.specs.declared.amount.Amount.{Amount}
 use Rattle.config_integer.specs.Integer.{IntegerText}
+use Rattle.config_integer.specs.Suffix.{suffix_shown}
 use Rattle.config_integer.specs.Amount.{AmountText, AmountRefusal}
 use Rattle.config_integer.specs.Laws.Integer.{integer_of_is}
 use Rattle.config_integer.proofs.OnLiterals.{integer_on_literals, amount_of_is, product_overflows}
@@ -41,6 +42,10 @@ integers =
 pub integers_are_read : AreRead IntegerText integers
 unfolding integer_on_literals
 integers_are_read = all_read integer_of_is integers refl
+
+-- the letters that are shown
+pub letters_are_shown : map suffix_shown (Kibi ∷ Mebi ∷ Gibi ∷ []) ≡ codes "k" ∷ codes "m" ∷ codes "g" ∷ []
+letters_are_shown = refl
 
 -- `k`, `M`, .. "to mean scale the number by 1024, by 1024x1024", in either case
 abbrev amounts : List (List ℕ × Amount)

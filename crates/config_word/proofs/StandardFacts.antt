@@ -1,13 +1,13 @@
 -- What git-config(1) says of the words of colors: a definition with a wrong word, number or bit does not check. Each of
 -- the 41 words stands here, and each attribute beside the constant that the code gives its name.
-use Rattle.std.proofs.Common.{ℕ, List, [], ◌∷◌, codes, refl}
+use Rattle.std.proofs.Common.{◌≡◌, ℕ, List, [], ◌∷◌, ◌++◌, map, codes, refl}
 use Rattle.config_word.specs.declared.attribute.Attribute.{Attribute}
 use Rattle.config_word.specs.declared.attribute.TheConstants.Attribute.{BOLD, DIM, UL, BLINK, REVERSE, ITALIC, STRIKE, RESET, NO_BOLD, NO_DIM, NO_UL, NO_BLINK, NO_REVERSE, NO_ITALIC, NO_STRIKE}
 use Rattle.config_word.specs.declared.name.Name.{Name}
 use Rattle.config_word.specs.declared.name.Name.TheVariants.{Normal, Default, Black, BrightBlack, Red, BrightRed, Green, BrightGreen, Yellow, BrightYellow, Blue, BrightBlue, Magenta, BrightMagenta, Cyan, BrightCyan, White, BrightWhite, Ansi, Rgb}
-use Rattle.config_word.specs.Attribute.{AttributeText}
+use Rattle.config_word.specs.Attribute.{AttributeText, attributes, attribute_shown}
 use Rattle.config_word.specs.Item.{ItemText}
-use Rattle.config_word.specs.Name.{NameText}
+use Rattle.config_word.specs.Name.{NameText, name_shown}
 use Rattle.config_word.specs.Laws.Item.{item-law, name-law, attribute-law}
 use Rattle.config_word.proofs.OnLiterals.{item_on_literals}
 use Rattle.config_text.proofs.OnLiterals.{AreRead, AreRefused, all_read, all_refused}
@@ -47,6 +47,10 @@ bright_colors =
 pub bright_colors_are_read : AreRead NameText bright_colors
 unfolding item_on_literals
 bright_colors_are_read = all_read name-law bright_colors refl
+
+-- each is shown as this word
+pub names_are_shown : map (λ row. name_shown row.1) (basic_colors ++ bright_colors) ≡ map (λ row. row.0) (basic_colors ++ bright_colors)
+names_are_shown = refl
 
 -- "numbers between 0 and 255", and "24-bit RGB values as hex, like #ff0ab3". Beyond that page: `#f1b` is `#ff11bb`, since
 -- Git 2.46, and `-1` is normal.
@@ -103,6 +107,33 @@ attributes_unset =
 pub attributes_unset_are_read : AreRead AttributeText attributes_unset
 unfolding item_on_literals
 attributes_unset_are_read = all_read attribute-law attributes_unset refl
+
+-- Beyond that page: the bit of each attribute, and the word that it is shown as, are those of the Rust crate.
+abbrev constants : List (Attribute × ℕ × List ℕ)
+constants =
+    (BOLD, 0x2, codes "bold")
+    ∷ (DIM, 0x4, codes "dim")
+    ∷ (ITALIC, 0x8, codes "italic")
+    ∷ (UL, 0x10, codes "ul")
+    ∷ (BLINK, 0x20, codes "blink")
+    ∷ (REVERSE, 0x40, codes "reverse")
+    ∷ (STRIKE, 0x80, codes "strike")
+    ∷ (RESET, 0x100, codes "reset")
+    ∷ (NO_DIM, 0x200000, codes "nodim")
+    ∷ (NO_BOLD, 0x400000, codes "nobold")
+    ∷ (NO_ITALIC, 0x800000, codes "noitalic")
+    ∷ (NO_UL, 0x1000000, codes "noul")
+    ∷ (NO_BLINK, 0x2000000, codes "noblink")
+    ∷ (NO_REVERSE, 0x4000000, codes "noreverse")
+    ∷ (NO_STRIKE, 0x8000000, codes "nostrike")
+    ∷ []
+
+pub bits_are_kept : map (λ row. row.0.0) constants ≡ map (λ row. row.1) constants
+bits_are_kept = refl
+
+pub attributes_are_shown : map (λ row. attribute_shown row.0.0) constants ≡ map (λ row. row.2) constants
+unfolding attributes
+attributes_are_shown = refl
 
 -- "except normal and default"; a number above 255; five digits; no bright attribute, and no `reset` to turn off
 abbrev no_words : List (List ℕ)

@@ -11,6 +11,22 @@ use Rattle.config_text.specs.SameWord.{SameWord}
 abbrev pub AttributeRow : Type 0
 AttributeRow = List ℕ × ℕ × List ℕ × List (List ℕ)
 
+-- the name of the constant
+abbrev pub constant_of : AttributeRow → List ℕ
+constant_of row = row.0
+
+-- its bit
+abbrev pub bit_of : AttributeRow → ℕ
+bit_of row = row.1
+
+-- the word that it is shown as
+abbrev pub shown_word : AttributeRow → List ℕ
+shown_word row = row.2
+
+-- each word that is read as it
+abbrev pub spellings_of : AttributeRow → List (List ℕ)
+spellings_of row = row.2 ∷ row.3
+
 -- the fifteen constants, by rising bit
 unfoldable pub attributes : List AttributeRow
 attributes =
@@ -33,21 +49,21 @@ attributes =
 
 -- the constants' names and values
 abbrev pub attribute_flags : List (List ℕ × ℕ)
-attribute_flags = map (λ row. (row.0, 2 ^ row.1)) attributes
+attribute_flags = map (λ row. (constant_of row, 2 ^ bit_of row)) attributes
 
 -- a bit that has a constant
 abbrev pub IsKnownBit : ℕ → Type 0
-IsKnownBit bit = OneOf (map (λ row. row.1) attributes) bit
+IsKnownBit bit = OneOf (map bit_of attributes) bit
 
 -- attribute text: a spelling of one constant, or `reset`, ignoring ASCII case
 pub data AttributeText (t : List ℕ) (a : Attribute) : Type 0 where
-  word : (row : AttributeRow) → OneOf attributes row → OneOf (row.2 ∷ row.3) t → a.0 ≡ 2 ^ row.1
+  word : (row : AttributeRow) → OneOf attributes row → OneOf (spellings_of row) t → a.0 ≡ 2 ^ bit_of row
       → AttributeText t a
   reset : SameWord t (codes "reset") → a.0 ≡ 2 ^ 8 → AttributeText t a
 
 -- the words of the known bits that are set, by rising bit
 abbrev pub attribute_words : ℕ → List (List ℕ)
-attribute_words bits = map (λ row. row.2) (filter (λ row. bit_at bits row.1 == 1) attributes)
+attribute_words bits = map shown_word (filter (λ row. bit_at bits (bit_of row) == 1) attributes)
 
 -- how a set of bits is shown: the words of its known bits, with one space between; an unknown bit shows as nothing
 abbrev pub attribute_shown : ℕ → List ℕ

@@ -11,7 +11,7 @@ use Rattle.config_word.specs.declared.name.Name.{Name}
 use Rattle.config_word.specs.declared.item.Item.{Item}
 use Rattle.config_word.specs.declared.item.Item.TheVariants as items
 use Rattle.config_word.specs.Attribute.{AttributeText}
-use Rattle.config_color.specs.Color.{WordsRead, Placed, ColorText, no_color}
+use Rattle.config_color.specs.Color.{WordsRead, TextRead, Placed, ColorText, no_color}
 use Rattle.config_color.specs.Reading.Color.{word_item, next_name, with_item, read_from, color_of}
 use Rattle.std.specs.Option.{option_and_then, option_to_list}
 use Rattle.config_word.specs.Name.{NameText}
@@ -20,8 +20,9 @@ use Rattle.config_text.specs.Laws.Value.{IsValueOf}
 use Rattle.config_text.specs.Laws.Value.{decided_by, one_value_by, read_by, reads_by}
 use Rattle.config_word.specs.Item.{ItemText}
 use Rattle.config_word.specs.Laws.Item.{item-law, item_one_value, not_both}
-use Rattle.config_color.specs.Split.{IsWithoutSpace, piece, words}
-use Rattle.config_color.specs.Laws.Split.{words_step, words_last, eqb_told}
+use Rattle.config_color.specs.Split.{piece}
+use Rattle.config_color.specs.Reading.Split.{IsWithoutSpace, words}
+use Rattle.config_color.specs.Laws.Split.{words_are, words_only, words_step, words_last, eqb_told}
 use Rattle.config_color.specs.Space.{Space}
 
 word_item-value : IsValueOf ItemText word_item
@@ -31,14 +32,23 @@ word_item-value = item-law
 pub or_assoc : (a b c : ℕ) → bit_or (bit_or a b) c ≡ bit_or a (bit_or b c)
 or_assoc a b c = same_from_bits _ _ (λ i. simp bit_at_or (omega arith))
 
-pub WordsRead-join : (xs ys : List (List ℕ)) (ns ms : List Name) (i j : ℕ) → WordsRead xs ns i
+-- the words that are read are those that the function gives
+pub read_words : {t : List ℕ} {names : List Name} {bits : ℕ} → TextRead t names bits → WordsRead (words t) names bits
+read_words {names = names} {bits = bits} h =
+    subst (λ (ws : List (List ℕ)). WordsRead ws names bits) (words_only h.cut) h.read
+
+pub text_read : (t : List ℕ) {names : List Name} {bits : ℕ} → WordsRead (words t) names bits → TextRead t names bits
+text_read t r = record { words = words t; cut = words_are t; read = r }
+
+pub WordsRead-join : {xs ys : List (List ℕ)} {ns ms : List Name} {i j : ℕ} → WordsRead xs ns i
     → WordsRead ys ms j
     → WordsRead (xs ++ ys) (ns ++ ms) (bit_or i j)
-WordsRead-join [] ys ns ms i j r s = rw (r.0, r.1, or_zero_l j) s
-WordsRead-join (w ∷ xs) ys ns ms i j (inl (n, more, t, e, r)) s =
-    inl (n, more ++ ms, t, ap (λ ns. ns ++ ms) e, WordsRead-join xs ys more ms i j r s)
-WordsRead-join (w ∷ xs) ys ns ms i j (inr (a, more, t, e, r)) s =
-    inr (a, bit_or more j, t, ap (λ i. bit_or i j) e ∙ or_assoc a.0 more j, WordsRead-join xs ys ns ms more j r s)
+WordsRead-join {ys = ys} {ms = ms} {j = j} WordsRead.nothing s =
+    subst (λ (i : ℕ). WordsRead ys ms i) (sym (or_zero_l j)) s
+WordsRead-join (WordsRead.name t r) s = WordsRead.name t (WordsRead-join r s)
+WordsRead-join {ys = ys} {ms = ms} {j = j} (WordsRead.attribute {w = w} {ws = ws} {a = a} {names = names} {bits = bits} t r) s =
+    subst (λ (i : ℕ). WordsRead (w ∷ ws ++ ys) (names ++ ms) i) (sym (or_assoc a.0 bits j))
+    (WordsRead.attribute t (WordsRead-join r s))
 
 -- what the words of both parts read to
 pub record PartsRead (xs ys : List (List ℕ)) (names : List Name) (bits : ℕ) : Type 0 where
@@ -51,16 +61,16 @@ pub record PartsRead (xs ys : List (List ℕ)) (names : List Name) (bits : ℕ) 
   pub all_names : names ≡ front_names ++ back_names
   pub all_bits : bits ≡ bit_or front_bits back_bits
 
-pub WordsRead-split : (xs ys : List (List ℕ)) (names : List Name) (bits : ℕ) → WordsRead (xs ++ ys) names bits
+pub WordsRead-split : (xs ys : List (List ℕ)) {names : List Name} {bits : ℕ} → WordsRead (xs ++ ys) names bits
     → PartsRead xs ys names bits
-WordsRead-split [] ys names bits r =
-    record { front_names = []; back_names = names; front_bits = 0; back_bits = bits; front = (refl, refl); back = r; all_names = refl; all_bits = sym (or_zero_l bits) }
-WordsRead-split (w ∷ xs) ys names bits (inl (n, more, t, e, r)) =
-    let p = WordsRead-split xs ys more bits r in
-    record { front_names = n ∷ p.front_names; back_names = p.back_names; front_bits = p.front_bits; back_bits = p.back_bits; front = inl (n, p.front_names, t, refl, p.front); back = p.back; all_names = e ∙ ap (λ ns. n ∷ ns) p.all_names; all_bits = p.all_bits }
-WordsRead-split (w ∷ xs) ys names bits (inr (a, more, t, e, r)) =
-    let p = WordsRead-split xs ys names more r in
-    record { front_names = p.front_names; back_names = p.back_names; front_bits = bit_or a.0 p.front_bits; back_bits = p.back_bits; front = inr (a, p.front_bits, t, refl, p.front); back = p.back; all_names = p.all_names; all_bits = e ∙ (ap (λ i. bit_or a.0 i) p.all_bits ∙ sym (or_assoc a.0 p.front_bits p.back_bits)) }
+WordsRead-split [] ys {names = names} {bits = bits} r =
+    record { front_names = []; back_names = names; front_bits = 0; back_bits = bits; front = WordsRead.nothing; back = r; all_names = refl; all_bits = sym (or_zero_l bits) }
+WordsRead-split (w ∷ xs) ys (WordsRead.name {n = n} t r) =
+    let p = WordsRead-split xs ys r in
+    record { front_names = n ∷ p.front_names; back_names = p.back_names; front_bits = p.front_bits; back_bits = p.back_bits; front = WordsRead.name t p.front; back = p.back; all_names = ap (λ ns. n ∷ ns) p.all_names; all_bits = p.all_bits }
+WordsRead-split (w ∷ xs) ys (WordsRead.attribute {a = a} t r) =
+    let p = WordsRead-split xs ys r in
+    record { front_names = p.front_names; back_names = p.back_names; front_bits = bit_or a.0 p.front_bits; back_bits = p.back_bits; front = WordsRead.attribute t p.front; back = p.back; all_names = p.all_names; all_bits = ap (λ i. bit_or a.0 i) p.all_bits ∙ sym (or_assoc a.0 p.front_bits p.back_bits) }
 
 one_name : (w : List ℕ) (n m : Name) → NameText w n → NameText w m → n ≡ m
 one_name w n m p q = let e = item_one_value w (items.Name n) (items.Name m) p q in cc
@@ -69,17 +79,17 @@ pub one_attribute : (w : List ℕ) (a b : Attribute) → AttributeText w a → A
 one_attribute w a b p q = let e = item_one_value w (items.Attribute a) (items.Attribute b) p q in cc
 
 -- words have one reading
-pub WordsRead-one : (ws : List (List ℕ)) (ns ms : List Name) (i j : ℕ) → WordsRead ws ns i → WordsRead ws ms j
+pub WordsRead-one : {ws : List (List ℕ)} {ns ms : List Name} {i j : ℕ} → WordsRead ws ns i → WordsRead ws ms j
     → (ns ≡ ms) × (i ≡ j)
-WordsRead-one [] ns ms i j r s = (cc, cc)
-WordsRead-one (w ∷ ws) ns ms i j (inl (n, more, t, e, r)) (inl (m, rest, u, f, s)) =
-    let o = WordsRead-one ws more rest i j r s in let k = one_name w n m t u in (cc (o.0), o.1)
-WordsRead-one (w ∷ ws) ns ms i j (inl (n, more, t, e, r)) (inr (b, rest, u, f, s)) =
-    absurd (not_both w n b t u)
-WordsRead-one (w ∷ ws) ns ms i j (inr (a, more, t, e, r)) (inl (m, rest, u, f, s)) =
-    absurd (not_both w m a u t)
-WordsRead-one (w ∷ ws) ns ms i j (inr (a, more, t, e, r)) (inr (b, rest, u, f, s)) =
-    let o = WordsRead-one ws ns ms more rest r s in let k = one_attribute w a b t u in (o.0, e ∙ (ap (λ a. bit_or a.0 more) k ∙ (ap (λ m. bit_or b.0 m) o.1 ∙ sym f)))
+WordsRead-one WordsRead.nothing WordsRead.nothing = (refl, refl)
+WordsRead-one (WordsRead.name {w = w} {n = n} {names = more} t r) (WordsRead.name {n = m} u s) =
+    let o = WordsRead-one r s in
+    (ap (λ n. n ∷ more) (one_name w n m t u) ∙ ap (λ ns. m ∷ ns) o.0, o.1)
+WordsRead-one (WordsRead.name {w = w} {n = n} t r) (WordsRead.attribute {a = b} u s) = absurd (not_both w n b t u)
+WordsRead-one (WordsRead.attribute {w = w} {a = a} t r) (WordsRead.name {n = m} u s) = absurd (not_both w m a u t)
+WordsRead-one (WordsRead.attribute {w = w} {a = a} {bits = more} t r) (WordsRead.attribute {a = b} u s) =
+    let o = WordsRead-one r s in
+    (o.0, ap (λ a. bit_or a.0 more) (one_attribute w a b t u) ∙ ap (λ m. bit_or b.0 m) o.1)
 
 pub Placed-words : (ns : List Name) (f b : Option Name) → Placed ns f b
     → option_to_list f ++ option_to_list b ≡ ns
@@ -141,22 +151,21 @@ next_from (m ∷ o ∷ []) f b bits n c p e = let h = rw (p.0, p.1) at e in absu
 next_from (m ∷ o ∷ k ∷ ns) f b bits n c p e = absurd p
 
 -- what the words read to, read from the front
-reading_found : (ws : List (List ℕ)) (p c : Color) (ns names : List Name) (bits : ℕ) → WordsRead ws names bits
+reading_found : {ws : List (List ℕ)} {names : List Name} {bits : ℕ} (p c : Color) (ns : List Name) → WordsRead ws names bits
     → Placed ns p.foreground p.background → Placed (ns ++ names) c.foreground c.background
     → c.attributes.0 ≡ bit_or p.attributes.0 bits → read_from p ws ≡ Some c
-reading_found [] p c ns names bits r before after united =
-    let k = rw (r.0, append-nil) at after in
+reading_found p c ns WordsRead.nothing before after united =
+    let k = rw append-nil at after in
     let o = Placed-one ns p.foreground p.background c.foreground c.background before k in
-    ap Some (same_color p c o.0 o.1 (sym (united ∙ (ap (λ b. bit_or p.attributes.0 b) r.1 ∙ or_zero_r p.attributes.0))))
-reading_found (w ∷ ws) p c ns names bits (inl (n, more, t, e, r)) before after united =
-    let k = rw e at after in
-    let d = next_placed ns p.foreground p.background p.attributes.0 n more c.foreground c.background before k in
+    ap Some (same_color p c o.0 o.1 (sym (united ∙ or_zero_r p.attributes.0)))
+reading_found p c ns (WordsRead.name {w = w} {n = n} {names = more} {bits = bits} t r) before after united =
+    let d = next_placed ns p.foreground p.background p.attributes.0 n more c.foreground c.background before after in
     rw (word_item-value.found w (items.Name n) t, d.1)
-    (reading_found ws d.0 c (ns ++ n ∷ []) more bits r d.2 (rw append_assoc k) (united ∙ ap (λ a. bit_or a bits) (sym d.3)))
-reading_found (w ∷ ws) p c ns names bits (inr (a, more, t, e, r)) before after united =
+    (reading_found d.0 c (ns ++ n ∷ []) r d.2 (rw append_assoc after) (united ∙ ap (λ a. bit_or a bits) (sym d.3)))
+reading_found p c ns (WordsRead.attribute {w = w} {a = a} {bits = more} t r) before after united =
     rw (word_item-value.found w (items.Attribute a) t)
-    (reading_found ws (record { foreground = p.foreground; background = p.background; attributes = record { 0 = bit_or p.attributes.0 a.0 } }) c ns names more r before after
-    (united ∙ (ap (λ b. bit_or p.attributes.0 b) e ∙ sym (or_assoc p.attributes.0 a.0 more))))
+    (reading_found (record { foreground = p.foreground; background = p.background; attributes = record { 0 = bit_or p.attributes.0 a.0 } }) c ns r before after
+    (united ∙ sym (or_assoc p.attributes.0 a.0 more)))
 
 -- what words read from the front read to
 pub record ReadOn (ws : List (List ℕ)) (p c : Color) (ns : List Name) : Type 0 where
@@ -170,7 +179,7 @@ reading_derived : (ws : List (List ℕ)) (p c : Color) (ns : List Name) → Plac
     → read_from p ws ≡ Some c → ReadOn ws p c ns
 reading_derived [] p c ns before h =
     let e : p ≡ c = cc in
-    record { names = []; bits = 0; read = (refl, refl); placed = rw append-nil (rw e at before); united = ap (λ (c : Color). c.attributes.0) (sym e) ∙ sym (or_zero_r p.attributes.0) }
+    record { names = []; bits = 0; read = WordsRead.nothing; placed = rw append-nil (rw e at before); united = ap (λ (c : Color). c.attributes.0) (sym e) ∙ sym (or_zero_r p.attributes.0) }
 reading_derived (w ∷ ws) p c ns before h = at_item w ws p c ns before (word_item w) refl h (λ d ms q e. reading_derived ws d c ms q e) where
   at_name : (w : List ℕ) (ws : List (List ℕ)) (p c : Color) (ns : List Name)
       → Placed ns p.foreground p.background → (n : Name) → NameText w n
@@ -181,7 +190,7 @@ reading_derived (w ∷ ws) p c ns before h = at_item w ws p c ns before (word_it
   at_name w ws p c ns before n t (Some d) e h more =
       let k = next_from ns p.foreground p.background p.attributes.0 n d before e in
       let r = more d (ns ++ n ∷ []) k.0 h in
-      record { names = n ∷ r.names; bits = r.bits; read = inl (n, r.names, t, refl, r.read); placed = rw append_assoc at r.placed; united = r.united ∙ ap (λ a. bit_or a r.bits) k.1 }
+      record { names = n ∷ r.names; bits = r.bits; read = WordsRead.name t r.read; placed = rw append_assoc at r.placed; united = r.united ∙ ap (λ a. bit_or a r.bits) k.1 }
 
   at_item : (w : List ℕ) (ws : List (List ℕ)) (p c : Color) (ns : List Name)
       → Placed ns p.foreground p.background
@@ -193,18 +202,18 @@ reading_derived (w ∷ ws) p c ns before h = at_item w ws p c ns before (word_it
       at_name w ws p c ns before n (word_item-value.derived w (items.Name n) e) (next_name p.foreground p.background p.attributes.0 n) refl h more
   at_item w ws p c ns before (Some (items.Attribute a)) e h more =
       let r = more (record { foreground = p.foreground; background = p.background; attributes = record { 0 = bit_or p.attributes.0 a.0 } }) ns before h in
-      record { names = r.names; bits = bit_or a.0 r.bits; read = inr (a, r.bits, word_item-value.derived w (items.Attribute a) e, refl, r.read); placed = r.placed; united = r.united ∙ or_assoc p.attributes.0 a.0 r.bits }
+      record { names = r.names; bits = bit_or a.0 r.bits; read = WordsRead.attribute (word_item-value.derived w (items.Attribute a) e) r.read; placed = r.placed; united = r.united ∙ or_assoc p.attributes.0 a.0 r.bits }
 
 -- color text as a function
 pub color_of-value : IsValueOf ColorText color_of
 color_of-value = record {
-  found = λ t c h. reading_found (words t) no_color c [] h.names c.attributes.0 h.read (refl, refl) h.placed (sym (or_zero_l c.attributes.0));
+  found = λ t c h. reading_found no_color c [] (read_words h.read) (refl, refl) h.placed (sym (or_zero_l c.attributes.0));
   derived = λ t c e. whole t c (reading_derived (words t) no_color c [] (refl, refl) e);
 } where
   whole : (t : List ℕ) (c : Color) → ReadOn (words t) no_color c [] → ColorText t c
   whole t c r = record {
     names = r.names;
-    read = subst (λ (b : ℕ). WordsRead (words t) r.names b) (sym (r.united ∙ or_zero_l r.bits)) r.read;
+    read = text_read t (subst (λ (b : ℕ). WordsRead (words t) r.names b) (sym (r.united ∙ or_zero_l r.bits)) r.read);
     placed = r.placed;
   }
 

@@ -19,7 +19,7 @@ use Rattle.config_word.specs.declared.attribute.Attribute.{Attribute}
 use Rattle.config_word.specs.declared.name.Name.{Name}
 use Rattle.config_word.specs.Attribute.{AttributeRow, attributes, attribute_flags, AttributeText, attribute_words, rising_words}
 use Rattle.config_color.specs.Color.{WordsRead, Placed, ColorText, part_shown, set_shown, color_shown, Chosen, CanonicalColor, PartFits, AreKnown}
-use Rattle.config_color.specs.Laws.Color.{WordsRead-join, Placed-short, placing, same_color, color_one_value}
+use Rattle.config_color.specs.Laws.Color.{text_read, WordsRead-join, Placed-short, placing, same_color, color_one_value}
 use Rattle.config_text.specs.Bytes.{space}
 use Rattle.config_text.specs.declared.value.TheConstants.{LONGEST_TEXT}
 use Rattle.config_word.specs.declared.attribute.TheConstants.{LONGEST_SET}
@@ -32,7 +32,7 @@ use Rattle.config_text.specs.OneOf.{OneOf}
 use Rattle.config_text.specs.Laws.OneOf.{all-one}
 use Rattle.config_color.specs.Laws.PlainWords.{is_plain_word, words_spaced, all_plain_append, chosen_plain, names_plain}
 use Rattle.config_text.specs.Value.{IsAccepted, HasText, IsTextOf}
-use Rattle.config_color.specs.Split.{words}
+use Rattle.config_color.specs.Reading.Split.{words}
 use Rattle.config_color.specs.Laws.Split.{eqb_told}
 
 -- the words of the rows whose bits are set
@@ -79,10 +79,10 @@ zero_and n = same_from_bits _ _ (λ i. simp (bit_at_and, bit_at-zero) (omega ari
 -- the words of the set bits read to those bits
 set_words_read : (rows : List AttributeRow) (bits : ℕ) → AreRead rows
     → WordsRead (set_words bits rows) [] (bit_and bits (bits_of rows))
-set_words_read [] bits h = (refl, and_zero bits)
+set_words_read [] bits h = subst (λ (n : ℕ). WordsRead [] [] n) (sym (and_zero bits)) WordsRead.nothing
 set_words_read (row ∷ rows) bits h =
     elim (bit_told bits row.1) [
-      | inl e ↦ rw e (inr (record { 0 = 2 ^ row.1 }, bit_and bits (bits_of rows), h.0, or_and bits (2 ^ row.1) (bits_of rows) ∙ ap (λ n. bit_or n (bit_and bits (bits_of rows))) (and_pow_set bits row.1 e), set_words_read rows bits h.1))
+      | inl e ↦ rw e (subst (λ (n : ℕ). WordsRead (row.2 ∷ set_words bits rows) [] n) (sym (or_and bits (2 ^ row.1) (bits_of rows) ∙ ap (λ n. bit_or n (bit_and bits (bits_of rows))) (and_pow_set bits row.1 e))) (WordsRead.attribute h.0 (set_words_read rows bits h.1)))
       | inr e ↦ rw e (subst (λ (n : ℕ). WordsRead (set_words bits rows) [] n) (sym (or_and bits (2 ^ row.1) (bits_of rows) ∙ (ap (λ n. bit_or n (bit_and bits (bits_of rows))) (and_pow_clear bits row.1 e) ∙ or_zero_l (bit_and bits (bits_of rows))))) (set_words_read rows bits h.1))
     ]
 
@@ -127,9 +127,9 @@ chosen_read : (rows : List AttributeRow) (low : ℕ) (ws : List (List ℕ)) → 
     → Chosen (map (λ row. row.2) rows) ws
     → ChosenRead low rows ws
 chosen_read [] low [] r h c =
-    record { bits = 0; read = (refl, refl); shown = refl; above = λ i l. bit_at-zero i }
+    record { bits = 0; read = WordsRead.nothing; shown = refl; above = λ i l. bit_at-zero i }
 chosen_read [] low (w ∷ ws) r h c = absurd c
-chosen_read (row ∷ rows) low [] r h c = record { bits = 0; read = (refl, refl); shown = sym (set_words_zero (row ∷ rows)); above = λ i l. bit_at-zero i }
+chosen_read (row ∷ rows) low [] r h c = record { bits = 0; read = WordsRead.nothing; shown = sym (set_words_zero (row ∷ rows)); above = λ i l. bit_at-zero i }
 chosen_read (row ∷ rows) low (w ∷ ws) r h (inl c) = with_row (chosen_read rows (row.1 + 1) ws r.1 h.1 c.1) where
   with_row : ChosenRead (row.1 + 1) rows ws → ChosenRead low (row ∷ rows) (w ∷ ws)
   with_row more =
@@ -139,7 +139,7 @@ chosen_read (row ∷ rows) low (w ∷ ws) r h (inl c) = with_row (chosen_read ro
       (λ i l. let ne : i ≢ row.1 = omega arith in bit_at_or (2 ^ row.1) more.bits i ∙ rw bit_at-pow_other (omega arith)) in
       record {
         bits = bit_or (2 ^ row.1) more.bits;
-        read = inr (record { 0 = 2 ^ row.1 }, more.bits, subst (λ (w : List ℕ). AttributeText w (record { 0 = 2 ^ row.1 })) (sym c.0) h.0, refl, more.read);
+        read = WordsRead.attribute (subst (λ (w : List ℕ). AttributeText w (record { 0 = 2 ^ row.1 })) (sym c.0) h.0) more.read;
         shown = rw set (ap (λ w. w ∷ ws) c.0 ∙ ap (λ ws. row.2 ∷ ws) (more.shown ∙ sym rest));
         above = λ i l. let ne : i ≢ row.1 = omega arith in bit_at_or (2 ^ row.1) more.bits i ∙ rw bit_at-pow_other (rw (more.above i (omega arith)) refl);
       }
@@ -235,29 +235,28 @@ attribute_known w a (AttributeText.word row o p e) =
 attribute_known w a (AttributeText.reset p e) = rw e refl
 
 -- the bits that words read to are known
-WordsRead-known : (ws : List (List ℕ)) (ns : List Name) (bits : ℕ) → WordsRead ws ns bits → IsMasked bits
-WordsRead-known [] ns bits r = rw r.1 (zero_and (bits_of attributes))
-WordsRead-known (w ∷ ws) ns bits (inl (n, more, t, e, r)) = WordsRead-known ws more bits r
-WordsRead-known (w ∷ ws) ns bits (inr (a, more, t, e, r)) =
+WordsRead-known : {ws : List (List ℕ)} {ns : List Name} {bits : ℕ} → WordsRead ws ns bits → IsMasked bits
+WordsRead-known WordsRead.nothing = zero_and (bits_of attributes)
+WordsRead-known (WordsRead.name t r) = WordsRead-known r
+WordsRead-known (WordsRead.attribute {w = w} {a = a} {bits = more} t r) =
     let front = attribute_known w a t in
-    let back = WordsRead-known ws ns more r in
-    rw e (and_or a.0 more (bits_of attributes) ∙ cc)
+    let back = WordsRead-known r in
+    and_or a.0 more (bits_of attributes) ∙ cc
 
 -- names that have texts
 abbrev HaveTexts : List Name → Type 0
 HaveTexts ns = AllByRecursion (HasText NameText) ns
 
 -- the names that words read to have texts
-names_have_texts : (ws : List (List ℕ)) (ns : List Name) (bits : ℕ) → WordsRead ws ns bits → HaveTexts ns
-names_have_texts [] ns bits r = subst HaveTexts (sym r.0) tt
-names_have_texts (w ∷ ws) ns bits (inl (n, more, t, e, r)) =
-    subst HaveTexts (sym e) ((w, t), names_have_texts ws more bits r)
-names_have_texts (w ∷ ws) ns bits (inr (a, more, t, e, r)) = names_have_texts ws ns more r
+names_have_texts : {ws : List (List ℕ)} {ns : List Name} {bits : ℕ} → WordsRead ws ns bits → HaveTexts ns
+names_have_texts WordsRead.nothing = tt
+names_have_texts (WordsRead.name {w = w} t r) = ((w, t), names_have_texts r)
+names_have_texts (WordsRead.attribute t r) = names_have_texts r
 
 -- the displayed names read to them
 names_read : (ns : List Name) → HaveTexts ns → WordsRead (map name_shown ns) ns 0
-names_read [] h = (refl, refl)
-names_read (n ∷ ns) h = inl (n, ns, (name_shown_is_text n h.0).reads_to, refl, names_read ns h.1)
+names_read [] h = WordsRead.nothing
+names_read (n ∷ ns) h = WordsRead.name (name_shown_is_text n h.0).reads_to (names_read ns h.1)
 
 names_canonical : (ns : List Name) → HaveTexts ns → AllByRecursion CanonicalName (map name_shown ns)
 names_canonical [] h = tt
@@ -271,7 +270,7 @@ pub record NamesRead (ts : List (List ℕ)) : Type 0 where
   pub as_many : length names ≡ length ts
 
 canonical_names_read : (ts : List (List ℕ)) → AllByRecursion CanonicalName ts → NamesRead ts
-canonical_names_read [] h = record { names = []; read = (refl, refl); shown = refl; as_many = refl }
+canonical_names_read [] h = record { names = []; read = WordsRead.nothing; shown = refl; as_many = refl }
 canonical_names_read (t ∷ ts) h = with_name (name_canonical_reads t h.0) (canonical_names_read ts h.1) where
   with_name : IsAccepted NameText t → NamesRead ts → NamesRead (t ∷ ts)
   with_name (n, p) more =
@@ -279,7 +278,7 @@ canonical_names_read (t ∷ ts) h = with_name (name_canonical_reads t h.0) (cano
       let same : t ≡ name_shown n = name_one_text t (name_shown n) n h.0 text.canonical_text p text.reads_to in
       record {
         names = n ∷ more.names;
-        read = inl (n, more.names, p, refl, more.read);
+        read = WordsRead.name p more.read;
         shown = ap (λ w. w ∷ ts) same ∙ ap (λ ts. name_shown n ∷ ts) more.shown;
         as_many = ap suc more.as_many;
       }
@@ -290,7 +289,7 @@ names_and_words : (ts ws : List (List ℕ)) (ns : List Name) (bits : ℕ) → Wo
     → WordsRead (ts ++ ws) ns bits
 names_and_words ts ws ns bits r s =
     subst (λ (ns : List Name). WordsRead (ts ++ ws) ns bits) (append-nil ns)
-    (subst (λ (b : ℕ). WordsRead (ts ++ ws) (ns ++ []) b) (or_zero_l bits) (WordsRead-join ts ws ns [] 0 bits r s))
+    (subst (λ (b : ℕ). WordsRead (ts ++ ws) (ns ++ []) b) (or_zero_l bits) (WordsRead-join r s))
 
 -- ---- the text that a color is shown as
 
@@ -309,6 +308,9 @@ parts_named (n ∷ []) f b p = rw (p.0, p.1) refl
 parts_named (n ∷ m ∷ []) f b p = rw (p.0, p.1) refl
 parts_named (n ∷ m ∷ o ∷ ns) f b p = absurd p
 
+no_words_no_bits : {ns : List Name} {bits : ℕ} → WordsRead [] ns bits → bits ≡ 0
+no_words_no_bits WordsRead.nothing = refl
+
 join_set : (xs : List (List ℕ)) (bits : ℕ) → IsMasked bits
     → join_with_byte space (xs ++ set_shown bits) ≡ join_with_byte space (xs ++ attribute_words bits)
 join_set xs zero e = ap (λ ws. join_with_byte space (xs ++ ws)) (sym (set_words_zero attributes))
@@ -318,7 +320,7 @@ join_set xs (suc n) e = some (attribute_words (suc n)) refl where
       ≡ join_with_byte space (xs ++ attribute_words (suc n))
   some [] k =
       let r = subst (λ (ws : List (List ℕ)). WordsRead ws [] (suc n)) k (attribute_words_read (suc n) e) in
-      absurd (omega (arith, r.1))
+      absurd (omega (arith, no_words_no_bits r))
   some (y ∷ ys) k = rw k (join_last xs y ys)
 
 -- it is the names' texts and the attributes' words, with a space between
@@ -348,10 +350,10 @@ canonical_shown t h = whole (canonical_names_read h.names h.named) (rising_read 
     as_placed (f, b, p) =
         let c : Color = record { foreground = f; background = b; attributes = record { 0 = w.bits } } in
         let read = subst (λ (ws : List (List ℕ)). WordsRead ws n.names w.bits) (sym spelled_words) joined in
-        let shown = shown_spaced c n.names p (WordsRead-known (h.names ++ h.words) n.names w.bits joined) in
+        let shown = shown_spaced c n.names p (WordsRead-known joined) in
         let parts : h.names ++ h.words ≡ map name_shown n.names ++ attribute_words w.bits =
         ap (λ ts. ts ++ h.words) n.shown ∙ ap (λ ws. map name_shown n.names ++ ws) w.shown in
-        (c, record { names = n.names; read = read; placed = p }, h.spelled ∙ (ap (join_with_byte space) parts ∙ sym shown))
+        (c, record { names = n.names; read = text_read t read; placed = p }, h.spelled ∙ (ap (join_with_byte space) parts ∙ sym shown))
 
 pub color_canonical_reads : (t : List ℕ) → CanonicalColor t → IsAccepted ColorText t
 color_canonical_reads t h = let k = canonical_shown t h in (k.0, k.1)
@@ -431,9 +433,9 @@ shown_is_text c ns placed texts e = record {
   };
   reads_to = record {
     names = ns;
-    read = subst (λ (ws : List (List ℕ)). WordsRead ws ns c.attributes.0) (sym shown_words)
+    read = text_read (color_shown c) (subst (λ (ws : List (List ℕ)). WordsRead ws ns c.attributes.0) (sym shown_words)
         (names_and_words (map name_shown ns) (attribute_words c.attributes.0) ns c.attributes.0
-        (names_read ns texts) (attribute_words_read c.attributes.0 e));
+        (names_read ns texts) (attribute_words_read c.attributes.0 e)));
     placed = placed;
   };
   short = let fit = texts_fit ns c.foreground c.background texts placed in color_short c fit.0 fit.1;
@@ -452,19 +454,18 @@ shown_is_text c ns placed texts e = record {
 pub color_shown_is_text : (c : Color) → HasText ColorText c
     → IsTextOf ColorText CanonicalColor c (color_shown c)
 color_shown_is_text c (t, h) =
-    shown_is_text c h.names h.placed (names_have_texts (words t) h.names c.attributes.0 h.read)
-    (WordsRead-known (words t) h.names c.attributes.0 h.read)
+    shown_is_text c h.names h.placed (names_have_texts h.read.read) (WordsRead-known h.read.read)
 
 -- a color that was read has numbers that fit
 pub parts_fit : (t : List ℕ) (c : Color) → ColorText t c → PartFits c.foreground × PartFits c.background
 parts_fit t c h =
-    texts_fit h.names c.foreground c.background (names_have_texts (words t) h.names c.attributes.0 h.read) h.placed
+    texts_fit h.names c.foreground c.background (names_have_texts h.read.read) h.placed
 
 -- which colors have a text: those whose set bits are known, with a background only beside a foreground
 pub color_has_text : (c : Color) → PartFits c.foreground → PartFits c.background
     → (HasText ColorText c) ↔ (AreKnown c.attributes.0 × (c.foreground ≡ None → c.background ≡ None))
 color_has_text c f b = (
-  λ h. (mask_known c.attributes.0 (WordsRead-known (words h.0) h.1.names c.attributes.0 h.1.read), background_beside h.0 c h.1),
+  λ h. (mask_known c.attributes.0 (WordsRead-known h.1.read.read), background_beside h.0 c h.1),
   λ k. told c.foreground c.background f b refl refl k.1 (known_mask c.attributes.0 k.0),
 ) where
   text : (ns : List Name) → Placed ns c.foreground c.background → HaveTexts ns → IsMasked c.attributes.0

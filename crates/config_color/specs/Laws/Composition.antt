@@ -7,13 +7,13 @@ use Rattle.std.specs.Int.RustNames.{bit_or}
 use Rattle.std.specs.Option.{option_to_list}
 use Rattle.config_color.specs.declared.color.Color.{Color}
 use Rattle.config_word.specs.declared.name.Name.{Name}
-use Rattle.config_color.specs.Color.{WordsRead, Placed, ColorText}
-use Rattle.config_color.specs.Laws.Color.{WordsRead-join, PartsRead, WordsRead-split, WordsRead-one, Placed-words, Placed-short, Placed-one, placing, same_color, color_one_value, color_decided}
+use Rattle.config_color.specs.Color.{WordsRead, TextRead, Placed, ColorText}
+use Rattle.config_color.specs.Laws.Color.{read_words, text_read, WordsRead-join, PartsRead, WordsRead-split, WordsRead-one, Placed-words, Placed-short, Placed-one, placing, same_color, color_one_value, color_decided}
 use Rattle.config_color.specs.Reading.Color.{places_of}
 use Rattle.config_color.specs.Composition.{color_names, Composition, Composes, Joined, HaveTooManyNames, SameWords, ComparesWords}
 use Rattle.config_color.specs.Space.{Space}
 use Rattle.config_text.specs.Value.{IsAccepted, IsRefused, HasText, Compares}
-use Rattle.config_color.specs.Split.{words}
+use Rattle.config_color.specs.Reading.Split.{words}
 use Rattle.config_color.specs.Laws.Split.{words_joined, space_byte}
 
 -- a color that has a text has a background only beside a foreground
@@ -30,10 +30,10 @@ pub joined_reads : (front space back : List ℕ) (c : Color) → Space space →
     → ColorText (front ++ space ++ back) c
 joined_reads front space back c s (a, b, p, q, k) =
     let w = sym (words_joined front space back s) ∙ ap words (sym (append_assoc front space back)) in
-    let r = WordsRead-join (words front) (words back) p.names q.names a.attributes.0 b.attributes.0 p.read q.read in
+    let r = WordsRead-join (read_words p.read) (read_words q.read) in
     record {
       names = p.names ++ q.names;
-      read = subst (λ (ws : List (List ℕ)). WordsRead ws (p.names ++ q.names) c.attributes.0) w (subst (λ (i : ℕ). WordsRead (words front ++ words back) (p.names ++ q.names) i) (sym k.united) r);
+      read = text_read (front ++ space ++ back) (subst (λ (ws : List (List ℕ)). WordsRead ws (p.names ++ q.names) c.attributes.0) w (subst (λ (i : ℕ). WordsRead (words front ++ words back) (p.names ++ q.names) i) (sym k.united) r));
       placed = subst (λ (ns : List Name). Placed ns c.foreground c.background)
           (ap (λ ns. ns ++ color_names b) (Placed-words p.names a.foreground a.background p.placed) ∙ ap (λ ms. p.names ++ ms) (Placed-words q.names b.foreground b.background q.placed)) k.placed;
     }
@@ -41,9 +41,9 @@ joined_reads front space back c s (a, b, p, q, k) =
 -- the color of a joined text is the composition of the colors of its parts
 pub reads_joined : (front space back : List ℕ) (c : Color) → Space space
     → ColorText (front ++ space ++ back) c → Joined front back c
-reads_joined front space back c s h = parted (WordsRead-split (words front) (words back) h.names c.attributes.0 read) where
+reads_joined front space back c s h = parted (WordsRead-split (words front) (words back) read) where
   read : WordsRead (words front ++ words back) h.names c.attributes.0
-  read = subst (λ (ws : List (List ℕ)). WordsRead ws h.names c.attributes.0) (ap words (append_assoc front space back) ∙ words_joined front space back s) h.read
+  read = subst (λ (ws : List (List ℕ)). WordsRead ws h.names c.attributes.0) (ap words (append_assoc front space back) ∙ words_joined front space back s) (read_words h.read)
 
   parted : PartsRead (words front) (words back) h.names c.attributes.0 → Joined front back c
   parted r =
@@ -56,8 +56,8 @@ reads_joined front space back c s h = parted (WordsRead-split (words front) (wor
       r.all_names ∙ (ap (λ ns. ns ++ r.back_names) (sym (Placed-words r.front_names a.0 a.1 a.2)) ∙ ap (λ ms. color_names front_color ++ ms) (sym (Placed-words r.back_names b.0 b.1 b.2))) in (
         front_color,
         back_color,
-        record { names = r.front_names; read = r.front; placed = a.2 },
-        record { names = r.back_names; read = r.back; placed = b.2 },
+        record { names = r.front_names; read = text_read front r.front; placed = a.2 },
+        record { names = r.back_names; read = text_read back r.back; placed = b.2 },
         record { placed = subst (λ (ns : List Name). Placed ns c.foreground c.background) names h.placed; united = r.all_bits },
       )
 
@@ -109,12 +109,12 @@ compares_words a b (Some same) (v, w, compared) = (λ e. agree (compared.equal.0
   agree e =
       let names : q.names ≡ p.names = sym (Placed-words q.names w.foreground w.background q.placed) ∙ (ap (λ (c : Color). color_names c) (sym e) ∙ Placed-words p.names v.foreground v.background p.placed) in
       let bits : w.attributes.0 ≡ v.attributes.0 = ap (λ (c : Color). c.attributes.0) (sym e) in
-      (p.names, v.attributes.0, p.read, subst (λ (ns : List Name). WordsRead (words b) ns v.attributes.0) names (subst (λ (i : ℕ). WordsRead (words b) q.names i) bits q.read))
+      record { names = p.names; bits = v.attributes.0; first = p.read; second = subst (λ (ns : List Name). TextRead b ns v.attributes.0) names (subst (λ (i : ℕ). TextRead b q.names i) bits q.read) }
 
   meet : SameWords a b → v ≡ w
-  meet (names, bits, r, s) =
-      let m = WordsRead-one (words a) p.names names v.attributes.0 bits p.read r in
-      let o = WordsRead-one (words b) q.names names w.attributes.0 bits q.read s in
+  meet s =
+      let m = WordsRead-one (read_words p.read) (read_words s.first) in
+      let o = WordsRead-one (read_words q.read) (read_words s.second) in
       let placed = Placed-one p.names v.foreground v.background w.foreground w.background p.placed
       (subst (λ (ns : List Name). Placed ns w.foreground w.background) (o.0 ∙ sym m.0) q.placed) in
       same_color v w placed.0 placed.1 (m.1 ∙ sym o.1)
@@ -171,3 +171,12 @@ pub places_refuse : (a b : Color) → HasText ColorText a → HasText ColorText 
 places_refuse a b (s, p) (t, q) e =
     let l = places_none a.foreground a.background b.foreground b.background (background_beside s a p) (background_beside t b q) e in
     (l, λ c k. absurd (omega (arith, Placed-short (color_names a ++ color_names b) c.foreground c.background k.placed)))
+
+-- two colors have one composition, or none
+pub composes_one : (a b : Color) (r s : Option Color) → Composes a b r → Composes a b s → r ≡ s
+composes_one a b None None p q = refl
+composes_one a b None (Some d) p q = absurd (p.1 d q.0)
+composes_one a b (Some c) None p q = absurd (q.1 c p.0)
+composes_one a b (Some c) (Some d) (k, t) (m, u) =
+    let placed = Placed-one (color_names a ++ color_names b) c.foreground c.background d.foreground d.background k.placed m.placed in
+    ap Some (same_color c d placed.0 placed.1 (k.united ∙ sym m.united))

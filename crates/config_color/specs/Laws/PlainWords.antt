@@ -13,7 +13,7 @@ use Rattle.config_text.specs.Bytes.{space, IsLowerHex}
 use Rattle.config_text.specs.OneOf.{OneOf}
 use Rattle.config_text.specs.Laws.OneOf.{all-one}
 use Rattle.config_color.specs.Laws.Space.{start_not}
-use Rattle.config_color.specs.Split.{after_space, last_cut, words}
+use Rattle.config_color.specs.Reading.Split.{after_space, last_cut, words}
 use Rattle.config_color.specs.Laws.Split.{after_space_is, words_none, words_joined, space_byte}
 
 -- a printing ASCII byte other than the space

@@ -2,7 +2,7 @@
 use Rattle.std.proofs.Common.{◌≡◌, ℕ, ◌+◌, ◌<◌, ◌≤◌, ◌⊎◌, inl, inr, Bool, true, false, ◌||◌, nat_le, List, [], ◌∷◌, ◌++◌, length, get_or, drop, refl, ap, arith}
 use Rattle.std.proofs.lemmas.Bool.Decides.{leb_tells, nat_tests}
 use Rattle.std.proofs.lemmas.List.{get_or-drop}
-use Rattle.config_color.specs.Split.{IsWithoutSpace}
+use Rattle.config_color.specs.Reading.Split.{IsWithoutSpace}
 use Rattle.config_color.specs.Reading.Color.{ArePlain}
 use Rattle.config_text.specs.Laws.OneOf.{all-one}
 use Rattle.config_color.specs.Space.{spellings, Space}

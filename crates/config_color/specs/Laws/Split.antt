@@ -1,6 +1,6 @@
--- The laws of `Split`: the two sentences of the definition of words, the words of a text that is joined of two by white
--- space, and the first word of a text that is walked from its front.
-use Rattle.std.proofs.Common.{◌≡◌, ℕ, zero, suc, ◌+◌, ◌-◌, ◌<◌, ◌≤◌, ◌==◌, ◌⊎◌, inl, inr, Bool, true, false, List, [], ◌∷◌, ◌++◌, length, map, get_or, take, drop, slice_range, Option, Some, None, refl, sym, ap, ◌∙◌, append_assoc, length-append, arith}
+-- The laws of words: each text has one list of them, which the function gives; the words of a text that is joined of two
+-- by white space; and the first word of a text that is walked from its front.
+use Rattle.std.proofs.Common.{◌≡◌, ℕ, zero, suc, ◌+◌, ◌-◌, ◌<◌, ◌≤◌, ◌==◌, ◌⊎◌, inl, inr, Bool, true, false, List, [], ◌∷◌, ◌++◌, length, map, get_or, take, drop, slice_range, Option, Some, None, refl, sym, ap, subst, ◌∙◌, append_assoc, arith}
 use Rattle.std.specs.Bool.{Decides}
 use Rattle.std.specs.Option.{option_or}
 use Rattle.std.proofs.lemmas.Bool.Decides.{Decides-eqb}
@@ -8,7 +8,8 @@ use Rattle.std.proofs.lemmas.List.{append-nil, take-append-drop, drop-drop, take
 use Rattle.config_text.specs.OneOf.{OneOf}
 use Rattle.config_color.specs.Space.{spellings, Space}
 use Rattle.config_color.specs.Laws.Space.{no_empty}
-use Rattle.config_color.specs.Split.{IsWithoutSpace, after, after_one, after_space, Cut, cut_at, last_cut, piece, words_within, words}
+use Rattle.config_color.specs.Split.{HasNoSpace, piece, Words}
+use Rattle.config_color.specs.Reading.Split.{IsWithoutSpace, after, after_one, after_space, Cut, cut_at, last_cut, words_within, words}
 
 pub space_byte : Space (32 ∷ [])
 unfolding spellings
@@ -237,21 +238,85 @@ no_cut text h =
       | inr c ↦ let k = cut_parts text c.0 c.1 in absurd (h c.0.0 k.0 c.0.1 k.1 k.2)
     ]
 
-pub words_whole : (text : List ℕ)
-    → ((before space rest : List ℕ) → Space space → ¬ (text ≡ before ++ space ++ rest))
-    → words text ≡ piece text
+-- a text in which no spelling stands is its own one word
+pub words_whole : (text : List ℕ) → HasNoSpace text → words text ≡ piece text
 words_whole text h = words_none text (no_cut text (λ before space rest s e. h before space rest s (e ∙ sym (append_assoc before space rest))))
 
-pub words_cut_last : (before space rest : List ℕ) → Space space
-    → ((front other back : List ℕ) → Space other → before ++ space ++ rest ≡ front ++ other ++ back → length front ≤ length before)
-    → words (before ++ space ++ rest) ≡ words before ++ piece rest
-words_cut_last before space rest s h =
-    ap words (append_assoc before space rest) ∙ (words_joined before space rest s ∙ ap (λ ws. words before ++ ws) (words_none rest (no_cut rest behind))) where
-      behind : (b o r : List ℕ) → Space o → ¬ (rest ≡ b ++ (o ++ r))
-      behind b o r t e =
-          let l = h ((before ++ space) ++ b) o r t (ap (λ t. before ++ space ++ t) e ∙ (sym (append_assoc (before ++ space) b (o ++ r)) ∙ sym (append_assoc ((before ++ space) ++ b) o r))) in
-          long space s l where
-            long : (space : List ℕ) → Space space → length ((before ++ space) ++ b) ≤ length before → ⊥
-            long [] s l = no_empty s
-            long (x ∷ more) s l =
-                omega (arith, length-append (before ++ x ∷ more) b, length-append before (x ∷ more))
+-- a text without a cut has no white space
+uncut_whole : (text : List ℕ) → last_cut text ≡ None → HasNoSpace text
+uncut_whole text h before space rest s e =
+    elim (cut_told rest) [
+      | inl n ↦ refuted (before ++ [], rest) (cut_append before (space ++ rest) [] rest (last_space space rest s n))
+      | inr c ↦ refuted (before ++ (space ++ c.0.0), c.0.1) (cut_append before (space ++ rest) (space ++ c.0.0) c.0.1 (cut_append space rest c.0.0 c.0.1 c.1))
+    ] where
+      refuted : (cut : Cut) → last_cut (before ++ (space ++ rest)) ≡ Some cut → ⊥
+      refuted cut k = let l : last_cut text ≡ Some cut = ap last_cut (e ∙ append_assoc before space rest) ∙ k in cc (h, l)
+
+-- what follows the last cut has none
+cut_is_last : (text : List ℕ) (cut : Cut) → last_cut text ≡ Some cut → last_cut cut.1 ≡ None
+cut_is_last [] cut h = absurd (cc)
+cut_is_last (x ∷ text) cut h = at_place x text cut (after_space (x ∷ text)) refl (last_cut text) refl h (cut_is_last text) where
+  uncut_rest : (x : ℕ) (text space rest : List ℕ) → Space space → x ∷ text ≡ space ++ rest → last_cut text ≡ None
+      → last_cut rest ≡ None
+  uncut_rest x text [] rest s e n = absurd (no_empty s)
+  uncut_rest x text (y ∷ more) rest s e n =
+      let same : text ≡ more ++ rest = cc in
+      elim (cut_told rest) [
+        | inl f ↦ f
+        | inr c ↦
+            let k = cut_append more rest c.0.0 c.0.1 c.1 in
+            let l : last_cut text ≡ Some (more ++ c.0.0, c.0.1) = ap last_cut same ∙ k in absurd (cc (n, l))
+      ]
+
+  at_place : (x : ℕ) (text : List ℕ) (cut : Cut) (here : Option (List ℕ)) → after_space (x ∷ text) ≡ here
+      → (further : Option Cut) → last_cut text ≡ further → cut_at x here further ≡ Some cut
+      → ((cut : Cut) → last_cut text ≡ Some cut → last_cut cut.1 ≡ None)
+      → last_cut cut.1 ≡ None
+  at_place x text cut here e (Some c) f h more =
+      let g : c.1 ≡ cut.1 = ap (λ o. back_of o) h in ap last_cut (sym g) ∙ more c f
+  at_place x text cut (Some r) e None f h more =
+      let g : r ≡ cut.1 = ap (λ o. back_of o) h in
+      let k = after_space_is (x ∷ text) r e in ap last_cut (sym g) ∙ uncut_rest x text k.0 r k.1 k.2 f
+  at_place x text cut None e None f h more = absurd (cc)
+
+-- the function gives words
+pub words_are : (text : List ℕ) → Words text (words text)
+words_are text = within (length text) text (omega arith) where
+  at_cut : (text : List ℕ) (cut : Cut) → last_cut text ≡ Some cut → Words cut.0 (words cut.0) → Words text (words text)
+  at_cut text cut h before =
+      let p = cut_parts text cut h in
+      subst (λ (ws : List (List ℕ)). Words text ws) (sym (words_some text cut h))
+      (subst (λ (t : List ℕ). Words t (words cut.0 ++ piece cut.1)) (append_assoc cut.0 p.0 cut.1 ∙ sym p.2)
+      (Words.cut cut.0 p.0 cut.1 (words cut.0) before p.1 (uncut_whole cut.1 (cut_is_last text cut h))))
+
+  within : (n : ℕ) (text : List ℕ) → length text ≤ n → Words text (words text)
+  within n text l = told n text l (cut_told text) where
+    told : (n : ℕ) (text : List ℕ) → length text ≤ n
+        → (last_cut text ≡ None) ⊎ ((cut : Cut) × (last_cut text ≡ Some cut))
+        → Words text (words text)
+    told n text l (inl e) =
+        subst (λ (ws : List (List ℕ)). Words text ws) (sym (words_none text e)) (Words.whole text (uncut_whole text e))
+    told zero text l (inr (cut, e)) = absurd (omega (arith, cut_shorter text cut e))
+    told (suc n) text l (inr (cut, e)) =
+        at_cut text cut e (told n cut.0 (omega (arith, cut_shorter text cut e)) (cut_told cut.0))
+
+-- and a text has no other words
+pub words_only : {text : List ℕ} {ws : List (List ℕ)} → Words text ws → ws ≡ words text
+words_only (Words.whole t h) = sym (words_whole t h)
+words_only (Words.cut b s r ws w k h) =
+    ap (λ ws. ws ++ piece r) (words_only w)
+    ∙ sym (ap words (append_assoc b s r) ∙ (words_joined b s r k ∙ ap (λ vs. words b ++ vs) (words_whole r h)))
+
+pub one_words : (text : List ℕ)
+    → (ws : List (List ℕ)) × Words text ws × ((vs : List (List ℕ)) → Words text vs → vs ≡ ws)
+one_words text = (words text, words_are text, λ vs w. words_only w)
+
+-- the words of two texts joined by a spelling are those of the one, then those of the other
+pub joined_words : (before space rest : List ℕ) (ws vs : List (List ℕ)) → Space space → Words before ws
+    → Words rest vs
+    → Words (before ++ space ++ rest) (ws ++ vs)
+joined_words before space rest ws vs s w v =
+    let same : words (before ++ space ++ rest) ≡ ws ++ vs =
+    ap words (append_assoc before space rest) ∙ (words_joined before space rest s
+    ∙ (ap (λ xs. xs ++ words rest) (sym (words_only w)) ∙ ap (λ ys. ws ++ ys) (sym (words_only v)))) in
+    subst (λ (xs : List (List ℕ)). Words (before ++ space ++ rest) xs) same (words_are (before ++ space ++ rest))

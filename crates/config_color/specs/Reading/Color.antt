@@ -11,9 +11,9 @@ use Rattle.config_word.specs.declared.item.Item.{Item}
 use Rattle.config_word.specs.declared.item.Item.TheVariants as items
 use Rattle.config_color.specs.Color.{no_color, part_shown}
 use Rattle.config_color.specs.Space.{Space}
-use Rattle.config_color.specs.Split.{IsWithoutSpace}
+use Rattle.config_color.specs.Reading.Split.{IsWithoutSpace}
 use Rattle.config_word.specs.Reading.Item.{item_of}
-use Rattle.config_color.specs.Split.{words}
+use Rattle.config_color.specs.Reading.Split.{words}
 
 -- what a word stands for
 unfoldable pub word_item : List ℕ → Option Item

@@ -1,11 +1,11 @@
 //! Laws about colors and about the words of their texts.
-ghost use Rattle.std.specs.Prelude.{◌≡◌, ◌≤◌, ◌↔◌, ◌⊎◌, ◌++◌, ℕ, List, length, None};
+ghost use Rattle.std.specs.Prelude.{◌≡◌, ◌↔◌, ◌⊎◌, ◌++◌, ℕ, List, Option, None};
 ghost use Rattle.config_color.specs.declared.color.Color.{Color};
 ghost use Rattle.config_color.specs.Color.{ColorText, PartFits, AreKnown};
-ghost use Rattle.config_color.specs.Composition.{Joined, HaveTooManyNames, Moves};
+ghost use Rattle.config_color.specs.Composition.{Composes, Joined, HaveTooManyNames, Moves};
 ghost use Rattle.config_color.specs.Space.{Space};
 ghost use Rattle.config_text.specs.Value.{HasText, IsRefused};
-ghost use Rattle.config_color.specs.Split.{piece, words};
+ghost use Rattle.config_color.specs.Split.{Words};
 
 /// A color has a text exactly if each of its set bits has a constant, and it has no background
 /// without a foreground.
@@ -21,27 +21,17 @@ pub fn numbers_fit()
         → PartFits c.foreground × PartFits c.background }
 {}
 
-/// A text without white space is its own one word, or has no word if it is empty.
-pub fn whole_words()
+/// Each text has words, and no other words.
+pub fn one_words()
     ensures { (text : List ℕ)
-        → ((before space rest : List ℕ) → Space space → ¬ (text ≡ before ++ space ++ rest))
-        → words text ≡ piece text }
-{}
-
-/// After the last white space of a text comes its last word, or no word if the text ends there.
-/// Its other words are those of what comes before.
-pub fn last_words()
-    ensures { (before space rest : List ℕ) → Space space
-        → ((front other back : List ℕ) → Space other
-        → before ++ space ++ rest ≡ front ++ other ++ back → length front ≤ length before)
-        → words (before ++ space ++ rest) ≡ words before ++ piece rest }
+        → (ws : List (List ℕ)) × Words text ws × ((vs : List (List ℕ)) → Words text vs → vs ≡ ws) }
 {}
 
 /// The words of a text are those of what comes before any white space in it, then those of what
 /// follows.
 pub fn joined_words()
-    ensures { (before space rest : List ℕ) → Space space
-        → words (before ++ space ++ rest) ≡ words before ++ words rest }
+    ensures { (before space rest : List ℕ) (ws vs : List (List ℕ)) → Space space
+        → Words before ws → Words rest vs → Words (before ++ space ++ rest) (ws ++ vs) }
 {}
 
 /// Two texts joined by white space have a color exactly if both have one and these have a composition,
@@ -55,9 +45,15 @@ pub fn joined()
         ↔ (IsRefused ColorText front ⊎ IsRefused ColorText back ⊎ HaveTooManyNames front back) }
 {}
 
+/// For two colors there is only one answer of `compose`: their one composition, or `None` where they have
+/// none.
+pub fn one_composition()
+    ensures { (a b : Color) (r s : Option Color) → Composes a b r → Composes a b s → r ≡ s }
+{}
+
 /// Texts whose words are the same but for one whole attribute word have the same color, or none. That word
 /// stands at another place or once more.
 pub fn moved_words()
-    ensures { (t u : List ℕ) (c : Color) → Moves (words t) (words u)
-        → (ColorText t c) ↔ (ColorText u c) }
+    ensures { (t u : List ℕ) (ws vs : List (List ℕ)) (c : Color) → Words t ws → Words u vs
+        → Moves ws vs → (ColorText t c) ↔ (ColorText u c) }
 {}

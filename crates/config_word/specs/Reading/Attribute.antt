@@ -3,7 +3,7 @@
 use Rattle.std.specs.Prelude.{ℕ, ◌^◌, Bool, true, false, List, [], ◌∷◌, ◌++◌, map, filter, flat_map, bit_and, ◌==◌}
 use Rattle.config_text.specs.Bytes.{space}
 use Rattle.config_word.specs.declared.attribute.Shown.{Shown}
-use Rattle.config_word.specs.Attribute.{attributes}
+use Rattle.config_word.specs.Attribute.{attributes, bit_of, shown_word}
 
 -- a row of the code's table
 abbrev pub shown_row : Shown → ℕ × List ℕ
@@ -11,7 +11,7 @@ shown_row s = (s.attribute.0, s.word.now)
 
 -- the value and the word of each constant
 abbrev pub shown_rows : List (ℕ × List ℕ)
-shown_rows = map (λ row. (2 ^ row.1, row.2)) attributes
+shown_rows = map (λ row. (2 ^ bit_of row, shown_word row)) attributes
 
 -- the words of the rows whose value is in the bits
 abbrev pub words_in : ℕ → List (ℕ × List ℕ) → List (List ℕ)

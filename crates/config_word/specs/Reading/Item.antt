@@ -6,7 +6,7 @@ use Rattle.config_word.specs.declared.name.Name.{Name}
 use Rattle.config_word.specs.declared.name.Name.TheVariants as names
 use Rattle.config_word.specs.declared.item.Item.{Item}
 use Rattle.config_word.specs.declared.item.Item.TheVariants as items
-use Rattle.config_word.specs.Attribute.{AttributeRow, attributes}
+use Rattle.config_word.specs.Attribute.{AttributeRow, attributes, bit_of, spellings_of}
 use Rattle.config_word.specs.Name.{name_shown, word_names}
 
 -- a word: its text, whether ASCII case is ignored, and what it stands for
@@ -23,7 +23,7 @@ attribute_item bit = items.Attribute (record { 0 = 2 ^ bit })
 
 -- the spellings of a constant, of which only `reset` is read in either case
 abbrev pub attribute_rows : AttributeRow → List WordRow
-attribute_rows row = map (λ w. (w, row.1 == 8, attribute_item row.1)) (row.2 ∷ row.3)
+attribute_rows row = map (λ w. (w, bit_of row == 8, attribute_item (bit_of row))) (spellings_of row)
 
 -- the 41 words
 abbrev pub word_table : List WordRow

@@ -6,7 +6,7 @@ use Rattle.config_color.specs.Color.{ColorText}
 use Rattle.config_color.specs.Laws.Color.{walk_refused, walk_done, walk_goes_on}
 use Rattle.config_color.specs.Reading.Color.{read_from}
 use Rattle.config_text.specs.Value.{Reads}
-use Rattle.config_color.specs.Split.{words}
+use Rattle.config_color.specs.Reading.Split.{words}
 use Rattle.config_color.proofs.color.color_of.Goals as goal
 
 pub returns-in_err-color : goal.returns-in_err-color

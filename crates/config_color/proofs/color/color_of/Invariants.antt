@@ -1,7 +1,7 @@
 use Rattle.std.proofs.Common.{◌≡◌, length}
 use Rattle.config_color.specs.Reading.Color.{read_from}
 use Rattle.config_color.specs.Color.{no_color}
-use Rattle.config_color.specs.Split.{words}
+use Rattle.config_color.specs.Reading.Split.{words}
 use Rattle.config_color.proofs.color.color_of.Given as goal
 
 abbrev pub invariant-loop-rest : goal.invariant-loop-rest

@@ -1,5 +1,5 @@
 use Rattle.std.proofs.Common.{◌≤◌, ◌-◌, length}
-use Rattle.config_color.specs.Split.{IsWithoutSpace}
+use Rattle.config_color.specs.Reading.Split.{IsWithoutSpace}
 use Rattle.config_color.proofs.color.end_of_runs.Given as goal
 
 abbrev pub invariant-loop-at : goal.invariant-loop-at

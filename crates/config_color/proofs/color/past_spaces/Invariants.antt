@@ -1,5 +1,5 @@
 use Rattle.std.proofs.Common.{◌≡◌, ◌≤◌, length}
-use Rattle.config_color.specs.Split.{words}
+use Rattle.config_color.specs.Reading.Split.{words}
 use Rattle.config_color.proofs.color.past_spaces.Given as goal
 
 abbrev pub invariant-loop-rest : goal.invariant-loop-rest

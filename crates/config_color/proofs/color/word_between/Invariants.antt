@@ -1,4 +1,4 @@
-use Rattle.config_color.specs.Split.{IsWithoutSpace}
+use Rattle.config_color.specs.Reading.Split.{IsWithoutSpace}
 use Rattle.config_color.proofs.color.word_between.Given as goal
 
 abbrev pub invariant-loop-at : goal.invariant-loop-at
