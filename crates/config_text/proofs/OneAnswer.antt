@@ -5,7 +5,7 @@ use Rattle.std.proofs.lemmas.Bool.{cases_order}
 use Rattle.std.proofs.lemmas.Option.{same_Some}
 use Rattle.config_text.specs.Settings.{Decides, Finds, decided, absent, DecidingIsRefused, OneAnswer}
 
-decides_once : (es : List (List ℕ × List ℕ)) (n : List ℕ) (i j : ℕ) (t u : List ℕ) → Decides es n i t
+pub decides_once : (es : List (List ℕ × List ℕ)) (n : List ℕ) (i j : ℕ) (t u : List ℕ) → Decides es n i t
     → Decides es n j u → (i ≡ j) × (t ≡ u)
 decides_once es n i j t u first second = elim (cases_order i j) [
   | inl same ↦ (same, ap (λ p. p.1) (same_Some (n, t) (n, u) (sym first.named ∙ subst (λ k. slice_get es k ≡ Some (n, u)) (sym same) second.named)))

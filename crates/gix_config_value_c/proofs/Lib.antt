@@ -3,4 +3,6 @@ pub mod Lookup
 pub mod NameTags
 pub mod NumbersApart
 pub mod OneAnswer
+pub mod OneEntry
+pub mod OneText
 pub mod StructsApart

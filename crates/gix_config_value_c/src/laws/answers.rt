@@ -74,3 +74,14 @@ pub fn json()
     ensures names { (c : GcvName) → HasOneAnswerByMemory
         (WritesJson name_struct (λ n. string (name_shown n)) statuses.BadName c) }
 {}
+
+/// Each of the other calls has one answer: normal forms, comparisons, compositions, lookups, products, and the
+/// texts of faults.
+pub fn calls()
+    ensures normalizes { (number : ℕ) (t : List ℕ) → HasOneAnswer (NormalizesInto number t) }
+    ensures compares { (number : ℕ) (a b : List ℕ) → HasOneResult (ComparesInto number a b) }
+    ensures looks_up { (number : ℕ) (bytes lengths name : List ℕ)
+        → HasOneResult (LooksUpInto number bytes lengths name) }
+    ensures multiplies { (c : GcvInteger) → HasOneResult (Multiplies c) }
+    ensures faults { (number : ℕ) → HasOneAnswer (TellsFault number) }
+{}

@@ -1,0 +1,19 @@
+use Rattle.gix_config_value_c.proofs.OneAnswer.{multiplies_once, tells_once}
+use Rattle.gix_config_value_c.proofs.OneText.{normalizes_once, compares_once}
+use Rattle.gix_config_value_c.proofs.OneEntry.{looks_up_once}
+use Rattle.gix_config_value_c.proofs.laws.answers.calls.Goals as goal
+
+pub returns-clause-normalizes : goal.returns-clause-normalizes
+returns-clause-normalizes c = normalizes_once
+
+pub returns-clause-compares : goal.returns-clause-compares
+returns-clause-compares c = compares_once
+
+pub returns-clause-looks_up : goal.returns-clause-looks_up
+returns-clause-looks_up c = looks_up_once
+
+pub returns-clause-multiplies : goal.returns-clause-multiplies
+returns-clause-multiplies c = multiplies_once
+
+pub returns-clause-faults : goal.returns-clause-faults
+returns-clause-faults c = tells_once
