@@ -3,6 +3,7 @@ pub mod Lookup
 pub mod NameTags
 pub mod NumbersApart
 pub mod OneAnswer
+pub mod OneComposition
 pub mod OneEntry
 pub mod OneText
 pub mod StructsApart

@@ -31,6 +31,8 @@ ghost use Rattle.gix_config_value_c.specs.Structs.{integer_struct, name_struct, 
 ghost use Rattle.gix_config_value_c.specs.Texts.{NormalizesInto, ComparesInto};
 ghost use Rattle.gix_config_value_c.specs.Values.{Shows, Multiplies};
 
+use config_color::laws::colors::one_composition;
+
 /// Each reader has one answer to a text: one value, or one fault.
 pub fn readers()
     ensures suffixes { (t : List ℕ)
@@ -80,8 +82,11 @@ pub fn json()
 pub fn calls()
     ensures normalizes { (number : ℕ) (t : List ℕ) → HasOneAnswer (NormalizesInto number t) }
     ensures compares { (number : ℕ) (a b : List ℕ) → HasOneResult (ComparesInto number a b) }
+    ensures composes { (a b : GcvColor) → HasOneResult (ComposesInto a b) }
     ensures looks_up { (number : ℕ) (bytes lengths name : List ℕ)
         → HasOneResult (LooksUpInto number bytes lengths name) }
     ensures multiplies { (c : GcvInteger) → HasOneResult (Multiplies c) }
     ensures faults { (number : ℕ) → HasOneAnswer (TellsFault number) }
-{}
+{
+    one_composition();
+}

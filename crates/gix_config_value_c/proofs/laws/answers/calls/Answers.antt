@@ -1,4 +1,5 @@
 use Rattle.gix_config_value_c.proofs.OneAnswer.{multiplies_once, tells_once}
+use Rattle.gix_config_value_c.proofs.OneComposition.{composes_once}
 use Rattle.gix_config_value_c.proofs.OneText.{normalizes_once, compares_once}
 use Rattle.gix_config_value_c.proofs.OneEntry.{looks_up_once}
 use Rattle.gix_config_value_c.proofs.laws.answers.calls.Goals as goal
@@ -8,6 +9,9 @@ returns-clause-normalizes c = normalizes_once
 
 pub returns-clause-compares : goal.returns-clause-compares
 returns-clause-compares c = compares_once
+
+pub returns-clause-composes : goal.returns-clause-composes
+returns-clause-composes c = composes_once c.one_composition.ensures
 
 pub returns-clause-looks_up : goal.returns-clause-looks_up
 returns-clause-looks_up c = looks_up_once
