@@ -1,7 +1,7 @@
 """The classes of differences between Git and this library. docs/DIFFERENCES.md has a row for each, with its reason.
 
-Run as a program, it compares the page: each class has one row, with its versions and a text in which it is shown, and
-each row of each table says what was run. Its last line is 'N passed, M failed'.
+Run as a program, it compares the page: each class has one row, with its versions, a text in which it is shown and what
+was run. Its last line is 'N passed, M failed'.
 
 A class is decided by a rule over a question and its two answers; no two rules hold of one. It is expected in the
 versions that it names: where they run it has to be seen, in others it must not be.
@@ -262,8 +262,8 @@ def of(case):
 # the page
 
 PAGE = pathlib.Path(__file__).resolve().parent.parent / "docs/DIFFERENCES.md"
-# what each row may say of the two, and the version of Git of which those that name one speak
-RUN = re.compile(r"neither|crate 0\.21\.1(, Git 2\.39\.5)?|Git 2\.39\.5")
+# what a row may say was run, and the version of Git of which those that name one speak
+RUN = re.compile(r"crate 0\.21\.1(, Git 2\.39\.5)?")
 RUNNING = {"Git": (2, 39), "glibc": (2, 36)}
 
 
@@ -295,11 +295,9 @@ def faults_of_class(one, rows):
 
 
 def main():
-    found = list(tables((PAGE).read_text(encoding="utf-8")))
-    faults = [f"a table without a last column `Run`: {table[0]}" for table in found if table[0][-1] != "Run"]
-    rows = [row for table in found for row in table[1:]]
-    faults += [f"{row[0]}: says not what was run, but {row[-1]!r}" for row in rows if not RUN.fullmatch(row[-1])]
+    found = tables(PAGE.read_text(encoding="utf-8"))
     of_git = next((table[1:] for table in found if table[0][0] == "Class"), [])
+    faults = [f"{row[0]}: says not what was run, but {row[-1]!r}" for row in of_git if not RUN.fullmatch(row[-1])]
     for one in CLASSES:
         own = [row for row in of_git if row[0] == one.name]
         faults += [f"{one.name}: {fault}" for fault in faults_of_class(one, own)]
@@ -307,7 +305,7 @@ def main():
     faults += [f"{row[0]}: no class has this name" for row in of_git if row[0] not in names]
     for fault in faults:
         print(fault)
-    print(f"{len(rows) + len(names) - len(faults)} passed, {len(faults)} failed")
+    print(f"{len(of_git) + len(names) - len(faults)} passed, {len(faults)} failed")
     return 1 if faults else 0
 
 

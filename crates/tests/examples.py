@@ -1,14 +1,12 @@
-#!/usr/bin/env python3
 """Runs each example of the libraries' comments, and README.md's first one, as a test, over a copy of the library.
 
 An example is a fenced block of Rust. Of a line of it that begins with `# ` these two bytes are left out. Each public
 type and each call of CALLS has to have an example, and a section of docs/GRAMMAR.md that a comment cites has to be
-there. `rt try` runs the examples: nothing of them is proved. The last line is 'N passed, M failed'.
+there. `rt try` runs the examples: nothing of them is proved. A part of pages.py.
 """
 import pathlib
 import re
 import subprocess
-import sys
 import tempfile
 
 ROOT = pathlib.Path(__file__).resolve().parent.parent.parent
@@ -73,8 +71,9 @@ def run(tests):
     return [(f"the example {name} does not pass", found.get(name) == "ok") for name in tests]
 
 
-def main():
-    results = []
+def results():
+    """What may be wrong, each with whether it is right."""
+    checked = []
     sections = re.findall(r"^## ([^(\n]*\w)", (ROOT / "docs/GRAMMAR.md").read_text(encoding="utf-8"), re.MULTILINE)
     tests = {"readme": blocks((ROOT / "README.md").read_text(encoding="utf-8"))[0]}
     for crate, calls in CALLS.items():
@@ -84,7 +83,7 @@ def main():
                 kind, name = item.groups() if item else ("", "page")
                 found = blocks(comment)
                 if is_public and kind in ("struct", "enum", "trait"):
-                    results.append((f"{file}: {name} has no example", bool(found)))
+                    checked.append((f"{file}: {name} has no example", bool(found)))
                 if found:
                     missing.discard(name)
                 for block in found:
@@ -92,15 +91,6 @@ def main():
                     tests[label + "_too" * (label in tests)] = block
                 for cited in CITED.findall(" ".join(comment.split())):
                     is_there = any(cited.startswith(section) for section in sections)
-                    results.append((f"{file}: docs/GRAMMAR.md has no section {cited}", is_there))
-        results.append((f"{crate} has calls without an example: {missing}", not missing))
-    results += run(tests)
-    for fault, is_right in results:
-        if not is_right:
-            print(fault)
-    passed = sum(is_right for _, is_right in results)
-    print(f"{passed} passed, {len(results) - passed} failed")
-    return passed != len(results)
-
-
-sys.exit(main())
+                    checked.append((f"{file}: docs/GRAMMAR.md has no section {cited}", is_there))
+        checked.append((f"{crate} has calls without an example: {missing}", not missing))
+    return checked + run(tests)

@@ -3,3 +3,5 @@ pub mod KindLemmas
 pub mod StepLemmas
 pub mod RunLemmas
 pub mod OnLiterals
+pub mod OneAnswer
+mod FrontLemmas

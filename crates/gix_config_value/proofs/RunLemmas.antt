@@ -20,7 +20,7 @@ use Rattle.gix_config_value.proofs.StepLemmas.{Advances-sent, FailsWithin-after,
 
 -- ---- the end of the input
 
-AnswersLast-of : (line : List ℕ) (ok accepts : Bool) (outcome : Outcome) → line ≢ []
+pub AnswersLast-of : (line : List ℕ) (ok accepts : Bool) (outcome : Outcome) → line ≢ []
     → LineOutcome line outcome → accepts ≡ is_accepted outcome
     → AnswersLast line ok (ok && accepts) (outcome_text outcome)
 AnswersLast-of [] ok accepts outcome some is accepted = absurd (some refl)

@@ -2,8 +2,8 @@
 --
 -- The input is cut into lines at LF. Each line has one outcome, and the output is what the outcomes are shown
 -- as, in order.
-use Rattle.std.specs.Prelude.{◌≡◌, ◌≢◌, ℕ, ◌==◌, List, [], ◌∷◌, ◌++◌, flat_map, Bool, true, false, codes}
-use Rattle.std.specs.Prelude.{Option, None, Some, Result, Ok, Err}
+use Rattle.std.specs.Prelude.{◌≡◌, ◌≢◌, ◌⊎◌, ℕ, ◌==◌, List, [], ◌∷◌, ◌++◌, flat_map, Bool, true, false}
+use Rattle.std.specs.Prelude.{codes, Option, None, Some, Result, Ok, Err}
 use Rattle.std.specs.List.{AllByRecursion, AllZip, list_all, before_first, after_first}
 use Rattle.std.specs.Io.KnownBytes.{Consumes, Appends, IsAtEnd}
 use Rattle.gix_config_value.specs.declared.kind.Kind.{Kind}
@@ -130,6 +130,19 @@ pub record Fails (unread left held holds : Option (List ℕ)) (e : RunError) : T
   pub appended : Appends held holds output
   pub begins : IsBeginningOfAnswers input output
   pub lines : AnswersLines e input output
+
+-- ---- two runs
+
+-- one of two texts begins with the other
+abbrev pub OneBegins : List ℕ → List ℕ → Type 0
+OneBegins a b = ((more : List ℕ) × (b ≡ a ++ more)) ⊎ ((more : List ℕ) × (a ≡ b ++ more))
+
+-- what two runs wrote that read the same input and ended with this error: the same after `Read`, and after
+-- another error one of them may have come further
+abbrev pub AgreeAfter : RunError → List ℕ → List ℕ → Type 0
+AgreeAfter Read a b = a ≡ b
+AgreeAfter Write a b = OneBegins a b
+AgreeAfter (Memory e) a b = OneBegins a b
 
 -- ---- the exit status
 

@@ -1,6 +1,7 @@
 //! Laws over the definitions, each the contract of a function that does nothing. Those of another crate that
 //! callers cite are here too.
 
+pub mod answers;
 pub mod equality;
 pub mod headline;
 pub mod kinds;

@@ -166,6 +166,33 @@ typedef struct gcv_entry {
     size_t length;
 } gcv_entry;
 
+/* The library has these structs with this layout, and a compiler with another one is refused. */
+#if defined(__cplusplus) && __cplusplus >= 201103L
+#define GCV_ASSERT(fact) static_assert(fact, #fact)
+#elif defined(__STDC_VERSION__) && __STDC_VERSION__ >= 201112L
+#define GCV_ASSERT(fact) _Static_assert(fact, #fact)
+#else
+#define GCV_ASSERT(fact) extern const char gcv_asserted[(fact) ? 1 : -1]
+#endif
+GCV_ASSERT(offsetof(gcv_integer, value) == 0);
+GCV_ASSERT(offsetof(gcv_integer, suffix) == 8);
+GCV_ASSERT(sizeof(gcv_integer) == 16);
+GCV_ASSERT(offsetof(gcv_name, tag) == 0);
+GCV_ASSERT(offsetof(gcv_name, palette) == 4);
+GCV_ASSERT(offsetof(gcv_name, red) == 5);
+GCV_ASSERT(offsetof(gcv_name, green) == 6);
+GCV_ASSERT(offsetof(gcv_name, blue) == 7);
+GCV_ASSERT(sizeof(gcv_name) == 8);
+GCV_ASSERT(offsetof(gcv_color, foreground) == 0);
+GCV_ASSERT(offsetof(gcv_color, background) == 8);
+GCV_ASSERT(offsetof(gcv_color, attributes) == 16);
+GCV_ASSERT(sizeof(gcv_color) == 20);
+GCV_ASSERT(offsetof(gcv_entry, index) == 0);
+GCV_ASSERT(offsetof(gcv_entry, start) == 8);
+GCV_ASSERT(offsetof(gcv_entry, length) == 16);
+GCV_ASSERT(sizeof(gcv_entry) == 24);
+#undef GCV_ASSERT
+
 /* What a path may refer to. What is null is not there, whatever its length; all 0 refers to nothing. */
 typedef struct gcv_context {
     const char *install_dir; /* for %(prefix)/ */

@@ -1,4 +1,6 @@
-pub mod Buffers
 pub mod Entries
 pub mod Lookup
 pub mod NameTags
+pub mod NumbersApart
+pub mod OneAnswer
+pub mod StructsApart

@@ -7,7 +7,7 @@ use Rattle.gix_config_value_c.specs.declared.structs.GcvName.{GcvName}
 use Rattle.gix_config_value_c.specs.Reading.Structs.{tagged_name}
 use Rattle.gix_config_value_c.specs.Structs.{name_struct}
 
-name_tagged : (v : Name) → tagged_name (name_struct v) ≡ Some v
+pub name_tagged : (v : Name) → tagged_name (name_struct v) ≡ Some v
 unfolding word_names
 name_tagged (Ansi n) = refl
 name_tagged (Rgb r g b) = refl

@@ -1,15 +1,22 @@
 -- Texts in the caller's memory.
 use Rattle.std.specs.Prelude.{◌≡◌, ℕ, ◌<◌, ◌≤◌, List, ◌++◌, length, drop}
-use Rattle.gix_config_value_c.specs.declared.status.TheConstants.{OK, SHORT_BUFFER}
+use Rattle.gix_config_value_c.specs.declared.status.Status.{Status}
+use Rattle.gix_config_value_c.specs.declared.status.Status.TheVariants as statuses
+use Rattle.gix_config_value_c.specs.Numbers.{status_number}
 
 -- the text stands at the front of the buffer, and what is behind it is left alone; or the buffer is too short and left
 -- alone. Either way the length is that of the text.
 pub data PutsText (text buffer buffer' : List ℕ) (length' status : ℕ) : Type 0 where
   whole : length text ≤ length buffer → buffer' ≡ text ++ drop (length text) buffer → length' ≡ length text
-      → status ≡ OK
+      → status ≡ status_number statuses.Ok
       → PutsText text buffer buffer' length' status
-  short : length buffer < length text → buffer' ≡ buffer → length' ≡ length text → status ≡ SHORT_BUFFER
+  short : length buffer < length text → buffer' ≡ buffer → length' ≡ length text → status ≡ status_number statuses.ShortBuffer
       → PutsText text buffer buffer' length' status
+
+-- the call returns this status, and leaves the buffer and the length alone
+abbrev pub LeavesBuffer : Status → List ℕ → List ℕ → ℕ → ℕ → ℕ → Type 0
+LeavesBuffer said buffer buffer' size size' status =
+    (buffer' ≡ buffer) × (size' ≡ size) × (status ≡ status_number said)
 
 -- a text of which this is true is put into the buffer; or the status says why there is none, and all is left alone
 pub data AnswersText (is_text : List ℕ → Type 0) (is_reason : ℕ → Type 0) (buffer buffer' : List ℕ) (size size' status : ℕ) : Type 0 where

@@ -4,7 +4,8 @@ use Rattle.config_color.specs.declared.color.Color.{Color}
 use Rattle.gix_config_value.specs.Color.{ColorText}
 use Rattle.gix_config_value.specs.Composition.{Composes}
 use Rattle.gix_config_value.specs.Value.{HasText}
-use Rattle.gix_config_value_c.specs.declared.status.TheConstants.{OK, NO_TEXT, TOO_MANY_NAMES, BAD_NAME}
+use Rattle.gix_config_value_c.specs.declared.status.Status.TheVariants as statuses
+use Rattle.gix_config_value_c.specs.Numbers.{status_number}
 use Rattle.gix_config_value_c.specs.declared.structs.GcvColor.{GcvColor}
 use Rattle.gix_config_value_c.specs.Structs.{color_struct}
 use Rattle.gix_config_value_c.specs.Values.{IsNoValue, LeavesAlone}
@@ -23,11 +24,11 @@ pub record AreReadable (a b : GcvColor) (first second : Color) : Type 0 where
 -- alone
 pub data ComposesInto (a b out out' : GcvColor) (status : ℕ) : Type 0 where
   composed : (first second both : Color) → AreReadable a b first second → Composes first second (Some both)
-      → out' ≡ color_struct both → status ≡ OK → ComposesInto a b out out' status
+      → out' ≡ color_struct both → status ≡ status_number statuses.Ok → ComposesInto a b out out' status
   too_many_names : (first second : Color) → AreReadable a b first second → Composes first second None
-      → LeavesAlone TOO_MANY_NAMES out out' status → ComposesInto a b out out' status
+      → LeavesAlone statuses.TooManyNames out out' status → ComposesInto a b out out' status
   no_text : (first second : Color) → AreColors a b first second
       → (¬ (HasText ColorText first)) ⊎ (¬ (HasText ColorText second))
-      → LeavesAlone NO_TEXT out out' status → ComposesInto a b out out' status
-  bad_name : IsNoValue color_struct a ⊎ IsNoValue color_struct b → LeavesAlone BAD_NAME out out' status
+      → LeavesAlone statuses.NoText out out' status → ComposesInto a b out out' status
+  bad_name : IsNoValue color_struct a ⊎ IsNoValue color_struct b → LeavesAlone statuses.BadName out out' status
       → ComposesInto a b out out' status

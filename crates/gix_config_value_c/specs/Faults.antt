@@ -12,7 +12,8 @@ use Rattle.config_path.specs.declared.interpolate.Error.TheVariants.{IllFormed, 
 use Rattle.config_path.specs.declared.interpolate.Place.{Place}
 use Rattle.config_path.specs.declared.interpolate.Place.TheVariants.{PastPrefix, PastHome, Username, PastUser}
 use Rattle.config_path.specs.declared.interpolate.Place.TheVariants.{Whole}
-use Rattle.gix_config_value_c.specs.declared.status.TheConstants.{UNKNOWN_FAULT}
+use Rattle.gix_config_value_c.specs.declared.status.Status.TheVariants as statuses
+use Rattle.gix_config_value_c.specs.Numbers.{status_number}
 use Rattle.gix_config_value_c.specs.Buffers.{AnswersText}
 
 -- a place that is no UTF-8
@@ -53,4 +54,4 @@ numbered_text number = if number == 0 then None else slice_get fault_texts (numb
 -- the text of the fault is put into the buffer, or no fault has the number
 abbrev pub TellsFault : ℕ → List ℕ → List ℕ → ℕ → ℕ → ℕ → Type 0
 TellsFault number buffer buffer' size size' status = AnswersText (λ text. numbered_text number ≡ Some text)
-    (λ reason. (reason ≡ UNKNOWN_FAULT) × (numbered_text number ≡ None)) buffer buffer' size size' status
+    (λ reason. (reason ≡ status_number statuses.UnknownFault) × (numbered_text number ≡ None)) buffer buffer' size size' status

@@ -9,4 +9,5 @@ pub mod Colors
 pub mod Json
 pub mod Settings
 pub mod Paths
+pub mod Answers
 pub mod Reading

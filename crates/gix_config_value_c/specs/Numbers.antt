@@ -1,4 +1,4 @@
--- The numbers that stand in C for kinds, suffixes, truth values and faults.
+-- The numbers that stand in C for statuses, kinds, suffixes, truth values and faults.
 use Rattle.std.specs.Prelude.{◌≡◌, ◌≢◌, ℕ, Bool, true, false, Option, None, Some}
 use Rattle.config_integer.specs.declared.suffix.Suffix.{Suffix}
 use Rattle.config_integer.specs.declared.suffix.Suffix.TheVariants.{Kibi, Mebi, Gibi}
@@ -6,11 +6,31 @@ use Rattle.config_text.specs.declared.errors.Fault.{Fault}
 use Rattle.config_text.specs.declared.errors.Fault.TheVariants as faults
 use Rattle.gix_config_value.specs.declared.kind.Kind.{Kind}
 use Rattle.gix_config_value.specs.declared.kind.Kind.TheVariants as kinds
+use Rattle.gix_config_value_c.specs.declared.status.Status.{Status}
+use Rattle.gix_config_value_c.specs.declared.status.Status.TheVariants as statuses
 
 -- the value that stands in C as this, and none only where no value stands as it
 abbrev pub StandsFor : {V C : Type 0} → (V → C) → C → Option V → Type 0
 StandsFor {V} struct c None = (v : V) → c ≢ struct v
 StandsFor struct c (Some v) = c ≡ struct v
+
+-- what a call returns
+abbrev pub status_number : Status → ℕ
+status_number statuses.Ok = 0
+status_number statuses.Refused = 1
+status_number statuses.Overflow = 2
+status_number statuses.NoText = 3
+status_number statuses.TooManyNames = 4
+status_number statuses.Absent = 5
+status_number statuses.UnknownKind = 6
+status_number statuses.UnknownFault = 7
+status_number statuses.BadSuffix = 8
+status_number statuses.BadName = 9
+status_number statuses.BadFlag = 10
+status_number statuses.NotUtf8 = 11
+status_number statuses.BadLengths = 12
+status_number statuses.ShortBuffer = 13
+status_number statuses.NoMemory = 14
 
 -- a kind
 abbrev pub kind_number : Kind → ℕ

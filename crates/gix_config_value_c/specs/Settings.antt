@@ -4,10 +4,9 @@ use Rattle.gix_config_value.specs.declared.kind.Kind.{Kind}
 use Rattle.gix_config_value.specs.Kinds.{KindGrammar}
 use Rattle.gix_config_value.specs.Settings.{Decides, IsAbsent}
 use Rattle.gix_config_value.specs.Value.{IsAccepted, IsRefused}
-use Rattle.gix_config_value_c.specs.declared.status.TheConstants.{OK, REFUSED, ABSENT, BAD_LENGTHS}
-use Rattle.gix_config_value_c.specs.declared.status.TheConstants.{UNKNOWN_KIND}
+use Rattle.gix_config_value_c.specs.declared.status.Status.TheVariants as statuses
 use Rattle.gix_config_value_c.specs.declared.settings.GcvEntry.{GcvEntry}
-use Rattle.gix_config_value_c.specs.Numbers.{kind_number}
+use Rattle.gix_config_value_c.specs.Numbers.{kind_number, status_number}
 use Rattle.gix_config_value_c.specs.Values.{IsNoValue, LeavesAlone}
 
 -- the names and texts, one behind the other
@@ -41,7 +40,7 @@ pub record AreGiven (number : ℕ) (bytes lengths : List ℕ) (kind : Kind) (es 
 -- the status says whether the text has a value of the kind
 abbrev pub IsJudged : Kind → List ℕ → ℕ → Type 0
 IsJudged kind t status =
-    (IsAccepted (KindGrammar kind) t × (status ≡ OK)) ⊎ (IsRefused (KindGrammar kind) t × (status ≡ REFUSED))
+    (IsAccepted (KindGrammar kind) t × (status ≡ status_number statuses.Ok)) ⊎ (IsRefused (KindGrammar kind) t × (status ≡ status_number statuses.Refused))
 
 -- the deciding entry is put into `out`, and its text is judged; or no entry has the name, or the lengths do not fit, or
 -- the kind is unknown, and `out` is left alone
@@ -51,9 +50,9 @@ pub data LooksUpInto (number : ℕ) (bytes lengths name : List ℕ) (out out' : 
       → LooksUpInto number bytes lengths name out out' status
   absent : (kind : Kind) (es : List (List ℕ × List ℕ)) → AreGiven number bytes lengths kind es
       → IsAbsent es name
-      → LeavesAlone ABSENT out out' status → LooksUpInto number bytes lengths name out out' status
+      → LeavesAlone statuses.Absent out out' status → LooksUpInto number bytes lengths name out out' status
   bad_lengths : (kind : Kind) → number ≡ kind_number kind
       → ((es : List (List ℕ × List ℕ)) → ¬ (AreEntries bytes lengths es))
-      → LeavesAlone BAD_LENGTHS out out' status → LooksUpInto number bytes lengths name out out' status
-  unknown : IsNoValue kind_number number → LeavesAlone UNKNOWN_KIND out out' status
+      → LeavesAlone statuses.BadLengths out out' status → LooksUpInto number bytes lengths name out out' status
+  unknown : IsNoValue kind_number number → LeavesAlone statuses.UnknownKind out out' status
       → LooksUpInto number bytes lengths name out out' status

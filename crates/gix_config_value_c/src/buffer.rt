@@ -2,7 +2,7 @@
 ghost use Rattle.std.specs.Prelude.{◌≡◌, ℕ, ◌+◌, ◌≤◌, ◌++◌, length as list_length, take, drop};
 ghost use Rattle.gix_config_value_c.specs.Buffers.{PutsText};
 
-use crate::status::{OK, SHORT_BUFFER};
+use crate::status::Status;
 
 /// Writes a text to the front of the buffer, and its length into `length`. If the buffer is shorter than the
 /// text, only that length is written.
@@ -11,10 +11,10 @@ pub(crate) fn put(text: &[u8], buffer: &mut [u8], length: &mut usize) -> u32
 {
     *length = text.len();
     if buffer.len() < text.len() {
-        return SHORT_BUFFER;
+        return Status::ShortBuffer as u32;
     }
     buffer[..text.len()].copy_from_slice(text);
-    OK
+    Status::Ok as u32
 }
 
 /// Writes a text into the buffer at a place after which there must be room for it. Returns where the text

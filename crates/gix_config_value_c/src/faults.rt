@@ -5,7 +5,7 @@ ghost use Rattle.gix_config_value_c.specs.Numbers.{fault_number};
 ghost use Rattle.gix_config_value_c.specs.Faults.{place_number, path_fault_number, numbered_text, TellsFault};
 
 use crate::buffer::put;
-use crate::status::UNKNOWN_FAULT;
+use crate::status::Status;
 use gix_config_value::Fault;
 use gix_config_value::path::interpolate::{Error, Place};
 
@@ -81,8 +81,8 @@ fn numbered_text(number: u32) -> Option<&'static str>
     }
 }
 
-/// Puts the text of a fault into the buffer, and its length into `length`. `UNKNOWN_FAULT` if no fault has
-/// the number, and `SHORT_BUFFER` if the buffer is shorter than the text: then nothing is written but its
+/// Puts the text of a fault into the buffer, and its length into `length`. `UnknownFault` if no fault has
+/// the number, and `ShortBuffer` if the buffer is shorter than the text: then nothing is written but its
 /// length.
 #[unsafe(no_mangle)]
 pub extern "C" fn gcv_raw_fault_text(fault: u32, buffer: &mut [u8], length: &mut usize) -> u32
@@ -90,6 +90,6 @@ pub extern "C" fn gcv_raw_fault_text(fault: u32, buffer: &mut [u8], length: &mut
 {
     match numbered_text(fault) {
         Some(text) => put(text.as_bytes(), buffer, length),
-        None => UNKNOWN_FAULT,
+        None => Status::UnknownFault as u32,
     }
 }

@@ -1,8 +1,8 @@
 //! Values as JSON texts, without white space.
 //!
 //! Each call takes memory for the text and gives it back. A text goes to the front of the buffer, and its
-//! length into `length`. If the buffer is shorter, the call returns `SHORT_BUFFER`, and nothing is written
-//! but the length; where memory is refused, it is `NO_MEMORY`, and nothing is written.
+//! length into `length`. If the buffer is shorter, the call returns `ShortBuffer`, and nothing is written
+//! but the length; where memory is refused, it is `NoMemory`, and nothing is written.
 ghost use Rattle.std.specs.Prelude.{◌≡◌, Some, false};
 ghost use Rattle.serde_json.specs.Data.{string, boolean as truth};
 ghost use Rattle.config_boolean.specs.declared.boolean.Boolean as boolean;
@@ -11,13 +11,14 @@ ghost use Rattle.serde_json.specs.Written.{has_float};
 ghost use Rattle.gix_config_value.specs.Suffix.{suffix_shown};
 ghost use Rattle.gix_config_value.specs.Name.{name_shown};
 ghost use Rattle.gix_config_value.specs.Attribute.{attribute_shown};
+ghost use Rattle.gix_config_value_c.specs.declared.status.Status.TheVariants as statuses;
 ghost use Rattle.gix_config_value_c.specs.Numbers.{suffix_number, flag_number};
 ghost use Rattle.gix_config_value_c.specs.Structs.{name_struct};
 ghost use Rattle.gix_config_value_c.specs.Json.{PutsJson, WritesJson, WritesProduct};
 
 use crate::buffer::put;
 use crate::numbers::{flag_of, unit_of};
-use crate::status::{BAD_FLAG, BAD_NAME, BAD_SUFFIX, NO_MEMORY, OVERFLOW};
+use crate::status::Status;
 use crate::structs::{GcvInteger, GcvName, integer_of, name_of};
 use bitflags::Flags;
 use gix_config_value::Boolean;
@@ -32,11 +33,11 @@ fn put_json(alloc: Global, json: &Value, buffer: &mut [u8], length: &mut usize) 
 {
     match json.to_vec(alloc) {
         Ok(text) => put(text.as_slice(), buffer, length),
-        Err(_) => NO_MEMORY,
+        Err(_) => Status::NoMemory as u32,
     }
 }
 
-/// The letter of a suffix as a JSON text. `BAD_SUFFIX` if no suffix has the number.
+/// The letter of a suffix as a JSON text. `BadSuffix` if no suffix has the number.
 #[unsafe(no_mangle)]
 pub extern "C" fn gcv_raw_json_suffix(
     alloc: Global,
@@ -44,20 +45,20 @@ pub extern "C" fn gcv_raw_json_suffix(
     buffer: &mut [u8],
     length: &mut usize,
 ) -> u32
-    ensures { WritesJson (λ s. suffix_number (Some s)) (λ s. string (suffix_shown s)) BAD_SUFFIX
+    ensures { WritesJson (λ s. suffix_number (Some s)) (λ s. string (suffix_shown s)) statuses.BadSuffix
         suffix buffer.old buffer.new length.old length.new result }
 {
     let Some(suffix) = unit_of(suffix) else {
-        return BAD_SUFFIX;
+        return Status::BadSuffix as u32;
     };
     match suffix.to_json(alloc) {
         Ok(json) => put_json(alloc, &json, buffer, length),
-        Err(_) => NO_MEMORY,
+        Err(_) => Status::NoMemory as u32,
     }
 }
 
-/// The product of an integer as a JSON number. `BAD_SUFFIX` if its suffix has no such number, and
-/// `OVERFLOW` if the product leaves `i64`.
+/// The product of an integer as a JSON number. `BadSuffix` if its suffix has no such number, and
+/// `Overflow` if the product leaves `i64`.
 #[unsafe(no_mangle)]
 pub extern "C" fn gcv_raw_json_integer(
     alloc: Global,
@@ -68,15 +69,15 @@ pub extern "C" fn gcv_raw_json_integer(
     ensures { WritesProduct value.now buffer.old buffer.new length.old length.new result }
 {
     let Some(integer) = integer_of(*value) else {
-        return BAD_SUFFIX;
+        return Status::BadSuffix as u32;
     };
     match integer.to_json(alloc) {
         Ok(json) => put_json(alloc, &json, buffer, length),
-        Err(_) => OVERFLOW,
+        Err(_) => Status::Overflow as u32,
     }
 }
 
-/// A boolean as `true` or `false`. `BAD_FLAG` if the value is neither 0 nor 1.
+/// A boolean as `true` or `false`. `BadFlag` if the value is neither 0 nor 1.
 #[unsafe(no_mangle)]
 pub extern "C" fn gcv_raw_json_boolean(
     alloc: Global,
@@ -84,19 +85,19 @@ pub extern "C" fn gcv_raw_json_boolean(
     buffer: &mut [u8],
     length: &mut usize,
 ) -> u32
-    ensures { WritesJson {V = boolean.Boolean} (λ v. flag_number v.0) (λ v. truth v.0) BAD_FLAG
+    ensures { WritesJson {V = boolean.Boolean} (λ v. flag_number v.0) (λ v. truth v.0) statuses.BadFlag
         value buffer.old buffer.new length.old length.new result }
 {
     let Some(flag) = flag_of(value) else {
-        return BAD_FLAG;
+        return Status::BadFlag as u32;
     };
     match Boolean(flag).to_json(alloc) {
         Ok(json) => put_json(alloc, &json, buffer, length),
-        Err(_) => NO_MEMORY,
+        Err(_) => Status::NoMemory as u32,
     }
 }
 
-/// A name as a JSON text. `BAD_NAME` if the struct is that of none.
+/// A name as a JSON text. `BadName` if the struct is that of none.
 #[unsafe(no_mangle)]
 pub extern "C" fn gcv_raw_json_name(
     alloc: Global,
@@ -104,15 +105,15 @@ pub extern "C" fn gcv_raw_json_name(
     buffer: &mut [u8],
     length: &mut usize,
 ) -> u32
-    ensures { WritesJson name_struct (λ n. string (name_shown n)) BAD_NAME
+    ensures { WritesJson name_struct (λ n. string (name_shown n)) statuses.BadName
         value.now buffer.old buffer.new length.old length.new result }
 {
     let Some(name) = name_of(*value) else {
-        return BAD_NAME;
+        return Status::BadName as u32;
     };
     match name.to_json(alloc) {
         Ok(json) => put_json(alloc, &json, buffer, length),
-        Err(_) => NO_MEMORY,
+        Err(_) => Status::NoMemory as u32,
     }
 }
 
@@ -129,6 +130,6 @@ pub extern "C" fn gcv_raw_json_attribute(
     let set = Attribute::from_bits_retain(bits);
     match set.to_json(alloc) {
         Ok(json) => put_json(alloc, &json, buffer, length),
-        Err(_) => NO_MEMORY,
+        Err(_) => Status::NoMemory as u32,
     }
 }

@@ -9,6 +9,7 @@ mod buffer;
 mod colors;
 mod faults;
 mod json;
+pub mod laws;
 mod numbers;
 mod paths;
 mod products;

@@ -1,23 +1,23 @@
 //! The product of an integer.
 ghost use Rattle.gix_config_value_c.specs.Values.{Multiplies};
 
-use crate::status::{BAD_SUFFIX, OK, OVERFLOW};
+use crate::status::Status;
 use crate::structs::{GcvInteger, integer_of};
 
-/// Puts the number times the factor of its suffix into `out`. `OVERFLOW` if it leaves `i64`, and
-/// `BAD_SUFFIX` if the suffix has no such number: then `out` is left alone.
+/// Puts the number times the factor of its suffix into `out`. `Overflow` if it leaves `i64`, and
+/// `BadSuffix` if the suffix has no such number: then `out` is left alone.
 #[unsafe(no_mangle)]
 pub extern "C" fn gcv_raw_product(value: &GcvInteger, out: &mut i64) -> u32
     ensures { Multiplies value.now out.old out.new result }
 {
     let Some(integer) = integer_of(*value) else {
-        return BAD_SUFFIX;
+        return Status::BadSuffix as u32;
     };
     match integer.to_decimal() {
         Some(product) => {
             *out = product;
-            OK
+            Status::Ok as u32
         }
-        None => OVERFLOW,
+        None => Status::Overflow as u32,
     }
 }

@@ -1,6 +1,6 @@
 //! The readers of the seven kinds.
 //!
-//! A reader returns `OK` and puts the value into `out`, or returns `REFUSED` and puts the number of the fault
+//! A reader returns `Ok` and puts the value into `out`, or returns `Refused` and puts the number of the fault
 //! into `fault`. It leaves the other one alone.
 ghost use Rattle.config_text.specs.declared.errors.Fault.TheVariants as faults;
 ghost use Rattle.std.specs.Prelude.{Some};
@@ -18,7 +18,7 @@ ghost use Rattle.gix_config_value_c.specs.Readers.{ReadsInto, Faults, NoFault};
 
 use crate::faults::fault_number;
 use crate::numbers::{flag_number, suffix_number};
-use crate::status::{OK, REFUSED};
+use crate::status::Status;
 use crate::structs::{GcvColor, GcvInteger, GcvName, color_struct, integer_struct, name_struct};
 use bitflags::Flags;
 use bstr::BStr;
@@ -36,11 +36,11 @@ pub extern "C" fn gcv_raw_read_suffix(text: &[u8], out: &mut u32, fault: &mut u3
     match Suffix::try_from(BStr::new(text)) {
         Ok(suffix) => {
             *out = suffix_number(Some(suffix));
-            OK
+            Status::Ok as u32
         }
         Err(()) => {
             *fault = 0;
-            REFUSED
+            Status::Refused as u32
         }
     }
 }
@@ -54,11 +54,11 @@ pub extern "C" fn gcv_raw_read_integer(text: &[u8], out: &mut GcvInteger, fault:
     match Integer::try_read(text) {
         Ok(integer) => {
             *out = integer_struct(integer);
-            OK
+            Status::Ok as u32
         }
         Err(reason) => {
             *fault = fault_number(reason);
-            REFUSED
+            Status::Refused as u32
         }
     }
 }
@@ -72,11 +72,11 @@ pub extern "C" fn gcv_raw_read_amount(text: &[u8], out: &mut i64, fault: &mut u3
     match Amount::try_read(text) {
         Ok(amount) => {
             *out = amount.0;
-            OK
+            Status::Ok as u32
         }
         Err(reason) => {
             *fault = fault_number(reason);
-            REFUSED
+            Status::Refused as u32
         }
     }
 }
@@ -90,11 +90,11 @@ pub extern "C" fn gcv_raw_read_boolean(text: &[u8], out: &mut u32, fault: &mut u
     match Boolean::try_read(text) {
         Ok(boolean) => {
             *out = flag_number(boolean.0);
-            OK
+            Status::Ok as u32
         }
         Err(reason) => {
             *fault = fault_number(reason);
-            REFUSED
+            Status::Refused as u32
         }
     }
 }
@@ -108,11 +108,11 @@ pub extern "C" fn gcv_raw_read_name(text: &[u8], out: &mut GcvName, fault: &mut 
     match Name::try_read(text) {
         Ok(name) => {
             *out = name_struct(name);
-            OK
+            Status::Ok as u32
         }
         Err(reason) => {
             *fault = fault_number(reason);
-            REFUSED
+            Status::Refused as u32
         }
     }
 }
@@ -126,11 +126,11 @@ pub extern "C" fn gcv_raw_read_attribute(text: &[u8], out: &mut u32, fault: &mut
     match Attribute::try_read(text) {
         Ok(attribute) => {
             *out = attribute.bits();
-            OK
+            Status::Ok as u32
         }
         Err(reason) => {
             *fault = fault_number(reason);
-            REFUSED
+            Status::Refused as u32
         }
     }
 }
@@ -144,11 +144,11 @@ pub extern "C" fn gcv_raw_read_color(text: &[u8], out: &mut GcvColor, fault: &mu
     match Color::try_read(text) {
         Ok(color) => {
             *out = color_struct(color);
-            OK
+            Status::Ok as u32
         }
         Err(reason) => {
             *fault = fault_number(reason);
-            REFUSED
+            Status::Refused as u32
         }
     }
 }

@@ -4,7 +4,7 @@ ghost use Rattle.gix_config_value_c.specs.Reading.Settings.{last_from, found_at}
 ghost use Rattle.gix_config_value_c.specs.Settings.{LooksUpInto};
 
 use crate::numbers::kind_of;
-use crate::status::{ABSENT, BAD_LENGTHS, OK, REFUSED, UNKNOWN_KIND};
+use crate::status::Status;
 use bstr::BStr;
 use gix_config_value::canonical::normalize;
 
@@ -76,9 +76,9 @@ fn last_entry(bytes: &[u8], lengths: &[usize], name: &[u8]) -> Option<Option<Gcv
 /// Looks for the last entry of the name, which decides. The bytes are the names and texts of all entries, one
 /// behind the other, and the lengths are those of name, text, name, text and so on.
 ///
-/// `OK` if its text has a value of the kind, and `REFUSED` if it has none: the entry is put into `out`.
-/// First `UNKNOWN_KIND` if no kind has the number, then `BAD_LENGTHS` if the lengths do not fit the
-/// bytes, then `ABSENT` if no entry has the name: then `out` is left alone.
+/// `Ok` if its text has a value of the kind, and `Refused` if it has none: the entry is put into `out`.
+/// First `UnknownKind` if no kind has the number, then `BadLengths` if the lengths do not fit the
+/// bytes, then `Absent` if no entry has the name: then `out` is left alone.
 #[unsafe(no_mangle)]
 pub extern "C" fn gcv_raw_lookup(
     kind: u32,
@@ -90,18 +90,18 @@ pub extern "C" fn gcv_raw_lookup(
     ensures { LooksUpInto kind bytes.now lengths.now name.now out.old out.new result }
 {
     let Some(kind) = kind_of(kind) else {
-        return UNKNOWN_KIND;
+        return Status::UnknownKind as u32;
     };
     let Some(last) = last_entry(bytes, lengths, name) else {
-        return BAD_LENGTHS;
+        return Status::BadLengths as u32;
     };
     let Some(entry) = last else {
-        return ABSENT;
+        return Status::Absent as u32;
     };
     *out = entry;
     let text = &bytes[entry.start..entry.start + entry.length];
     match normalize(kind, BStr::new(text)) {
-        Some(_) => OK,
-        None => REFUSED,
+        Some(_) => Status::Ok as u32,
+        None => Status::Refused as u32,
     }
 }

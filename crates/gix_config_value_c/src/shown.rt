@@ -1,7 +1,7 @@
 //! Values as they are shown.
 //!
 //! A text goes to the front of the buffer, and its length into `length`. Where the buffer is shorter, the
-//! answer is `SHORT_BUFFER`, and nothing is written but the length.
+//! answer is `ShortBuffer`, and nothing is written but the length.
 ghost use Rattle.std.specs.Prelude.{Some};
 ghost use Rattle.gix_config_value.specs.Suffix.{suffix_shown};
 ghost use Rattle.gix_config_value.specs.Integer.{integer_shown};
@@ -10,6 +10,7 @@ ghost use Rattle.gix_config_value.specs.Name.{name_shown};
 ghost use Rattle.gix_config_value.specs.Attribute.{attribute_shown};
 ghost use Rattle.gix_config_value.specs.Color.{color_shown};
 ghost use Rattle.std.specs.Fmt.{signed_decimal};
+ghost use Rattle.gix_config_value_c.specs.declared.status.Status.TheVariants as statuses;
 ghost use Rattle.gix_config_value_c.specs.Numbers.{suffix_number, flag_number};
 ghost use Rattle.gix_config_value_c.specs.Structs.{integer_struct, name_struct, color_struct};
 ghost use Rattle.gix_config_value_c.specs.Buffers.{PutsText};
@@ -17,7 +18,7 @@ ghost use Rattle.gix_config_value_c.specs.Values.{Shows};
 
 use crate::buffer::put;
 use crate::numbers::{flag_of, unit_of};
-use crate::status::{BAD_FLAG, BAD_NAME, BAD_SUFFIX};
+use crate::status::Status;
 use crate::structs::{GcvColor, GcvInteger, GcvName, color_of, integer_of, name_of};
 use bitflags::Flags;
 use gix_config_value::Boolean;
@@ -25,20 +26,20 @@ use gix_config_value::canonical::Value;
 use gix_config_value::color::Attribute;
 use itoa::Buffer;
 
-/// Shows the suffix of a number. `BAD_SUFFIX` if no suffix has it.
+/// Shows the suffix of a number. `BadSuffix` if no suffix has it.
 #[tactic(auto, using(config_integer::specs::Laws::Suffix::suffix_has_text))]
 #[unsafe(no_mangle)]
 pub extern "C" fn gcv_raw_show_suffix(suffix: u32, buffer: &mut [u8], length: &mut usize) -> u32
-    ensures { Shows (λ s. suffix_number (Some s)) suffix_shown BAD_SUFFIX
+    ensures { Shows (λ s. suffix_number (Some s)) suffix_shown statuses.BadSuffix
         suffix buffer.old buffer.new length.old length.new result }
 {
     let Some(suffix) = unit_of(suffix) else {
-        return BAD_SUFFIX;
+        return Status::BadSuffix as u32;
     };
     put(suffix.text().as_str().as_bytes(), buffer, length)
 }
 
-/// Shows an integer. `BAD_SUFFIX` if its suffix has no such number.
+/// Shows an integer. `BadSuffix` if its suffix has no such number.
 #[tactic(auto, using(config_integer::specs::Laws::IntegerShown::integer_has_text))]
 #[unsafe(no_mangle)]
 pub extern "C" fn gcv_raw_show_integer(
@@ -46,11 +47,11 @@ pub extern "C" fn gcv_raw_show_integer(
     buffer: &mut [u8],
     length: &mut usize,
 ) -> u32
-    ensures { Shows integer_struct integer_shown BAD_SUFFIX
+    ensures { Shows integer_struct integer_shown statuses.BadSuffix
         value.now buffer.old buffer.new length.old length.new result }
 {
     let Some(integer) = integer_of(*value) else {
-        return BAD_SUFFIX;
+        return Status::BadSuffix as u32;
     };
     put(integer.text().as_str().as_bytes(), buffer, length)
 }
@@ -63,27 +64,27 @@ pub extern "C" fn gcv_raw_show_amount(value: i64, buffer: &mut [u8], length: &mu
     put(Buffer::new().format(value).as_bytes(), buffer, length)
 }
 
-/// Shows a boolean. `BAD_FLAG` if the value is neither 0 nor 1.
+/// Shows a boolean. `BadFlag` if the value is neither 0 nor 1.
 #[tactic(auto, using(config_boolean::specs::Laws::Boolean::boolean_has_text))]
 #[unsafe(no_mangle)]
 pub extern "C" fn gcv_raw_show_boolean(value: u32, buffer: &mut [u8], length: &mut usize) -> u32
-    ensures { Shows (λ v. flag_number v.0) boolean_shown BAD_FLAG
+    ensures { Shows (λ v. flag_number v.0) boolean_shown statuses.BadFlag
         value buffer.old buffer.new length.old length.new result }
 {
     let Some(flag) = flag_of(value) else {
-        return BAD_FLAG;
+        return Status::BadFlag as u32;
     };
     put(Boolean(flag).text().as_str().as_bytes(), buffer, length)
 }
 
-/// Shows a name. `BAD_NAME` if the struct is that of none.
+/// Shows a name. `BadName` if the struct is that of none.
 #[unsafe(no_mangle)]
 pub extern "C" fn gcv_raw_show_name(value: &GcvName, buffer: &mut [u8], length: &mut usize) -> u32
-    ensures { Shows name_struct name_shown BAD_NAME
+    ensures { Shows name_struct name_shown statuses.BadName
         value.now buffer.old buffer.new length.old length.new result }
 {
     let Some(name) = name_of(*value) else {
-        return BAD_NAME;
+        return Status::BadName as u32;
     };
     put(name.shown().as_str().as_bytes(), buffer, length)
 }
@@ -97,14 +98,14 @@ pub extern "C" fn gcv_raw_show_attribute(bits: u32, buffer: &mut [u8], length: &
     put(set.shown().as_str().as_bytes(), buffer, length)
 }
 
-/// Shows a color. `BAD_NAME` if the struct of one of its names is that of none.
+/// Shows a color. `BadName` if the struct of one of its names is that of none.
 #[unsafe(no_mangle)]
 pub extern "C" fn gcv_raw_show_color(value: &GcvColor, buffer: &mut [u8], length: &mut usize) -> u32
-    ensures { Shows color_struct color_shown BAD_NAME
+    ensures { Shows color_struct color_shown statuses.BadName
         value.now buffer.old buffer.new length.old length.new result }
 {
     let Some(color) = color_of(*value) else {
-        return BAD_NAME;
+        return Status::BadName as u32;
     };
     put(color.shown().as_str().as_bytes(), buffer, length)
 }

@@ -1,31 +1,48 @@
-//! What a call returns: 0, or a number for each reason why it puts nothing.
+//! What a call returns.
+
+/// The outcome of a call: its result was put, or why it was not. In C it is the number that stands here.
+#[derive(Clone, Copy)]
+pub enum Status {
+    /// The call has put its result.
+    Ok = 0,
+    /// The text has no value, or the path stands for none.
+    Refused = 1,
+    /// The product of an integer leaves `i64`.
+    Overflow = 2,
+    /// No text reads to a color.
+    NoText = 3,
+    /// The colors have more than two names together.
+    TooManyNames = 4,
+    /// No entry has the name.
+    Absent = 5,
+    /// No kind has this number.
+    UnknownKind = 6,
+    /// No fault has this number.
+    UnknownFault = 7,
+    /// No suffix has this number.
+    BadSuffix = 8,
+    /// The struct is that of no name.
+    BadName = 9,
+    /// A flag is neither 0 nor 1.
+    BadFlag = 10,
+    /// A directory or the passwd text is not UTF-8.
+    NotUtf8 = 11,
+    /// The lengths are not those of names and texts that fill the bytes.
+    BadLengths = 12,
+    /// The buffer is shorter than the text.
+    ShortBuffer = 13,
+    /// Memory was refused, or a path stands for more than there can be.
+    NoMemory = 14,
+}
 
 /// The call has put its result.
 pub const OK: u32 = 0;
 /// The text has no value, or the path stands for none.
 pub const REFUSED: u32 = 1;
-/// The product of an integer leaves `i64`.
-pub const OVERFLOW: u32 = 2;
-/// No text reads to a color.
-pub const NO_TEXT: u32 = 3;
-/// The colors have more than two names together.
-pub const TOO_MANY_NAMES: u32 = 4;
-/// No entry has the name.
-pub const ABSENT: u32 = 5;
-/// No kind has this number.
-pub const UNKNOWN_KIND: u32 = 6;
-/// No fault has this number.
-pub const UNKNOWN_FAULT: u32 = 7;
-/// No suffix has this number.
-pub const BAD_SUFFIX: u32 = 8;
-/// The struct is that of no name.
-pub const BAD_NAME: u32 = 9;
 /// A flag is neither 0 nor 1.
 pub const BAD_FLAG: u32 = 10;
 /// A directory or the passwd text is not UTF-8.
 pub const NOT_UTF8: u32 = 11;
-/// The lengths are not those of names and texts that fill the bytes.
-pub const BAD_LENGTHS: u32 = 12;
 /// The buffer is shorter than the text.
 pub const SHORT_BUFFER: u32 = 13;
 /// Memory was refused, or a path stands for more than there can be.

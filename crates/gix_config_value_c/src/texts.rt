@@ -5,12 +5,12 @@ ghost use Rattle.gix_config_value_c.specs.Texts.{NormalizesInto, ComparesInto};
 
 use crate::buffer::put;
 use crate::numbers::{flag_number, kind_of};
-use crate::status::{OK, REFUSED, UNKNOWN_KIND};
+use crate::status::Status;
 use bstr::BStr;
 use gix_config_value::canonical::{CanonicalText, Kind, Value, normalize_into, same};
 use gix_config_value::integer::Suffix;
 
-/// Puts the letter of the suffix that a text names. `REFUSED` if it names none.
+/// Puts the letter of the suffix that a text names. `Refused` if it names none.
 #[inline(never)]
 #[tactic(auto, using(config_integer::specs::Laws::Suffix::suffix_has_text))]
 fn put_suffix(text: &[u8], buffer: &mut [u8], length: &mut usize) -> u32
@@ -19,12 +19,12 @@ fn put_suffix(text: &[u8], buffer: &mut [u8], length: &mut usize) -> u32
 {
     match Suffix::try_from(BStr::new(text)) {
         Ok(suffix) => put(suffix.text().as_str().as_bytes(), buffer, length),
-        Err(()) => REFUSED,
+        Err(()) => Status::Refused as u32,
     }
 }
 
-/// Puts the canonical text of the value of a text into the buffer, and its length into `length`. `REFUSED`
-/// where the text has no value of the kind, `UNKNOWN_KIND` if no kind has the number, and `SHORT_BUFFER`
+/// Puts the canonical text of the value of a text into the buffer, and its length into `length`. `Refused`
+/// where the text has no value of the kind, `UnknownKind` if no kind has the number, and `ShortBuffer`
 /// where the buffer is shorter than the canonical text: then nothing is written but that text's length.
 #[unsafe(no_mangle)]
 pub extern "C" fn gcv_raw_normalize(
@@ -36,32 +36,32 @@ pub extern "C" fn gcv_raw_normalize(
     ensures { NormalizesInto kind text.now buffer.old buffer.new length.old length.new result }
 {
     let Some(kind) = kind_of(kind) else {
-        return UNKNOWN_KIND;
+        return Status::UnknownKind as u32;
     };
     if let Kind::Suffix = kind {
         return put_suffix(text, buffer, length);
     }
     let mut canonical = CanonicalText::new();
     if !normalize_into(kind, BStr::new(text), &mut canonical) {
-        return REFUSED;
+        return Status::Refused as u32;
     }
     put(canonical.as_str().as_bytes(), buffer, length)
 }
 
-/// Puts into `out` whether two texts mean the same, 1 or 0. `REFUSED` if one of them has no value of the
-/// kind, and `UNKNOWN_KIND` if no kind has the number: then `out` is left alone.
+/// Puts into `out` whether two texts mean the same, 1 or 0. `Refused` if one of them has no value of the
+/// kind, and `UnknownKind` if no kind has the number: then `out` is left alone.
 #[unsafe(no_mangle)]
 pub extern "C" fn gcv_raw_same(kind: u32, first: &[u8], second: &[u8], out: &mut u32) -> u32
     ensures { ComparesInto kind first.now second.now out.old out.new result }
 {
     let Some(kind) = kind_of(kind) else {
-        return UNKNOWN_KIND;
+        return Status::UnknownKind as u32;
     };
     match same(kind, BStr::new(first), BStr::new(second)) {
         Some(answer) => {
             *out = flag_number(answer);
-            OK
+            Status::Ok as u32
         }
-        None => REFUSED,
+        None => Status::Refused as u32,
     }
 }

@@ -74,7 +74,7 @@ LD_LIBRARY_PATH=$prefix/lib
 export PKG_CONFIG_PATH LD_LIBRARY_PATH
 archive=$prefix/lib/libgix_config_value.a
 
-holds "the version" python3 "$tests/version.py" "$prefix"
+holds "the header" python3 "$tests/header.py" "$prefix"
 
 # the calls that the header declares are the symbols that the library shows, and it needs none but those of docs/C.md
 grep -oE 'gcv_raw_[a-z0-9_]+' "$prefix/include/gix_config_value.h" | sort -u > "$work/declared"

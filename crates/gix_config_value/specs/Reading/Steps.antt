@@ -124,6 +124,14 @@ pub record AnswersUpTo (before after : RunState) (bytes rest : List ℕ) : Type 
   pub advances : Advances before after done
   pub none : after.line ≡ []
 
+-- the lines that end within the front of the input are answered, after what was held, and the rest follows them
+pub record AnswersFront (input rest held holds : List ℕ) (ok : Bool) : Type 0 where
+  pub done : List ℕ
+  pub output : List ℕ
+  pub split : input ≡ done ++ rest
+  pub taken : CompletesLines [] true done [] ok output
+  pub appended : holds ≡ held ++ output
+
 -- the end of the input: the last line is answered, and all is written
 pub record EndsAnswered (before : RunState) (after : OutputState) (ok : Bool) : Type 0 where
   pub last : List ℕ

@@ -1,0 +1,155 @@
+-- The value of a number, which tells values apart.
+use Rattle.std.proofs.Common.{◌≡◌, ◌≢◌, ◌≤◌, ◌<◌, ◌⊎◌, inl, inr, ℕ, ◌-◌, List, [], ◌∷◌, Option, None, Some, Bool, true, false, codes, refl, sym, ap, ◌∙◌, arith}
+use Rattle.std.specs.List.{slice_get}
+use Rattle.std.proofs.lemmas.Option.{same_Some}
+use Rattle.config_boolean.specs.declared.boolean.Boolean.{Boolean}
+use Rattle.config_integer.specs.declared.suffix.Suffix.{Suffix}
+use Rattle.config_integer.specs.declared.suffix.Suffix.TheVariants.{Kibi, Mebi, Gibi}
+use Rattle.config_text.specs.Faults.{fault_text}
+use Rattle.config_text.specs.declared.errors.Fault.{Fault}
+use Rattle.config_text.specs.declared.errors.Fault.TheVariants as faults
+use Rattle.config_path.specs.Interpolation.{path_error_text}
+use Rattle.config_path.specs.declared.interpolate.Error.{Error}
+use Rattle.config_path.specs.declared.interpolate.Error.TheVariants.{PathMissing, InstallDirMissing}
+use Rattle.config_path.specs.declared.interpolate.Error.TheVariants.{HomeMissing, LookupMissing, UserNotFound}
+use Rattle.config_path.specs.declared.interpolate.Error.TheVariants.{IllFormed, Memory}
+use Rattle.config_path.specs.declared.interpolate.Place.{Place}
+use Rattle.config_path.specs.declared.interpolate.Place.TheVariants.{PastPrefix, PastHome, Username, PastUser}
+use Rattle.config_path.specs.declared.interpolate.Place.TheVariants.{Whole}
+use Rattle.gix_config_value.specs.declared.kind.Kind.{Kind}
+use Rattle.gix_config_value.specs.declared.kind.Kind.TheVariants as kinds
+use Rattle.gix_config_value_c.specs.declared.status.Status.{Status}
+use Rattle.gix_config_value_c.specs.declared.status.Status.TheVariants as statuses
+use Rattle.gix_config_value_c.specs.Answers.{TellsApart}
+use Rattle.gix_config_value_c.specs.Numbers.{status_number, kind_number, suffix_number, flag_number, fault_number}
+use Rattle.gix_config_value_c.specs.Faults.{place_number, path_fault_number, numbered_text}
+
+-- what is found again from what stands for it is told apart by that
+pub told_apart : {V C : Type 0} (f : V → C) (found : C → Option V) → ((v : V) → found (f v) ≡ Some v) → TellsApart f
+told_apart f found again v w same = same_Some v w (sym (again v) ∙ (ap found same ∙ again w))
+
+abbrev all_statuses : List Status
+all_statuses =
+    statuses.Ok ∷ statuses.Refused ∷ statuses.Overflow ∷ statuses.NoText ∷ statuses.TooManyNames ∷ statuses.Absent
+    ∷ statuses.UnknownKind ∷ statuses.UnknownFault ∷ statuses.BadSuffix ∷ statuses.BadName ∷ statuses.BadFlag
+    ∷ statuses.NotUtf8 ∷ statuses.BadLengths ∷ statuses.ShortBuffer ∷ statuses.NoMemory ∷ []
+
+pub statuses_apart : TellsApart status_number
+statuses_apart = told_apart status_number (λ n. slice_get all_statuses n) again where
+  again : (s : Status) → slice_get all_statuses (status_number s) ≡ Some s
+  again statuses.Ok = refl
+  again s = refl
+
+abbrev all_kinds : List Kind
+all_kinds =
+    kinds.Suffix ∷ kinds.Integer ∷ kinds.Amount ∷ kinds.Boolean ∷ kinds.Name ∷ kinds.Attribute ∷ kinds.Color ∷ []
+
+pub kinds_apart : TellsApart kind_number
+kinds_apart = told_apart kind_number (λ n. slice_get all_kinds (n - 1)) again where
+  again : (k : Kind) → slice_get all_kinds (kind_number k - 1) ≡ Some k
+  again kinds.Suffix = refl
+  again k = refl
+
+abbrev all_suffixes : List (Option Suffix)
+all_suffixes = None ∷ Some Kibi ∷ Some Mebi ∷ Some Gibi ∷ []
+
+pub suffixes_apart : TellsApart suffix_number
+suffixes_apart = told_apart suffix_number (λ n. slice_get all_suffixes n) again where
+  again : (s : Option Suffix) → slice_get all_suffixes (suffix_number s) ≡ Some s
+  again None = refl
+  again (Some Kibi) = refl
+  again (Some s) = refl
+
+pub flags_apart : TellsApart flag_number
+flags_apart = told_apart flag_number (λ n. slice_get (false ∷ true ∷ []) n) again where
+  again : (b : Bool) → slice_get (false ∷ true ∷ []) (flag_number b) ≡ Some b
+  again false = refl
+  again b = refl
+
+-- a suffix, where there is one; a boolean, whose flag is all of it
+pub units_apart : TellsApart {V = Suffix} (λ s. suffix_number (Some s))
+units_apart v w same = same_Some v w (suffixes_apart (Some v) (Some w) same)
+
+pub truths_apart : TellsApart {V = Boolean} (λ v. flag_number v.0)
+truths_apart v w same =
+    let one = flags_apart v.0 w.0 same in
+    λ i. record { 0 = one i }
+
+abbrev all_faults : List Fault
+all_faults = faults.Boolean ∷ faults.Integer ∷ faults.Overflow ∷ faults.OutOfRange ∷ faults.Color ∷ []
+
+pub faults_apart : TellsApart fault_number
+faults_apart = told_apart fault_number (λ n. slice_get all_faults (n - 1)) again where
+  again : (f : Fault) → slice_get all_faults (fault_number f - 1) ≡ Some f
+  again faults.Boolean = refl
+  again f = refl
+
+abbrev all_places : List Place
+all_places = PastPrefix ∷ PastHome ∷ Username ∷ PastUser ∷ Whole ∷ []
+
+pub places_apart : TellsApart place_number
+places_apart = told_apart place_number (λ n. slice_get all_places (n - 11)) again where
+  again : (p : Place) → slice_get all_places (place_number p - 11) ≡ Some p
+  again PastPrefix = refl
+  again p = refl
+
+-- ---- texts
+
+pub fault_text_found : (f : Fault) → numbered_text (fault_number f) ≡ Some (fault_text f)
+fault_text_found faults.Boolean = refl
+fault_text_found f = refl
+
+pub path_text_found : (e : Error) → path_fault_number e ≢ 0
+    → numbered_text (path_fault_number e) ≡ Some (path_error_text e)
+path_text_found (IllFormed PastPrefix input) h = refl
+path_text_found (IllFormed PastHome input) h = refl
+path_text_found (IllFormed Username input) h = refl
+path_text_found (IllFormed PastUser input) h = refl
+path_text_found (IllFormed Whole input) h = refl
+path_text_found (Memory e) h = absurd (h refl)
+path_text_found e h = refl
+
+-- ---- faults of paths
+
+abbrev path_text : Option (List ℕ) → List ℕ
+path_text None = codes "no memory"
+path_text (Some t) = t
+
+path_text_told : (e : Error) → path_error_text e ≡ path_text (numbered_text (path_fault_number e))
+path_text_told (IllFormed PastPrefix input) = refl
+path_text_told (IllFormed PastHome input) = refl
+path_text_told (IllFormed Username input) = refl
+path_text_told (IllFormed PastUser input) = refl
+path_text_told (IllFormed Whole input) = refl
+path_text_told e = refl
+
+pub path_texts_apart : (e f : Error) → path_fault_number e ≡ path_fault_number f
+    → path_error_text e ≡ path_error_text f
+path_texts_apart e f same =
+    path_text_told e ∙ (ap (λ n. path_text (numbered_text n)) same ∙ sym (path_text_told f))
+
+low : (f : Fault) → (1 ≤ fault_number f) × (fault_number f ≤ 5)
+low faults.Boolean = (omega arith, omega arith)
+low faults.Integer = (omega arith, omega arith)
+low faults.Overflow = (omega arith, omega arith)
+low faults.OutOfRange = (omega arith, omega arith)
+low faults.Color = (omega arith, omega arith)
+
+none_or_high : (e : Error) → (path_fault_number e ≡ 0) ⊎ (5 < path_fault_number e)
+none_or_high (Memory e) = inl refl
+none_or_high (IllFormed PastPrefix input) = inr (omega arith)
+none_or_high (IllFormed PastHome input) = inr (omega arith)
+none_or_high (IllFormed Username input) = inr (omega arith)
+none_or_high (IllFormed PastUser input) = inr (omega arith)
+none_or_high (IllFormed Whole input) = inr (omega arith)
+none_or_high PathMissing = inr (omega arith)
+none_or_high InstallDirMissing = inr (omega arith)
+none_or_high HomeMissing = inr (omega arith)
+none_or_high LookupMissing = inr (omega arith)
+none_or_high UserNotFound = inr (omega arith)
+
+pub faults_of_texts_or_paths : (f : Fault) (e : Error) → fault_number f ≢ path_fault_number e
+faults_of_texts_or_paths f e same = elim (none_or_high e) [
+  | inl none ↦ omega (arith, same, none, (low f).0)
+  | inr high ↦ omega (arith, same, high, (low f).1)
+]

@@ -1,0 +1,26 @@
+-- What it means that a call has one answer, and that numbers and structs tell values apart.
+use Rattle.std.specs.Prelude.{◌≡◌, ◌↔◌, ℕ}
+use Rattle.gix_config_value_c.specs.declared.status.Status.TheVariants as statuses
+use Rattle.gix_config_value_c.specs.Numbers.{status_number}
+
+-- no two values stand in C as the same
+abbrev pub TellsApart : {V C : Type 0} → (V → C) → Type 0
+TellsApart {V} f = (v w : V) → f v ≡ f w → v ≡ w
+
+-- from the same input, and over the same `out`, a call leaves the same in `out` and returns the same status
+abbrev pub HasOneResult : {C : Type 0} → (C → C → ℕ → Type 0) → Type 0
+HasOneResult {C} call = (out first second : C) (status other : ℕ)
+    → call out first status → call out second other → (first ≡ second) × (status ≡ other)
+
+-- the same of a call that writes into `out` and `fault`, or into a buffer and its length
+abbrev pub HasOneAnswer : {C : Type 0} → (C → C → ℕ → ℕ → ℕ → Type 0) → Type 0
+HasOneAnswer {C} call = (out first second : C) (number one two status other : ℕ)
+    → call out first number one status → call out second number two other
+    → (first ≡ second) × (one ≡ two) × (status ≡ other)
+
+-- the same of a call that takes memory, if memory is refused to both or to neither
+abbrev pub HasOneAnswerByMemory : {C : Type 0} → (C → C → ℕ → ℕ → ℕ → Type 0) → Type 0
+HasOneAnswerByMemory {C} call = (out first second : C) (number one two status other : ℕ)
+    → call out first number one status → call out second number two other
+    → ((status ≡ status_number statuses.NoMemory) ↔ (other ≡ status_number statuses.NoMemory))
+    → (first ≡ second) × (one ≡ two) × (status ≡ other)

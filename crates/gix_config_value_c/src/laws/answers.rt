@@ -1,0 +1,76 @@
+//! Laws about what the calls answer: the same input has one answer.
+//!
+//! A call has one answer if two of its results from the same input are the same. These are the status and
+//! whatever the call writes, over what stood there before. Only the JSON calls take memory: two of their
+//! results are the same if memory was refused to both or to neither.
+ghost use Rattle.std.specs.Prelude.{ℕ, List, Some};
+ghost use Rattle.serde_json.specs.Data.{Data, string, boolean as truth};
+ghost use Rattle.config_text.specs.declared.errors.Fault.TheVariants as faults;
+ghost use Rattle.config_boolean.specs.declared.boolean.Boolean as boolean;
+ghost use Rattle.gix_config_value.specs.Refusals.{Always};
+ghost use Rattle.gix_config_value.specs.Suffix.{SuffixText, suffix_shown};
+ghost use Rattle.gix_config_value.specs.Integer.{IntegerText, integer_shown};
+ghost use Rattle.gix_config_value.specs.Amount.{AmountText, AmountRefusal};
+ghost use Rattle.gix_config_value.specs.Boolean.{BooleanText, boolean_shown};
+ghost use Rattle.gix_config_value.specs.Name.{NameText, name_shown};
+ghost use Rattle.gix_config_value.specs.Attribute.{AttributeText};
+ghost use Rattle.gix_config_value.specs.Color.{ColorText, color_shown};
+ghost use Rattle.gix_config_value_c.specs.declared.status.Status.TheVariants as statuses;
+ghost use Rattle.gix_config_value_c.specs.declared.structs.GcvInteger.{GcvInteger};
+ghost use Rattle.gix_config_value_c.specs.declared.structs.GcvName.{GcvName};
+ghost use Rattle.gix_config_value_c.specs.declared.structs.GcvColor.{GcvColor};
+ghost use Rattle.gix_config_value_c.specs.Answers.{HasOneResult, HasOneAnswer, HasOneAnswerByMemory};
+ghost use Rattle.gix_config_value_c.specs.Buffers.{PutsText};
+ghost use Rattle.gix_config_value_c.specs.Colors.{ComposesInto};
+ghost use Rattle.gix_config_value_c.specs.Faults.{TellsFault};
+ghost use Rattle.gix_config_value_c.specs.Json.{PutsJson, WritesJson, WritesProduct};
+ghost use Rattle.gix_config_value_c.specs.Numbers.{suffix_number, flag_number};
+ghost use Rattle.gix_config_value_c.specs.Readers.{ReadsInto, Faults, NoFault};
+ghost use Rattle.gix_config_value_c.specs.Settings.{LooksUpInto};
+ghost use Rattle.gix_config_value_c.specs.Structs.{integer_struct, name_struct, color_struct};
+ghost use Rattle.gix_config_value_c.specs.Texts.{NormalizesInto, ComparesInto};
+ghost use Rattle.gix_config_value_c.specs.Values.{Shows, Multiplies};
+
+/// Each reader has one answer to a text: one value, or one fault.
+pub fn readers()
+    ensures suffixes { (t : List ℕ)
+        → HasOneAnswer (ReadsInto (λ s. suffix_number (Some s)) SuffixText NoFault t) }
+    ensures integers { (t : List ℕ)
+        → HasOneAnswer (ReadsInto integer_struct IntegerText (Faults (Always faults.Integer)) t) }
+    ensures amounts { (t : List ℕ)
+        → HasOneAnswer (ReadsInto (λ v. v.0) AmountText (Faults AmountRefusal) t) }
+    ensures booleans { (t : List ℕ)
+        → HasOneAnswer (ReadsInto (λ v. flag_number v.0) BooleanText (Faults (Always faults.Boolean)) t) }
+    ensures names { (t : List ℕ)
+        → HasOneAnswer (ReadsInto name_struct NameText (Faults (Always faults.Color)) t) }
+    ensures attributes { (t : List ℕ)
+        → HasOneAnswer (ReadsInto (λ a. a.0) AttributeText (Faults (Always faults.Color)) t) }
+    ensures colors { (t : List ℕ)
+        → HasOneAnswer (ReadsInto color_struct ColorText (Faults (Always faults.Color)) t) }
+{}
+
+/// Each value is shown in one way. A text, as that of an amount or of attributes, is put in one way.
+pub fn shown()
+    ensures texts { (text : List ℕ) → HasOneAnswer
+        (λ buffer buffer' size size' status. PutsText text buffer buffer' size' status) }
+    ensures suffixes { (n : ℕ)
+        → HasOneAnswer (Shows (λ s. suffix_number (Some s)) suffix_shown statuses.BadSuffix n) }
+    ensures integers { (c : GcvInteger)
+        → HasOneAnswer (Shows integer_struct integer_shown statuses.BadSuffix c) }
+    ensures booleans { (n : ℕ)
+        → HasOneAnswer (Shows (λ v. flag_number v.0) boolean_shown statuses.BadFlag n) }
+    ensures names { (c : GcvName) → HasOneAnswer (Shows name_struct name_shown statuses.BadName c) }
+    ensures colors { (c : GcvColor) → HasOneAnswer (Shows color_struct color_shown statuses.BadName c) }
+{}
+
+/// Each value has one JSON text, unless memory is refused.
+pub fn json()
+    ensures data { (json : Data) → HasOneAnswerByMemory (PutsJson json) }
+    ensures suffixes { (n : ℕ) → HasOneAnswerByMemory (WritesJson (λ s. suffix_number (Some s))
+        (λ s. string (suffix_shown s)) statuses.BadSuffix n) }
+    ensures products { (c : GcvInteger) → HasOneAnswerByMemory (WritesProduct c) }
+    ensures booleans { (n : ℕ) → HasOneAnswerByMemory (WritesJson {V = boolean.Boolean}
+        (λ v. flag_number v.0) (λ v. truth v.0) statuses.BadFlag n) }
+    ensures names { (c : GcvName) → HasOneAnswerByMemory
+        (WritesJson name_struct (λ n. string (name_shown n)) statuses.BadName c) }
+{}

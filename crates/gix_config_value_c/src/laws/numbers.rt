@@ -1,0 +1,35 @@
+//! Laws about the numbers that stand in C.
+ghost use Rattle.std.specs.Prelude.{◌≡◌, ◌≢◌, Some};
+ghost use Rattle.config_text.specs.Faults.{fault_text};
+ghost use Rattle.config_text.specs.declared.errors.Fault.{Fault};
+ghost use Rattle.config_path.specs.Interpolation.{path_error_text};
+ghost use Rattle.config_path.specs.declared.interpolate.Error.{Error};
+ghost use Rattle.gix_config_value_c.specs.Answers.{TellsApart};
+ghost use Rattle.gix_config_value_c.specs.Numbers.{status_number, kind_number, suffix_number, flag_number};
+ghost use Rattle.gix_config_value_c.specs.Numbers.{fault_number};
+ghost use Rattle.gix_config_value_c.specs.Faults.{place_number, path_fault_number, numbered_text};
+
+/// No two statuses, kinds, suffixes or truth values have one number.
+pub fn numbers()
+    ensures statuses { TellsApart status_number }
+    ensures kinds { TellsApart kind_number }
+    ensures suffixes { TellsApart suffix_number }
+    ensures flags { TellsApart flag_number }
+{}
+
+/// No two faults of texts have one number, and no two places in a path. Faults of paths with one number have
+/// one text, and none has the number of a fault of a text.
+pub fn fault_numbers()
+    ensures faults { TellsApart fault_number }
+    ensures places { TellsApart place_number }
+    ensures paths { (e f : Error) → path_fault_number e ≡ path_fault_number f
+        → path_error_text e ≡ path_error_text f }
+    ensures apart { (f : Fault) (e : Error) → fault_number f ≢ path_fault_number e }
+{}
+
+/// The text of a fault's number is the text of that fault. Out of memory has the number 0, which has no text.
+pub fn fault_texts()
+    ensures texts { (f : Fault) → numbered_text (fault_number f) ≡ Some (fault_text f) }
+    ensures paths { (e : Error) → path_fault_number e ≢ 0
+        → numbered_text (path_fault_number e) ≡ Some (path_error_text e) }
+{}

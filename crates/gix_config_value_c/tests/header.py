@@ -1,0 +1,196 @@
+#!/usr/bin/env python3
+"""The header and what it repeats: header.py [PREFIX]. The last line is 'N passed, M failed'.
+
+Nothing proves a header that is written by hand. So this compares it with the Rattle sources and the definitions: the
+names, order, types and offsets of the fields of each struct, the parameters of each exported call, and the number of
+each constant. The Python package has the same structs and numbers.
+
+crates/gix_config_value_c/VERSION is the one version. The header says the same, and so do CHANGELOG.md, the program
+config_check, the Python package, and the library that was built into PREFIX. The name of the shared library has the
+first number of it, in the Python package too. The longest canonical text is one number as well: LONGEST_TEXT of
+config_text."""
+import pathlib
+import re
+import subprocess
+import sys
+
+CRATE = pathlib.Path(__file__).resolve().parent.parent
+ROOT = CRATE.parent.parent
+HEADER = CRATE / "include/gix_config_value.h"
+NUMBERS, FAULTS = CRATE / "specs/Numbers.antt", CRATE / "specs/Faults.antt"
+WORDS = ROOT / "crates/config_word"
+PACKAGE = ROOT / "python/gix_config_value/__init__.py"
+# a file, and how it says the version
+PLACES = [
+    (HEADER, r'^#define GCV_VERSION "(.*)"$'),
+    (ROOT / "CHANGELOG.md", r"^## \[?([0-9][^\s\]]*)"),
+    (ROOT / "crates/config_check/src/main.rt", r'^        \.version\("(.*)"\)$'),
+    (ROOT / "python/pyproject.toml", r'^version = "(.*)"$'),
+    (PACKAGE, r'^__version__ = "(.*)"$'),
+]
+# a file, and how it says the first number
+FIRST_NUMBERS = [
+    (ROOT / "python/gix_config_value/_library.py", r'^_NAME = "libgix_config_value\.so\.(.*)"$'),
+    (ROOT / "python/wheel_of_package.py", r'^LIBRARY = "libgix_config_value\.so\.(.*)"$'),
+]
+# the longest canonical text, and what has to say the same
+LONGEST = (ROOT / "crates/config_text/src/value.rt", r"^pub const LONGEST_TEXT: usize = (\d+);$")
+LENGTHS = [
+    (HEADER, r"^enum \{ GCV_LONGEST_TEXT = (\d+) \};$"),
+    (PACKAGE, r"^_LONGEST_TEXT = (\d+)$"),
+]
+# the first constant of an enum of the header; then where else its numbers are: the beginning of the constants' names,
+# a file, how it says a name and a number, and what makes the constant's value of that number
+ENUMS = {
+    "GCV_OK": [
+        ("GCV_", CRATE / "src/status.rt", r"^    (\w+) = (\d+),$", int),
+        ("GCV_", NUMBERS, r"^status_number statuses\.(\w+) = (\d+)$", int),
+    ],
+    "GCV_SUFFIX": [
+        ("GCV_", CRATE / "src/numbers.rt", r"^        (?P<number>\d+) => Some\(Kind::(?P<name>\w+)\),$", int),
+        ("GCV_", NUMBERS, r"^kind_number kinds\.(\w+) = (\d+)$", int),
+    ],
+    "GCV_FAULT_NONE": [
+        ("GCV_FAULT_", CRATE / "src/faults.rt", r"^        (?:Fault|Error)::(\w+) => (\d+),$", int),
+        ("GCV_FAULT_ILL_FORMED_", CRATE / "src/faults.rt", r"^        Place::(\w+) => (\d+),$", int),
+        ("GCV_FAULT_", NUMBERS, r"^fault_number faults\.(\w+) = (\d+)$", int),
+        ("GCV_FAULT_", FAULTS, r"^path_fault_number (\w+) = (\d+)$", int),
+        ("GCV_FAULT_ILL_FORMED_", FAULTS, r"^place_number (\w+) = (\d+)$", int),
+    ],
+    "GCV_NO_SUFFIX": [
+        ("GCV_", CRATE / "src/numbers.rt", r"^        Some\(Suffix::(\w+)\) => (\d+),$", int),
+        ("GCV_", NUMBERS, r"^suffix_number \(Some (\w+)\) = (\d+)$", int),
+        ("GCV_", PACKAGE, r"^    (\w+BI) = (\d+)$", int),
+    ],
+    "GCV_NO_NAME": [
+        # the tag of a name is one more than its place
+        ("GCV_", WORDS / "specs/Orders.antt", r"^name_place \(?(\w+)[^)=]*\)? = (\d+)$", lambda place: int(place) + 1),
+        ("GCV_", PACKAGE, r"^    (?!\w+BI )([A-Z_]+) = (\d+)$", int),
+    ],
+    "GCV_BOLD": [
+        ("GCV_", WORDS / "specs/Attribute.antt", r'^    (?:∷ )?\(codes "(\w+)", (\d+), ', lambda bit: 1 << int(bit)),
+        ("GCV_", PACKAGE, r"^    (\w+) = 1 << (\d+)$", lambda bit: 1 << int(bit)),
+    ],
+}
+# of what has no value: a text that a suffix's reader refuses, an integer without a suffix, a color without a name
+ZEROS = ("GCV_FAULT_NONE", "GCV_NO_SUFFIX", "GCV_NO_NAME")
+OTHER_NAMES = {"GCV_FAULT_ILL_FORMED_WHOLE": "GCV_FAULT_ILL_FORMED_PATH"}
+# the types of C for those of Rattle and of ctypes, and their sizes
+TYPES = {"i64": "int64_t", "u32": "uint32_t", "u8": "uint8_t", "usize": "size_t"}
+TYPES |= {"c_int64": "int64_t", "c_uint32": "uint32_t", "c_uint8": "uint8_t", "c_size_t": "size_t"}
+TYPES |= {f"{mark}{name.title()}": f"gcv_{name}" for name in ("integer", "name", "color", "entry") for mark in ("Gcv", "C")}
+SIZES = {"int64_t": (8, 8), "uint32_t": (4, 4), "uint8_t": (1, 1), "size_t": (8, 8)}
+
+
+def text_of(path):
+    return path.read_text(encoding="utf-8")
+
+
+def said(path, pattern):
+    """What a file says, first of all."""
+    found = re.search(pattern, text_of(path), re.MULTILINE)
+    return found.group(1) if found else None
+
+
+def constant(beginning, name):
+    """The constant of the header for a name in Rattle or Python."""
+    whole = beginning + (name if name.isupper() else re.sub("(?<!^)(?=[A-Z])", "_", name).upper())
+    return OTHER_NAMES.get(whole, whole)
+
+
+def numbers():
+    """Each number of an enum of the header, in the header and in each sort of file that has it."""
+    for first, places in ENUMS.items():
+        body = re.search(rf"^enum \{{\n(    {first} = .*?)^\}};$", text_of(HEADER), re.MULTILINE | re.DOTALL)
+        here = {name: int(number) << int(shift or 0) for name, number, shift
+                in re.findall(r"^    (GCV_\w+) = (\d+)(?: << (\d+))?", body[1] if body else "", re.MULTILINE)}
+        found = {path.suffix: {} for _, path, *_ in places}
+        for beginning, path, pattern, value in places:
+            for it in re.finditer(pattern, text_of(path), re.MULTILINE):
+                name, number = (it["name"], it["number"]) if it.re.groupindex else it.groups()
+                found[path.suffix][constant(beginning, name)] = value(number)
+        for suffix, names in found.items():
+            names |= {name: 0 for name in ZEROS if name in here}
+            for name in here | names:
+                yield f"the header, {name} of a {suffix} file", here.get(name), names.get(name)
+
+
+def fields_of(body, pattern):
+    return [(name, TYPES.get(kind, kind)) for name, kind in re.findall(pattern, body, re.MULTILINE)]
+
+
+def structs():
+    """The fields of each exported struct, in Rattle, in the header and in Python; and the offsets that C gives them."""
+    source = "".join(text_of(path) for path in sorted((CRATE / "src").glob("*.rt")))
+    library = text_of(ROOT / "python/gix_config_value/_library.py")
+    header = text_of(HEADER)
+    found = re.findall(r"^#\[repr\(C\)\]\n(?:#[^\n]*\n)*pub struct (\w+) \{\n(.*?)^\}$", source, re.MULTILINE | re.DOTALL)
+    # the structs in a struct come first
+    for name, body in sorted(found, key=lambda it: it[1].count("Gcv")):
+        struct, wanted = TYPES[name], fields_of(body, r"^    pub (\w+): (\w+),$")
+        told = re.search(rf"^typedef struct {struct} \{{\n(.*?)^\}} {struct};$", header, re.MULTILINE | re.DOTALL)
+        given = [(name, kind) for kind, name in re.findall(r"^    (\w+) (\w+);", told[1] if told else "", re.MULTILINE)]
+        yield f"the header, {struct}", given, wanted
+        told = re.search(rf"^class C{name[3:]}\(.*?_fields_ = (.*?)\n", library, re.MULTILINE | re.DOTALL)
+        yield f"Python, {struct}", fields_of(told[1] if told else "", r'\("(\w+)", (\w+)\)'), wanted
+        size, widest, offsets = 0, 1, {}
+        for field, kind in wanted:
+            taken, alignment = SIZES[kind]
+            offsets[field] = size = -(-size // alignment) * alignment
+            size, widest = size + taken, max(widest, alignment)
+        SIZES[struct] = (-(-size // widest) * widest, widest)
+        asserted = re.findall(rf"^GCV_ASSERT\(offsetof\({struct}, (\w+)\) == (\d+)\);$", header, re.MULTILINE)
+        yield f"the offsets of {struct}", {field: int(offset) for field, offset in asserted}, offsets
+        sizes = re.findall(rf"^GCV_ASSERT\(sizeof\({struct}\) == (\d+)\);$", header, re.MULTILINE)
+        yield f"the size of {struct}", list(map(int, sizes)), [SIZES[struct][0]]
+
+
+def parameters(words):
+    """What C passes for the parameters of an exported function."""
+    for kind in re.findall(r"\w+: ([^,]+?)(?:,|$)", words):
+        is_slice, name = "[" in kind, kind.removeprefix("&").removeprefix("mut ").strip("[]")
+        if kind != "Global":
+            yield "const " * (kind[0] == "&" and "mut" not in kind) + TYPES[name] + " *" * (kind[0] == "&")
+            yield from ["size_t"] * is_slice
+
+
+def calls():
+    """The result and the parameters of each exported call, in the header and in Rattle."""
+    source = "".join(text_of(path) for path in sorted((CRATE / "src").glob("*.rt")))
+    exported = re.findall(r'^pub extern "C" fn (\w+)\((.*?)\)(?: -> (\w+))?$', source, re.MULTILINE | re.DOTALL)
+    declared = {}
+    for result, name, words in re.findall(r"^(\w+) (gcv_raw_\w+)\((.*?)\);$", text_of(HEADER), re.MULTILINE | re.DOTALL):
+        declared[name] = result, [re.sub(r"\w+$", "", word.strip()).strip() for word in words.split(",")]
+    wanted = {name: ({"u32": "gcv_status", "": "void"}[result], list(parameters(" ".join(words.split()))))
+              for name, words, result in exported}
+    for name in wanted | declared:
+        yield f"the header, {name}", declared.get(name), wanted.get(name)
+
+
+def built(prefix, version):
+    """What pkg-config and the shared library in the prefix say, and what they should."""
+    module = pathlib.Path(prefix) / "lib/pkgconfig/gix_config_value.pc"
+    yield str(module), said(module, r"^Version: (.*)$"), version
+    soname = f"libgix_config_value.so.{version.split('.')[0]}"
+    library = pathlib.Path(prefix) / "lib" / f"libgix_config_value.so.{version}"
+    dynamic = subprocess.run(["readelf", "-d", library], capture_output=True, text=True, check=False).stdout
+    found = re.search(r"SONAME.*\[(.*)\]", dynamic)
+    yield str(library), found.group(1) if found else None, soname
+
+
+def main():
+    version = text_of(CRATE / "VERSION").strip()
+    told = [(PLACES, version), (FIRST_NUMBERS, version.split(".")[0]), (LENGTHS, said(*LONGEST) or "a number")]
+    rows = [(str(path.relative_to(ROOT)), said(path, pattern), wanted)
+            for places, wanted in told for path, pattern in places]
+    rows += [*numbers(), *structs(), *calls()]
+    if len(sys.argv) > 1:
+        rows += built(sys.argv[1], version)
+    wrong = [f"{place} says {given}, and not {wanted}" for place, given, wanted in rows if given != wanted]
+    for line in wrong:
+        print(line)
+    print(f"{len(rows) - len(wrong)} passed, {len(wrong)} failed")
+    return 1 if wrong or not rows else 0
+
+
+sys.exit(main())

@@ -1,0 +1,208 @@
+#!/usr/bin/env python3
+"""Compares the pages with the definitions, and runs the examples of comments (examples.py).
+
+A word, a bit, a number or a row that is in a table of docs/GRAMMAR.md and not in `specs/`, or the other way round,
+fails. So does a count of docs/READING.md that docs/words.py does not print, and a word of the toolchain that a
+definition of the library uses and docs/READING.md does not explain. The last line is 'N passed, M failed'.
+"""
+import pathlib
+import re
+import sys
+
+import examples
+
+ROOT = pathlib.Path(__file__).resolve().parent.parent.parent
+sys.path.insert(0, str(ROOT / "docs"))
+import words  # noqa: E402
+
+LIBRARY = tuple(examples.CALLS)
+KEYWORDS = "abbrev|data|mutual|pub|record|unfoldable|unfolding|Unit|use|where"
+PAGE = (ROOT / "docs/GRAMMAR.md").read_text("utf-8")
+SECTIONS = dict(re.findall(r"^## ([^(\n]*\w)[^\n]*\n(.*?)(?=^## |\Z)", PAGE, re.MULTILINE | re.DOTALL))
+NUMBERS = dict(zip("first second third fourth fifth sixth seventh".split(), range(1, 8)))
+NUMBERS |= dict(zip("one two three four five six seven".split(), range(1, 8)))
+
+
+def spec(crate, file, name):
+    """The text of a definition, without its comments."""
+    return words.without_comments(words.opened(words.CRATES / crate / f"specs/{file}.antt").words[name].text)
+
+
+def literals(text):
+    return re.findall(r'codes "([^"]*)"', text)
+
+
+def parts(text):
+    """The texts and the numbers of a row, in order."""
+    return ["".join(found) for found in re.findall(r'codes "([^"]*)"|(?<![\w^.])(\d+)\b', text)]
+
+
+def spans(text):
+    return re.findall(r"`([^`]+)`", text)
+
+
+def rows(section):
+    """The cells of the rows of a section's table."""
+    lines = [line for line in SECTIONS[section].split("\n") if line.startswith("|")]
+    return [[cell.strip() for cell in line[1:-1].split("|")] for line in lines[2:]]
+
+
+def sentence(section, pattern):
+    """The part of a section, as one line, that a pattern finds."""
+    found = re.search(pattern, " ".join(SECTIONS[section].split()))
+    return found[1] if found else ""
+
+
+def suffixes():
+    texts, factors = spec("config_integer", "Suffix", "SuffixText"), spec("config_integer", "Suffix", "factor")
+    known = {name: (literals(more), factors.split(f"factor {name} = ")[1].split("\n")[0])
+             for name, more in re.findall(r"^SuffixText t (\w+) = (.*)", texts, re.MULTILINE)}
+    yield "suffixes", known, {name: (spans(text), factor) for text, name, factor in rows("Suffixes")}
+    shown = spans(sentence("Suffixes", r"Shown, and canonical: ([^.]*)"))
+    yield "canonical suffixes", literals(spec("config_integer", "Suffix", "CanonicalSuffix")), shown
+    yield "shown suffixes", literals(spec("config_integer", "Suffix", "suffix_shown")), shown
+
+
+def integers():
+    cases = re.split(r"\n  (?=\w+ : )", spec("config_integer", "Integer", "Magnitude"))[1:]
+    known = [(literals(case), re.findall(r" (\d+)\b", re.sub('"[^"]*"', "", case))[-1]) for case in cases]
+    yield "magnitudes", known, [(spans(form), base.split(" ")[-1]) for form, base in rows("Integers")]
+    low, high = re.findall(r"(\d+)", spec("config_text", "Numerals", "IsInI64").split("where")[1])
+    yield "the range", [str(-int(low) - 1), high], re.findall(r"(-?\d{9,})", SECTIONS["Numbers"])
+    faults = re.findall(r"faults\.(\w+)", spec("config_integer", "Integer", "Refusal"))
+    yield "faults of integers", faults, re.findall(r"`Fault::(\w+)`", SECTIONS["Integers"])
+
+
+def booleans():
+    for name, end in (("Affirms", "are true"), ("Denies", "are false")):
+        known = literals(spec("config_boolean", "Boolean", name))
+        yield name, known, spans(sentence("Booleans", rf"((?:`\w+`,? ?)+, ignoring ASCII case,[^.]*?{end})"))
+    shown = spans(sentence("Booleans", r"Shown, and canonical: ([^.]*)"))
+    yield "canonical booleans", literals(spec("config_boolean", "Boolean", "CanonicalBoolean")), shown
+
+
+def names():
+    table = rows("Color names")
+    basic = max((spans(cells[0]) for cells in table), key=len)
+    bright = [spans(cells[0])[0] + word for cells in table if "these eight" in cells[0] for word in basic]
+    alone = [spans(cells[0])[0] for cells in table if cells[1] in ("Normal", "Default")]
+    for name in ("lower_words", "name_shown"):
+        known = [text for text in literals(spec("config_word", "Name", name)) if text != "#"]
+        yield f"color names of {name}", sorted(known), sorted(alone + basic + bright)
+    text = spec("config_word", "Name", "NameText")
+    marks = {span for cells in table for span in spans(cells[0]) if not re.fullmatch("[a-z]+", span)}
+    yield "other names", set(literals(text)), marks
+    yield "palette", re.findall(r"k ≤ (\d+)", text), re.findall(r"number is 0 to (\d+)", SECTIONS["Color names"])
+
+
+def attributes():
+    known = [parts(line) for line in spec("config_word", "Attribute", "attributes").split("\n") if "codes" in line]
+    table = [[*spans(name), bit, *spans(texts)] for name, bit, texts in rows("Attributes")]
+    yield "attributes", known, table
+    yield "canonical attributes", literals(spec("config_word", "Attribute", "rising_words")), [row[2] for row in table]
+
+
+def spaces():
+    text = spec("config_color", "Space", "spellings")
+    known = [bytes(int(byte, 0) for byte in row.split(" ∷ ")) for row in re.findall(r"\(([^()]*) ∷ \[\]\)", text)]
+    listed = sentence("White space and words", r"UTF-8 spellings are ([^.]*)")
+    page = [bytes.fromhex(f"{number:0{len(first)}x}") for first, last in re.findall(r"`(\w+)`(?: to `(\w+)`)?", listed)
+            for number in range(int(first, 16), int(last or first, 16) + 1)]
+    yield "white space", known, page
+    yield "how many spellings", len(known), int(sentence("White space and words", r"is the (\d+) code points"))
+
+
+def reached(text, file, seen):
+    """The text of an equation, and of all that it cites in the crate of paths."""
+    for word in words.cited(text, file):
+        if word and word.file == file and word.name not in seen and not word.text.startswith("pub data"):
+            seen.add(word.name)
+            text += reached(words.without_comments(word.text), file, seen)
+    return text
+
+
+def paths():
+    file = words.CRATES / "config_path/specs/Interpolation.antt"
+    yield "the mark", set(literals(spec("config_path", "Path", "Marked"))), {sentence("Paths", "one leading `([^`]*)`")}
+    begins = set(literals(spec("config_path", "Interpolation", "HasForm")))
+    yield "how values begin", begins, {span for cells in rows("Paths") for span in spans(cells[0])}
+    declared = (words.CRATES / "config_path/src/interpolate.rt").read_text("utf-8")
+    variants = [name for kind in ("Error", "Place") for name in re.findall(
+        r"^    ([A-Z]\w+)", re.search(rf"enum {kind}\b.*?^\}}", declared, re.DOTALL | re.MULTILINE)[0], re.MULTILINE)]
+    table, form = {}, ""
+    for value, _, result in rows("Paths"):
+        form = value or form
+        table.setdefault(form, set()).update(set(spans(result)) & set(variants) - {"IllFormed"})
+    known = {}
+    for form, more in re.findall(r"^Gives .*?\(?\b(empty|below_\w+|other)\b.*? r =(.*(?:\n  .*)*)",
+                                 spec("config_path", "Interpolation", "Gives"), re.MULTILINE):
+        cited = set(re.findall(r"\w+", reached(more, file, {"Gives", "HasForm", "GivesText", "IsIllFormed"})))
+        known[form] = cited & set(variants) - {"IllFormed", "Memory"}
+    yield "the path table", list(known.values()), list(table.values())
+    yield "refusals of paths", set(variants) - set().union(*table.values()), {"IllFormed", "Memory"}
+    fields = re.search(r"\(([^()]*) ∷ \[\]\)", spec("config_path", "Passwd", "home_of_fields"))[1].split(" ∷ ")
+    place, count = re.search(r"home is the (\w+) field .*?exactly (\w+)\s", SECTIONS["Paths"], re.DOTALL).groups()
+    yield "the passwd field", (fields.index("home") + 1, len(fields)), (NUMBERS[place], NUMBERS[count])
+    yield "the passwd name", fields[0], "user"
+
+
+def answers():
+    listed = spans(sentence("Lines and answers", r"the name of its kind: ([^.]*)"))
+    yield "names of kinds", literals(spec("gix_config_value", "Kinds", "kind_name")), listed
+    told = [span for _, answer in rows("Lines and answers") for span in spans(answer)]
+    yield "answers", literals(spec("gix_config_value", "Answers", "outcome_text")), told
+
+
+def places():
+    """The files of definitions that the pages name, as `config_text` `Value`."""
+    for page in ("docs/GRAMMAR.md", "docs/READING.md"):
+        text = " ".join((ROOT / page).read_text("utf-8").split())
+        found = re.findall(r"`(\w+)`((?:,? `[A-Z]\w+`)+)", text)
+        named = [(crate, file) for crate, files in found if (words.CRATES / crate).is_dir() for file in spans(files)]
+        yield page, [it for it in named if not (words.CRATES / it[0] / f"specs/{it[1]}.antt").exists()], []
+
+
+def bodies():
+    said = re.findall(r"lays (\d+) wrong bodies", (ROOT / "docs/EVIDENCE.md").read_text("utf-8"))
+    yield "wrong bodies", [str(len(list(words.CRATES.glob("*/wrong_bodies/*.edit"))))], said
+
+
+def lengths():
+    code = (words.CRATES / "config_text/src/value.rt").read_text("utf-8")
+    longest = re.findall(r"LONGEST_TEXT: usize = (\d+)", code)
+    yield "the longest text", longest, re.findall(r"longest has (\d+) bytes", SECTIONS["Colors"])
+
+
+def reading():
+    """The counts of docs/READING.md, and the words that it has to explain."""
+    page = (ROOT / "docs/READING.md").read_text("utf-8")
+    explained = " ".join(re.findall("`+([^`]+)`+", page))
+    yield "docs/READING.md, the lines of claims", words.table(), [row for row in words.table() if row in page]
+    own = tuple(f"Rattle.{crate}." for crate in LIBRARY)
+    for crate in LIBRARY:
+        for file in sorted((words.CRATES / crate / "specs").glob("*.antt")):
+            used = [name for name, (module, _) in words.opened(file).names.items() if not module.startswith(own)]
+            text = re.sub('"[^"]*"|◌', " ", words.without_comments(file.read_text("utf-8")))
+            used += sorted(set(re.findall(r"[^\s\w(){};,.\[\]]+|Type \d|\[\]|\b(?:%s)\b" % KEYWORDS, text)))
+            missing = [name for name in used if not all(
+                re.search(rf"(?<!\w){re.escape(part)}(?!\w)", explained) for part in name.split("◌"))]
+            yield f"docs/READING.md, signs of {crate} {file.stem}", missing, []
+
+
+def main():
+    results = examples.results()
+    for compared in (suffixes, integers, booleans, names, attributes, spaces, paths, answers, lengths, places, bodies, reading):
+        try:
+            for what, known, told in compared():
+                results.append((f"{what}: {known} in the code, {told} on the page", known == told))
+        except (AttributeError, IndexError, KeyError, TypeError, ValueError) as error:
+            results.append((f"{compared.__name__} has another form than this script knows: {error!r}", False))
+    for fault, is_right in results:
+        if not is_right:
+            print(fault)
+    passed = sum(is_right for _, is_right in results)
+    print(f"{passed} passed, {len(results) - passed} failed")
+    return passed != len(results)
+
+
+sys.exit(main())
