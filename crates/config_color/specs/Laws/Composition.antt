@@ -94,17 +94,9 @@ joined_refused front space back s = (λ r. told r (color_decided front) (color_d
         ap (λ (v : Color). color_names v ++ color_names w) (color_one_value front v a t p) ∙ ap (λ (w : Color). color_names a ++ color_names w) (color_one_value back w b u q) in
         omega (arith, l, ap length same, Placed-short (color_names a ++ color_names b) c.foreground c.background k.placed)
 
--- what `same` answers for color texts is said by their words
-pub compares_words : (a b : List ℕ) (result : Option Bool) → Compares ColorText a b result
-    → ComparesWords a b result
-compares_words a b None refused = tt
-compares_words a b (Some same) (v, w, compared) = (λ e. agree (compared.equal.0 e), λ s. compared.equal.1 (meet s)) where
-  p : ColorText a v
-  p = compared.first
-
-  q : ColorText b w
-  q = compared.second
-
+-- texts have one color exactly where their words are the same
+pub same_words : (a b : List ℕ) (v w : Color) → ColorText a v → ColorText b w → (v ≡ w) ↔ (SameWords a b)
+same_words a b v w p q = (agree, meet) where
   agree : v ≡ w → SameWords a b
   agree e =
       let names : q.names ≡ p.names = sym (Placed-words q.names w.foreground w.background q.placed) ∙ (ap (λ (c : Color). color_names c) (sym e) ∙ Placed-words p.names v.foreground v.background p.placed) in
@@ -118,6 +110,14 @@ compares_words a b (Some same) (v, w, compared) = (λ e. agree (compared.equal.0
       let placed = Placed-one p.names v.foreground v.background w.foreground w.background p.placed
       (subst (λ (ns : List Name). Placed ns w.foreground w.background) (o.0 ∙ sym m.0) q.placed) in
       same_color v w placed.0 placed.1 (m.1 ∙ sym o.1)
+
+-- what `same` answers for color texts is said by their words
+pub compares_words : (a b : List ℕ) (result : Option Bool) → Compares ColorText a b result
+    → ComparesWords a b result
+compares_words a b None refused = tt
+compares_words a b (Some same) (v, w, compared) =
+    let law = same_words a b v w compared.first compared.second in
+    (λ e. law.0 (compared.equal.0 e), λ s. compared.equal.1 (law.1 s))
 
 -- a composition of colors that have texts has one
 pub composition_has_text : (a b c : Color) → HasText ColorText a → HasText ColorText b → Composition a b c

@@ -2,7 +2,7 @@
 ghost use Rattle.std.specs.Prelude.{◌≡◌, ◌↔◌, ◌⊎◌, ◌++◌, ℕ, List, Option, None};
 ghost use Rattle.config_color.specs.declared.color.Color.{Color};
 ghost use Rattle.config_color.specs.Color.{ColorText, PartFits, AreKnown};
-ghost use Rattle.config_color.specs.Composition.{Composes, Joined, HaveTooManyNames, Moves};
+ghost use Rattle.config_color.specs.Composition.{Composes, Joined, HaveTooManyNames, Moves, SameWords};
 ghost use Rattle.config_color.specs.Space.{Space};
 ghost use Rattle.config_text.specs.Value.{HasText, IsRefused};
 ghost use Rattle.config_color.specs.Split.{Words};
@@ -49,6 +49,13 @@ pub fn joined()
 /// none.
 pub fn one_composition()
     ensures { (a b : Color) (r s : Option Color) → Composes a b r → Composes a b s → r ≡ s }
+{}
+
+/// Two texts have the same color exactly if their words have the same names in the same order, and
+/// attributes of the same bits.
+pub fn same_words()
+    ensures { (a b : List ℕ) (v w : Color) → ColorText a v → ColorText b w
+        → (v ≡ w) ↔ (SameWords a b) }
 {}
 
 /// Texts whose words are the same but for one whole attribute word have the same color, or none. That word

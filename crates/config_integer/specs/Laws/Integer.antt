@@ -149,3 +149,21 @@ refusal_tells refuses never t faults.Overflow r z p =
     r.2 (subst IsInI64 (product_one_value t z r.0 p.product_text r.1) p.in_range)
 refusal_tells refuses never t faults.OutOfRange r z p = never r.0 r.1.in_range r.2
 refusal_tells refuses never t _ r z p = r
+
+-- a text that gives no number has one fault
+pub one_refusal : (refuses : ℤ → Type 0) (t : List ℕ) (f g : Fault) → Refusal refuses t f → Refusal refuses t g → f ≡ g
+one_refusal refuses t faults.Integer faults.Integer r s = refl
+one_refusal refuses t faults.Integer faults.Overflow r s = absurd (r s.1.integer s.1.text)
+one_refusal refuses t faults.Integer faults.OutOfRange r s = absurd (r s.1.product_text.integer s.1.product_text.text)
+one_refusal refuses t faults.Integer _ r s = absurd s
+one_refusal refuses t faults.Overflow faults.Integer r s = absurd (s r.1.integer r.1.text)
+one_refusal refuses t faults.Overflow faults.Overflow r s = refl
+one_refusal refuses t faults.Overflow faults.OutOfRange r s =
+    absurd (r.2 (subst IsInI64 (product_one_value t s.0 r.0 s.1.product_text r.1) s.1.in_range))
+one_refusal refuses t faults.Overflow _ r s = absurd s
+one_refusal refuses t faults.OutOfRange faults.Integer r s = absurd (s r.1.product_text.integer r.1.product_text.text)
+one_refusal refuses t faults.OutOfRange faults.Overflow r s =
+    absurd (s.2 (subst IsInI64 (product_one_value t r.0 s.0 r.1.product_text s.1) r.1.in_range))
+one_refusal refuses t faults.OutOfRange faults.OutOfRange r s = refl
+one_refusal refuses t faults.OutOfRange _ r s = absurd s
+one_refusal refuses t _ g r s = absurd r
