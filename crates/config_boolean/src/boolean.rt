@@ -4,7 +4,7 @@ ghost use Rattle.bstr.specs.Owned.{bstring_bytes};
 ghost use Rattle.std.specs.Cow.{cow_slice_items};
 ghost use Rattle.std.proofs.Common.{rules};
 ghost use Rattle.config_text.specs.declared.errors.Fault.TheVariants as faults;
-ghost use Rattle.config_text.specs.Refusals.{Always, ReadsFault, ReadsBytes, ReadsText, ReadsOwned};
+ghost use Rattle.config_text.specs.Refusals.{OnlyFault, ReadsFault, ReadsBytes, ReadsText, ReadsOwned};
 ghost use Rattle.config_boolean.specs.Laws.Boolean.{boolean_one_value, boolean_one_text, boolean_decided};
 ghost use Rattle.config_boolean.specs.Laws.Boolean.{boolean_canonical_reads, boolean_shown_is_text};
 ghost use Rattle.config_boolean.specs.Boolean.{Affirms, Denies, BooleanText, CanonicalBoolean, boolean_shown};
@@ -127,7 +127,7 @@ impl From<Boolean> for bool {
 }
 
 impl TryRead for Boolean {
-    ghost refusal = { Always faults.Boolean };
+    ghost refusal = { OnlyFault faults.Boolean };
 
     /// The boolean that the text writes, or `Fault::Boolean` if it writes none.
     fn try_read(text: &[u8]) -> Result<Boolean, Fault> {
@@ -138,7 +138,7 @@ impl TryRead for Boolean {
 impl FromStr for Boolean {
     type Err = Fault;
 
-    ghost from_str_gives = { ReadsFault BooleanText (Always faults.Boolean) };
+    ghost from_str_gives = { ReadsFault BooleanText (OnlyFault faults.Boolean) };
 
     /// The boolean that the text writes, or `Fault::Boolean` if it writes none.
     fn from_str(text: &str) -> Result<Boolean, Fault> {
@@ -149,7 +149,7 @@ impl FromStr for Boolean {
 impl<'a> TryFrom<BStr<'a>> for Boolean {
     type Error = Error<'a>;
 
-    ghost try_from_gives = { ReadsBytes BooleanText (Always faults.Boolean) };
+    ghost try_from_gives = { ReadsBytes BooleanText (OnlyFault faults.Boolean) };
 
     /// The boolean of the input, or `Fault::Boolean` and the whole input.
     fn try_from(input: BStr<'a>) -> Result<Boolean, Error<'a>> {
@@ -160,7 +160,7 @@ impl<'a> TryFrom<BStr<'a>> for Boolean {
 impl<'a> TryFrom<&'a str> for Boolean {
     type Error = Error<'a>;
 
-    ghost try_from_gives = { λ s r. ReadsText BooleanText (Always faults.Boolean) s.now r };
+    ghost try_from_gives = { λ s r. ReadsText BooleanText (OnlyFault faults.Boolean) s.now r };
 
     /// The boolean of the input, or `Fault::Boolean` and the whole input.
     fn try_from(input: &'a str) -> Result<Boolean, Error<'a>> {
@@ -171,7 +171,7 @@ impl<'a> TryFrom<&'a str> for Boolean {
 impl TryFrom<BString> for Boolean {
     type Error = Returned<BString>;
 
-    ghost try_from_gives = { λ s r. ReadsOwned BooleanText (Always faults.Boolean) (bstring_bytes s) s r };
+    ghost try_from_gives = { λ s r. ReadsOwned BooleanText (OnlyFault faults.Boolean) (bstring_bytes s) s r };
 
     /// The boolean of the input, or `Fault::Boolean` and the input itself.
     fn try_from(input: BString) -> Result<Boolean, Returned<BString>> {
@@ -182,7 +182,7 @@ impl TryFrom<BString> for Boolean {
 impl<'a> TryFrom<CowSlice<'a, u8>> for Boolean {
     type Error = Returned<CowSlice<'a, u8>>;
 
-    ghost try_from_gives = { λ s r. ReadsOwned BooleanText (Always faults.Boolean) (cow_slice_items s) s r };
+    ghost try_from_gives = { λ s r. ReadsOwned BooleanText (OnlyFault faults.Boolean) (cow_slice_items s) s r };
 
     /// The boolean of the input, or `Fault::Boolean` and the input itself.
     fn try_from(input: CowSlice<'a, u8>) -> Result<Boolean, Returned<CowSlice<'a, u8>>> {

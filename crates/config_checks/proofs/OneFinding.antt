@@ -5,11 +5,11 @@ use Rattle.std.proofs.Common.{get_or, Bor}
 use Rattle.std.proofs.lemmas.List.{get_or-take, get_or_default, length-take}
 use Rattle.config_text.specs.declared.errors.Fault.{Fault}
 use Rattle.config_text.specs.declared.errors.Fault.TheVariants as faults
-use Rattle.config_text.specs.Refusals.{Always}
+use Rattle.config_text.specs.Refusals.{OnlyFault}
 use Rattle.config_text.specs.Value.{IsRefused, IsAccepted}
 use Rattle.gix_config_value.specs.Boolean.{BooleanText, CanonicalBoolean}
 use Rattle.gix_config_value.specs.Integer.{IntegerText, CanonicalInteger}
-use Rattle.gix_config_value.specs.Amount.{AmountRefusal}
+use Rattle.gix_config_value.specs.Amount.{AmountFault}
 use Rattle.gix_config_value.specs.Color.{ColorText, CanonicalColor}
 use Rattle.gix_config_value.specs.Path.{Marked}
 use Rattle.config_integer.specs.contracts.amount.AmountValue.TheImpl.Laws.{one_value-law as amount_one_value}
@@ -49,12 +49,12 @@ module _ {V : Type 0} (grammar : List ℕ → V → Type 0) (refusal : List ℕ 
       sym (judged_refused f (λ g is. one g f is p.0) p.1 b q)
   judged_once one (Some _) b p q = absurd p
 
-always_once : (fault : Fault) (t : List ℕ) (f g : Fault) → Always fault t f → Always fault t g → f ≡ g
+always_once : (fault : Fault) (t : List ℕ) (f g : Fault) → OnlyFault fault t f → OnlyFault fault t g → f ≡ g
 always_once fault t f g p q = p ∙ sym q
 
 -- ---- numbers
 
-refusal_once : (t : List ℕ) (f g : Fault) → AmountRefusal t f → AmountRefusal t g → f ≡ g
+refusal_once : (t : List ℕ) (f g : Fault) → AmountFault t f → AmountFault t g → f ≡ g
 refusal_once t faults.Integer faults.Integer p q = refl
 refusal_once t faults.Integer faults.Overflow p q = absurd (p q.1.integer q.1.text)
 refusal_once t faults.Integer faults.OutOfRange p q = absurd q.2
@@ -127,15 +127,15 @@ pub reason_once : (kind : SettingKind) (value : Option (List ℕ)) (a b : Option
     → HasReason kind value b → a ≡ b
 reason_once kind None a b p q = p ∙ sym q
 reason_once kinds.Bool (Some t) a b p q =
-    judged_once BooleanText (Always faults.Boolean) t (always_once faults.Boolean t) a b p q
+    judged_once BooleanText (OnlyFault faults.Boolean) t (always_once faults.Boolean t) a b p q
 reason_once kinds.Int (Some t) a b p q = same_number _ _ t a b p q
 reason_once kinds.Size (Some t) a b p q = same_number _ _ t a b p q
 reason_once kinds.BoolOrInt (Some t) a b p q = elim (amount_decided t) [
   | inl number ↦ same_number _ _ t a b (p.number number) (q.number number)
-  | inr none ↦ judged_once BooleanText (Always faults.Boolean) t (always_once faults.Boolean t) a b (p.other none) (q.other none)
+  | inr none ↦ judged_once BooleanText (OnlyFault faults.Boolean) t (always_once faults.Boolean t) a b (p.other none) (q.other none)
 ]
 reason_once kinds.Color (Some t) a b p q =
-    judged_once ColorText (Always faults.Color) t (always_once faults.Color t) a b p q
+    judged_once ColorText (OnlyFault faults.Color) t (always_once faults.Color t) a b p q
 reason_once kinds.Path (Some t) a b p q =
     unmarked_once p.1 a b p.3 (subst (λ path. IsJudgedUnmarked path b) (mark_once t q.0 p.0 q.1 p.1 q.2 p.2) q.3)
 reason_once (kinds.Word list) (Some t) a b p q = words_once list t a b p q

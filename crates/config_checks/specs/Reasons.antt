@@ -8,10 +8,10 @@ use Rattle.config_text.specs.declared.errors.Fault.{Fault}
 use Rattle.config_text.specs.declared.errors.Fault.TheVariants as faults
 use Rattle.config_text.specs.SameWord.{SameWord}
 use Rattle.config_text.specs.Value.{IsRefused, IsAccepted, Normalizes}
-use Rattle.config_text.specs.Refusals.{Always}
+use Rattle.config_text.specs.Refusals.{OnlyFault}
 use Rattle.gix_config_value.specs.Boolean.{BooleanText, CanonicalBoolean}
 use Rattle.gix_config_value.specs.Integer.{IntegerText, CanonicalInteger}
-use Rattle.gix_config_value.specs.Amount.{AmountText, AmountRefusal}
+use Rattle.gix_config_value.specs.Amount.{AmountText, AmountFault}
 use Rattle.gix_config_value.specs.Color.{ColorText, CanonicalColor}
 use Rattle.gix_config_value.specs.Path.{Marked}
 use Rattle.config_integer.specs.declared.amount.Amount.{Amount}
@@ -51,7 +51,7 @@ pub record IsWithin (low high z : ℤ) : Type 0 where
 abbrev pub IsJudgedWithin : ℤ → ℤ → List ℕ → Option Reason → Type 0
 IsJudgedWithin low high t None = (n : Amount) × AmountText t n × IsWithin low high n.0
 IsJudgedWithin low high t (Some OutOfRange) = (n : Amount) × AmountText t n × ¬ (IsWithin low high n.0)
-IsJudgedWithin low high t (Some (Refused fault)) = AmountRefusal t fault × IsRefused AmountText t
+IsJudgedWithin low high t (Some (Refused fault)) = AmountFault t fault × IsRefused AmountText t
 IsJudgedWithin low high t (Some _) = ⊥
 
 -- 32 bits
@@ -63,7 +63,7 @@ abbrev pub IsJudgedSize : List ℕ → Option Reason → Type 0
 IsJudgedSize = IsJudgedWithin (pos 0) (pos 9223372036854775807)
 
 abbrev pub IsJudgedBool : List ℕ → Option Reason → Type 0
-IsJudgedBool = IsJudged BooleanText (Always faults.Boolean)
+IsJudgedBool = IsJudged BooleanText (OnlyFault faults.Boolean)
 
 -- a number is judged as one, and any other text as a boolean
 pub record IsJudgedBoolOrInt (t : List ℕ) (r : Option Reason) : Type 0 where
@@ -120,7 +120,7 @@ HasReason kinds.Bool (Some t) r = IsJudgedBool t r
 HasReason kinds.Int (Some t) r = IsJudgedInt t r
 HasReason kinds.Size (Some t) r = IsJudgedSize t r
 HasReason kinds.BoolOrInt (Some t) r = IsJudgedBoolOrInt t r
-HasReason kinds.Color (Some t) r = IsJudged ColorText (Always faults.Color) t r
+HasReason kinds.Color (Some t) r = IsJudged ColorText (OnlyFault faults.Color) t r
 HasReason kinds.Path (Some t) r = IsJudgedPath t r
 HasReason (kinds.Word list) (Some t) r = IsJudgedByWords list t r
 

@@ -10,7 +10,7 @@ use Rattle.config_word.specs.declared.name.Name.{Name}
 use Rattle.config_text.specs.Bytes.{space}
 use Rattle.config_word.specs.Attribute.{AttributeText, IsKnownBit, attribute_shown, rising_words}
 use Rattle.config_word.specs.Name.{NameText, CanonicalName, NameFits, name_shown}
-use Rattle.config_color.specs.Split.{Words}
+use Rattle.config_color.specs.Words.{Words}
 
 -- the color of no word: no names and no attributes
 abbrev pub no_color : Color

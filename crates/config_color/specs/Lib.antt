@@ -1,5 +1,5 @@
 pub mod Space
-pub mod Split
+pub mod Words
 pub mod Color
 pub mod Composition
 pub mod Orders

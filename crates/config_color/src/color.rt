@@ -11,10 +11,10 @@ ghost use Rattle.config_color.specs.Reading.Color.{ArePlain, EndsWord};
 ghost use Rattle.config_color.specs.Laws.ColorShown.{color_equal, color_canonical_reads, color_one_text};
 ghost use Rattle.config_color.specs.Laws.ColorShown.{color_shown_is_text};
 ghost use Rattle.config_word.specs.contracts.name.NameValue.TheImpl.Laws.{equal_is_same-law as name_equal};
-ghost use Rattle.config_text.specs.Refusals.{Always, ReadsFault, ReadsBytes, ReadsText, ReadsOwned};
+ghost use Rattle.config_text.specs.Refusals.{OnlyFault, ReadsFault, ReadsBytes, ReadsText, ReadsOwned};
 ghost use Rattle.config_color.specs.Space.{Space};
 ghost use Rattle.config_text.specs.Value.{HasText, Reads};
-ghost use Rattle.config_color.specs.Split.{piece};
+ghost use Rattle.config_color.specs.Words.{piece};
 ghost use Rattle.config_color.specs.Reading.Split.{IsWithoutSpace, words};
 
 use crate::space::space_at;
@@ -301,7 +301,7 @@ fn color_of(input: &[u8]) -> Option<Color>
 }
 
 impl TryRead for Color {
-    ghost refusal = { Always faults.Color };
+    ghost refusal = { OnlyFault faults.Color };
 
     /// The color of the text, or `Fault::Color` if it has none.
     fn try_read(text: &[u8]) -> Result<Color, Fault> {
@@ -312,7 +312,7 @@ impl TryRead for Color {
 impl FromStr for Color {
     type Err = Fault;
 
-    ghost from_str_gives = { ReadsFault ColorText (Always faults.Color) };
+    ghost from_str_gives = { ReadsFault ColorText (OnlyFault faults.Color) };
 
     /// The color of the text, or `Fault::Color` if it has none.
     fn from_str(text: &str) -> Result<Color, Fault> {
@@ -323,7 +323,7 @@ impl FromStr for Color {
 impl<'a> TryFrom<BStr<'a>> for Color {
     type Error = Error<'a>;
 
-    ghost try_from_gives = { ReadsBytes ColorText (Always faults.Color) };
+    ghost try_from_gives = { ReadsBytes ColorText (OnlyFault faults.Color) };
 
     /// The color of the input, or `Fault::Color` with the whole input if it has none.
     fn try_from(input: BStr<'a>) -> Result<Color, Error<'a>> {
@@ -334,7 +334,7 @@ impl<'a> TryFrom<BStr<'a>> for Color {
 impl<'a> TryFrom<&'a str> for Color {
     type Error = Error<'a>;
 
-    ghost try_from_gives = { λ s r. ReadsText ColorText (Always faults.Color) s.now r };
+    ghost try_from_gives = { λ s r. ReadsText ColorText (OnlyFault faults.Color) s.now r };
 
     /// The color of the input, or `Fault::Color` with the whole input if it has none.
     fn try_from(input: &'a str) -> Result<Color, Error<'a>> {
@@ -346,7 +346,7 @@ impl TryFrom<BString> for Color {
     type Error = Returned<BString>;
 
     ghost try_from_gives = { λ s r.
-        ReadsOwned ColorText (Always faults.Color) (bstring_bytes s) s r };
+        ReadsOwned ColorText (OnlyFault faults.Color) (bstring_bytes s) s r };
 
     /// The color of the input, or `Fault::Color` with the input handed back if it has none.
     fn try_from(input: BString) -> Result<Color, Returned<BString>> {
@@ -358,7 +358,7 @@ impl<'a> TryFrom<CowSlice<'a, u8>> for Color {
     type Error = Returned<CowSlice<'a, u8>>;
 
     ghost try_from_gives = { λ s r.
-        ReadsOwned ColorText (Always faults.Color) (cow_slice_items s) s r };
+        ReadsOwned ColorText (OnlyFault faults.Color) (cow_slice_items s) s r };
 
     /// The color of the input, or `Fault::Color` with the input handed back if it has none.
     fn try_from(input: CowSlice<'a, u8>) -> Result<Color, Returned<CowSlice<'a, u8>>> {

@@ -8,7 +8,7 @@ use Rattle.std.proofs.lemmas.Int.{ints}
 use Rattle.std.proofs.lemmas.Option.{none-some, same_Some}
 use Rattle.config_integer.specs.declared.integer.Integer.{Integer}
 use Rattle.config_integer.specs.declared.amount.Amount.{Amount}
-use Rattle.config_integer.specs.Integer.{IntegerText, ProductInRange, Refusal, product}
+use Rattle.config_integer.specs.Integer.{IntegerText, ProductInRange, IntegerFault, product}
 use Rattle.config_integer.specs.Amount.{AmountText}
 use Rattle.config_integer.specs.Reading.Integer.{suffix_of, integer_of}
 use Rattle.config_integer.specs.Laws.Integer.{integer_of_is, product_one_value}
@@ -87,7 +87,7 @@ amount_of_is = record { found = amount_found; derived = amount_derived }
 
 -- an integer text whose product is out of range is refused for that
 pub product_overflows : (refuses : ℤ → Type 0) (t : List ℕ) (v : Integer) → integer_of t ≡ Some v
-    → is_in_range (product v) ≡ false → Refusal refuses t faults.Overflow
+    → is_in_range (product v) ≡ false → IntegerFault refuses t faults.Overflow
 product_overflows refuses t v e out = (
   product v,
   record {
@@ -101,7 +101,7 @@ product_overflows refuses t v e out = (
 
 -- a text with a product in range is refused only where the caller's type refuses that product
 refused_product : (refuses : ℤ → Type 0) (t : List ℕ) (f : Fault) (z : ℤ) → ProductInRange t z
-    → Refusal refuses t f → refuses z
+    → IntegerFault refuses t f → refuses z
 refused_product refuses t faults.Integer z p r = absurd (r p.product_text.integer p.product_text.text)
 refused_product refuses t faults.Overflow z p r =
     absurd (r.2 (subst IsInI64 (product_one_value t z r.0 p.product_text r.1) p.in_range))
@@ -114,7 +114,7 @@ refused_product refuses t faults.Color z p r = absurd r
 pub converts : {T : Type 0} (accepts : ℤ → T → Type 0) (refuses : ℤ
     → Type 0) (t : List ℕ) (z : ℤ) (r : Result T Error)
     → ProductInRange t z → ¬ (refuses z) → IfOk r (λ x. (y : ℤ) × ProductInRange t y × accepts y x)
-    → IfErr r (λ e. Refusal refuses t e.fault) → (x : T) × (r ≡ Ok x) × accepts z x
+    → IfErr r (λ e. IntegerFault refuses t e.fault) → (x : T) × (r ≡ Ok x) × accepts z x
 converts accepts refuses t z (Ok x) p takes ok err =
     (x, refl, subst (λ y. accepts y x) (product_one_value t ok.0 z ok.1.product_text p.product_text) ok.2)
 converts accepts refuses t z (Err e) p takes ok err =

@@ -8,7 +8,7 @@ use Rattle.config_integer.specs.declared.suffix.Suffix.TheVariants.{Kibi, Mebi, 
 use Rattle.config_integer.specs.declared.amount.Amount.{Amount}
 use Rattle.config_integer.specs.Integer.{IntegerText}
 use Rattle.config_integer.specs.Suffix.{suffix_shown}
-use Rattle.config_integer.specs.Amount.{AmountText, AmountRefusal}
+use Rattle.config_integer.specs.Amount.{AmountText, AmountFault}
 use Rattle.config_integer.specs.Laws.Integer.{integer_of_is}
 use Rattle.config_integer.proofs.OnLiterals.{integer_on_literals, amount_of_is, product_overflows}
 use Rattle.config_text.specs.declared.errors.Fault.TheVariants as faults
@@ -77,7 +77,7 @@ unfolding integer_on_literals
 no_integers_are_refused = all_refused integer_of_is no_integers refl
 
 -- the product leaves the range of the number
-pub too_large : AmountRefusal (codes "9223372036854775807k") faults.Overflow
+pub too_large : AmountFault (codes "9223372036854775807k") faults.Overflow
 unfolding integer_on_literals
 too_large =
     product_overflows (λ _. ⊥) (codes "9223372036854775807k")

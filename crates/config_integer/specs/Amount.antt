@@ -3,15 +3,15 @@ use Rattle.std.specs.Prelude.{ℕ, List}
 use Rattle.std.specs.Fmt.{signed_decimal}
 use Rattle.config_text.specs.declared.errors.Fault.{Fault}
 use Rattle.config_integer.specs.declared.amount.Amount.{Amount}
-use Rattle.config_integer.specs.Integer.{ProductInRange, Refusal, CanonicalNumber}
+use Rattle.config_integer.specs.Integer.{ProductInRange, IntegerFault, CanonicalNumber}
 
 -- amount text: an integer text whose product is this number, in range
 abbrev pub AmountText : List ℕ → Amount → Type 0
 AmountText t v = ProductInRange t v.0
 
 -- why a text is no amount text: it is no integer text, or its product is out of range
-abbrev pub AmountRefusal : List ℕ → Fault → Type 0
-AmountRefusal t fault = Refusal (λ _. ⊥) t fault
+abbrev pub AmountFault : List ℕ → Fault → Type 0
+AmountFault t fault = IntegerFault (λ _. ⊥) t fault
 
 -- how an amount is shown: in decimal
 abbrev pub amount_shown : Amount → List ℕ

@@ -67,11 +67,11 @@ pub record ProductInRange (t : List ℕ) (z : ℤ) : Type 0 where
 
 -- why no number is read from a text: it is no integer text, or its product is out of range, or the product
 -- is one that the caller's type refuses
-abbrev pub Refusal : (ℤ → Type 0) → List ℕ → Fault → Type 0
-Refusal refuses t faults.Integer = IsRefused IntegerText t
-Refusal refuses t faults.Overflow = (z : ℤ) × ProductText t z × ¬ (IsInI64 z)
-Refusal refuses t faults.OutOfRange = (z : ℤ) × ProductInRange t z × refuses z
-Refusal refuses t _ = ⊥
+abbrev pub IntegerFault : (ℤ → Type 0) → List ℕ → Fault → Type 0
+IntegerFault refuses t faults.Integer = IsRefused IntegerText t
+IntegerFault refuses t faults.Overflow = (z : ℤ) × ProductText t z × ¬ (IsInI64 z)
+IntegerFault refuses t faults.OutOfRange = (z : ℤ) × ProductInRange t z × refuses z
+IntegerFault refuses t _ = ⊥
 
 -- how an integer is shown: its number in decimal, and its suffix, if it has one
 abbrev pub integer_shown : Integer → List ℕ

@@ -4,7 +4,7 @@ ghost use Rattle.bstr.specs.Owned.{bstring_bytes};
 ghost use Rattle.std.specs.Cow.{cow_slice_items};
 ghost use Rattle.std.proofs.Common.{rules};
 ghost use Rattle.config_text.specs.Refusals.{ReadsFault, ReadsBytes, ReadsText, ReadsOwned};
-ghost use Rattle.config_integer.specs.Amount.{AmountText, AmountRefusal, CanonicalAmount, amount_shown};
+ghost use Rattle.config_integer.specs.Amount.{AmountText, AmountFault, CanonicalAmount, amount_shown};
 ghost use Rattle.config_integer.specs.Laws.Amount.{amount_one_value, amount_one_text, amount_decided};
 ghost use Rattle.config_integer.specs.Laws.Amount.{amount_canonical_reads, amount_shown_is_text};
 
@@ -34,7 +34,7 @@ use std::str::FromStr;
 pub struct Amount(pub i64);
 
 impl TryRead for Amount {
-    ghost refusal = { AmountRefusal };
+    ghost refusal = { AmountFault };
 
     /// The amount of the text, or `Fault::Integer` if it writes no integer, or `Fault::Overflow` if the
     /// product leaves `i64`.
@@ -53,7 +53,7 @@ impl TryRead for Amount {
 impl FromStr for Amount {
     type Err = Fault;
 
-    ghost from_str_gives = { ReadsFault AmountText AmountRefusal };
+    ghost from_str_gives = { ReadsFault AmountText AmountFault };
 
     /// The amount of the text, or `Fault::Integer` if it writes no integer, or `Fault::Overflow` if the
     /// product leaves `i64`.
@@ -65,7 +65,7 @@ impl FromStr for Amount {
 impl<'a> TryFrom<BStr<'a>> for Amount {
     type Error = Error<'a>;
 
-    ghost try_from_gives = { ReadsBytes AmountText AmountRefusal };
+    ghost try_from_gives = { ReadsBytes AmountText AmountFault };
 
     /// The amount of the input, or a fault as `try_read` has it and the whole input.
     fn try_from(input: BStr<'a>) -> Result<Amount, Error<'a>> {
@@ -76,7 +76,7 @@ impl<'a> TryFrom<BStr<'a>> for Amount {
 impl<'a> TryFrom<&'a str> for Amount {
     type Error = Error<'a>;
 
-    ghost try_from_gives = { λ s r. ReadsText AmountText AmountRefusal s.now r };
+    ghost try_from_gives = { λ s r. ReadsText AmountText AmountFault s.now r };
 
     /// The amount of the input, or a fault as `try_read` has it and the whole input.
     fn try_from(input: &'a str) -> Result<Amount, Error<'a>> {
@@ -87,7 +87,7 @@ impl<'a> TryFrom<&'a str> for Amount {
 impl TryFrom<BString> for Amount {
     type Error = Returned<BString>;
 
-    ghost try_from_gives = { λ s r. ReadsOwned AmountText AmountRefusal (bstring_bytes s) s r };
+    ghost try_from_gives = { λ s r. ReadsOwned AmountText AmountFault (bstring_bytes s) s r };
 
     /// The amount of the input, or a fault as `try_read` has it and the input itself.
     fn try_from(input: BString) -> Result<Amount, Returned<BString>> {
@@ -98,7 +98,7 @@ impl TryFrom<BString> for Amount {
 impl<'a> TryFrom<CowSlice<'a, u8>> for Amount {
     type Error = Returned<CowSlice<'a, u8>>;
 
-    ghost try_from_gives = { λ s r. ReadsOwned AmountText AmountRefusal (cow_slice_items s) s r };
+    ghost try_from_gives = { λ s r. ReadsOwned AmountText AmountFault (cow_slice_items s) s r };
 
     /// The amount of the input, or a fault as `try_read` has it and the input itself.
     fn try_from(input: CowSlice<'a, u8>) -> Result<Amount, Returned<CowSlice<'a, u8>>> {

@@ -6,9 +6,9 @@ ghost use Rattle.std.specs.Cow.{cow_slice_items};
 ghost use Rattle.std.proofs.Common.{rules};
 ghost use Rattle.config_text.specs.declared.errors.Fault.TheVariants as faults;
 ghost use Rattle.config_text.specs.Value.{Reads};
-ghost use Rattle.config_text.specs.Refusals.{Always, ReadsFault, ReadsBytes, ReadsText, ReadsOwned};
+ghost use Rattle.config_text.specs.Refusals.{OnlyFault, ReadsFault, ReadsBytes, ReadsText, ReadsOwned};
 ghost use Rattle.config_integer.specs.Integer.{IntegerText, CanonicalInteger, integer_shown};
-ghost use Rattle.config_integer.specs.Integer.{product, ProductInRange, Refusal};
+ghost use Rattle.config_integer.specs.Integer.{product, ProductInRange, IntegerFault};
 ghost use Rattle.config_text.specs.Numerals.{IsInI64};
 ghost use Rattle.config_integer.specs.Reading.Integer.{sign_and_rest, largest, with_sign};
 ghost use Rattle.config_integer.specs.Laws.Integer.{integer_one_value, integer_decided};
@@ -110,7 +110,7 @@ where
     ensures accepted { IfOk result
         (λ x. (z : ℤ) × ProductInRange text.now z × T.try_from_gives z (Ok x)) }
     ensures refused { IfErr result
-        (Refusal (λ z. (x : T.Error) × T.try_from_gives z (Err x)) text.now) }
+        (IntegerFault (λ z. (x : T.Error) × T.try_from_gives z (Err x)) text.now) }
 {
     // With `ok_or` and `?` in place of these arms the proof takes three times as long.
     let Some(integer) = scan(text) else {
@@ -123,7 +123,7 @@ where
 }
 
 impl TryRead for Integer {
-    ghost refusal = { Always faults.Integer };
+    ghost refusal = { OnlyFault faults.Integer };
 
     /// The integer that the text writes, or `Fault::Integer` if it writes none.
     fn try_read(text: &[u8]) -> Result<Integer, Fault> {
@@ -134,7 +134,7 @@ impl TryRead for Integer {
 impl FromStr for Integer {
     type Err = Fault;
 
-    ghost from_str_gives = { ReadsFault IntegerText (Always faults.Integer) };
+    ghost from_str_gives = { ReadsFault IntegerText (OnlyFault faults.Integer) };
 
     /// The integer that the text writes, or `Fault::Integer` if it writes none.
     fn from_str(text: &str) -> Result<Integer, Fault> {
@@ -145,7 +145,7 @@ impl FromStr for Integer {
 impl<'a> TryFrom<BStr<'a>> for Integer {
     type Error = Error<'a>;
 
-    ghost try_from_gives = { ReadsBytes IntegerText (Always faults.Integer) };
+    ghost try_from_gives = { ReadsBytes IntegerText (OnlyFault faults.Integer) };
 
     /// The integer of the input, or `Fault::Integer` and the whole input.
     fn try_from(input: BStr<'a>) -> Result<Integer, Error<'a>> {
@@ -156,7 +156,7 @@ impl<'a> TryFrom<BStr<'a>> for Integer {
 impl<'a> TryFrom<&'a str> for Integer {
     type Error = Error<'a>;
 
-    ghost try_from_gives = { λ s r. ReadsText IntegerText (Always faults.Integer) s.now r };
+    ghost try_from_gives = { λ s r. ReadsText IntegerText (OnlyFault faults.Integer) s.now r };
 
     /// The integer of the input, or `Fault::Integer` and the whole input.
     fn try_from(input: &'a str) -> Result<Integer, Error<'a>> {
@@ -167,7 +167,7 @@ impl<'a> TryFrom<&'a str> for Integer {
 impl TryFrom<BString> for Integer {
     type Error = Returned<BString>;
 
-    ghost try_from_gives = { λ s r. ReadsOwned IntegerText (Always faults.Integer) (bstring_bytes s) s r };
+    ghost try_from_gives = { λ s r. ReadsOwned IntegerText (OnlyFault faults.Integer) (bstring_bytes s) s r };
 
     /// The integer of the input, or `Fault::Integer` and the input itself.
     fn try_from(input: BString) -> Result<Integer, Returned<BString>> {
@@ -178,7 +178,7 @@ impl TryFrom<BString> for Integer {
 impl<'a> TryFrom<CowSlice<'a, u8>> for Integer {
     type Error = Returned<CowSlice<'a, u8>>;
 
-    ghost try_from_gives = { λ s r. ReadsOwned IntegerText (Always faults.Integer) (cow_slice_items s) s r };
+    ghost try_from_gives = { λ s r. ReadsOwned IntegerText (OnlyFault faults.Integer) (cow_slice_items s) s r };
 
     /// The integer of the input, or `Fault::Integer` and the input itself.
     fn try_from(input: CowSlice<'a, u8>) -> Result<Integer, Returned<CowSlice<'a, u8>>> {
@@ -247,7 +247,7 @@ impl Integer {
             (λ x. (z : ℤ) × ProductInRange input.now z × T.try_from_gives z (Ok x)) }
         ensures whole { IfErr result (λ e. bstr_bytes e.input ≡ input.now) }
         ensures refused { IfErr result
-            (λ e. Refusal (λ z. (x : T.Error) × T.try_from_gives z (Err x)) input.now e.fault) }
+            (λ e. IntegerFault (λ z. (x : T.Error) × T.try_from_gives z (Err x)) input.now e.fault) }
     {
         product_as(input).map_err(|fault| Error {
             fault,

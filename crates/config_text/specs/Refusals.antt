@@ -16,8 +16,8 @@ ReadsOr grammar refusal t (Ok v) = grammar t v
 ReadsOr grammar refusal t (Err e) = refusal e × IsRefused grammar t
 
 -- whatever the text: if it is refused, then with this fault
-abbrev pub Always : Fault → List ℕ → Fault → Type 0
-Always fault t f = f ≡ fault
+abbrev pub OnlyFault : Fault → List ℕ → Fault → Type 0
+OnlyFault fault t f = f ≡ fault
 
 -- over a text: a refusal is the fault
 abbrev pub ReadsFault : {V : Type 0} → (List ℕ → V → Type 0) → (List ℕ → Fault → Type 0) → List ℕ

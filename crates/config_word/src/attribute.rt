@@ -7,7 +7,7 @@ ghost use Rattle.config_word.specs.Laws.Attribute.{attribute_canonical_reads, at
 ghost use Rattle.config_word.specs.Laws.Attribute.{attribute_one_text, attribute_one_value};
 ghost use Rattle.config_word.specs.Laws.Attribute.{attribute_shown_is_text};
 ghost use Rattle.config_word.specs.Reading.Attribute.{shown_row, shown_rows, words_in};
-ghost use Rattle.config_text.specs.Refusals.{Always, ReadsBytes, ReadsFault};
+ghost use Rattle.config_text.specs.Refusals.{OnlyFault, ReadsBytes, ReadsFault};
 ghost use Rattle.config_text.specs.Value.{HasText, IsTextOf, Reads};
 ghost use Rattle.std.proofs.Common.{rules};
 ghost use Rattle.config_text.specs.Json.{GivesJsonText};
@@ -223,7 +223,7 @@ fn attribute_of(text: &[u8]) -> Option<Attribute>
 }
 
 impl TryRead for Attribute {
-    ghost refusal = { Always faults.Color };
+    ghost refusal = { OnlyFault faults.Color };
 
     /// The attribute of the text, or `Fault::Color` if it has none.
     fn try_read(text: &[u8]) -> Result<Attribute, Fault> {
@@ -234,7 +234,7 @@ impl TryRead for Attribute {
 impl FromStr for Attribute {
     type Err = Fault;
 
-    ghost from_str_gives = { ReadsFault AttributeText (Always faults.Color) };
+    ghost from_str_gives = { ReadsFault AttributeText (OnlyFault faults.Color) };
 
     /// The attribute of the text, or `Fault::Color` if it has none.
     fn from_str(text: &str) -> Result<Attribute, Fault> {
@@ -245,7 +245,7 @@ impl FromStr for Attribute {
 impl<'a> TryFrom<BStr<'a>> for Attribute {
     type Error = Error<'a>;
 
-    ghost try_from_gives = { ReadsBytes AttributeText (Always faults.Color) };
+    ghost try_from_gives = { ReadsBytes AttributeText (OnlyFault faults.Color) };
 
     /// The attribute of the input, or `Fault::Color` with the whole input if it has none.
     fn try_from(input: BStr<'a>) -> Result<Attribute, Error<'a>> {

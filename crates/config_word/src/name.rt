@@ -7,7 +7,7 @@ ghost use Rattle.config_word.specs.Name.{NameText, CanonicalName, hex_pair, name
 ghost use Rattle.config_word.specs.Orders.{name_place};
 ghost use Rattle.config_word.specs.Laws.Name.{name_canonical_reads, name_decided, name_one_text};
 ghost use Rattle.config_word.specs.Laws.Name.{name_one_value, name_shown_is_text};
-ghost use Rattle.config_text.specs.Refusals.{Always, ReadsBytes, ReadsFault};
+ghost use Rattle.config_text.specs.Refusals.{OnlyFault, ReadsBytes, ReadsFault};
 ghost use Rattle.config_text.specs.Value.{IsTextOf, Reads};
 ghost use Rattle.std.proofs.Common.{rules};
 ghost use Rattle.config_text.specs.Json.{GivesJsonText};
@@ -249,7 +249,7 @@ fn name_of(text: &[u8]) -> Option<Name>
 }
 
 impl TryRead for Name {
-    ghost refusal = { Always faults.Color };
+    ghost refusal = { OnlyFault faults.Color };
 
     /// The name of the text, or `Fault::Color` if it has none.
     fn try_read(text: &[u8]) -> Result<Name, Fault> {
@@ -260,7 +260,7 @@ impl TryRead for Name {
 impl FromStr for Name {
     type Err = Fault;
 
-    ghost from_str_gives = { ReadsFault NameText (Always faults.Color) };
+    ghost from_str_gives = { ReadsFault NameText (OnlyFault faults.Color) };
 
     /// The name of the text, or `Fault::Color` if it has none.
     fn from_str(text: &str) -> Result<Name, Fault> {
@@ -271,7 +271,7 @@ impl FromStr for Name {
 impl<'a> TryFrom<BStr<'a>> for Name {
     type Error = Error<'a>;
 
-    ghost try_from_gives = { ReadsBytes NameText (Always faults.Color) };
+    ghost try_from_gives = { ReadsBytes NameText (OnlyFault faults.Color) };
 
     /// The name of the input, or `Fault::Color` with the whole input if it has none.
     fn try_from(input: BStr<'a>) -> Result<Name, Error<'a>> {

@@ -8,7 +8,7 @@ use Rattle.gix_config_value.specs.declared.refusal.Refusal.TheVariants as refusa
 use Rattle.config_text.specs.declared.errors.Fault.{Fault}
 use Rattle.config_text.specs.declared.errors.Fault.TheVariants as faults
 use Rattle.config_text.specs.Faults.{fault_text}
-use Rattle.config_text.specs.Refusals.{Always}
+use Rattle.config_text.specs.Refusals.{OnlyFault}
 use Rattle.config_text.specs.Value.{IsAccepted, IsRefused}
 use Rattle.config_integer.specs.declared.suffix.Suffix as suffix
 use Rattle.config_integer.specs.declared.integer.Integer as integer
@@ -19,7 +19,7 @@ use Rattle.config_word.specs.declared.attribute.Attribute as attribute
 use Rattle.config_color.specs.declared.color.Color as color
 use Rattle.config_integer.specs.Suffix.{SuffixText, CanonicalSuffix}
 use Rattle.config_integer.specs.Integer.{IntegerText, CanonicalInteger}
-use Rattle.config_integer.specs.Amount.{AmountText, CanonicalAmount, AmountRefusal}
+use Rattle.config_integer.specs.Amount.{AmountText, CanonicalAmount, AmountFault}
 use Rattle.config_boolean.specs.Boolean.{BooleanText, CanonicalBoolean}
 use Rattle.config_word.specs.Name.{NameText, CanonicalName}
 use Rattle.config_word.specs.Attribute.{AttributeText, CanonicalAttribute}
@@ -79,12 +79,12 @@ IsFaultOf refusal (refusals.Fault fault) = refusal fault
 -- why a text has no value of a kind: the fault of the kind's reader, and that of suffixes has none
 abbrev pub KindRefusal : Kind → List ℕ → Refusal → Type 0
 KindRefusal kinds.Suffix t = λ r. r ≡ refusals.Suffix
-KindRefusal kinds.Integer t = IsFaultOf (Always faults.Integer t)
-KindRefusal kinds.Amount t = IsFaultOf (AmountRefusal t)
-KindRefusal kinds.Boolean t = IsFaultOf (Always faults.Boolean t)
-KindRefusal kinds.Name t = IsFaultOf (Always faults.Color t)
-KindRefusal kinds.Attribute t = IsFaultOf (Always faults.Color t)
-KindRefusal kinds.Color t = IsFaultOf (Always faults.Color t)
+KindRefusal kinds.Integer t = IsFaultOf (OnlyFault faults.Integer t)
+KindRefusal kinds.Amount t = IsFaultOf (AmountFault t)
+KindRefusal kinds.Boolean t = IsFaultOf (OnlyFault faults.Boolean t)
+KindRefusal kinds.Name t = IsFaultOf (OnlyFault faults.Color t)
+KindRefusal kinds.Attribute t = IsFaultOf (OnlyFault faults.Color t)
+KindRefusal kinds.Color t = IsFaultOf (OnlyFault faults.Color t)
 
 -- the answer to why a text is refused: nothing where it has a value, and otherwise one of these reasons
 abbrev pub WhyRefused : {V : Type 0} → (List ℕ → V → Type 0) → (Refusal → Type 0) → List ℕ → Option Refusal

@@ -21,6 +21,6 @@ pub use Rattle.config_word.specs.Name
 pub use Rattle.config_word.specs.Attribute
 pub use Rattle.config_word.specs.Item
 pub use Rattle.config_color.specs.Space
-pub use Rattle.config_color.specs.Split
+pub use Rattle.config_color.specs.Words
 pub use Rattle.config_color.specs.Color
 pub use Rattle.config_color.specs.Composition

@@ -4,10 +4,10 @@ use Rattle.std.proofs.lemmas.Option.{same_Some, none-some}
 use Rattle.serde_json.specs.Data.{Data}
 use Rattle.config_text.specs.declared.errors.Fault.{Fault}
 use Rattle.config_text.specs.declared.errors.Fault.TheVariants as faults
-use Rattle.gix_config_value.specs.Amount.{AmountRefusal}
+use Rattle.gix_config_value.specs.Amount.{AmountFault}
 use Rattle.gix_config_value.specs.Integer.{product}
 use Rattle.gix_config_value.specs.Numerals.{IsInI64}
-use Rattle.gix_config_value.specs.Refusals.{Always}
+use Rattle.gix_config_value.specs.Refusals.{OnlyFault}
 use Rattle.gix_config_value_c.specs.declared.status.Status.{Status}
 use Rattle.gix_config_value_c.specs.declared.status.Status.TheVariants as statuses
 use Rattle.gix_config_value_c.specs.declared.structs.GcvInteger.{GcvInteger}
@@ -166,7 +166,7 @@ tells_once number = answers_once _ _ texts reasons apart where
 
 -- ---- the fault of an amount
 
-pub one_amount_fault : (t : List ℕ) (f g : Fault) → AmountRefusal t f → AmountRefusal t g → f ≡ g
+pub one_amount_fault : (t : List ℕ) (f g : Fault) → AmountFault t f → AmountFault t g → f ≡ g
 one_amount_fault t faults.Integer faults.Integer p q = refl
 one_amount_fault t faults.Integer faults.Overflow p (z, q, over) = absurd (p q.integer q.text)
 one_amount_fault t faults.Overflow faults.Integer (z, p, over) q = absurd (q p.integer p.text)
@@ -178,5 +178,5 @@ one_amount_fault t faults.Color g p q = absurd p
 one_amount_fault t f faults.Boolean p q = absurd q
 one_amount_fault t f faults.Color p q = absurd q
 
-pub always_one : (fault : Fault) (t : List ℕ) (f g : Fault) → Always fault t f → Always fault t g → f ≡ g
+pub always_one : (fault : Fault) (t : List ℕ) (f g : Fault) → OnlyFault fault t f → OnlyFault fault t g → f ≡ g
 always_one fault t f g p q = p ∙ sym q

@@ -4,10 +4,10 @@
 //! into `fault`. It leaves the other one alone.
 ghost use Rattle.config_text.specs.declared.errors.Fault.TheVariants as faults;
 ghost use Rattle.std.specs.Prelude.{Some};
-ghost use Rattle.gix_config_value.specs.Refusals.{Always};
+ghost use Rattle.gix_config_value.specs.Refusals.{OnlyFault};
 ghost use Rattle.gix_config_value.specs.Suffix.{SuffixText};
 ghost use Rattle.gix_config_value.specs.Integer.{IntegerText};
-ghost use Rattle.gix_config_value.specs.Amount.{AmountText, AmountRefusal};
+ghost use Rattle.gix_config_value.specs.Amount.{AmountText, AmountFault};
 ghost use Rattle.gix_config_value.specs.Boolean.{BooleanText};
 ghost use Rattle.gix_config_value.specs.Name.{NameText};
 ghost use Rattle.gix_config_value.specs.Attribute.{AttributeText};
@@ -48,7 +48,7 @@ pub extern "C" fn gcv_raw_read_suffix(text: &[u8], out: &mut u32, fault: &mut u3
 /// Reads an integer.
 #[unsafe(no_mangle)]
 pub extern "C" fn gcv_raw_read_integer(text: &[u8], out: &mut GcvInteger, fault: &mut u32) -> u32
-    ensures { ReadsInto integer_struct IntegerText (Faults (Always faults.Integer))
+    ensures { ReadsInto integer_struct IntegerText (Faults (OnlyFault faults.Integer))
         text.now out.old out.new fault.old fault.new result }
 {
     match Integer::try_read(text) {
@@ -66,7 +66,7 @@ pub extern "C" fn gcv_raw_read_integer(text: &[u8], out: &mut GcvInteger, fault:
 /// Reads an amount, as its number.
 #[unsafe(no_mangle)]
 pub extern "C" fn gcv_raw_read_amount(text: &[u8], out: &mut i64, fault: &mut u32) -> u32
-    ensures { ReadsInto (λ v. v.0) AmountText (Faults AmountRefusal)
+    ensures { ReadsInto (λ v. v.0) AmountText (Faults AmountFault)
         text.now out.old out.new fault.old fault.new result }
 {
     match Amount::try_read(text) {
@@ -84,7 +84,7 @@ pub extern "C" fn gcv_raw_read_amount(text: &[u8], out: &mut i64, fault: &mut u3
 /// Reads a boolean, as 0 or 1.
 #[unsafe(no_mangle)]
 pub extern "C" fn gcv_raw_read_boolean(text: &[u8], out: &mut u32, fault: &mut u32) -> u32
-    ensures { ReadsInto (λ v. flag_number v.0) BooleanText (Faults (Always faults.Boolean))
+    ensures { ReadsInto (λ v. flag_number v.0) BooleanText (Faults (OnlyFault faults.Boolean))
         text.now out.old out.new fault.old fault.new result }
 {
     match Boolean::try_read(text) {
@@ -102,7 +102,7 @@ pub extern "C" fn gcv_raw_read_boolean(text: &[u8], out: &mut u32, fault: &mut u
 /// Reads a color's name.
 #[unsafe(no_mangle)]
 pub extern "C" fn gcv_raw_read_name(text: &[u8], out: &mut GcvName, fault: &mut u32) -> u32
-    ensures { ReadsInto name_struct NameText (Faults (Always faults.Color))
+    ensures { ReadsInto name_struct NameText (Faults (OnlyFault faults.Color))
         text.now out.old out.new fault.old fault.new result }
 {
     match Name::try_read(text) {
@@ -120,7 +120,7 @@ pub extern "C" fn gcv_raw_read_name(text: &[u8], out: &mut GcvName, fault: &mut 
 /// Reads an attribute, as its bits.
 #[unsafe(no_mangle)]
 pub extern "C" fn gcv_raw_read_attribute(text: &[u8], out: &mut u32, fault: &mut u32) -> u32
-    ensures { ReadsInto (λ a. a.0) AttributeText (Faults (Always faults.Color))
+    ensures { ReadsInto (λ a. a.0) AttributeText (Faults (OnlyFault faults.Color))
         text.now out.old out.new fault.old fault.new result }
 {
     match Attribute::try_read(text) {
@@ -138,7 +138,7 @@ pub extern "C" fn gcv_raw_read_attribute(text: &[u8], out: &mut u32, fault: &mut
 /// Reads a color.
 #[unsafe(no_mangle)]
 pub extern "C" fn gcv_raw_read_color(text: &[u8], out: &mut GcvColor, fault: &mut u32) -> u32
-    ensures { ReadsInto color_struct ColorText (Faults (Always faults.Color))
+    ensures { ReadsInto color_struct ColorText (Faults (OnlyFault faults.Color))
         text.now out.old out.new fault.old fault.new result }
 {
     match Color::try_read(text) {

@@ -1,7 +1,7 @@
 //! One setting over several sources, in order of precedence.
 ghost use Rattle.std.specs.Prelude.{◌≡◌, ◌++◌, ℕ, List, MatchBool, IfOk, IfErr};
 ghost use Rattle.gix_config_value.specs.Settings.{entry_texts, IsNamed, IsAbsent, Finds, DecidingIsRefused};
-ghost use Rattle.uses.specs.Precedence.{RefusesIn};
+ghost use Rattle.uses.specs.Precedence.{DecidingIsRefusedIn};
 
 use gix_config_value::canonical::Value;
 use gix_config_value::settings::{Refused, lookup};
@@ -55,7 +55,7 @@ pub fn resolve<'a, V: Value>(
 ) -> Result<V, RefusedIn<'a>>
     ensures value { IfOk result (Finds V.grammar
         (entry_texts system.now ++ entry_texts user.now ++ entry_texts repository.now) name.now default) }
-    ensures refusal { IfErr result (λ e. RefusesIn V.grammar
+    ensures refusal { IfErr result (λ e. DecidingIsRefusedIn V.grammar
         (entry_texts system.now) (entry_texts user.now) (entry_texts repository.now) name.now
         e.source e.refused.index e.refused.input.now) }
 {

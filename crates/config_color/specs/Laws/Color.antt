@@ -20,7 +20,7 @@ use Rattle.config_text.specs.Laws.Value.{IsValueOf}
 use Rattle.config_text.specs.Laws.Value.{decided_by, one_value_by, read_by, reads_by}
 use Rattle.config_word.specs.Item.{ItemText}
 use Rattle.config_word.specs.Laws.Item.{item-law, item_one_value, not_both}
-use Rattle.config_color.specs.Split.{piece}
+use Rattle.config_color.specs.Words.{piece}
 use Rattle.config_color.specs.Reading.Split.{IsWithoutSpace, words}
 use Rattle.config_color.specs.Laws.Split.{words_are, words_only, words_step, words_last, eqb_told}
 use Rattle.config_color.specs.Space.{Space}

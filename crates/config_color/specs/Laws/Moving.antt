@@ -10,7 +10,7 @@ use Rattle.config_color.specs.declared.color.Color.{Color}
 use Rattle.config_color.specs.Color.{WordsRead, TextRead, ColorText}
 use Rattle.config_color.specs.Composition.{Moves}
 use Rattle.config_color.specs.Laws.Color.{one_attribute}
-use Rattle.config_color.specs.Split.{Words}
+use Rattle.config_color.specs.Words.{Words}
 use Rattle.config_color.specs.Laws.Split.{words_only}
 
 or_swap : (a b c : ℕ) → bit_or a (bit_or b c) ≡ bit_or b (bit_or a c)

@@ -8,7 +8,7 @@ use Rattle.std.proofs.lemmas.List.{append-nil, take-append-drop, drop-drop, take
 use Rattle.config_text.specs.OneOf.{OneOf}
 use Rattle.config_color.specs.Space.{spellings, Space}
 use Rattle.config_color.specs.Laws.Space.{no_empty}
-use Rattle.config_color.specs.Split.{HasNoSpace, piece, Words}
+use Rattle.config_color.specs.Words.{HasNoSpace, piece, Words}
 use Rattle.config_color.specs.Reading.Split.{IsWithoutSpace, after, after_one, after_space, Cut, cut_at, last_cut, words_within, words}
 
 pub space_byte : Space (32 ∷ [])

@@ -3,7 +3,7 @@
 use Rattle.std.specs.Prelude.{◌≡◌, ℕ, zero, suc, ◌<◌, ◌==◌, List, [], ◌∷◌, ◌++◌, length, drop, Option, None, Some, if◌then◌else◌}
 use Rattle.std.specs.Option.{option_or}
 use Rattle.config_color.specs.Space.{spellings, Space}
-use Rattle.config_color.specs.Split.{piece}
+use Rattle.config_color.specs.Words.{piece}
 
 -- what follows `front`, where the text begins with it
 abbrev pub after : List ℕ → List ℕ → Option (List ℕ)

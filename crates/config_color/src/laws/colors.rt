@@ -5,7 +5,7 @@ ghost use Rattle.config_color.specs.Color.{ColorText, PartFits, AreKnown};
 ghost use Rattle.config_color.specs.Composition.{Composes, Joined, HaveTooManyNames, Moves, SameWords};
 ghost use Rattle.config_color.specs.Space.{Space};
 ghost use Rattle.config_text.specs.Value.{HasText, IsRefused};
-ghost use Rattle.config_color.specs.Split.{Words};
+ghost use Rattle.config_color.specs.Words.{Words};
 
 /// A color has a text exactly if each of its set bits has a constant, and it has no background
 /// without a foreground.

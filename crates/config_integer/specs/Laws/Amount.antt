@@ -9,7 +9,7 @@ use Rattle.config_text.specs.Numerals.{IsInI64}
 use Rattle.config_integer.specs.Integer.{NumberText, ProductInRange}
 use Rattle.config_integer.specs.Laws.Integer.{product_one_value, product_told, refusal_tells}
 use Rattle.config_integer.specs.Laws.IntegerShown.{number_shown, shown_number}
-use Rattle.config_integer.specs.Amount.{AmountText, AmountRefusal, CanonicalAmount, amount_shown}
+use Rattle.config_integer.specs.Amount.{AmountText, AmountFault, CanonicalAmount, amount_shown}
 
 pub amount_one_value : (t : List ℕ) (v w : Amount) → AmountText t v → AmountText t w → v ≡ w
 amount_one_value t v w p q = ap amount_of (product_one_value t v.0 w.0 p.product_text q.product_text) where
@@ -23,7 +23,7 @@ amount_decided t =
       | inr h ↦ inr (λ v p. h v.0 p)
     ]
 
-pub amount_refused : (t : List ℕ) (f : Fault) → AmountRefusal t f → IsRefused AmountText t
+pub amount_refused : (t : List ℕ) (f : Fault) → AmountFault t f → IsRefused AmountText t
 amount_refused t f r v p = refusal_tells (λ _. ⊥) (λ z h k. k) t f r v.0 p
 
 -- a number text is the amount text of its number

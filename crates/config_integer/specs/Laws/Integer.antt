@@ -17,7 +17,7 @@ use Rattle.config_text.specs.Laws.Numerals.{range_told}
 use Rattle.config_text.specs.Laws.Value.{one_value_by, decided_by}
 use Rattle.config_integer.specs.declared.integer.Integer.{Integer}
 use Rattle.config_integer.specs.Integer.{Magnitude, SignedText, IntegerText, product, ProductText}
-use Rattle.config_integer.specs.Integer.{ProductInRange, Refusal}
+use Rattle.config_integer.specs.Integer.{ProductInRange, IntegerFault}
 use Rattle.config_integer.specs.Integer.SignedText.{plain, plus, minus}
 use Rattle.config_integer.specs.Reading.Integer.{magnitude_of, sign_and_rest, largest, with_sign}
 use Rattle.config_integer.specs.Reading.Integer.{signed_integer}
@@ -142,7 +142,7 @@ product_first t z p =
 
 -- a conversion that refuses no product in range refuses a text only where it has none
 pub refusal_tells : (refuses : ℤ → Type 0) → ((z : ℤ) → IsInI64 z → ¬ (refuses z)) → (t : List ℕ) (f : Fault)
-    → Refusal refuses t f
+    → IntegerFault refuses t f
     → (z : ℤ) → ¬ (ProductInRange t z)
 refusal_tells refuses never t faults.Integer r z p = r p.product_text.integer p.product_text.text
 refusal_tells refuses never t faults.Overflow r z p =
@@ -151,7 +151,7 @@ refusal_tells refuses never t faults.OutOfRange r z p = never r.0 r.1.in_range r
 refusal_tells refuses never t _ r z p = r
 
 -- a text that gives no number has one fault
-pub one_refusal : (refuses : ℤ → Type 0) (t : List ℕ) (f g : Fault) → Refusal refuses t f → Refusal refuses t g → f ≡ g
+pub one_refusal : (refuses : ℤ → Type 0) (t : List ℕ) (f g : Fault) → IntegerFault refuses t f → IntegerFault refuses t g → f ≡ g
 one_refusal refuses t faults.Integer faults.Integer r s = refl
 one_refusal refuses t faults.Integer faults.Overflow r s = absurd (r s.1.integer s.1.text)
 one_refusal refuses t faults.Integer faults.OutOfRange r s = absurd (r s.1.product_text.integer s.1.product_text.text)

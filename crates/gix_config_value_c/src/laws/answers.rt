@@ -7,10 +7,10 @@ ghost use Rattle.std.specs.Prelude.{ℕ, List, Some};
 ghost use Rattle.serde_json.specs.Data.{Data, string, boolean as truth};
 ghost use Rattle.config_text.specs.declared.errors.Fault.TheVariants as faults;
 ghost use Rattle.config_boolean.specs.declared.boolean.Boolean as boolean;
-ghost use Rattle.gix_config_value.specs.Refusals.{Always};
+ghost use Rattle.gix_config_value.specs.Refusals.{OnlyFault};
 ghost use Rattle.gix_config_value.specs.Suffix.{SuffixText, suffix_shown};
 ghost use Rattle.gix_config_value.specs.Integer.{IntegerText, integer_shown};
-ghost use Rattle.gix_config_value.specs.Amount.{AmountText, AmountRefusal};
+ghost use Rattle.gix_config_value.specs.Amount.{AmountText, AmountFault};
 ghost use Rattle.gix_config_value.specs.Boolean.{BooleanText, boolean_shown};
 ghost use Rattle.gix_config_value.specs.Name.{NameText, name_shown};
 ghost use Rattle.gix_config_value.specs.Attribute.{AttributeText};
@@ -38,17 +38,17 @@ pub fn readers()
     ensures suffixes { (t : List ℕ)
         → HasOneAnswer (ReadsInto (λ s. suffix_number (Some s)) SuffixText NoFault t) }
     ensures integers { (t : List ℕ)
-        → HasOneAnswer (ReadsInto integer_struct IntegerText (Faults (Always faults.Integer)) t) }
+        → HasOneAnswer (ReadsInto integer_struct IntegerText (Faults (OnlyFault faults.Integer)) t) }
     ensures amounts { (t : List ℕ)
-        → HasOneAnswer (ReadsInto (λ v. v.0) AmountText (Faults AmountRefusal) t) }
+        → HasOneAnswer (ReadsInto (λ v. v.0) AmountText (Faults AmountFault) t) }
     ensures booleans { (t : List ℕ)
-        → HasOneAnswer (ReadsInto (λ v. flag_number v.0) BooleanText (Faults (Always faults.Boolean)) t) }
+        → HasOneAnswer (ReadsInto (λ v. flag_number v.0) BooleanText (Faults (OnlyFault faults.Boolean)) t) }
     ensures names { (t : List ℕ)
-        → HasOneAnswer (ReadsInto name_struct NameText (Faults (Always faults.Color)) t) }
+        → HasOneAnswer (ReadsInto name_struct NameText (Faults (OnlyFault faults.Color)) t) }
     ensures attributes { (t : List ℕ)
-        → HasOneAnswer (ReadsInto (λ a. a.0) AttributeText (Faults (Always faults.Color)) t) }
+        → HasOneAnswer (ReadsInto (λ a. a.0) AttributeText (Faults (OnlyFault faults.Color)) t) }
     ensures colors { (t : List ℕ)
-        → HasOneAnswer (ReadsInto color_struct ColorText (Faults (Always faults.Color)) t) }
+        → HasOneAnswer (ReadsInto color_struct ColorText (Faults (OnlyFault faults.Color)) t) }
 {}
 
 /// Each value is shown in one way. A text, as that of an amount or of attributes, is put in one way.

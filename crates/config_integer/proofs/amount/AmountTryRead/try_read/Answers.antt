@@ -1,7 +1,7 @@
 use Rattle.std.proofs.Common.{refl}
 use Rattle.config_text.specs.declared.errors.Fault.TheVariants as faults
 use Rattle.config_integer.specs.Integer.{product}
-use Rattle.config_integer.specs.Amount.{AmountRefusal}
+use Rattle.config_integer.specs.Amount.{AmountFault}
 use Rattle.config_integer.specs.Laws.Amount.{amount_refused}
 use Rattle.config_integer.proofs.amount.AmountTryRead.try_read.Goals as goal
 
@@ -11,7 +11,7 @@ returns-in_default c =
 
 pub returns-in-None : goal.returns-in-None
 returns-in-None c =
-    let r : AmountRefusal c.args.text.now faults.Overflow = (
+    let r : AmountFault c.args.text.now faults.Overflow = (
       product c.in-Some.integer,
       record {
         integer =
