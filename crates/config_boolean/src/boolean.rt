@@ -171,7 +171,8 @@ impl<'a> TryFrom<&'a str> for Boolean {
 impl TryFrom<BString> for Boolean {
     type Error = Returned<BString>;
 
-    ghost try_from_gives = { λ s r. ReadsOwned BooleanText (OnlyFault faults.Boolean) (bstring_bytes s) s r };
+    ghost try_from_gives = { λ s r.
+        ReadsOwned BooleanText (OnlyFault faults.Boolean) (bstring_bytes s) s r };
 
     /// The boolean of the input, or `Fault::Boolean` and the input itself.
     fn try_from(input: BString) -> Result<Boolean, Returned<BString>> {
@@ -182,7 +183,8 @@ impl TryFrom<BString> for Boolean {
 impl<'a> TryFrom<CowSlice<'a, u8>> for Boolean {
     type Error = Returned<CowSlice<'a, u8>>;
 
-    ghost try_from_gives = { λ s r. ReadsOwned BooleanText (OnlyFault faults.Boolean) (cow_slice_items s) s r };
+    ghost try_from_gives = { λ s r.
+        ReadsOwned BooleanText (OnlyFault faults.Boolean) (cow_slice_items s) s r };
 
     /// The boolean of the input, or `Fault::Boolean` and the input itself.
     fn try_from(input: CowSlice<'a, u8>) -> Result<Boolean, Returned<CowSlice<'a, u8>>> {

@@ -167,7 +167,8 @@ impl<'a> TryFrom<&'a str> for Integer {
 impl TryFrom<BString> for Integer {
     type Error = Returned<BString>;
 
-    ghost try_from_gives = { λ s r. ReadsOwned IntegerText (OnlyFault faults.Integer) (bstring_bytes s) s r };
+    ghost try_from_gives = { λ s r.
+        ReadsOwned IntegerText (OnlyFault faults.Integer) (bstring_bytes s) s r };
 
     /// The integer of the input, or `Fault::Integer` and the input itself.
     fn try_from(input: BString) -> Result<Integer, Returned<BString>> {
@@ -178,7 +179,8 @@ impl TryFrom<BString> for Integer {
 impl<'a> TryFrom<CowSlice<'a, u8>> for Integer {
     type Error = Returned<CowSlice<'a, u8>>;
 
-    ghost try_from_gives = { λ s r. ReadsOwned IntegerText (OnlyFault faults.Integer) (cow_slice_items s) s r };
+    ghost try_from_gives = { λ s r.
+        ReadsOwned IntegerText (OnlyFault faults.Integer) (cow_slice_items s) s r };
 
     /// The integer of the input, or `Fault::Integer` and the input itself.
     fn try_from(input: CowSlice<'a, u8>) -> Result<Integer, Returned<CowSlice<'a, u8>>> {

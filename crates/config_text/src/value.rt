@@ -1,5 +1,6 @@
 //! What it means for a text to be read as a value, and for a value to have one canonical text.
-ghost use Rattle.std.specs.Prelude.{◌≡◌, ℕ, ◌↔◌, ◌⊎◌, List, [], IsTrue, Some, None, option_map, if◌then◌else◌, false};
+ghost use Rattle.std.specs.Prelude.{◌≡◌, ℕ, ◌↔◌, ◌⊎◌, List, [], IsTrue, Some, None, option_map, false};
+ghost use Rattle.std.specs.Prelude.{if◌then◌else◌};
 ghost use Rattle.bstr.specs.BStr.{bstr_bytes};
 ghost use Rattle.config_text.specs.Value.{IsRefused, IsAccepted, HasText, Reads, IsTextOf};
 ghost use Rattle.config_text.specs.Value.{HasMeaning, Means, Normalizes, Compares};

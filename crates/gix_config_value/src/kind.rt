@@ -141,8 +141,8 @@ pub(crate) fn kind_by_name(name: &[u8]) -> Option<Kind>
 }
 
 /// The canonical text of this kind that reads to the value of the input. `None` exactly if the kind's grammar
-/// gives the input no value. A canonical input is returned byte for byte. White space in a color text parts it
-/// into two, and the canonical text is that of their composition: [`laws::headline`](crate::laws::headline).
+/// gives the input no value. A canonical input is returned byte for byte. White space parts a color text into
+/// two, and the canonical text is that of their composition: [`laws::headline`](crate::laws::headline).
 ///
 /// [`refusal`] says why an input is refused. docs/GRAMMAR.md has a section for each kind.
 ///

@@ -1,5 +1,5 @@
-//! The headline of the library, stated once for each kind: what is read, with which value, and its one canonical
-//! text. `Headline` of specs/Headline.antt says it with no word of the library but the grammars.
+//! The headline of the library, stated once for each kind: what is read, with which value, and its one
+//! canonical text. `Headline` of specs/Headline.antt says it with no word of the library but the grammars.
 ghost use Rattle.std.specs.Prelude.{◌≡◌, ◌++◌, ℕ, List, option_map};
 ghost use Rattle.bstr.specs.BStr.{bstr_bytes};
 ghost use Rattle.gix_config_value.specs.Suffix.{SuffixText, CanonicalSuffix};

@@ -77,8 +77,8 @@ pub fn json()
         (WritesJson name_struct (λ n. string (name_shown n)) statuses.BadName c) }
 {}
 
-/// Each of the other calls has one answer: normal forms, comparisons, compositions, lookups, products, and the
-/// texts of faults.
+/// Each of the other calls has one answer: normal forms, comparisons, compositions, lookups, products, and
+/// the texts of faults.
 pub fn calls()
     ensures normalizes { (number : ℕ) (t : List ℕ) → HasOneAnswer (NormalizesInto number t) }
     ensures compares { (number : ℕ) (a b : List ℕ) → HasOneResult (ComparesInto number a b) }
