@@ -69,7 +69,7 @@ def integers():
     yield "magnitudes", known, [(spans(form), base.split(" ")[-1]) for form, base in rows("Integers")]
     low, high = re.findall(r"(\d+)", spec("config_text", "Numerals", "IsInI64").split("where")[1])
     yield "the range", [str(-int(low) - 1), high], re.findall(r"(-?\d{9,})", SECTIONS["Numbers"])
-    faults = re.findall(r"faults\.(\w+)", spec("config_integer", "Integer", "Refusal"))
+    faults = re.findall(r"faults\.(\w+)", spec("config_integer", "Integer", "IntegerFault"))
     yield "faults of integers", faults, re.findall(r"`Fault::(\w+)`", SECTIONS["Integers"])
 
 
