@@ -191,8 +191,8 @@ pub fn check<R: BufRead, W: Write>(
     Err(CheckError::Read(io::Error::from(ErrorKind::Other)))
 }
 
-/// Checks an input in memory, as [`check`] does, and appends the lines to `out`. The only error is that
-/// memory runs out, since a slice can always be read. Then `out` is as it was.
+/// Checks an input in memory, as [`check`] does, and appends the lines to `out`. Each error of `check` is
+/// returned as out of memory: no clause says so, but a slice is always read. Then `out` is as it was.
 ///
 /// ```rust
 /// use config_checks::check::check_over;
