@@ -52,8 +52,8 @@ says_joined front back text joined (Some d) e is read refused =
       );
       refused = (λ k. absurd (cc), λ h. absurd (refused.1 h d found));
     } where
-  some : {c : Color} → Some d ≡ Some c → d ≡ c
-  some k = cc
+      some : {c : Color} → Some d ≡ Some c → d ≡ c
+      some k = cc
 says_joined front back text joined None e is read refused =
     let none : IsRefused ColorText joined = subst (λ (t : List ℕ). IsRefused ColorText t) e is in record {
       read = λ c. (λ k. absurd (cc), λ j. absurd (none c ((read c).1 j)));

@@ -13,11 +13,11 @@ ghost use Rattle.gix_config_value.specs.Space.{Space};
 ghost use Rattle.uses.specs.Headline.{Headline, JoinedHeadline};
 
 use bstr::BStr;
+use gix_config_value::Boolean;
 use gix_config_value::canonical::{CanonicalText, Value};
 use gix_config_value::color::{Attribute, Color, Name};
 use gix_config_value::integer::{Amount, Integer, Suffix};
 use gix_config_value::laws::headline::{joined, meaning, one_meaning};
-use gix_config_value::Boolean;
 
 /// The value of a text of any kind, and its canonical text.
 pub fn value_and_text<V: Value>(input: BStr<'_>) -> (Option<V>, Option<CanonicalText>)

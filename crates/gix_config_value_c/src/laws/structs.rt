@@ -1,6 +1,10 @@
 //! Laws about the structs that stand in C for values.
+ghost use Rattle.std.specs.Prelude.{◌≡◌};
+ghost use Rattle.config_text.specs.Orders.{Equates, IsCopied};
 ghost use Rattle.gix_config_value_c.specs.Answers.{TellsApart};
 ghost use Rattle.gix_config_value_c.specs.Structs.{integer_struct, name_struct, part_struct, color_struct};
+
+use crate::structs::{GcvColor, GcvInteger, GcvName};
 
 /// No two values have the same struct: two structs of values are equal exactly where the values are.
 pub fn structs()
@@ -8,4 +12,22 @@ pub fn structs()
     ensures names { TellsApart name_struct }
     ensures parts { TellsApart part_struct }
     ensures colors { TellsApart color_struct }
+{}
+
+/// Structs of integers are equal exactly if all of their fields are.
+pub fn integers()
+    ensures equality { Equates (◌≡◌) ⟦<GcvInteger as PartialEq>⟧.eq }
+    ensures clones { IsCopied ⟦<GcvInteger as Clone>⟧.is_clone ⟦<GcvInteger as Clone>⟧.is_infallible }
+{}
+
+/// Structs of names are equal exactly if all of their fields are.
+pub fn names()
+    ensures equality { Equates (◌≡◌) ⟦<GcvName as PartialEq>⟧.eq }
+    ensures clones { IsCopied ⟦<GcvName as Clone>⟧.is_clone ⟦<GcvName as Clone>⟧.is_infallible }
+{}
+
+/// Structs of colors are equal exactly if all of their fields are.
+pub fn colors()
+    ensures equality { Equates (◌≡◌) ⟦<GcvColor as PartialEq>⟧.eq }
+    ensures clones { IsCopied ⟦<GcvColor as Clone>⟧.is_clone ⟦<GcvColor as Clone>⟧.is_infallible }
 {}
