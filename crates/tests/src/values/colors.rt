@@ -1,8 +1,8 @@
-//! Colors: how they are shown, their composition, and white space.
+//! Colors: how they are shown, and white space.
 
 use crate::support::equal;
 use bitflags::Flags;
-use gix_config_value::canonical::{Value, compose};
+use gix_config_value::canonical::Value;
 use gix_config_value::color::{Attribute, Color, Item, Name, space_at, word};
 use std::test::Fail;
 
@@ -43,29 +43,6 @@ fn shows_any_color(rt: HostRuntime) -> Result<(), Fail> {
         let given = color.to_string(rt.alloc())?;
         equal(&rt, given.as_str(), shown, color);
         equal(&rt, color.has_text(), has_text, color);
-    }
-    Ok(())
-}
-
-/// Two color texts, and the canonical text of both together, if they have at most two names.
-static COMPOSED: [(&str, &str, Option<&str>); 7] = [
-    ("red", "blue ul", Some("red blue ul")),
-    ("", "ul", Some("ul")),
-    ("red ul", "red bold", Some("red red bold ul")),
-    ("red green ul", "bold", Some("red green bold ul")),
-    ("bold", "nobold", Some("bold nobold")),
-    ("red green", "blue", None),
-    ("red", "green blue", None),
-];
-
-#[test]
-fn composes_colors(rt: HostRuntime) -> Result<(), Fail> {
-    for (first, second, wanted) in &COMPOSED {
-        let front = Color::try_from(*first).map_err(|error| error.fault)?;
-        let back = Color::try_from(*second).map_err(|error| error.fault)?;
-        let text = compose(front, back).map(|color| color.shown());
-        let given = text.as_ref().map(|text| text.as_str());
-        equal(&rt, given, *wanted, (*first, *second));
     }
     Ok(())
 }
