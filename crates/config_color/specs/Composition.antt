@@ -1,11 +1,10 @@
 -- The composition of two colors, and what it says of joined texts and of texts that mean the same.
-use Rattle.std.specs.Prelude.{◌≡◌, ℕ, ◌<◌, ◌↔◌, List, ◌∷◌, ◌++◌, length, Option, None, Some, Bool, IsTrue}
+use Rattle.std.specs.Prelude.{◌≡◌, ℕ, ◌<◌, List, ◌∷◌, ◌++◌, length, Option, None, Some}
 use Rattle.std.specs.Option.{option_to_list}
 use Rattle.std.specs.Int.RustNames.{bit_or}
 use Rattle.config_color.specs.declared.color.Color.{Color}
 use Rattle.config_word.specs.declared.name.Name.{Name}
 use Rattle.config_color.specs.Color.{TextRead, Placed, ColorText}
-use Rattle.config_color.specs.Space.{Space}
 use Rattle.config_text.specs.Value.{IsAccepted, HasText}
 use Rattle.config_word.specs.Attribute.{AttributeText}
 
@@ -47,8 +46,3 @@ pub data Moves (ws vs : List (List ℕ)) : Type 0 where
       → ws ≡ front ++ w ∷ back → vs ≡ ahead ++ w ∷ behind → front ++ back ≡ ahead ++ behind → Moves ws vs
   repeated : (w : List ℕ) (front back ahead behind : List (List ℕ)) → IsAccepted AttributeText w
       → ws ≡ front ++ w ∷ back → vs ≡ ahead ++ w ∷ behind → ws ≡ ahead ++ behind → Moves ws vs
-
--- the answer to whether two texts mean the same, by their words
-abbrev pub ComparesWords : List ℕ → List ℕ → Option Bool → Type 0
-ComparesWords a b None = Unit {0}
-ComparesWords a b (Some same) = IsTrue same ↔ (SameWords a b)

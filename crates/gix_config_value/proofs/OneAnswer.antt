@@ -1,5 +1,5 @@
 -- A line has one outcome, and an input one output.
-use Rattle.std.proofs.Common.{◌≡◌, ◌≢◌, ℕ, inl, inr, List, [], ◌∷◌, ◌++◌, Bool, true, Option, Some, refl, sym, ap, subst}
+use Rattle.std.proofs.Common.{◌≡◌, ◌≢◌, ℕ, inl, inr, List, [], ◌∷◌, ◌++◌, Bool, true, Some, refl, sym, ap, subst}
 use Rattle.std.proofs.Common.{◌∙◌, flat_map, append_assoc, append-nil}
 use Rattle.std.specs.List.{AllByRecursion, AllZip, list_all}
 use Rattle.gix_config_value.specs.declared.kind.Kind.{Kind}

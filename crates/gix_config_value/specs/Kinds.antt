@@ -1,6 +1,6 @@
 -- The kinds of value: for each its name, its values, its grammar, its canonical grammar, and why a text is
 -- refused.
-use Rattle.std.specs.Prelude.{◌≡◌, ◌≢◌, ℕ, List, codes, Bool, Option, None, Some, Result, Ok, Err}
+use Rattle.std.specs.Prelude.{◌≡◌, ◌≢◌, ℕ, List, codes, Option, None, Some, Result, Ok, Err}
 use Rattle.gix_config_value.specs.declared.kind.Kind.{Kind}
 use Rattle.gix_config_value.specs.declared.kind.Kind.TheVariants as kinds
 use Rattle.gix_config_value.specs.declared.refusal.Refusal.{Refusal}
@@ -24,7 +24,6 @@ use Rattle.config_boolean.specs.Boolean.{BooleanText, CanonicalBoolean}
 use Rattle.config_word.specs.Name.{NameText, CanonicalName}
 use Rattle.config_word.specs.Attribute.{AttributeText, CanonicalAttribute}
 use Rattle.config_color.specs.Color.{ColorText, CanonicalColor}
-use Rattle.config_color.specs.Composition.{ComparesWords}
 
 -- the name that a line begins with
 abbrev pub kind_name : Kind → List ℕ
@@ -96,8 +95,3 @@ WhyRefused grammar reason t (Some r) = reason r × IsRefused grammar t
 abbrev pub refusal_text : Refusal → List ℕ
 refusal_text refusals.Suffix = codes "Suffixes are k, m and g, in either case"
 refusal_text (refusals.Fault fault) = fault_text fault
-
--- what a comparison says of the words of two texts: for colors, that these decide
-abbrev pub KindComparesWords : Kind → List ℕ → List ℕ → Option Bool → Type 0
-KindComparesWords kinds.Color a b result = ComparesWords a b result
-KindComparesWords _ a b result = Unit {0}

@@ -1,10 +1,12 @@
 //! The kinds of value, as a choice made at run time.
-ghost use Rattle.std.specs.Prelude.{◌≡◌, ◌≢◌, [], Some, None, MatchOption, option_map, if◌then◌else◌, false};
+ghost use Rattle.std.specs.Prelude.{◌≡◌, ◌≢◌, [], Some, None, MatchOption, IfSome, ◌↔◌, IsTrue, option_map, if◌then◌else◌, false};
 ghost use Rattle.bstr.specs.BStr.{bstr_bytes};
 ghost use Rattle.gix_config_value.specs.Kinds.{kind_name, NamesKind, KindGrammar, KindCanonical};
-ghost use Rattle.gix_config_value.specs.Kinds.{KindComparesWords, KindRefusal, WhyRefused, IsFaultOf};
+ghost use Rattle.gix_config_value.specs.Kinds.{KindRefusal, WhyRefused, IsFaultOf};
+ghost use Rattle.config_color.specs.Composition.{SameWords};
 ghost use Rattle.config_text.specs.Value.{Normalizes, Compares};
 ghost use Rattle.gix_config_value.specs.declared.kind.Kind as kind;
+ghost use Rattle.gix_config_value.specs.declared.kind.Kind.TheVariants as kinds;
 
 use crate::refusal::Refusal;
 use bstr::BStr;
@@ -243,7 +245,10 @@ pub fn refusal(kind: Kind, input: BStr<'_>) -> Option<Refusal>
 /// ```
 pub fn same(kind: Kind, a: BStr<'_>, b: BStr<'_>) -> Option<bool>
     ensures answer { Compares (KindGrammar kind) (bstr_bytes a.entry) (bstr_bytes b.entry) result }
-    ensures words { KindComparesWords kind (bstr_bytes a.entry) (bstr_bytes b.entry) result }
+    ensures words {
+        kind ≡ kinds.Color
+            → IfSome result (λ same. IsTrue same ↔ (SameWords (bstr_bytes a.entry) (bstr_bytes b.entry)))
+    }
 {
     match kind {
         Kind::Suffix => same_as::<Suffix>(a, b),

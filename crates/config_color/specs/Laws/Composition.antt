@@ -1,6 +1,6 @@
 -- The laws of composition: the color of a joined text is the composition of its parts' colors, and what follows
 -- from that for `same`.
-use Rattle.std.proofs.Common.{◌≡◌, ℕ, ◌+◌, ◌<◌, ◌≤◌, ◌↔◌, ◌⊎◌, inl, inr, List, [], ◌∷◌, ◌++◌, length, codes, Option, Some, None, Bool, refl, sym, ap, subst, ◌∙◌, append_assoc, length-append, arith}
+use Rattle.std.proofs.Common.{◌≡◌, ℕ, ◌+◌, ◌<◌, ◌≤◌, ◌↔◌, ◌⊎◌, inl, inr, List, [], ◌∷◌, ◌++◌, length, codes, Option, Some, None, IfSome, Bool, IsTrue, refl, sym, ap, subst, ◌∙◌, append_assoc, length-append, arith}
 use Rattle.std.proofs.lemmas.Option.{some_pair_parts}
 use Rattle.std.proofs.lemmas.Bool.Decides.{leb_tells}
 use Rattle.std.specs.Int.RustNames.{bit_or}
@@ -10,7 +10,7 @@ use Rattle.config_word.specs.declared.name.Name.{Name}
 use Rattle.config_color.specs.Color.{WordsRead, TextRead, Placed, ColorText}
 use Rattle.config_color.specs.Laws.Color.{read_words, text_read, WordsRead-join, PartsRead, WordsRead-split, WordsRead-one, Placed-words, Placed-short, Placed-one, placing, same_color, color_one_value, color_decided}
 use Rattle.config_color.specs.Reading.Color.{places_of}
-use Rattle.config_color.specs.Composition.{color_names, Composition, Composes, Joined, HaveTooManyNames, SameWords, ComparesWords}
+use Rattle.config_color.specs.Composition.{color_names, Composition, Composes, Joined, HaveTooManyNames, SameWords}
 use Rattle.config_color.specs.Space.{Space}
 use Rattle.config_text.specs.Value.{IsAccepted, IsRefused, HasText, Compares}
 use Rattle.config_color.specs.Reading.Split.{words}
@@ -113,7 +113,7 @@ same_words a b v w p q = (agree, meet) where
 
 -- what `same` answers for color texts is said by their words
 pub compares_words : (a b : List ℕ) (result : Option Bool) → Compares ColorText a b result
-    → ComparesWords a b result
+    → IfSome result (λ same. IsTrue same ↔ (SameWords a b))
 compares_words a b None refused = tt
 compares_words a b (Some same) (v, w, compared) =
     let law = same_words a b v w compared.first compared.second in
