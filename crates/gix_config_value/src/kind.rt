@@ -1,5 +1,6 @@
 //! The kinds of value, as a choice made at run time.
-ghost use Rattle.std.specs.Prelude.{◌≡◌, ◌≢◌, [], Some, None, MatchOption, IfSome, ◌↔◌, IsTrue, option_map, if◌then◌else◌, false};
+ghost use Rattle.std.specs.Prelude.{◌≡◌, ◌≢◌, ◌↔◌, [], Some, None, MatchOption, IfSome, option_map};
+ghost use Rattle.std.specs.Prelude.{IsTrue, if◌then◌else◌, false};
 ghost use Rattle.bstr.specs.BStr.{bstr_bytes};
 ghost use Rattle.gix_config_value.specs.Kinds.{kind_name, NamesKind, KindGrammar, KindCanonical};
 ghost use Rattle.gix_config_value.specs.Kinds.{KindRefusal, WhyRefused, IsFaultOf};
