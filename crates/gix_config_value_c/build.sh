@@ -2,9 +2,9 @@
 # Builds the library for C: sh crates/gix_config_value_c/build.sh PREFIX
 #
 # It proves the crate and those below it, and then puts the header into PREFIX/include, a static archive and a shared
-# library into PREFIX/lib, what pkg-config reads into PREFIX/lib/pkgconfig, and the Python package into PREFIX/python.
-# It needs `rt`, a C compiler (CC, or cc) and binutils. Where GCV_ARCHIVE names a static library that `rt` has built
-# already, it takes that one and proves nothing.
+# library into PREFIX/lib, and what pkg-config reads into PREFIX/lib/pkgconfig. It needs `rt`, a C compiler (CC, or cc)
+# and binutils. Where GCV_ARCHIVE names a static library that `rt` has built already, it takes that one and proves
+# nothing.
 set -eu
 if [ $# -ne 1 ]; then
     echo "usage: sh $0 PREFIX" >&2
@@ -13,15 +13,6 @@ fi
 here=$(CDPATH='' cd -- "$(dirname -- "$0")" && pwd)
 mkdir -p -- "$1"
 prefix=$(CDPATH='' cd -- "$1" && pwd)
-# the Python package is put anew: what it replaces has to be one, and not the source
-package=$(CDPATH='' cd -- "$here/../../python" && pwd -P)
-if [ -e "$prefix/python" ]; then
-    replaced=$(CDPATH='' cd -- "$prefix/python" && pwd -P)
-    if [ "$replaced" = "$package" ] || [ ! -f "$replaced/wheel_of_package.py" ]; then
-        echo "$prefix/python is no package of an earlier build: choose another PREFIX" >&2
-        exit 2
-    fi
-fi
 mkdir -p -- "$prefix/include" "$prefix/lib/pkgconfig"
 version=$(cat "$here/VERSION")
 soname=libgix_config_value.so.${version%%.*}
@@ -62,8 +53,4 @@ ln -sf "libgix_config_value.so.$version" "$prefix/lib/$soname"
 ln -sf "$soname" "$prefix/lib/libgix_config_value.so"
 cp -- "$here/include/gix_config_value.h" "$prefix/include/"
 sed "s/@VERSION@/$version/" "$here/gix_config_value.pc.in" > "$prefix/lib/pkgconfig/gix_config_value.pc"
-# the Python package, with the shared library inside
-rm -rf -- "$prefix/python"
-cp -R -- "$package" "$prefix/python"
-cp -- "$prefix/lib/libgix_config_value.so.$version" "$prefix/python/gix_config_value/$soname"
 echo "gix_config_value $version is in $prefix"

@@ -3,12 +3,11 @@
 
 Nothing proves a header that is written by hand. So this compares it with the Rattle sources and the definitions: the
 names, order, types and offsets of the fields of each struct, the parameters of each exported call, and the number of
-each constant. The Python package has the same structs and numbers.
+each constant. The Python module includes the header, and has names of its own for the faults and the attributes.
 
 crates/gix_config_value_c/VERSION is the one version. The header says the same, and so do CHANGELOG.md, the program
 config_check, the Python package, and the library that was built into PREFIX. The name of the shared library has the
-first number of it, in the Python package too. The longest canonical text is one number as well: LONGEST_TEXT of
-config_text."""
+first number of it. The longest canonical text is one number as well: LONGEST_TEXT of config_text."""
 import pathlib
 import re
 import subprocess
@@ -19,26 +18,17 @@ ROOT = CRATE.parent.parent
 HEADER = CRATE / "include/gix_config_value.h"
 NUMBERS, FAULTS = CRATE / "specs/Numbers.antt", CRATE / "specs/Faults.antt"
 WORDS = ROOT / "crates/config_word"
-PACKAGE = ROOT / "python/gix_config_value/__init__.py"
+MODULE = ROOT / "python/_core.c"
 # a file, and how it says the version
 PLACES = [
     (HEADER, r'^#define GCV_VERSION "(.*)"$'),
     (ROOT / "CHANGELOG.md", r"^## \[?([0-9][^\s\]]*)"),
     (ROOT / "crates/config_check/src/main.rt", r'^        \.version\("(.*)"\)$'),
     (ROOT / "python/pyproject.toml", r'^version = "(.*)"$'),
-    (PACKAGE, r'^__version__ = "(.*)"$'),
-]
-# a file, and how it says the first number
-FIRST_NUMBERS = [
-    (ROOT / "python/gix_config_value/_library.py", r'^_NAME = "libgix_config_value\.so\.(.*)"$'),
-    (ROOT / "python/wheel_of_package.py", r'^LIBRARY = "libgix_config_value\.so\.(.*)"$'),
 ]
 # the longest canonical text, and what has to say the same
 LONGEST = (ROOT / "crates/config_text/src/value.rt", r"^pub const LONGEST_TEXT: usize = (\d+);$")
-LENGTHS = [
-    (HEADER, r"^enum \{ GCV_LONGEST_TEXT = (\d+) \};$"),
-    (PACKAGE, r"^_LONGEST_TEXT = (\d+)$"),
-]
+LENGTHS = [(HEADER, r"^enum \{ GCV_LONGEST_TEXT = (\d+) \};$")]
 # the first constant of an enum of the header; then where else its numbers are: the beginning of the constants' names,
 # a file, how it says a name and a number, and what makes the constant's value of that number
 ENUMS = {
@@ -60,25 +50,21 @@ ENUMS = {
     "GCV_NO_SUFFIX": [
         ("GCV_", CRATE / "src/numbers.rt", r"^        Some\(Suffix::(\w+)\) => (\d+),$", int),
         ("GCV_", NUMBERS, r"^suffix_number \(Some (\w+)\) = (\d+)$", int),
-        ("GCV_", PACKAGE, r"^    (\w+BI) = (\d+)$", int),
     ],
     "GCV_NO_NAME": [
         # the tag of a name is one more than its place
         ("GCV_", WORDS / "specs/Orders.antt", r"^name_place \(?(\w+)[^)=]*\)? = (\d+)$", lambda place: int(place) + 1),
-        ("GCV_", PACKAGE, r"^    (?!\w+BI )([A-Z_]+) = (\d+)$", int),
     ],
     "GCV_BOLD": [
         ("GCV_", WORDS / "specs/Attribute.antt", r'^    (?:∷ )?\(codes "(\w+)", (\d+), ', lambda bit: 1 << int(bit)),
-        ("GCV_", PACKAGE, r"^    (\w+) = 1 << (\d+)$", lambda bit: 1 << int(bit)),
     ],
 }
 # of what has no value: a text that a suffix's reader refuses, an integer without a suffix, a color without a name
 ZEROS = ("GCV_FAULT_NONE", "GCV_NO_SUFFIX", "GCV_NO_NAME")
 OTHER_NAMES = {"GCV_FAULT_ILL_FORMED_WHOLE": "GCV_FAULT_ILL_FORMED_PATH"}
-# the types of C for those of Rattle and of ctypes, and their sizes
+# the types of C for those of Rattle, and their sizes
 TYPES = {"i64": "int64_t", "u32": "uint32_t", "u8": "uint8_t", "usize": "size_t"}
-TYPES |= {"c_int64": "int64_t", "c_uint32": "uint32_t", "c_uint8": "uint8_t", "c_size_t": "size_t"}
-TYPES |= {f"{mark}{name.title()}": f"gcv_{name}" for name in ("integer", "name", "color", "entry") for mark in ("Gcv", "C")}
+TYPES |= {f"Gcv{name.title()}": f"gcv_{name}" for name in ("integer", "name", "color", "entry")}
 SIZES = {"int64_t": (8, 8), "uint32_t": (4, 4), "uint8_t": (1, 1), "size_t": (8, 8)}
 
 
@@ -93,7 +79,7 @@ def said(path, pattern):
 
 
 def constant(beginning, name):
-    """The constant of the header for a name in Rattle or Python."""
+    """The constant of the header for a name in Rattle."""
     whole = beginning + (name if name.isupper() else re.sub("(?<!^)(?=[A-Z])", "_", name).upper())
     return OTHER_NAMES.get(whole, whole)
 
@@ -120,9 +106,8 @@ def fields_of(body, pattern):
 
 
 def structs():
-    """The fields of each exported struct, in Rattle, in the header and in Python; and the offsets that C gives them."""
+    """The fields of each exported struct, in Rattle and in the header, and the offsets that C gives them."""
     source = "".join(text_of(path) for path in sorted((CRATE / "src").glob("*.rt")))
-    library = text_of(ROOT / "python/gix_config_value/_library.py")
     header = text_of(HEADER)
     found = re.findall(r"^#\[repr\(C\)\]\n(?:#[^\n]*\n)*pub struct (\w+) \{\n(.*?)^\}$", source, re.MULTILINE | re.DOTALL)
     # the structs in a struct come first
@@ -131,8 +116,6 @@ def structs():
         told = re.search(rf"^typedef struct {struct} \{{\n(.*?)^\}} {struct};$", header, re.MULTILINE | re.DOTALL)
         given = [(name, kind) for kind, name in re.findall(r"^    (\w+) (\w+);", told[1] if told else "", re.MULTILINE)]
         yield f"the header, {struct}", given, wanted
-        told = re.search(rf"^class C{name[3:]}\(.*?_fields_ = (.*?)\n", library, re.MULTILINE | re.DOTALL)
-        yield f"Python, {struct}", fields_of(told[1] if told else "", r'\("(\w+)", (\w+)\)'), wanted
         size, widest, offsets = 0, 1, {}
         for field, kind in wanted:
             taken, alignment = SIZES[kind]
@@ -167,6 +150,15 @@ def calls():
         yield f"the header, {name}", declared.get(name), wanted.get(name)
 
 
+def names_in_python():
+    """The codes of the faults, in the order of their numbers, and the constants of the attributes."""
+    faults = re.findall(r"^    GCV_FAULT_(\w+) = \d+", text_of(HEADER), re.MULTILINE)
+    listed = re.search(r"^static const char \*const codes\[\] = \{(.*?)\};$", text_of(MODULE), re.MULTILINE | re.DOTALL)
+    yield "Python, codes", re.findall(r'"(\w+)"', listed[1]), ["suffix", *map(str.lower, faults[1:])]
+    bits = re.findall(r"^    GCV_(\w+) = 1 << ", text_of(HEADER), re.MULTILINE)
+    yield "Python, attributes", re.findall(r'\{"(\w+)", GCV_\1\}', text_of(MODULE)), bits
+
+
 def built(prefix, version):
     """What pkg-config and the shared library in the prefix say, and what they should."""
     module = pathlib.Path(prefix) / "lib/pkgconfig/gix_config_value.pc"
@@ -180,10 +172,10 @@ def built(prefix, version):
 
 def main():
     version = text_of(CRATE / "VERSION").strip()
-    told = [(PLACES, version), (FIRST_NUMBERS, version.split(".")[0]), (LENGTHS, said(*LONGEST) or "a number")]
+    told = [(PLACES, version), (LENGTHS, said(*LONGEST) or "a number")]
     rows = [(str(path.relative_to(ROOT)), said(path, pattern), wanted)
             for places, wanted in told for path, pattern in places]
-    rows += [*numbers(), *structs(), *calls()]
+    rows += [*numbers(), *structs(), *calls(), *names_in_python()]
     if len(sys.argv) > 1:
         rows += built(sys.argv[1], version)
     wrong = [f"{place} says {given}, and not {wanted}" for place, given, wanted in rows if given != wanted]

@@ -139,20 +139,31 @@ for compiler in gcc clang g++ clang++; do
     done
 done
 
-# the Python package, where the library was built
-if ! python3 -c 'import ctypes' 2> /dev/null; then
-    echo "skipped: the Python package, for want of ctypes"
+# the Python package: one wheel for each Python of 3.9 and later, twice the same, and its tests on all that are here
+wheel() {
+    mkdir "$1"
+    (cd "$root/python" && python3 -B -W error -c 'import sys, wheel_of_package as it; it.build_wheel(sys.argv[1])' "$1")
+}
+if ! python3 -c 'import os, sysconfig; os.stat(sysconfig.get_path("include") + "/Python.h")' 2> /dev/null; then
+    echo "skipped: the Python package, for want of Python.h"
 else
-    holds "the Python package" env PYTHONDONTWRITEBYTECODE=1 PYTHONPATH="$prefix/python" \
-        python3 -m unittest discover -s "$root/python/tests"
-fi
-if ! python3 -m pip --version > /dev/null 2>&1; then
-    echo "skipped: the install of the Python package, for want of pip"
-else
-    holds "the Python package installs" python3 -m pip install --quiet --disable-pip-version-check --no-index \
-        --no-build-isolation --target "$work/site" "$prefix/python"
-    holds "the installed package runs" env PYTHONPATH="$work/site" \
-        sh -c "[ \"\$(python3 -m gix_config_value integer 0x10k)\" = 16k ]"
+    holds "the wheel" wheel "$work/wheel"
+    holds "the wheel, again" wheel "$work/again"
+    holds "the wheel is reproducible" diff -r "$work/wheel" "$work/again"
+    holds "an archive of its sources" env -C "$root/python" \
+        python3 -B -W error -c 'import sys, wheel_of_package as it; it.build_sdist(sys.argv[1])' "$work"
+    number=0
+    for python in python3 "${PYENV_ROOT:-$HOME/.pyenv}"/versions/*/bin/python3; do
+        "$python" -m pip --version 2> /dev/null | grep -qE 'python 3\.(9|[1-9][0-9])\)' || continue
+        number=$((number + 1))
+        version=$("$python" -V)
+        holds "$version takes the wheel" "$python" -m pip install --quiet --disable-pip-version-check --no-index \
+            --target "$work/site$number" "$work"/wheel/*.whl
+        holds "the package on $version" env -C "$root/python/tests" PYTHONDONTWRITEBYTECODE=1 \
+            PYTHONPATH="$work/site$number" "$python" -X dev -W error -bb -m unittest test_package
+    done
+    holds "pip builds the package of its sources" python3 -m pip wheel --quiet --disable-pip-version-check --no-index \
+        --no-deps --wheel-dir "$work/by_pip" "$work"/gix_config_value-*.tar.gz
 fi
 
 # the calls, under sanitizers where clang has them
