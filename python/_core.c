@@ -103,29 +103,30 @@ static PyObject *ascii(const char *text, size_t length)
     return PyUnicode_DecodeASCII(text, (Py_ssize_t)length, NULL);
 }
 
-/* The number of a kind, or 0 with an exception. */
-static uint32_t kind_of(PyObject *name)
+/* Whether a kind has this name; otherwise with an exception. */
+static int is_kind(PyObject *name, gcv_kind *kind)
 {
     if (!PyUnicode_Check(name)) {
         PyErr_Format(PyExc_TypeError, "a kind is a str, and not %R", Py_TYPE(name));
         return 0;
     }
-    for (uint32_t kind = 0; kinds[kind]; kind++)
-        if (PyUnicode_CompareWithASCIIString(name, kinds[kind]) == 0)
-            return kind + 1;
+    for (int at = 0; kinds[at]; at++) {
+        *kind = (gcv_kind)(at + 1);
+        if (PyUnicode_CompareWithASCIIString(name, kinds[at]) == 0)
+            return 1;
+    }
     PyErr_Format(PyExc_ValueError, "no kind %R: suffix, integer, amount, boolean, name, attribute, color",
                  name);
     return 0;
 }
 
 /* Raises Refused for a text, given as `bytes`. Always NULL. */
-static PyObject *refuse(uint32_t fault, PyObject *bytes)
+static PyObject *refuse(gcv_fault fault, PyObject *bytes)
 {
-    char text[GCV_LONGEST_TEXT + 1] = "Suffixes are one of k, m and g"; /* which has no number */
-    size_t size = strlen(text);
-    if (gcv_fault_text(fault, text, GCV_LONGEST_TEXT, &size) == GCV_OK)
-        text[size] = '\0';
-    PyObject *error = PyObject_CallFunction(refused_type, "ssO", codes[fault], text, bytes);
+    char text[GCV_LONGEST_TEXT];
+    size_t size = 0;
+    (void)gcv_fault_text(fault, text, sizeof text, &size);
+    PyObject *error = PyObject_CallFunction(refused_type, "ss#O", codes[fault], text, (Py_ssize_t)size, bytes);
     if (error)
         PyErr_SetObject(refused_type, error);
     Py_XDECREF(error);
@@ -158,7 +159,7 @@ static PyObject *attributes_of(uint32_t bits)
     return value_of(attribute_type, &color);
 }
 
-static PyObject *suffix_of(uint32_t suffix)
+static PyObject *suffix_of(gcv_suffix suffix)
 {
     if (suffix == GCV_NO_SUFFIX)
         Py_RETURN_NONE;
@@ -166,19 +167,21 @@ static PyObject *suffix_of(uint32_t suffix)
 }
 
 /* The value of a text of a kind. */
-static PyObject *read_bytes(uint32_t kind, PyObject *bytes)
+static PyObject *read_bytes(gcv_kind kind, PyObject *bytes)
 {
     const char *text = PyBytes_AsString(bytes);
     size_t length = (size_t)PyBytes_Size(bytes);
-    uint32_t fault = 0, number = 0;
+    gcv_fault fault = GCV_FAULT_NONE;
+    gcv_suffix unit = GCV_NO_SUFFIX;
+    uint32_t number = 0;
     int64_t amount = 0;
     gcv_integer integer;
     gcv_name name;
     gcv_color color;
     switch (kind) {
     case GCV_SUFFIX:
-        if (gcv_read_suffix(text, length, &number, &fault) == GCV_OK)
-            return suffix_of(number);
+        if (gcv_read_suffix(text, length, &unit, &fault) == GCV_OK)
+            return suffix_of(unit);
         break;
     case GCV_INTEGER:
         if (gcv_read_integer(text, length, &integer, &fault) == GCV_OK)
@@ -207,7 +210,7 @@ static PyObject *read_bytes(uint32_t kind, PyObject *bytes)
     return refuse(fault, bytes);
 }
 
-static PyObject *read_text(uint32_t kind, PyObject *text)
+static PyObject *read_text(gcv_kind kind, PyObject *text)
 {
     PyObject *bytes = bytes_of(text);
     PyObject *value = bytes ? read_bytes(kind, bytes) : NULL;
@@ -269,7 +272,8 @@ static PyObject *shown(PyObject *self)
 {
     char text[GCV_LONGEST_TEXT];
     size_t size = 0;
-    (void)gcv_show_color(&((Value *)self)->color, text, sizeof text, &size);
+    if (gcv_show_color(&((Value *)self)->color, text, sizeof text, &size) != GCV_OK)
+        return PyErr_Format(PyExc_SystemError, "a value has no text");
     return ascii(text, size);
 }
 
@@ -591,8 +595,8 @@ static PyObject *normalized(PyObject *Py_UNUSED(module), PyObject *args)
     size_t size = 0;
     if (!PyArg_ParseTuple(args, "OO:normalize", &name, &text))
         return NULL;
-    uint32_t kind = kind_of(name);
-    PyObject *bytes = kind ? bytes_of(text) : NULL, *result = NULL;
+    gcv_kind kind;
+    PyObject *bytes = is_kind(name, &kind) ? bytes_of(text) : NULL, *result = NULL;
     if (!bytes)
         return NULL;
     if (gcv_normalize(kind, PyBytes_AsString(bytes), (size_t)PyBytes_Size(bytes), canonical, sizeof canonical,
@@ -610,8 +614,8 @@ static PyObject *same(PyObject *Py_UNUSED(module), PyObject *args)
     uint32_t is_same = 0;
     if (!PyArg_ParseTuple(args, "OOO:same", &name, &texts[0], &texts[1]))
         return NULL;
-    uint32_t kind = kind_of(name);
-    if (kind && (bytes[0] = bytes_of(texts[0])) && (bytes[1] = bytes_of(texts[1]))) {
+    gcv_kind kind;
+    if (is_kind(name, &kind) && (bytes[0] = bytes_of(texts[0])) && (bytes[1] = bytes_of(texts[1]))) {
         if (gcv_same(kind, PyBytes_AsString(bytes[0]), (size_t)PyBytes_Size(bytes[0]),
                      PyBytes_AsString(bytes[1]), (size_t)PyBytes_Size(bytes[1]), &is_same) == GCV_OK)
             result = PyBool_FromLong((long)is_same);
@@ -632,27 +636,28 @@ static PyObject *encoded(PyObject *Py_UNUSED(module), PyObject *text)
 /* Paths */
 
 /* What a path in a context stands for, as `bytes`; or NULL, with an exception or with a fault. */
-static PyObject *whole_path(PyObject *path, const gcv_context *context, uint32_t *fault)
+static PyObject *whole_path(PyObject *path, const gcv_context *context, gcv_fault *fault)
 {
     const char *text = PyBytes_AsString(path);
     size_t length = (size_t)PyBytes_Size(path), size = 0;
     gcv_status status = gcv_interpolate(text, length, context, NULL, 0, &size, fault);
-    PyObject *whole = NULL;
     if (status == GCV_OK || status == GCV_SHORT_BUFFER) {
-        whole = PyBytes_FromStringAndSize(NULL, (Py_ssize_t)size);
-        if (whole && size > 0)
-            (void)gcv_interpolate(text, length, context, PyBytes_AsString(whole), size, &size, fault);
-    } else if (status == GCV_NO_MEMORY) {
-        PyErr_NoMemory();
-    } else if (status != GCV_REFUSED) {
-        PyErr_SetString(PyExc_ValueError, "a directory is not UTF-8");
+        PyObject *whole = PyBytes_FromStringAndSize(NULL, (Py_ssize_t)size);
+        if (!whole)
+            return NULL;
+        status = gcv_interpolate(text, length, context, PyBytes_AsString(whole), size, &size, fault);
+        if (status == GCV_OK)
+            return whole;
+        Py_DECREF(whole);
     }
-    return whole;
+    if (status == GCV_NO_MEMORY)
+        return PyErr_NoMemory();
+    return status == GCV_REFUSED ? NULL : PyErr_Format(PyExc_ValueError, "%s", gcv_status_text(status));
 }
 
 /* The same for a path whose user the library asks for: it stands for what `~` and the rest stand for where
  * the home is that of the user. */
-static PyObject *path_of_user(PyObject *path, PyObject *users, uint32_t *fault)
+static PyObject *path_of_user(PyObject *path, PyObject *users, gcv_fault *fault)
 {
     const char *text = PyBytes_AsString(path), *end = text + PyBytes_Size(path);
     uint32_t is_optional = 0;
@@ -690,7 +695,7 @@ static PyObject *path_of_user(PyObject *path, PyObject *users, uint32_t *fault)
 static PyObject *interpolated(PyObject *Py_UNUSED(module), PyObject *args)
 {
     PyObject *path, *prefix, *home, *users;
-    uint32_t fault = 0;
+    gcv_fault fault = GCV_FAULT_NONE;
     gcv_context context = {0};
     if (!PyArg_ParseTuple(args, "SOOO", &path, &prefix, &home, &users))
         return NULL;
@@ -774,7 +779,7 @@ PyMODINIT_FUNC PyInit__core(void)
     PyObject *own = PyImport_ImportModule("gix_config_value._refused");
     refused_type = own ? PyObject_GetAttrString(own, "Refused") : NULL;
     Py_XDECREF(own);
-    if (!refused_type || PyModule_AddStringConstant(module, "version", GCV_VERSION) != 0)
+    if (!refused_type || PyModule_AddStringConstant(module, "version", gcv_version()) != 0)
         return NULL;
     for (int word = 0; word < WORDS; word++) {
         PyObject *one = attributes_of(words[word].bit);

@@ -7,7 +7,8 @@ each constant. The Python module includes the header, and has names of its own f
 
 crates/gix_config_value_c/VERSION is the one version. The header says the same, and so do CHANGELOG.md, the program
 config_check, the Python package, and the library that was built into PREFIX. The name of the shared library has the
-first number of it. The longest canonical text is one number as well: LONGEST_TEXT of config_text."""
+first number of it, and below 1.0 the second one too. The longest canonical text is one number as well: LONGEST_TEXT of
+config_text."""
 import pathlib
 import re
 import subprocess
@@ -15,7 +16,7 @@ import sys
 
 CRATE = pathlib.Path(__file__).resolve().parent.parent
 ROOT = CRATE.parent.parent
-HEADER = CRATE / "include/gix_config_value.h"
+HEADER, CALLS = CRATE / "include/gix_config_value.h", CRATE / "calls.c"
 NUMBERS, FAULTS = CRATE / "specs/Numbers.antt", CRATE / "specs/Faults.antt"
 WORDS = ROOT / "crates/config_word"
 MODULE = ROOT / "python/_core.c"
@@ -26,6 +27,7 @@ PLACES = [
     (ROOT / "crates/config_check/src/main.rt", r'^        \.version\("(.*)"\)$'),
     (ROOT / "python/pyproject.toml", r'^version = "(.*)"$'),
 ]
+PARTS = [(HEADER, rf"^#define GCV_VERSION_{part} (\d+)$") for part in ("MAJOR", "MINOR", "PATCH")]
 # the longest canonical text, and what has to say the same
 LONGEST = (ROOT / "crates/config_text/src/value.rt", r"^pub const LONGEST_TEXT: usize = (\d+);$")
 LENGTHS = [(HEADER, r"^enum \{ GCV_LONGEST_TEXT = (\d+) \};$")]
@@ -59,12 +61,15 @@ ENUMS = {
         ("GCV_", WORDS / "specs/Attribute.antt", r'^    (?:∷ )?\(codes "(\w+)", (\d+), ', lambda bit: 1 << int(bit)),
     ],
 }
+BITS = re.compile(r"^#define (GCV_\w+) (0x[0-9a-f]{8})u$", re.MULTILINE)
 # of what has no value: a text that a suffix's reader refuses, an integer without a suffix, a color without a name
 ZEROS = ("GCV_FAULT_NONE", "GCV_NO_SUFFIX", "GCV_NO_NAME")
 OTHER_NAMES = {"GCV_FAULT_ILL_FORMED_WHOLE": "GCV_FAULT_ILL_FORMED_PATH"}
 # the types of C for those of Rattle, and their sizes
 TYPES = {"i64": "int64_t", "u32": "uint32_t", "u8": "uint8_t", "usize": "size_t"}
 TYPES |= {f"Gcv{name.title()}": f"gcv_{name}" for name in ("integer", "name", "color", "entry")}
+# the enums of C are numbers of 32 bits, and a text is of chars
+NUMBERED = re.compile(r"\bgcv_(status|kind|fault|suffix|tag)\b")
 SIZES = {"int64_t": (8, 8), "uint32_t": (4, 4), "uint8_t": (1, 1), "size_t": (8, 8)}
 
 
@@ -87,9 +92,9 @@ def constant(beginning, name):
 def numbers():
     """Each number of an enum of the header, in the header and in each sort of file that has it."""
     for first, places in ENUMS.items():
-        body = re.search(rf"^enum \{{\n(    {first} = .*?)^\}};$", text_of(HEADER), re.MULTILINE | re.DOTALL)
-        here = {name: int(number) << int(shift or 0) for name, number, shift
-                in re.findall(r"^    (GCV_\w+) = (\d+)(?: << (\d+))?", body[1] if body else "", re.MULTILINE)}
+        body = re.search(rf"^typedef GCV_ENUM\(\w+\) \{{\n(    {first} = .*?)^\}}", text_of(HEADER), re.MULTILINE | re.DOTALL)
+        listed = re.findall(r"^    (GCV_\w+) = (\d+)", body[1], re.MULTILINE) if body else BITS.findall(text_of(HEADER))
+        here = {name: int(number, 0) for name, number in listed}
         found = {path.suffix: {} for _, path, *_ in places}
         for beginning, path, pattern, value in places:
             for it in re.finditer(pattern, text_of(path), re.MULTILINE):
@@ -114,7 +119,8 @@ def structs():
     for name, body in sorted(found, key=lambda it: it[1].count("Gcv")):
         struct, wanted = TYPES[name], fields_of(body, r"^    pub (\w+): (\w+),$")
         told = re.search(rf"^typedef struct {struct} \{{\n(.*?)^\}} {struct};$", header, re.MULTILINE | re.DOTALL)
-        given = [(name, kind) for kind, name in re.findall(r"^    (\w+) (\w+);", told[1] if told else "", re.MULTILINE)]
+        told = NUMBERED.sub("uint32_t", told[1] if told else "")
+        given = [(name, kind) for kind, name in re.findall(r"^    (\w+) (\w+);", told, re.MULTILINE)]
         yield f"the header, {struct}", given, wanted
         size, widest, offsets = 0, 1, {}
         for field, kind in wanted:
@@ -143,6 +149,7 @@ def calls():
     exported = re.findall(r'^pub extern "C" fn (\w+)\((.*?)\)(?: -> (\w+))?$', source, re.MULTILINE | re.DOTALL)
     declared = {}
     for result, name, words in re.findall(r"^(\w+) (gcv_raw_\w+)\((.*?)\);$", text_of(HEADER), re.MULTILINE | re.DOTALL):
+        words = NUMBERED.sub("uint32_t", re.sub(r"\bchar\b", "uint8_t", words))
         declared[name] = result, [re.sub(r"\w+$", "", word.strip()).strip() for word in words.split(",")]
     wanted = {name: ({"u32": "gcv_status", "": "void"}[result], list(parameters(" ".join(words.split()))))
               for name, words, result in exported}
@@ -150,20 +157,23 @@ def calls():
         yield f"the header, {name}", declared.get(name), wanted.get(name)
 
 
-def names_in_python():
-    """The codes of the faults, in the order of their numbers, and the constants of the attributes."""
+def names():
+    """Python's codes of the faults, in the order of their numbers, its attributes, and the statuses that have a text."""
     faults = re.findall(r"^    GCV_FAULT_(\w+) = \d+", text_of(HEADER), re.MULTILINE)
     listed = re.search(r"^static const char \*const codes\[\] = \{(.*?)\};$", text_of(MODULE), re.MULTILINE | re.DOTALL)
     yield "Python, codes", re.findall(r'"(\w+)"', listed[1]), ["suffix", *map(str.lower, faults[1:])]
-    bits = re.findall(r"^    GCV_(\w+) = 1 << ", text_of(HEADER), re.MULTILINE)
+    bits = [name.replace("GCV_", "") for name, _ in BITS.findall(text_of(HEADER))]
     yield "Python, attributes", re.findall(r'\{"(\w+)", GCV_\1\}', text_of(MODULE)), bits
+    # each status has a text of its own
+    statuses = re.findall(r"^    (GCV_\w+) = \d", text_of(HEADER).split("} gcv_status;")[0], re.MULTILINE)
+    yield "the texts of statuses", re.findall(r"^    case (GCV_\w+):$", text_of(CALLS), re.MULTILINE), statuses
 
 
 def built(prefix, version):
     """What pkg-config and the shared library in the prefix say, and what they should."""
     module = pathlib.Path(prefix) / "lib/pkgconfig/gix_config_value.pc"
     yield str(module), said(module, r"^Version: (.*)$"), version
-    soname = f"libgix_config_value.so.{version.split('.')[0]}"
+    soname = "libgix_config_value.so." + (version.rpartition(".")[0] if version[:2] == "0." else version.split(".")[0])
     library = pathlib.Path(prefix) / "lib" / f"libgix_config_value.so.{version}"
     dynamic = subprocess.run(["readelf", "-d", library], capture_output=True, text=True, check=False).stdout
     found = re.search(r"SONAME.*\[(.*)\]", dynamic)
@@ -175,7 +185,9 @@ def main():
     told = [(PLACES, version), (LENGTHS, said(*LONGEST) or "a number")]
     rows = [(str(path.relative_to(ROOT)), said(path, pattern), wanted)
             for places, wanted in told for path, pattern in places]
-    rows += [*numbers(), *structs(), *calls(), *names_in_python()]
+    rows += [(f"the header, part {at} of the version", said(*place), version.split(".")[at])
+             for at, place in enumerate(PARTS)]
+    rows += [*numbers(), *structs(), *calls(), *names()]
     if len(sys.argv) > 1:
         rows += built(sys.argv[1], version)
     wrong = [f"{place} says {given}, and not {wanted}" for place, given, wanted in rows if given != wanted]
