@@ -1,7 +1,9 @@
 /* The module gix_config_value._core, over the calls of gix_config_value.h, for CPython's stable ABI of 3.9.
  *
- * Every object is a value that some text reads to, so each has a canonical text, and `str` cannot fail. */
-#define PY_SSIZE_T_CLEAN
+ * Every object is a value that some text reads to, so each has a canonical text, and `str` cannot fail.
+ *
+ * What the headers of one Python make of a macro must be right on each other one. So no format has a `#`, whose length
+ * is an int or not by the version, and no macro returns None, which 3.12 and later no longer count. */
 #define Py_LIMITED_API 0x03090000
 #include <Python.h>
 #include <string.h>
@@ -66,6 +68,13 @@ static uint32_t known_bits(void)
     return bits;
 }
 
+/* A new reference. */
+static PyObject *counted(PyObject *object)
+{
+    Py_INCREF(object);
+    return object;
+}
+
 /* Texts */
 
 /* The bytes of a text, as a new object of the type `bytes` itself. A str is encoded as UTF-8, with the bytes
@@ -74,10 +83,8 @@ static uint32_t known_bits(void)
 static PyObject *bytes_of(PyObject *text)
 {
     static const char *const handlers[] = {"surrogateescape", "surrogatepass"};
-    if (PyBytes_CheckExact(text)) {
-        Py_INCREF(text);
-        return text;
-    }
+    if (PyBytes_CheckExact(text))
+        return counted(text);
     if (PyUnicode_Check(text)) {
         PyObject *bytes = PyUnicode_AsUTF8String(text);
         for (int at = 0; at < 2 && !bytes && PyErr_ExceptionMatches(PyExc_UnicodeEncodeError); at++) {
@@ -126,7 +133,7 @@ static PyObject *refuse(gcv_fault fault, PyObject *bytes)
     char text[GCV_LONGEST_TEXT];
     size_t size = 0;
     (void)gcv_fault_text(fault, text, sizeof text, &size);
-    PyObject *error = PyObject_CallFunction(refused_type, "ss#O", codes[fault], text, (Py_ssize_t)size, bytes);
+    PyObject *error = PyObject_CallFunction(refused_type, "sNO", codes[fault], ascii(text, size), bytes);
     if (error)
         PyErr_SetObject(refused_type, error);
     Py_XDECREF(error);
@@ -147,7 +154,7 @@ static PyObject *name_of(const gcv_name *name)
 {
     gcv_color color = {0};
     if (name->tag == GCV_NO_NAME)
-        Py_RETURN_NONE;
+        return counted(Py_None);
     color.foreground = *name;
     return value_of(name_type, &color);
 }
@@ -162,7 +169,7 @@ static PyObject *attributes_of(uint32_t bits)
 static PyObject *suffix_of(gcv_suffix suffix)
 {
     if (suffix == GCV_NO_SUFFIX)
-        Py_RETURN_NONE;
+        return counted(Py_None);
     return PyUnicode_FromString(suffixes[suffix]);
 }
 
@@ -249,13 +256,16 @@ static PyObject *compared(PyObject *self, PyObject *other, int operation)
 {
     uint64_t first[3], second[3];
     if (Py_TYPE(self) != Py_TYPE(other))
-        Py_RETURN_NOTIMPLEMENTED;
+        return counted(Py_NotImplemented);
     key_of(self, first);
     key_of(other, second);
     int at = 0;
     while (at < 2 && first[at] == second[at])
         at++;
-    Py_RETURN_RICHCOMPARE(first[at], second[at], operation);
+    int is_less = first[at] < second[at], is_equal = first[at] == second[at];
+    const int answers[] = {[Py_LT] = is_less,   [Py_LE] = is_less || is_equal,   [Py_EQ] = is_equal,
+                           [Py_NE] = !is_equal, [Py_GT] = !is_less && !is_equal, [Py_GE] = !is_less};
+    return PyBool_FromLong(answers[operation]);
 }
 
 static Py_hash_t hashed(PyObject *self)
@@ -347,7 +357,7 @@ static PyObject *name_palette(PyObject *self, void *Py_UNUSED(closure))
 {
     const gcv_name *name = &((Value *)self)->color.foreground;
     if (name->tag != GCV_ANSI)
-        Py_RETURN_NONE;
+        return counted(Py_None);
     return PyLong_FromLong(name->palette);
 }
 
@@ -355,7 +365,7 @@ static PyObject *name_rgb(PyObject *self, void *Py_UNUSED(closure))
 {
     const gcv_name *name = &((Value *)self)->color.foreground;
     if (name->tag != GCV_RGB)
-        Py_RETURN_NONE;
+        return counted(Py_None);
     return Py_BuildValue("BBB", name->red, name->green, name->blue);
 }
 
@@ -469,7 +479,7 @@ static PyObject *attribute_invert(PyObject *self)
     static PyObject *NAME(PyObject *first, PyObject *second)                       \
     {                                                                              \
         if (Py_TYPE(first) != attribute_type || Py_TYPE(second) != attribute_type) \
-            Py_RETURN_NOTIMPLEMENTED;                                              \
+            return counted(Py_NotImplemented);                                              \
         uint32_t one = bits_of(first), other = bits_of(second);                    \
         return attributes_of(BITS);                                                \
     }
@@ -667,7 +677,9 @@ static PyObject *path_of_user(PyObject *path, PyObject *users, gcv_fault *fault)
     const char *name = text + start + 1, *rest = name;
     while (rest < end && *rest != '/')
         rest++;
-    PyObject *found = PyObject_CallFunction(users, "s#", name, (Py_ssize_t)(rest - name));
+    PyObject *user = PyUnicode_DecodeUTF8(name, rest - name, NULL);
+    PyObject *found = user ? PyObject_CallFunctionObjArgs(users, user, NULL) : NULL;
+    Py_XDECREF(user);
     if (!found || found == Py_None) {
         Py_XDECREF(found);
         return NULL;

@@ -248,6 +248,23 @@ class Values(unittest.TestCase):
         self.assertRaises(TypeError, lambda: names[0] < colors[0])
 
 
+    def test_references(self):
+        objects = [Name, Attribute, Color, Refused, ATTRIBUTES[0]]
+        if sys.version_info < (3, 12):  # where these are not immortal
+            objects += [None, True, False, NotImplemented]
+        before = [sys.getrefcount(one) for one in objects]
+        for _ in range(2000):
+            for value in VALUES:
+                self.assertFalse(value < value or value != copy.copy(value) or value == 1)
+                self.assertTrue(value <= value and str(value) == f"{value}" and repr(value))
+            self.assertEqual((Name("red").palette, Name("red").rgb, Color().foreground), (None, None, None))
+            self.assertEqual((boolean("on"), boolean(""), integer_parts("1"), gcv.cut_mark("")[0]),
+                             (True, False, (1, None), False))
+            self.assertRaises(Refused, interpolate, "~u", users={}.get)
+        for one, count in zip(objects, before):
+            self.assertLess(abs(sys.getrefcount(one) - count), 100, one)
+
+
 class Paths(unittest.TestCase):
     def test_directories(self):
         self.assertEqual(interpolate(":(optional)%(prefix)/x", prefix=pathlib.Path("/usr")), "/usr/x")

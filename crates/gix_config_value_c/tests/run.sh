@@ -191,30 +191,38 @@ for compiler in gcc clang g++ clang++; do
     done
 done
 
-# the Python package: one wheel for each Python of 3.9 and later, twice the same, and its tests on all that are here
+# the Python package: wheels by the headers of each Python of 3.9 and later that is here, each on all of them
 # shellcheck disable=SC2317
 wheel() {
     mkdir "$1"
-    (cd "$root/python" && python3 -B -W error -c 'import sys, wheel_of_package as it; it.build_wheel(sys.argv[1])' "$1")
+    (cd "$root/python" && "$2" -B -W error -c 'import sys, wheel_of_package as it; it.build_wheel(sys.argv[1])' "$1")
 }
-if ! python3 -c 'import os, sysconfig; os.stat(sysconfig.get_path("include") + "/Python.h")' 2> /dev/null; then
-    echo "skipped: the Python package, for want of Python.h"
-else
-    holds "the wheel" wheel "$work/wheel"
-    holds "the wheel, again" wheel "$work/again"
-    holds "the wheel is reproducible" diff -r "$work/wheel" "$work/again"
-    holds "an archive of its sources" env -C "$root/python" \
-        python3 -B -W error -c 'import sys, wheel_of_package as it; it.build_sdist(sys.argv[1])' "$work"
-    number=0
-    for python in python3 "${PYENV_ROOT:-$HOME/.pyenv}"/versions/*/bin/python3; do
-        "$python" -m pip --version 2> /dev/null | grep -qE 'python 3\.(9|[1-9][0-9])\)' || continue
-        number=$((number + 1))
-        version=$("$python" -V)
-        holds "$version takes the wheel" "$python" -m pip install --quiet --disable-pip-version-check --no-index \
-            --target "$work/site$number" "$work"/wheel/*.whl
-        holds "the package on $version" env -C "$root/python/tests" PYTHONDONTWRITEBYTECODE=1 \
-            PYTHONPATH="$work/site$number" "$python" -X dev -W error -bb -m unittest test_package
+pythons=
+for python in python3 "${PYENV_ROOT:-$HOME/.pyenv}"/versions/*/bin/python3; do
+    if "$python" -m pip --version 2> /dev/null | grep -qE 'python 3\.(9|[1-9][0-9])\)' && "$python" -c \
+        'import os, sysconfig; os.stat(sysconfig.get_path("include") + "/Python.h")' 2> /dev/null; then
+        pythons="$pythons $python"
+    fi
+done
+[ -n "$pythons" ] || echo "skipped: the Python package, for want of Python 3.9 with its headers and pip"
+for builder in $pythons; do
+    by=$("$builder" -V)
+    rm -rf "$work/wheel" "$work/again" "$work/site"
+    holds "the wheel by $by" wheel "$work/wheel" "$builder"
+    holds "the wheel by $by, again" wheel "$work/again" "$builder"
+    holds "the wheel by $by is reproducible" diff -r "$work/wheel" "$work/again"
+    for python in $pythons; do
+        rm -rf "$work/site"
+        on="by $by on $("$python" -V)"
+        holds "the wheel $on is taken" "$python" -m pip install --quiet --disable-pip-version-check --no-index \
+            --target "$work/site" "$work"/wheel/*.whl
+        holds "the package $on" env -C "$root/python/tests" PYTHONDONTWRITEBYTECODE=1 PYTHONPATH="$work/site" \
+            "$python" -X dev -W error -bb -m unittest test_package
     done
+done
+if [ -n "$pythons" ]; then
+    holds "an archive of the sources" env -C "$root/python" \
+        python3 -B -W error -c 'import sys, wheel_of_package as it; it.build_sdist(sys.argv[1])' "$work"
     holds "pip builds the package of its sources" python3 -m pip wheel --quiet --disable-pip-version-check --no-index \
         --no-deps --wheel-dir "$work/by_pip" "$work"/gix_config_value-*.tar.gz
 fi
