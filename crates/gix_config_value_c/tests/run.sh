@@ -198,29 +198,38 @@ wheel() {
     (cd "$root/python" && "$2" -B -W error -c 'import sys, wheel_of_package as it; it.build_wheel(sys.argv[1])' "$1")
 }
 pythons=
+versions=
 for python in python3 "${PYENV_ROOT:-$HOME/.pyenv}"/versions/*/bin/python3; do
-    if "$python" -m pip --version 2> /dev/null | grep -qE 'python 3\.(9|[1-9][0-9])\)' && "$python" -c \
-        'import os, sysconfig; os.stat(sysconfig.get_path("include") + "/Python.h")' 2> /dev/null; then
-        pythons="$pythons $python"
-    fi
+    version=$("$python" -c 'import os, sys, sysconfig
+os.stat(sysconfig.get_path("include") + "/Python.h")
+sys.exit("too old" if sys.version_info < (3, 9) else print(sys.version))' 2> /dev/null) || continue
+    case $versions in
+        *"/$version/"*) ;;
+        *)
+            pythons="$pythons $python"
+            versions="$versions/$version/"
+            ;;
+    esac
 done
-[ -n "$pythons" ] || echo "skipped: the Python package, for want of Python 3.9 with its headers and pip"
+[ -n "$pythons" ] || echo "skipped: the Python package, for want of Python 3.9 with its headers"
 for builder in $pythons; do
     by=$("$builder" -V)
-    rm -rf "$work/wheel" "$work/again" "$work/site"
+    rm -rf "$work/wheel" "$work/site"
     holds "the wheel by $by" wheel "$work/wheel" "$builder"
-    holds "the wheel by $by, again" wheel "$work/again" "$builder"
-    holds "the wheel by $by is reproducible" diff -r "$work/wheel" "$work/again"
+    holds "the wheel by $by, taken apart" "$builder" -m zipfile -e "$work"/wheel/*.whl "$work/site"
     for python in $pythons; do
-        rm -rf "$work/site"
-        on="by $by on $("$python" -V)"
-        holds "the wheel $on is taken" "$python" -m pip install --quiet --disable-pip-version-check --no-index \
-            --target "$work/site" "$work"/wheel/*.whl
-        holds "the package $on" env -C "$root/python/tests" PYTHONDONTWRITEBYTECODE=1 PYTHONPATH="$work/site" \
-            "$python" -X dev -W error -bb -m unittest test_package
+        holds "the package by $by on $("$python" -V)" env -C "$root/python/tests" PYTHONDONTWRITEBYTECODE=1 \
+            PYTHONPATH="$work/site" "$python" -X dev -W error -bb -m unittest test_package
     done
 done
+for python in $pythons; do
+    "$python" -m pip --version > /dev/null 2>&1 || continue
+    holds "$("$python" -V) takes the wheel" "$python" -m pip install --quiet --disable-pip-version-check --no-index \
+        --target "$work/$("$python" -V)" "$work"/wheel/*.whl
+done
 if [ -n "$pythons" ]; then
+    holds "the wheel, again" wheel "$work/again" "$builder"
+    holds "the wheel is reproducible" diff -r "$work/wheel" "$work/again"
     holds "an archive of the sources" env -C "$root/python" \
         python3 -B -W error -c 'import sys, wheel_of_package as it; it.build_sdist(sys.argv[1])' "$work"
     holds "pip builds the package of its sources" python3 -m pip wheel --quiet --disable-pip-version-check --no-index \
