@@ -1,19 +1,102 @@
-"""Makes a wheel of the package and the shared library inside it, for pip. It needs nothing but Python."""
+"""Compiles the package's module over the C library that pkg-config finds, and makes a wheel of it, for pip.
+
+It needs a C compiler (CC, or cc), the headers of Python and `pkg-config`; CFLAGS and LDFLAGS are passed on. One wheel
+serves Python 3.9 and later. The same sources, compiler, zlib and SOURCE_DATE_EPOCH give the same bytes.
+"""
 import base64
 import hashlib
+import os
 import pathlib
+import platform
 import re
+import shlex
+import subprocess
 import sysconfig
+import tarfile
+import tempfile
+import time
 import zipfile
 
 HERE = pathlib.Path(__file__).resolve().parent
-LIBRARY = "libgix_config_value.so.0"
+PACKAGE = "gix_config_value"
+LICENSES = ("LICENSE-APACHE", "LICENSE-MIT")
+SOURCES = ("_core.c", "pyproject.toml", "wheel_of_package.py")
+MODULE = "_core.abi3.so"
+# the C library of manylinux2014, which a wheel for any Linux may ask for
+OLDEST_GLIBC = 17
 
 
 def _said(key):
     """What pyproject.toml says of the project."""
     text = (HERE / "pyproject.toml").read_text(encoding="utf-8")
     return re.search(rf'^{key} = "(.*)"$', text, re.MULTILINE).group(1)
+
+
+def _license(name):
+    """The text of a license, in a copy of the sources or in the repository."""
+    return next(place / name for place in (HERE, HERE.parent) if (place / name).exists()).read_bytes()
+
+
+def _words(variable, default=""):
+    return shlex.split(os.environ.get(variable) or default)
+
+
+def _library(variable):
+    """Where the C library is, by pkg-config."""
+    command = [*_words("PKG_CONFIG", "pkg-config"), f"--variable={variable}", PACKAGE]
+    run = subprocess.run(command, stdout=subprocess.PIPE, text=True, check=False)
+    if run.returncode != 0:
+        raise SystemExit(f"pkg-config does not find {PACKAGE}: build it by `sh crates/gix_config_value_c/build.sh "
+                         "PREFIX`, and set PKG_CONFIG_PATH=PREFIX/lib/pkgconfig")
+    return run.stdout.strip()
+
+
+def _compiled():
+    """The bytes of the module, which shows nothing but its entry."""
+    with tempfile.TemporaryDirectory() as work:
+        module = pathlib.Path(work, MODULE)
+        subprocess.run([*_words("CC", "cc"), "-std=c99", "-O2", "-fPIC", "-fvisibility=hidden", *_words("CFLAGS"),
+                        f"-I{sysconfig.get_path('include')}", f"-I{_library('includedir')}", "-shared", "_core.c",
+                        f"{_library('libdir')}/lib{PACKAGE}.a", *_words("LDFLAGS"), "-Wl,--exclude-libs,ALL", "-s",
+                        "-o", module], cwd=HERE, check=True)
+        return module.read_bytes()
+
+
+def _tag(module):
+    """What the module needs: the stable ABI of 3.9, and a C library that its symbols name."""
+    machine = platform.machine()
+    if platform.libc_ver()[0] != "glibc":
+        return f"cp39-abi3-{re.sub('[^A-Za-z0-9]', '_', sysconfig.get_platform())}"
+    newest = max([OLDEST_GLIBC, *map(int, re.findall(rb"GLIBC_2\.(\d+)", module))])
+    older = f".manylinux2014_{machine}" if newest == OLDEST_GLIBC else ""
+    return f"cp39-abi3-manylinux_2_{newest}_{machine}{older}"
+
+
+def _metadata():
+    # the head of the package is what its page says
+    description = re.match(r'"""(.*?)"""', (HERE / PACKAGE / "__init__.py").read_text("utf-8"), re.DOTALL)[1]
+    classifiers = ("Development Status :: 4 - Beta", "Intended Audience :: Developers",
+                   "License :: OSI Approved :: Apache Software License", "License :: OSI Approved :: MIT License",
+                   "Operating System :: POSIX :: Linux", "Programming Language :: C",
+                   "Programming Language :: Python :: 3", "Topic :: Software Development :: Version Control :: Git",
+                   "Typing :: Typed")
+    return "".join([
+        f"Metadata-Version: 2.1\nName: {_said('name')}\nVersion: {_said('version')}\n",
+        f"Summary: {_said('description')}\nLicense: {_said('license')}\n",
+        *(f"License-File: {name}\n" for name in LICENSES),
+        *(f"Classifier: {classifier}\n" for classifier in classifiers),
+        f"Requires-Python: {_said('requires-python')}\nDescription-Content-Type: text/plain\n\n{description}",
+    ]).encode()
+
+
+def _package():
+    """The files of the package, by their names, without what Python or a compiler leaves there."""
+    return {f"{PACKAGE}/{file.name}": file.read_bytes() for file in sorted((HERE / PACKAGE).iterdir())
+            if file.suffix in (".py", ".pyi", ".typed")}
+
+
+def _time():
+    return max(int(os.environ.get("SOURCE_DATE_EPOCH", 0)), 315532800)  # a zip begins in 1980
 
 
 def _record(name, data):
@@ -23,23 +106,36 @@ def _record(name, data):
 
 def build_wheel(wheel_directory, config_settings=None, metadata_directory=None):
     """The wheel's file name, once it is written."""
-    package = HERE / "gix_config_value"
-    if not (package / LIBRARY).exists():
-        build = "sh crates/gix_config_value_c/build.sh PREFIX"
-        raise SystemExit(f"no {package / LIBRARY}: run {build}, and install PREFIX/python")
-    name, version = _said("name"), _said("version")
-    tag = "py3-none-" + re.sub(r"[^A-Za-z0-9]", "_", sysconfig.get_platform())
-    info = f"{name}-{version}.dist-info"
-    files = {f"gix_config_value/{file.name}": file.read_bytes() for file in sorted(package.iterdir()) if file.is_file()}
-    files[f"{info}/METADATA"] = (
-        f"Metadata-Version: 2.1\nName: {name}\nVersion: {version}\nSummary: {_said('description')}\n"
-        f"Requires-Python: {_said('requires-python')}\n"
-    ).encode()
-    files[f"{info}/WHEEL"] = f"Wheel-Version: 1.0\nGenerator: {__name__}\nRoot-Is-Purelib: false\nTag: {tag}\n".encode()
+    module = _compiled()
+    name = f"{_said('name')}-{_said('version')}"
+    info, tag = f"{name}.dist-info", _tag(module)
+    files = {**_package(), f"{PACKAGE}/{MODULE}": module, f"{info}/METADATA": _metadata()}
+    files.update((f"{info}/licenses/{license}", _license(license)) for license in LICENSES)
+    tags = "".join(f"Tag: cp39-abi3-{one}\n" for one in tag.rpartition("-")[2].split("."))
+    files[f"{info}/WHEEL"] = f"Wheel-Version: 1.0\nGenerator: {__name__}\nRoot-Is-Purelib: false\n{tags}".encode()
     records = "".join(_record(path, data) for path, data in files.items())
     files[f"{info}/RECORD"] = f"{records}{info}/RECORD,,\n".encode()
-    wheel = f"{name}-{version}-{tag}.whl"
-    with zipfile.ZipFile(pathlib.Path(wheel_directory) / wheel, "w", zipfile.ZIP_DEFLATED) as archive:
+    wheel = f"{name}-{tag}.whl"
+    with zipfile.ZipFile(pathlib.Path(wheel_directory, wheel), "w") as archive:
         for path, data in files.items():
-            archive.writestr(path, data)
+            entry = zipfile.ZipInfo(path, time.gmtime(_time())[:6])
+            entry.compress_type, entry.create_system = zipfile.ZIP_DEFLATED, 3
+            entry.external_attr = (0o100755 if path.endswith(".so") else 0o100644) << 16
+            archive.writestr(entry, data)
     return wheel
+
+
+def build_sdist(sdist_directory, config_settings=None):
+    """The name of an archive of the sources, once it is written. A wheel is made of it where the C library is."""
+    name = f"{_said('name')}-{_said('version')}"
+    files = {**_package(), **{source: (HERE / source).read_bytes() for source in SOURCES},
+             **{license: _license(license) for license in LICENSES}, "PKG-INFO": _metadata()}
+    with tarfile.open(pathlib.Path(sdist_directory, f"{name}.tar.gz"), "w:gz", format=tarfile.PAX_FORMAT) as archive:
+        for path, data in files.items():
+            with tempfile.TemporaryFile() as file:
+                file.write(data)
+                file.seek(0)
+                entry = tarfile.TarInfo(f"{name}/{path}")
+                entry.size, entry.mtime = len(data), _time()
+                archive.addfile(entry, file)
+    return f"{name}.tar.gz"

@@ -1,30 +1,55 @@
 #!/bin/sh
-# Builds the library for C: sh crates/gix_config_value_c/build.sh PREFIX
+# Builds and installs the library for C: sh crates/gix_config_value_c/build.sh PREFIX
+# Takes away what that has installed:    sh crates/gix_config_value_c/build.sh --uninstall PREFIX
 #
 # It proves the crate and those below it, and then puts the header into PREFIX/include, a static archive and a shared
-# library into PREFIX/lib, what pkg-config reads into PREFIX/lib/pkgconfig, and the Python package into PREFIX/python.
-# It needs `rt`, a C compiler (CC, or cc) and binutils. Where GCV_ARCHIVE names a static library that `rt` has built
-# already, it takes that one and proves nothing.
+# library into LIBDIR (PREFIX/lib), what pkg-config reads into LIBDIR/pkgconfig, and the licenses into
+# PREFIX/share/doc/gix_config_value. It needs `rt`, a C compiler (CC, or cc) and binutils.
+#
+# CFLAGS and LDFLAGS are passed on to the compiler. With DESTDIR all files go below that folder, and say nothing of it.
+# Where GCV_ARCHIVE names a static library that `rt` has built already, it takes that one and proves nothing.
 set -eu
+action=install
+if [ "${1:-}" = --uninstall ]; then
+    action=uninstall
+    shift
+fi
 if [ $# -ne 1 ]; then
-    echo "usage: sh $0 PREFIX" >&2
+    echo "usage: sh $0 [--uninstall] PREFIX" >&2
     exit 2
 fi
 here=$(CDPATH='' cd -- "$(dirname -- "$0")" && pwd)
-mkdir -p -- "$1"
-prefix=$(CDPATH='' cd -- "$1" && pwd)
-# the Python package is put anew: what it replaces has to be one, and not the source
-package=$(CDPATH='' cd -- "$here/../../python" && pwd -P)
-if [ -e "$prefix/python" ]; then
-    replaced=$(CDPATH='' cd -- "$prefix/python" && pwd -P)
-    if [ "$replaced" = "$package" ] || [ ! -f "$replaced/wheel_of_package.py" ]; then
-        echo "$prefix/python is no package of an earlier build: choose another PREFIX" >&2
-        exit 2
-    fi
-fi
-mkdir -p -- "$prefix/include" "$prefix/lib/pkgconfig"
+root=$(CDPATH='' cd -- "$here/../.." && pwd)
+absolute() {
+    case $1 in
+        /*) printf '%s\n' "$1" ;;
+        *) printf '%s\n' "$PWD/$1" ;;
+    esac
+}
+prefix=$(absolute "$1")
+libdir=$(absolute "${LIBDIR:-$prefix/lib}")
+include=${DESTDIR:-}$prefix/include
+lib=${DESTDIR:-}$libdir
+doc=${DESTDIR:-}$prefix/share/doc/gix_config_value
+# below 1.0 each minor number may break a program, and has a library of its own
 version=$(cat "$here/VERSION")
-soname=libgix_config_value.so.${version%%.*}
+case $version in
+    0.*) soname=libgix_config_value.so.${version%.*} ;;
+    *) soname=libgix_config_value.so.${version%%.*} ;;
+esac
+
+if [ $action = uninstall ]; then
+    rm -f -- "$include/gix_config_value.h" "$lib/libgix_config_value.a" "$lib/libgix_config_value.so" "$lib/$soname" \
+        "$lib/libgix_config_value.so.$version" "$lib/pkgconfig/gix_config_value.pc" \
+        "$doc/LICENSE-APACHE" "$doc/LICENSE-MIT"
+    # the folders, as far as nothing else is in them
+    for folder in "$doc" "$lib/pkgconfig" "$lib" "$include"; do
+        rmdir -- "$folder" 2> /dev/null || true
+    done
+    echo "gix_config_value $version is no longer in $prefix"
+    exit
+fi
+
 if ! rt=$(command -v rt); then
     echo "rt, the command of the toolchain, is not in PATH" >&2
     exit 2
@@ -41,29 +66,39 @@ trap 'rm -rf -- "$work"' EXIT
 trap 'exit 130' INT
 trap 'exit 143' TERM
 
+# for every processor of x86-64, as the toolchain does not do by itself
 archive=${GCV_ARCHIVE:-}
 if [ -z "$archive" ]; then
-    (cd "$here" && rt lib)
+    (cd "$here" && rt lib --cpu=x86-64)
     archive=$here/out/libgix_config_value_c.a
 fi
 
-# one object, which shows nothing but what the header declares; CC may be several words
+# one object, which shows nothing but what the header declares; CC and the flags may be several words
 cc=${CC:-cc}
 # shellcheck disable=SC2086
-$cc -r -nostdlib -o "$work/gix_config_value.o" \
-    -Wl,--whole-archive "$archive" "$heap" -Wl,--no-whole-archive
-objcopy --wildcard --keep-global-symbol='gcv_raw_*' "$work/gix_config_value.o"
-rm -f -- "$prefix/lib/libgix_config_value.a"
-ar rcs "$prefix/lib/libgix_config_value.a" "$work/gix_config_value.o"
+$cc -std=c99 -O2 -fPIC ${CFLAGS:-} -I"$here/include" -c -o "$work/calls.o" "$here/calls.c"
 # shellcheck disable=SC2086
-$cc -shared -o "$prefix/lib/libgix_config_value.so.$version" -Wl,-soname,"$soname" -Wl,-z,defs -Wl,-z,noexecstack \
-    "$work/gix_config_value.o"
-ln -sf "libgix_config_value.so.$version" "$prefix/lib/$soname"
-ln -sf "$soname" "$prefix/lib/libgix_config_value.so"
-cp -- "$here/include/gix_config_value.h" "$prefix/include/"
-sed "s/@VERSION@/$version/" "$here/gix_config_value.pc.in" > "$prefix/lib/pkgconfig/gix_config_value.pc"
-# the Python package, with the shared library inside
-rm -rf -- "$prefix/python"
-cp -R -- "$package" "$prefix/python"
-cp -- "$prefix/lib/libgix_config_value.so.$version" "$prefix/python/gix_config_value/$soname"
-echo "gix_config_value $version is in $prefix"
+$cc -r -nostdlib -o "$work/gix_config_value.o" \
+    -Wl,--whole-archive "$archive" "$heap" -Wl,--no-whole-archive "$work/calls.o"
+objcopy --wildcard --keep-global-symbol='gcv_*' "$work/gix_config_value.o"
+ar rcsD "$work/libgix_config_value.a" "$work/gix_config_value.o"
+# shellcheck disable=SC2086
+$cc -shared -o "$work/libgix_config_value.so.$version" -Wl,-soname,"$soname" -Wl,-z,defs -Wl,-z,noexecstack \
+    -Wl,-z,relro ${CFLAGS:-} "$work/gix_config_value.o" ${LDFLAGS:-}
+escaped() {
+    printf '%s' "$1" | sed 's/[ \\]/\\&/g; s/[\\&|]/\\&/g'
+}
+sed -e "s|@PREFIX@|$(escaped "$prefix")|" -e "s|@LIBDIR@|$(escaped "$libdir")|" -e "s|@VERSION@|$version|" \
+    "$here/gix_config_value.pc.in" > "$work/gix_config_value.pc"
+
+# into place: folders and files that all can read, whatever the mask is
+umask 022
+mkdir -p -- "$include" "$lib/pkgconfig" "$doc"
+install -m 644 "$here/include/gix_config_value.h" "$include/"
+install -m 644 "$work/libgix_config_value.a" "$lib/"
+install -m 755 "$work/libgix_config_value.so.$version" "$lib/"
+ln -sf "libgix_config_value.so.$version" "$lib/$soname"
+ln -sf "$soname" "$lib/libgix_config_value.so"
+install -m 644 "$work/gix_config_value.pc" "$lib/pkgconfig/"
+install -m 644 "$root/LICENSE-APACHE" "$root/LICENSE-MIT" "$doc/"
+echo "gix_config_value $version is in ${DESTDIR:-}$prefix"

@@ -13,7 +13,7 @@ kit=$(dirname -- "$(dirname -- "$(readlink -f -- "$(command -v rt)")")")
 build() {
     archive=$1
     if ls crates/*/out/rlib/stamp > /dev/null 2>&1; then
-        (cd crates/$crate && rt lib) && cp -- crates/$crate/out/lib$crate.a "$archive"
+        (cd crates/$crate && rt lib --cpu=x86-64) && cp -- crates/$crate/out/lib$crate.a "$archive"
         return
     fi
     # the crates that crates.txt names for this one, in the toolchain or here
@@ -27,7 +27,7 @@ build() {
     done
     (cd crates/$crate && "$kit/bin/rattle" build --crate-name $crate --crate-type staticlib src/lib.rt \
         "$@" -L "dependency=$kit/rlibs" --antt-project "$kit/rattle/logic/antt-project.json" \
-        --logic-built "$kit/logic_built" --toolchain "$kit/toolchain" --links $crate= \
+        --logic-built "$kit/logic_built" --toolchain "$kit/toolchain" --links $crate= --cpu x86-64 \
         --jobs 1 -o "$archive")
 }
 

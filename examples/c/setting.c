@@ -13,7 +13,7 @@ int main(int argc, char **argv)
 {
     gcv_entry entry;
     int64_t limit = 4096;
-    uint32_t fault = GCV_FAULT_NONE;
+    gcv_fault fault = GCV_FAULT_NONE;
     if (argc != 2) {
         fprintf(stderr, "usage: %s NAME\n", argv[0]);
         return 2;
@@ -23,12 +23,13 @@ int main(int argc, char **argv)
         printf("%lld, by default\n", (long long)limit);
         return 0;
     case GCV_OK:
-        (void)gcv_read_amount(bytes + entry.start, entry.length, &limit, NULL);
-        printf("%lld, by entry %zu\n", (long long)limit, entry.index);
-        return 0;
     case GCV_REFUSED:
-        (void)gcv_read_amount(bytes + entry.start, entry.length, &limit, &fault);
-        printf("entry %zu is refused, with fault %u: %.*s\n", entry.index, (unsigned)fault, (int)entry.length, bytes + entry.start);
+        if (gcv_read_amount(bytes + entry.start, entry.length, &limit, &fault) == GCV_OK) {
+            printf("%lld, by entry %zu\n", (long long)limit, entry.index);
+            return 0;
+        }
+        printf("entry %zu is refused, with fault %u: %.*s\n", entry.index, (unsigned)fault, (int)entry.length,
+               bytes + entry.start);
         return 1;
     default:
         return 2;

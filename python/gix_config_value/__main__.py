@@ -2,10 +2,13 @@
 import os
 import sys
 
-from . import KINDS, Refused, normalize
+from . import KINDS, Refused, __version__, normalize
 
 
-def main() -> int:
+def main():
+    if sys.argv[1:] == ["--version"]:
+        print(f"gix_config_value {__version__}")
+        return 0
     if len(sys.argv) != 3 or sys.argv[1] not in KINDS:
         print(f"usage: python -m gix_config_value {'|'.join(KINDS)} TEXT", file=sys.stderr)
         return 2

@@ -1,4 +1,4 @@
-/* The readers of Git configuration values, for C99 and C++.
+/* The readers of Git configuration values, for C and C++.
  *
  * A text is a pointer and a length, of any bytes, and needs no NUL behind it; where the length is 0 the pointer may be
  * null. Each call reads only the bytes that it is given, writes only where this page says, and keeps no pointer past
@@ -17,23 +17,56 @@
  * GCV_SHORT_BUFFER the buffer is as it was, and `*size` is the capacity that the text needs. With any other answer the
  * buffer and `*size` are as they were.
  *
- * The static inline calls are the ones to use. The calls with `gcv_raw_` in their names are what the library exports:
- * they take no null pointer, not even where the length is 0. Each of them is proved to keep what its contract says. */
+ * The calls are inline, and the library exports each of them too: with GCV_CALL defined as `extern`, a generator of
+ * bindings takes them from there. Each is over one with `gcv_raw_` in its name, which takes no null pointer, not even
+ * where the length is 0, and is proved to keep its contract. */
 #ifndef GIX_CONFIG_VALUE_H
 #define GIX_CONFIG_VALUE_H
 
 #include <stddef.h>
 #include <stdint.h>
 
+/* The version of this page; gcv_version tells that of the library. Below 1.0 a new minor number may change any call, so
+ * the name of the shared library has both numbers. From 1.0 only a new major number may, and the name has that one. */
 #define GCV_VERSION "0.1.0"
+#define GCV_VERSION_MAJOR 0
+#define GCV_VERSION_MINOR 1
+#define GCV_VERSION_PATCH 0
 
 #ifdef __cplusplus
 extern "C" {
 #endif
 
+#if defined(__cplusplus) || (defined(__STDC_VERSION__) && __STDC_VERSION__ >= 199901L)
+#define GCV_INLINE static inline
+#else
+#define GCV_INLINE static __inline
+#endif
+#ifndef GCV_CALL
+#define GCV_CALL GCV_INLINE
+#endif
+
+/* What a compiler can tell of a wrong call: a null pointer, a status that nobody looks at, pointers that overlap. */
+#ifdef __GNUC__
+#define GCV_NONNULL(positions) __attribute__((nonnull positions))
+#define GCV_CHECKED __attribute__((warn_unused_result))
+#define GCV_RESTRICT __restrict
+#else
+#define GCV_NONNULL(positions)
+#define GCV_CHECKED
+#define GCV_RESTRICT
+#endif
+#define GCV_ANSWERS(positions) GCV_CALL GCV_CHECKED GCV_NONNULL(positions) gcv_status
+
+/* An enum has a type of its own, of 32 bits, so that a compiler can tell a status from a fault. */
+#if defined(__cplusplus) && __cplusplus >= 201103L
+#define GCV_ENUM(name) enum name : uint32_t
+#else
+#define GCV_ENUM(name) enum name
+#endif
+
 /* What a call answers. */
-typedef uint32_t gcv_status;
-enum {
+typedef GCV_ENUM(gcv_status) {
     GCV_OK = 0,
     GCV_REFUSED = 1,        /* the text has no value of its kind, or the path stands for nothing; see the fault */
     GCV_OVERFLOW = 2,       /* the product of an integer leaves int64_t */
@@ -49,10 +82,10 @@ enum {
     GCV_BAD_LENGTHS = 12,   /* the lengths are not those of names and texts that fill the bytes */
     GCV_SHORT_BUFFER = 13,  /* the buffer is shorter than the text */
     GCV_NO_MEMORY = 14      /* memory was refused, or a path stands for more than there can be */
-};
+} gcv_status;
 
 /* The kinds of values. */
-enum {
+typedef GCV_ENUM(gcv_kind) {
     GCV_SUFFIX = 1,    /* k, m, g */
     GCV_INTEGER = 2,   /* numbers with at most one suffix */
     GCV_AMOUNT = 3,    /* numbers whose product with their suffix fits int64_t */
@@ -60,10 +93,10 @@ enum {
     GCV_NAME = 5,      /* names of colors */
     GCV_ATTRIBUTE = 6, /* words of attributes, one at a time */
     GCV_COLOR = 7      /* names of a foreground and a background, and attributes */
-};
+} gcv_kind;
 
 /* Why a text or a path is refused. */
-enum {
+typedef GCV_ENUM(gcv_fault) {
     GCV_FAULT_NONE = 0, /* of a refused suffix, of which no more is told */
     GCV_FAULT_BOOLEAN = 1,
     GCV_FAULT_INTEGER = 2,
@@ -80,18 +113,18 @@ enum {
     GCV_FAULT_ILL_FORMED_USERNAME = 13,
     GCV_FAULT_ILL_FORMED_PAST_USER = 14,
     GCV_FAULT_ILL_FORMED_PATH = 15
-};
+} gcv_fault;
 
 /* The suffix of an integer. */
-enum {
+typedef GCV_ENUM(gcv_suffix) {
     GCV_NO_SUFFIX = 0,
     GCV_KIBI = 1, /* k, 1024 */
     GCV_MEBI = 2, /* m, 1024 * 1024 */
     GCV_GIBI = 3  /* g, 1024 * 1024 * 1024 */
-};
+} gcv_suffix;
 
 /* The tag of a name. */
-enum {
+typedef GCV_ENUM(gcv_tag) {
     GCV_NO_NAME = 0, /* of a color that lacks this name */
     GCV_NORMAL = 1,
     GCV_DEFAULT = 2,
@@ -113,26 +146,24 @@ enum {
     GCV_BRIGHT_WHITE = 18,
     GCV_ANSI = 19, /* the number `palette` of the terminal's palette */
     GCV_RGB = 20   /* `red`, `green` and `blue` */
-};
+} gcv_tag;
 
 /* The bits of attributes. */
-enum {
-    GCV_BOLD = 1 << 1,
-    GCV_DIM = 1 << 2,
-    GCV_ITALIC = 1 << 3,
-    GCV_UL = 1 << 4,
-    GCV_BLINK = 1 << 5,
-    GCV_REVERSE = 1 << 6,
-    GCV_STRIKE = 1 << 7,
-    GCV_RESET = 1 << 8,
-    GCV_NO_DIM = 1 << 21,
-    GCV_NO_BOLD = 1 << 22,
-    GCV_NO_ITALIC = 1 << 23,
-    GCV_NO_UL = 1 << 24,
-    GCV_NO_BLINK = 1 << 25,
-    GCV_NO_REVERSE = 1 << 26,
-    GCV_NO_STRIKE = 1 << 27
-};
+#define GCV_BOLD 0x00000002u
+#define GCV_DIM 0x00000004u
+#define GCV_ITALIC 0x00000008u
+#define GCV_UL 0x00000010u
+#define GCV_BLINK 0x00000020u
+#define GCV_REVERSE 0x00000040u
+#define GCV_STRIKE 0x00000080u
+#define GCV_RESET 0x00000100u
+#define GCV_NO_DIM 0x00200000u
+#define GCV_NO_BOLD 0x00400000u
+#define GCV_NO_ITALIC 0x00800000u
+#define GCV_NO_UL 0x01000000u
+#define GCV_NO_BLINK 0x02000000u
+#define GCV_NO_REVERSE 0x04000000u
+#define GCV_NO_STRIKE 0x08000000u
 
 /* The longest text of a value, canonical or shown: a buffer of this capacity is never too short for one. */
 enum { GCV_LONGEST_TEXT = 127 };
@@ -140,12 +171,12 @@ enum { GCV_LONGEST_TEXT = 127 };
 /* A number and the suffix that it was written with, which are kept apart. All 0 is the number 0. */
 typedef struct gcv_integer {
     int64_t value;
-    uint32_t suffix;
+    gcv_suffix suffix;
 } gcv_integer;
 
 /* The name of a color. What the tag does not use is 0. */
 typedef struct gcv_name {
-    uint32_t tag;
+    gcv_tag tag;
     uint8_t palette;
     uint8_t red;
     uint8_t green;
@@ -174,6 +205,7 @@ typedef struct gcv_entry {
 #else
 #define GCV_ASSERT(fact) extern const char gcv_asserted[(fact) ? 1 : -1]
 #endif
+GCV_ASSERT(sizeof(gcv_status) == 4 && sizeof(gcv_kind) == 4 && sizeof(gcv_fault) == 4);
 GCV_ASSERT(offsetof(gcv_integer, value) == 0);
 GCV_ASSERT(offsetof(gcv_integer, suffix) == 8);
 GCV_ASSERT(sizeof(gcv_integer) == 16);
@@ -203,102 +235,113 @@ typedef struct gcv_context {
     size_t passwd_length;
 } gcv_context;
 
-/* What the library exports. No pointer may be null. */
-gcv_status gcv_raw_read_suffix(const uint8_t *text, size_t length, uint32_t *out, uint32_t *fault);
-gcv_status gcv_raw_read_integer(const uint8_t *text, size_t length, gcv_integer *out, uint32_t *fault);
-gcv_status gcv_raw_read_amount(const uint8_t *text, size_t length, int64_t *out, uint32_t *fault);
-gcv_status gcv_raw_read_boolean(const uint8_t *text, size_t length, uint32_t *out, uint32_t *fault);
-gcv_status gcv_raw_read_name(const uint8_t *text, size_t length, gcv_name *out, uint32_t *fault);
-gcv_status gcv_raw_read_attribute(const uint8_t *text, size_t length, uint32_t *out, uint32_t *fault);
-gcv_status gcv_raw_read_color(const uint8_t *text, size_t length, gcv_color *out, uint32_t *fault);
+/* The version of the library, which ends with NUL. */
+const char *gcv_version(void);
+
+/* What a status says, which ends with NUL: "unknown status" where no status has the number. */
+const char *gcv_status_text(gcv_status status);
+
+/* Writes the text of a fault, of at most GCV_LONGEST_TEXT bytes. GCV_UNKNOWN_FAULT where the number is not that of a
+ * fault. */
+gcv_status gcv_fault_text(gcv_fault fault, char *GCV_RESTRICT buffer, size_t capacity, size_t *size) GCV_NONNULL((4));
+
+/* What the library is proved for. No pointer may be null. */
+gcv_status gcv_raw_read_suffix(const char *text, size_t length, gcv_suffix *out, gcv_fault *fault);
+gcv_status gcv_raw_read_integer(const char *text, size_t length, gcv_integer *out, gcv_fault *fault);
+gcv_status gcv_raw_read_amount(const char *text, size_t length, int64_t *out, gcv_fault *fault);
+gcv_status gcv_raw_read_boolean(const char *text, size_t length, uint32_t *out, gcv_fault *fault);
+gcv_status gcv_raw_read_name(const char *text, size_t length, gcv_name *out, gcv_fault *fault);
+gcv_status gcv_raw_read_attribute(const char *text, size_t length, uint32_t *out, gcv_fault *fault);
+gcv_status gcv_raw_read_color(const char *text, size_t length, gcv_color *out, gcv_fault *fault);
 gcv_status gcv_raw_product(const gcv_integer *value, int64_t *out);
-gcv_status gcv_raw_show_suffix(uint32_t suffix, uint8_t *buffer, size_t capacity, size_t *size);
-gcv_status gcv_raw_show_integer(const gcv_integer *value, uint8_t *buffer, size_t capacity, size_t *size);
-gcv_status gcv_raw_show_amount(int64_t value, uint8_t *buffer, size_t capacity, size_t *size);
-gcv_status gcv_raw_show_boolean(uint32_t value, uint8_t *buffer, size_t capacity, size_t *size);
-gcv_status gcv_raw_show_name(const gcv_name *value, uint8_t *buffer, size_t capacity, size_t *size);
-gcv_status gcv_raw_show_attribute(uint32_t bits, uint8_t *buffer, size_t capacity, size_t *size);
-gcv_status gcv_raw_show_color(const gcv_color *value, uint8_t *buffer, size_t capacity, size_t *size);
-gcv_status gcv_raw_json_suffix(uint32_t suffix, uint8_t *buffer, size_t capacity, size_t *size);
-gcv_status gcv_raw_json_integer(const gcv_integer *value, uint8_t *buffer, size_t capacity, size_t *size);
-gcv_status gcv_raw_json_boolean(uint32_t value, uint8_t *buffer, size_t capacity, size_t *size);
-gcv_status gcv_raw_json_name(const gcv_name *value, uint8_t *buffer, size_t capacity, size_t *size);
-gcv_status gcv_raw_json_attribute(uint32_t bits, uint8_t *buffer, size_t capacity, size_t *size);
-gcv_status gcv_raw_normalize(uint32_t kind, const uint8_t *text, size_t length, uint8_t *buffer, size_t capacity, size_t *size);
-gcv_status gcv_raw_same(uint32_t kind, const uint8_t *first, size_t first_length, const uint8_t *second, size_t second_length,
+gcv_status gcv_raw_show_suffix(gcv_suffix suffix, char *buffer, size_t capacity, size_t *size);
+gcv_status gcv_raw_show_integer(const gcv_integer *value, char *buffer, size_t capacity, size_t *size);
+gcv_status gcv_raw_show_amount(int64_t value, char *buffer, size_t capacity, size_t *size);
+gcv_status gcv_raw_show_boolean(uint32_t value, char *buffer, size_t capacity, size_t *size);
+gcv_status gcv_raw_show_name(const gcv_name *value, char *buffer, size_t capacity, size_t *size);
+gcv_status gcv_raw_show_attribute(uint32_t bits, char *buffer, size_t capacity, size_t *size);
+gcv_status gcv_raw_show_color(const gcv_color *value, char *buffer, size_t capacity, size_t *size);
+gcv_status gcv_raw_json_suffix(gcv_suffix suffix, char *buffer, size_t capacity, size_t *size);
+gcv_status gcv_raw_json_integer(const gcv_integer *value, char *buffer, size_t capacity, size_t *size);
+gcv_status gcv_raw_json_boolean(uint32_t value, char *buffer, size_t capacity, size_t *size);
+gcv_status gcv_raw_json_name(const gcv_name *value, char *buffer, size_t capacity, size_t *size);
+gcv_status gcv_raw_json_attribute(uint32_t bits, char *buffer, size_t capacity, size_t *size);
+gcv_status gcv_raw_normalize(gcv_kind kind, const char *text, size_t length, char *buffer, size_t capacity,
+                             size_t *size);
+gcv_status gcv_raw_same(gcv_kind kind, const char *first, size_t first_length, const char *second, size_t second_length,
                         uint32_t *out);
 gcv_status gcv_raw_compose(const gcv_color *first, const gcv_color *second, gcv_color *out);
-gcv_status gcv_raw_lookup(uint32_t kind, const uint8_t *bytes, size_t bytes_length, const size_t *lengths, size_t lengths_count,
-                          const uint8_t *name, size_t name_length, gcv_entry *out);
-void gcv_raw_cut_mark(const uint8_t *text, size_t length, uint32_t *optional, size_t *start);
-gcv_status gcv_raw_interpolate(const uint8_t *text, size_t length, uint32_t has_install_dir, const uint8_t *install_dir,
-                               size_t install_dir_length, uint32_t has_home, const uint8_t *home, size_t home_length,
-                               uint32_t has_passwd, const uint8_t *passwd, size_t passwd_length, uint8_t *buffer,
-                               size_t capacity, size_t *size, uint32_t *fault);
-gcv_status gcv_raw_fault_text(uint32_t fault, uint8_t *buffer, size_t capacity, size_t *size);
+gcv_status gcv_raw_lookup(gcv_kind kind, const char *bytes, size_t bytes_length, const size_t *lengths,
+                          size_t lengths_count, const char *name, size_t name_length, gcv_entry *out);
+void gcv_raw_cut_mark(const char *text, size_t length, uint32_t *optional, size_t *start);
+gcv_status gcv_raw_interpolate(const char *text, size_t length, uint32_t has_install_dir, const char *install_dir,
+                               size_t install_dir_length, uint32_t has_home, const char *home, size_t home_length,
+                               uint32_t has_passwd, const char *passwd, size_t passwd_length, char *buffer,
+                               size_t capacity, size_t *size, gcv_fault *fault);
+gcv_status gcv_raw_fault_text(gcv_fault fault, char *buffer, size_t capacity, size_t *size);
 
 /* The address of a text, which is not null where the text is empty. */
-static inline const uint8_t *gcv_bytes(const char *text, size_t length)
+GCV_INLINE const char *gcv_bytes(const char *text, size_t length)
 {
-    return (const uint8_t *)(length == 0 ? "" : text);
+    return length == 0 ? "" : text;
 }
 
 /* Readers. Each puts the value of the text into `*out`, or, with GCV_REFUSED, where the text has none, the number of
  * the fault into `*fault`. The other one is as it was. */
 
 /* Puts GCV_KIBI, GCV_MEBI or GCV_GIBI. The fault is GCV_FAULT_NONE. */
-static inline gcv_status gcv_read_suffix(const char *text, size_t length, uint32_t *out, uint32_t *fault)
+GCV_ANSWERS((3)) gcv_read_suffix(const char *text, size_t length, gcv_suffix *GCV_RESTRICT out, gcv_fault *fault)
 {
-    uint32_t unused = 0;
+    gcv_fault unused = GCV_FAULT_NONE;
     return gcv_raw_read_suffix(gcv_bytes(text, length), length, out, fault ? fault : &unused);
 }
 
 /* Puts a number and its suffix, whose product may leave int64_t. The fault is GCV_FAULT_INTEGER. */
-static inline gcv_status gcv_read_integer(const char *text, size_t length, gcv_integer *out, uint32_t *fault)
+GCV_ANSWERS((3)) gcv_read_integer(const char *text, size_t length, gcv_integer *GCV_RESTRICT out, gcv_fault *fault)
 {
-    uint32_t unused = 0;
+    gcv_fault unused = GCV_FAULT_NONE;
     return gcv_raw_read_integer(gcv_bytes(text, length), length, out, fault ? fault : &unused);
 }
 
 /* Puts the product of a number and its suffix. The fault is GCV_FAULT_INTEGER where the text is no integer, and
  * GCV_FAULT_OVERFLOW where the product leaves int64_t. */
-static inline gcv_status gcv_read_amount(const char *text, size_t length, int64_t *out, uint32_t *fault)
+GCV_ANSWERS((3)) gcv_read_amount(const char *text, size_t length, int64_t *GCV_RESTRICT out, gcv_fault *fault)
 {
-    uint32_t unused = 0;
+    gcv_fault unused = GCV_FAULT_NONE;
     return gcv_raw_read_amount(gcv_bytes(text, length), length, out, fault ? fault : &unused);
 }
 
 /* Puts 1 for true and 0 for false. The fault is GCV_FAULT_BOOLEAN. */
-static inline gcv_status gcv_read_boolean(const char *text, size_t length, uint32_t *out, uint32_t *fault)
+GCV_ANSWERS((3)) gcv_read_boolean(const char *text, size_t length, uint32_t *GCV_RESTRICT out, gcv_fault *fault)
 {
-    uint32_t unused = 0;
+    gcv_fault unused = GCV_FAULT_NONE;
     return gcv_raw_read_boolean(gcv_bytes(text, length), length, out, fault ? fault : &unused);
 }
 
 /* Puts a name, whose tag is not GCV_NO_NAME. The fault is GCV_FAULT_COLOR. */
-static inline gcv_status gcv_read_name(const char *text, size_t length, gcv_name *out, uint32_t *fault)
+GCV_ANSWERS((3)) gcv_read_name(const char *text, size_t length, gcv_name *GCV_RESTRICT out, gcv_fault *fault)
 {
-    uint32_t unused = 0;
+    gcv_fault unused = GCV_FAULT_NONE;
     return gcv_raw_read_name(gcv_bytes(text, length), length, out, fault ? fault : &unused);
 }
 
 /* Puts the one bit of the attribute. The fault is GCV_FAULT_COLOR. */
-static inline gcv_status gcv_read_attribute(const char *text, size_t length, uint32_t *out, uint32_t *fault)
+GCV_ANSWERS((3)) gcv_read_attribute(const char *text, size_t length, uint32_t *GCV_RESTRICT out, gcv_fault *fault)
 {
-    uint32_t unused = 0;
+    gcv_fault unused = GCV_FAULT_NONE;
     return gcv_raw_read_attribute(gcv_bytes(text, length), length, out, fault ? fault : &unused);
 }
 
 /* Puts a color. The fault is GCV_FAULT_COLOR. */
-static inline gcv_status gcv_read_color(const char *text, size_t length, gcv_color *out, uint32_t *fault)
+GCV_ANSWERS((3)) gcv_read_color(const char *text, size_t length, gcv_color *GCV_RESTRICT out, gcv_fault *fault)
 {
-    uint32_t unused = 0;
+    gcv_fault unused = GCV_FAULT_NONE;
     return gcv_raw_read_color(gcv_bytes(text, length), length, out, fault ? fault : &unused);
 }
 
 /* Puts the number times the factor of its suffix into `*out`. GCV_OVERFLOW where that leaves int64_t, and
  * GCV_BAD_SUFFIX where the suffix has no such number: then `*out` is as it was. */
-static inline gcv_status gcv_product(const gcv_integer *value, int64_t *out)
+GCV_ANSWERS((1, 2)) gcv_product(const gcv_integer *value, int64_t *GCV_RESTRICT out)
 {
     return gcv_raw_product(value, out);
 }
@@ -306,116 +349,118 @@ static inline gcv_status gcv_product(const gcv_integer *value, int64_t *out)
 /* Values as they are shown. A value that some text reads to is shown as its canonical text. */
 
 /* Writes k, m or g. GCV_BAD_SUFFIX where the number is not that of one. */
-static inline gcv_status gcv_show_suffix(uint32_t suffix, char *buffer, size_t capacity, size_t *size)
+GCV_ANSWERS((4)) gcv_show_suffix(gcv_suffix suffix, char *GCV_RESTRICT buffer, size_t capacity, size_t *size)
 {
-    uint8_t none[1] = {0};
-    return gcv_raw_show_suffix(suffix, capacity == 0 ? none : (uint8_t *)buffer, capacity, size);
+    char none[1] = {0};
+    return gcv_raw_show_suffix(suffix, capacity == 0 ? none : buffer, capacity, size);
 }
 
 /* Writes the number in decimal and the letter of its suffix. GCV_BAD_SUFFIX where the suffix has no such number. */
-static inline gcv_status gcv_show_integer(const gcv_integer *value, char *buffer, size_t capacity, size_t *size)
+GCV_ANSWERS((1, 4)) gcv_show_integer(const gcv_integer *value, char *GCV_RESTRICT buffer, size_t capacity, size_t *size)
 {
-    uint8_t none[1] = {0};
-    return gcv_raw_show_integer(value, capacity == 0 ? none : (uint8_t *)buffer, capacity, size);
+    char none[1] = {0};
+    return gcv_raw_show_integer(value, capacity == 0 ? none : buffer, capacity, size);
 }
 
 /* Writes the number in decimal. */
-static inline gcv_status gcv_show_amount(int64_t value, char *buffer, size_t capacity, size_t *size)
+GCV_ANSWERS((4)) gcv_show_amount(int64_t value, char *GCV_RESTRICT buffer, size_t capacity, size_t *size)
 {
-    uint8_t none[1] = {0};
-    return gcv_raw_show_amount(value, capacity == 0 ? none : (uint8_t *)buffer, capacity, size);
+    char none[1] = {0};
+    return gcv_raw_show_amount(value, capacity == 0 ? none : buffer, capacity, size);
 }
 
 /* Writes true for 1 and false for 0. GCV_BAD_FLAG where the value is neither. */
-static inline gcv_status gcv_show_boolean(uint32_t value, char *buffer, size_t capacity, size_t *size)
+GCV_ANSWERS((4)) gcv_show_boolean(uint32_t value, char *GCV_RESTRICT buffer, size_t capacity, size_t *size)
 {
-    uint8_t none[1] = {0};
-    return gcv_raw_show_boolean(value, capacity == 0 ? none : (uint8_t *)buffer, capacity, size);
+    char none[1] = {0};
+    return gcv_raw_show_boolean(value, capacity == 0 ? none : buffer, capacity, size);
 }
 
 /* Writes the word of the name, its number, or # and six digits. GCV_BAD_NAME where the struct is not that of a name. */
-static inline gcv_status gcv_show_name(const gcv_name *value, char *buffer, size_t capacity, size_t *size)
+GCV_ANSWERS((1, 4)) gcv_show_name(const gcv_name *value, char *GCV_RESTRICT buffer, size_t capacity, size_t *size)
 {
-    uint8_t none[1] = {0};
-    return gcv_raw_show_name(value, capacity == 0 ? none : (uint8_t *)buffer, capacity, size);
+    char none[1] = {0};
+    return gcv_raw_show_name(value, capacity == 0 ? none : buffer, capacity, size);
 }
 
 /* Writes the words of the bits that have one, by rising bit, with one space between. */
-static inline gcv_status gcv_show_attribute(uint32_t bits, char *buffer, size_t capacity, size_t *size)
+GCV_ANSWERS((4)) gcv_show_attribute(uint32_t bits, char *GCV_RESTRICT buffer, size_t capacity, size_t *size)
 {
-    uint8_t none[1] = {0};
-    return gcv_raw_show_attribute(bits, capacity == 0 ? none : (uint8_t *)buffer, capacity, size);
+    char none[1] = {0};
+    return gcv_raw_show_attribute(bits, capacity == 0 ? none : buffer, capacity, size);
 }
 
 /* Writes the foreground, the background and the attributes, those that there are, with one space between. GCV_BAD_NAME
  * where the struct of one of its names is neither that of a name nor all 0. */
-static inline gcv_status gcv_show_color(const gcv_color *value, char *buffer, size_t capacity, size_t *size)
+GCV_ANSWERS((1, 4)) gcv_show_color(const gcv_color *value, char *GCV_RESTRICT buffer, size_t capacity, size_t *size)
 {
-    uint8_t none[1] = {0};
-    return gcv_raw_show_color(value, capacity == 0 ? none : (uint8_t *)buffer, capacity, size);
+    char none[1] = {0};
+    return gcv_raw_show_color(value, capacity == 0 ? none : buffer, capacity, size);
 }
 
 /* Values as JSON texts, without white space: a number, true or false, or the shown text as a string. These calls take
  * memory from malloc for the text and give it back before they end. GCV_NO_MEMORY where it is refused. */
 
 /* GCV_BAD_SUFFIX where the number is not that of a suffix. */
-static inline gcv_status gcv_json_suffix(uint32_t suffix, char *buffer, size_t capacity, size_t *size)
+GCV_ANSWERS((4)) gcv_json_suffix(gcv_suffix suffix, char *GCV_RESTRICT buffer, size_t capacity, size_t *size)
 {
-    uint8_t none[1] = {0};
-    return gcv_raw_json_suffix(suffix, capacity == 0 ? none : (uint8_t *)buffer, capacity, size);
+    char none[1] = {0};
+    return gcv_raw_json_suffix(suffix, capacity == 0 ? none : buffer, capacity, size);
 }
 
 /* Writes the product. GCV_OVERFLOW where it leaves int64_t, and GCV_BAD_SUFFIX where the suffix has no such number. */
-static inline gcv_status gcv_json_integer(const gcv_integer *value, char *buffer, size_t capacity, size_t *size)
+GCV_ANSWERS((1, 4)) gcv_json_integer(const gcv_integer *value, char *GCV_RESTRICT buffer, size_t capacity, size_t *size)
 {
-    uint8_t none[1] = {0};
-    return gcv_raw_json_integer(value, capacity == 0 ? none : (uint8_t *)buffer, capacity, size);
+    char none[1] = {0};
+    return gcv_raw_json_integer(value, capacity == 0 ? none : buffer, capacity, size);
 }
 
 /* GCV_BAD_FLAG where the value is neither 0 nor 1. */
-static inline gcv_status gcv_json_boolean(uint32_t value, char *buffer, size_t capacity, size_t *size)
+GCV_ANSWERS((4)) gcv_json_boolean(uint32_t value, char *GCV_RESTRICT buffer, size_t capacity, size_t *size)
 {
-    uint8_t none[1] = {0};
-    return gcv_raw_json_boolean(value, capacity == 0 ? none : (uint8_t *)buffer, capacity, size);
+    char none[1] = {0};
+    return gcv_raw_json_boolean(value, capacity == 0 ? none : buffer, capacity, size);
 }
 
 /* GCV_BAD_NAME where the struct is not that of a name. */
-static inline gcv_status gcv_json_name(const gcv_name *value, char *buffer, size_t capacity, size_t *size)
+GCV_ANSWERS((1, 4)) gcv_json_name(const gcv_name *value, char *GCV_RESTRICT buffer, size_t capacity, size_t *size)
 {
-    uint8_t none[1] = {0};
-    return gcv_raw_json_name(value, capacity == 0 ? none : (uint8_t *)buffer, capacity, size);
+    char none[1] = {0};
+    return gcv_raw_json_name(value, capacity == 0 ? none : buffer, capacity, size);
 }
 
 /* Writes the words of the bits that have one, as one string. */
-static inline gcv_status gcv_json_attribute(uint32_t bits, char *buffer, size_t capacity, size_t *size)
+GCV_ANSWERS((4)) gcv_json_attribute(uint32_t bits, char *GCV_RESTRICT buffer, size_t capacity, size_t *size)
 {
-    uint8_t none[1] = {0};
-    return gcv_raw_json_attribute(bits, capacity == 0 ? none : (uint8_t *)buffer, capacity, size);
+    char none[1] = {0};
+    return gcv_raw_json_attribute(bits, capacity == 0 ? none : buffer, capacity, size);
 }
 
 /* Texts of a kind. */
 
 /* Writes the one canonical text of the value of a text, of at most GCV_LONGEST_TEXT bytes. GCV_REFUSED where the text
  * has no value of the kind (its reader tells the fault), and GCV_UNKNOWN_KIND where no kind has the number. */
-static inline gcv_status gcv_normalize(uint32_t kind, const char *text, size_t length, char *buffer, size_t capacity, size_t *size)
+GCV_ANSWERS((6)) gcv_normalize(gcv_kind kind, const char *text, size_t length, char *GCV_RESTRICT buffer,
+                               size_t capacity, size_t *size)
 {
-    uint8_t none[1] = {0};
-    return gcv_raw_normalize(kind, gcv_bytes(text, length), length, capacity == 0 ? none : (uint8_t *)buffer, capacity, size);
+    char none[1] = {0};
+    return gcv_raw_normalize(kind, gcv_bytes(text, length), length, capacity == 0 ? none : buffer, capacity, size);
 }
 
 /* Puts into `*out` 1 where both texts mean the same, and else 0. GCV_REFUSED where one of them has no value of the
  * kind, and GCV_UNKNOWN_KIND where the number is not that of a kind: then `*out` is as it was. */
-static inline gcv_status gcv_same(uint32_t kind, const char *first, size_t first_length, const char *second, size_t second_length,
-                                  uint32_t *out)
+GCV_ANSWERS((6)) gcv_same(gcv_kind kind, const char *first, size_t first_length, const char *second,
+                          size_t second_length, uint32_t *GCV_RESTRICT out)
 {
-    return gcv_raw_same(kind, gcv_bytes(first, first_length), first_length, gcv_bytes(second, second_length), second_length, out);
+    return gcv_raw_same(kind, gcv_bytes(first, first_length), first_length, gcv_bytes(second, second_length),
+                        second_length, out);
 }
 
 /* Puts into `*out` the color that a text of the first one, white space and a text of the second one reads to.
  * GCV_BAD_NAME where one of them has the struct of no name, GCV_NO_TEXT where no text reads to one of them (it has a
  * bit without a word, or a background alone), and GCV_TOO_MANY_NAMES where they have more than two names together: then
  * `*out` is as it was. */
-static inline gcv_status gcv_compose(const gcv_color *first, const gcv_color *second, gcv_color *out)
+GCV_ANSWERS((1, 2, 3)) gcv_compose(const gcv_color *first, const gcv_color *second, gcv_color *GCV_RESTRICT out)
 {
     return gcv_raw_compose(first, second, out);
 }
@@ -427,19 +472,19 @@ static inline gcv_status gcv_compose(const gcv_color *first, const gcv_color *se
  * and the kind's reader at `bytes + out->start` tells the value or the fault. GCV_ABSENT where no entry has the name,
  * GCV_BAD_LENGTHS where the lengths are odd in number or do not sum to `bytes_length`, and GCV_UNKNOWN_KIND where the
  * number is not that of a kind: then `*out` is as it was. */
-static inline gcv_status gcv_lookup(uint32_t kind, const char *bytes, size_t bytes_length, const size_t *lengths,
-                                    size_t lengths_count, const char *name, size_t name_length, gcv_entry *out)
+GCV_ANSWERS((8)) gcv_lookup(gcv_kind kind, const char *bytes, size_t bytes_length, const size_t *lengths,
+                            size_t lengths_count, const char *name, size_t name_length, gcv_entry *GCV_RESTRICT out)
 {
     size_t none[1] = {0};
-    return gcv_raw_lookup(kind, gcv_bytes(bytes, bytes_length), bytes_length, lengths_count == 0 ? none : lengths, lengths_count,
-                          gcv_bytes(name, name_length), name_length, out);
+    return gcv_raw_lookup(kind, gcv_bytes(bytes, bytes_length), bytes_length, lengths_count == 0 ? none : lengths,
+                          lengths_count, gcv_bytes(name, name_length), name_length, out);
 }
 
 /* Paths. */
 
 /* Puts into `*optional` 1 where the path begins with the mark `:(optional)`, and else 0, and into `*start` where the
  * path begins behind that one mark. */
-static inline void gcv_cut_mark(const char *text, size_t length, uint32_t *optional, size_t *start)
+GCV_CALL GCV_NONNULL((3, 4)) void gcv_cut_mark(const char *text, size_t length, uint32_t *optional, size_t *start)
 {
     gcv_raw_cut_mark(gcv_bytes(text, length), length, optional, start);
 }
@@ -450,11 +495,11 @@ static inline void gcv_cut_mark(const char *text, size_t length, uint32_t *optio
  * GCV_REFUSED where it stands for nothing: `*fault` is one of the faults of paths, and is as it was after any other
  * answer. GCV_NOT_UTF8 where a text of the context is no UTF-8. The call takes no memory; GCV_NO_MEMORY where what the
  * path stands for is longer than PTRDIFF_MAX. */
-static inline gcv_status gcv_interpolate(const char *text, size_t length, const gcv_context *context, char *buffer,
-                                         size_t capacity, size_t *size, uint32_t *fault)
+GCV_ANSWERS((3, 6)) gcv_interpolate(const char *text, size_t length, const gcv_context *context,
+                                    char *GCV_RESTRICT buffer, size_t capacity, size_t *size, gcv_fault *fault)
 {
-    uint8_t none[1] = {0};
-    uint32_t unused = 0;
+    char none[1] = {0};
+    gcv_fault unused = GCV_FAULT_NONE;
     size_t install_dir_length = context->install_dir ? context->install_dir_length : 0;
     size_t home_length = context->home ? context->home_length : 0;
     size_t passwd_length = context->passwd ? context->passwd_length : 0;
@@ -462,15 +507,7 @@ static inline gcv_status gcv_interpolate(const char *text, size_t length, const 
                                gcv_bytes(context->install_dir, install_dir_length), install_dir_length, context->home ? 1 : 0,
                                gcv_bytes(context->home, home_length), home_length, context->passwd ? 1 : 0,
                                gcv_bytes(context->passwd, passwd_length), passwd_length,
-                               capacity == 0 ? none : (uint8_t *)buffer, capacity, size, fault ? fault : &unused);
-}
-
-/* Writes the text of a fault, of at most GCV_LONGEST_TEXT bytes. GCV_UNKNOWN_FAULT where the number is not that of a
- * fault; GCV_FAULT_NONE has no text. */
-static inline gcv_status gcv_fault_text(uint32_t fault, char *buffer, size_t capacity, size_t *size)
-{
-    uint8_t none[1] = {0};
-    return gcv_raw_fault_text(fault, capacity == 0 ? none : (uint8_t *)buffer, capacity, size);
+                               capacity == 0 ? none : buffer, capacity, size, fault ? fault : &unused);
 }
 
 #ifdef __cplusplus

@@ -41,12 +41,11 @@ typedef struct given {
 static gcv_status interpolate(const void *state, char *buffer, size_t capacity, size_t *size)
 {
     const given *of = (const given *)state;
-    uint8_t none[1] = {0};
-    uint32_t fault = UNTOUCHED;
-    gcv_status status = gcv_raw_interpolate(
-        (const uint8_t *)of->path, strlen(of->path), of->flags[0], (const uint8_t *)of->texts[0], strlen(of->texts[0]),
-        of->flags[1], (const uint8_t *)of->texts[1], strlen(of->texts[1]), of->flags[2], (const uint8_t *)of->texts[2],
-        strlen(of->texts[2]), capacity == 0 ? none : (uint8_t *)buffer, capacity, size, &fault);
+    char none[1] = {0};
+    gcv_fault fault = UNTOUCHED;
+    gcv_status status = gcv_raw_interpolate(of->path, strlen(of->path), of->flags[0], of->texts[0], strlen(of->texts[0]),
+                                            of->flags[1], of->texts[1], strlen(of->texts[1]), of->flags[2], of->texts[2],
+                                            strlen(of->texts[2]), capacity == 0 ? none : buffer, capacity, size, &fault);
     return (status == GCV_REFUSED) == (fault != UNTOUCHED) ? status : UNTOUCHED;
 }
 
@@ -81,7 +80,6 @@ static void bad_numbers(void)
     count(writes_nothing(buffer_area, normalize_empty, &zero, GCV_UNKNOWN_KIND), "normalize of kind 0");
     count(writes_nothing(buffer_area, show_suffix, &zero, GCV_BAD_SUFFIX), "show_suffix of none");
     count(writes_nothing(buffer_area, json_suffix, &zero, GCV_BAD_SUFFIX), "json_suffix of none");
-    count(writes_nothing(buffer_area, fault_text, &zero, GCV_UNKNOWN_FAULT), "fault_text of none");
 }
 
 /* A struct in which something stands that its tag does not use, and that of no name. */
@@ -244,10 +242,11 @@ static void contexts(void)
     }
 }
 
-/* The texts of the Rust crate gix-config-value 0.21.1, but for the ill-formed places and the conversion. */
+/* The texts of the Rust crate gix-config-value 0.21.1, but for suffixes, the ill-formed places and the conversion. */
 static void fault_texts(void)
 {
     static const char *const texts[] = {
+        "Suffixes need to be 'k', 'm' or 'g'",
         "Booleans need to be 'no', 'off', 'false', '' or 'yes', 'on', 'true' or any number",
         "Integers needs to be positive or negative numbers which may have a suffix like 1k, 42, or 50G",
         "integer suffix multiplication overflows `i64`",
@@ -264,10 +263,26 @@ static void fault_texts(void)
         "Ill-formed UTF-8 in path past ~user/",
         "Ill-formed UTF-8 in path",
     };
-    for (uint32_t at = 0; at < 15; at++) {
-        uint32_t fault = at + 1;
-        count(strlen(texts[at]) <= GCV_LONGEST_TEXT && writes(buffer_area, fault_text, &fault, texts[at], strlen(texts[at])), texts[at]);
+    for (uint32_t fault = 0; fault < 16; fault++) {
+        const char *text = texts[fault];
+        count(strlen(text) <= GCV_LONGEST_TEXT && writes(buffer_area, fault_text, &fault, text, strlen(text)), text);
     }
+}
+
+/* Each status has a text of its own, and other numbers have one together. */
+static void status_texts(void)
+{
+    const char *unknown = gcv_status_text((gcv_status)(GCV_NO_MEMORY + 1));
+    count(strcmp(unknown, "unknown status") == 0 && gcv_status_text((gcv_status)UINT32_MAX) == unknown, unknown);
+    for (uint32_t status = GCV_OK; status <= GCV_NO_MEMORY; status++) {
+        const char *text = gcv_status_text((gcv_status)status);
+        int differs = strlen(text) > 0;
+        for (uint32_t other = status + 1; other <= GCV_NO_MEMORY + 1; other++) {
+            differs = differs && strcmp(text, gcv_status_text((gcv_status)other)) != 0;
+        }
+        count(differs, text);
+    }
+    count(strcmp(gcv_version(), GCV_VERSION) == 0, "gcv_version");
 }
 
 /* The structs are read and written field by field, and what is not used is 0. */
@@ -347,6 +362,7 @@ int main(void)
     lookups();
     contexts();
     fault_texts();
+    status_texts();
     fields();
     words();
     return finish();

@@ -10,7 +10,9 @@
 #include <sys/mman.h>
 #include <unistd.h>
 
-enum { PATTERN = 0xa5, MARGIN = 64, UNTOUCHED = 0x5a5a };
+enum { PATTERN = 0xa5, MARGIN = 64 };
+/* no number of anything */
+#define UNTOUCHED 0x5a5a
 
 static unsigned long passed, failed;
 

@@ -3,11 +3,11 @@
 
 Nothing proves a header that is written by hand. So this compares it with the Rattle sources and the definitions: the
 names, order, types and offsets of the fields of each struct, the parameters of each exported call, and the number of
-each constant. The Python package has the same structs and numbers.
+each constant. The Python module includes the header, and has names of its own for the faults and the attributes.
 
 crates/gix_config_value_c/VERSION is the one version. The header says the same, and so do CHANGELOG.md, the program
 config_check, the Python package, and the library that was built into PREFIX. The name of the shared library has the
-first number of it, in the Python package too. The longest canonical text is one number as well: LONGEST_TEXT of
+first number of it, and below 1.0 the second one too. The longest canonical text is one number as well: LONGEST_TEXT of
 config_text."""
 import pathlib
 import re
@@ -16,29 +16,21 @@ import sys
 
 CRATE = pathlib.Path(__file__).resolve().parent.parent
 ROOT = CRATE.parent.parent
-HEADER = CRATE / "include/gix_config_value.h"
+HEADER, CALLS = CRATE / "include/gix_config_value.h", CRATE / "calls.c"
 NUMBERS, FAULTS = CRATE / "specs/Numbers.antt", CRATE / "specs/Faults.antt"
 WORDS = ROOT / "crates/config_word"
-PACKAGE = ROOT / "python/gix_config_value/__init__.py"
+MODULE = ROOT / "python/_core.c"
 # a file, and how it says the version
 PLACES = [
     (HEADER, r'^#define GCV_VERSION "(.*)"$'),
     (ROOT / "CHANGELOG.md", r"^## \[?([0-9][^\s\]]*)"),
     (ROOT / "crates/config_check/src/main.rt", r'^        \.version\("(.*)"\)$'),
     (ROOT / "python/pyproject.toml", r'^version = "(.*)"$'),
-    (PACKAGE, r'^__version__ = "(.*)"$'),
 ]
-# a file, and how it says the first number
-FIRST_NUMBERS = [
-    (ROOT / "python/gix_config_value/_library.py", r'^_NAME = "libgix_config_value\.so\.(.*)"$'),
-    (ROOT / "python/wheel_of_package.py", r'^LIBRARY = "libgix_config_value\.so\.(.*)"$'),
-]
+PARTS = [(HEADER, rf"^#define GCV_VERSION_{part} (\d+)$") for part in ("MAJOR", "MINOR", "PATCH")]
 # the longest canonical text, and what has to say the same
 LONGEST = (ROOT / "crates/config_text/src/value.rt", r"^pub const LONGEST_TEXT: usize = (\d+);$")
-LENGTHS = [
-    (HEADER, r"^enum \{ GCV_LONGEST_TEXT = (\d+) \};$"),
-    (PACKAGE, r"^_LONGEST_TEXT = (\d+)$"),
-]
+LENGTHS = [(HEADER, r"^enum \{ GCV_LONGEST_TEXT = (\d+) \};$")]
 # the first constant of an enum of the header; then where else its numbers are: the beginning of the constants' names,
 # a file, how it says a name and a number, and what makes the constant's value of that number
 ENUMS = {
@@ -60,25 +52,24 @@ ENUMS = {
     "GCV_NO_SUFFIX": [
         ("GCV_", CRATE / "src/numbers.rt", r"^        Some\(Suffix::(\w+)\) => (\d+),$", int),
         ("GCV_", NUMBERS, r"^suffix_number \(Some (\w+)\) = (\d+)$", int),
-        ("GCV_", PACKAGE, r"^    (\w+BI) = (\d+)$", int),
     ],
     "GCV_NO_NAME": [
         # the tag of a name is one more than its place
         ("GCV_", WORDS / "specs/Orders.antt", r"^name_place \(?(\w+)[^)=]*\)? = (\d+)$", lambda place: int(place) + 1),
-        ("GCV_", PACKAGE, r"^    (?!\w+BI )([A-Z_]+) = (\d+)$", int),
     ],
     "GCV_BOLD": [
         ("GCV_", WORDS / "specs/Attribute.antt", r'^    (?:∷ )?\(codes "(\w+)", (\d+), ', lambda bit: 1 << int(bit)),
-        ("GCV_", PACKAGE, r"^    (\w+) = 1 << (\d+)$", lambda bit: 1 << int(bit)),
     ],
 }
+BITS = re.compile(r"^#define (GCV_\w+) (0x[0-9a-f]{8})u$", re.MULTILINE)
 # of what has no value: a text that a suffix's reader refuses, an integer without a suffix, a color without a name
 ZEROS = ("GCV_FAULT_NONE", "GCV_NO_SUFFIX", "GCV_NO_NAME")
 OTHER_NAMES = {"GCV_FAULT_ILL_FORMED_WHOLE": "GCV_FAULT_ILL_FORMED_PATH"}
-# the types of C for those of Rattle and of ctypes, and their sizes
+# the types of C for those of Rattle, and their sizes
 TYPES = {"i64": "int64_t", "u32": "uint32_t", "u8": "uint8_t", "usize": "size_t"}
-TYPES |= {"c_int64": "int64_t", "c_uint32": "uint32_t", "c_uint8": "uint8_t", "c_size_t": "size_t"}
-TYPES |= {f"{mark}{name.title()}": f"gcv_{name}" for name in ("integer", "name", "color", "entry") for mark in ("Gcv", "C")}
+TYPES |= {f"Gcv{name.title()}": f"gcv_{name}" for name in ("integer", "name", "color", "entry")}
+# the enums of C are numbers of 32 bits, and a text is of chars
+NUMBERED = re.compile(r"\bgcv_(status|kind|fault|suffix|tag)\b")
 SIZES = {"int64_t": (8, 8), "uint32_t": (4, 4), "uint8_t": (1, 1), "size_t": (8, 8)}
 
 
@@ -93,7 +84,7 @@ def said(path, pattern):
 
 
 def constant(beginning, name):
-    """The constant of the header for a name in Rattle or Python."""
+    """The constant of the header for a name in Rattle."""
     whole = beginning + (name if name.isupper() else re.sub("(?<!^)(?=[A-Z])", "_", name).upper())
     return OTHER_NAMES.get(whole, whole)
 
@@ -101,9 +92,9 @@ def constant(beginning, name):
 def numbers():
     """Each number of an enum of the header, in the header and in each sort of file that has it."""
     for first, places in ENUMS.items():
-        body = re.search(rf"^enum \{{\n(    {first} = .*?)^\}};$", text_of(HEADER), re.MULTILINE | re.DOTALL)
-        here = {name: int(number) << int(shift or 0) for name, number, shift
-                in re.findall(r"^    (GCV_\w+) = (\d+)(?: << (\d+))?", body[1] if body else "", re.MULTILINE)}
+        body = re.search(rf"^typedef GCV_ENUM\(\w+\) \{{\n(    {first} = .*?)^\}}", text_of(HEADER), re.MULTILINE | re.DOTALL)
+        listed = re.findall(r"^    (GCV_\w+) = (\d+)", body[1], re.MULTILINE) if body else BITS.findall(text_of(HEADER))
+        here = {name: int(number, 0) for name, number in listed}
         found = {path.suffix: {} for _, path, *_ in places}
         for beginning, path, pattern, value in places:
             for it in re.finditer(pattern, text_of(path), re.MULTILINE):
@@ -120,19 +111,17 @@ def fields_of(body, pattern):
 
 
 def structs():
-    """The fields of each exported struct, in Rattle, in the header and in Python; and the offsets that C gives them."""
+    """The fields of each exported struct, in Rattle and in the header, and the offsets that C gives them."""
     source = "".join(text_of(path) for path in sorted((CRATE / "src").glob("*.rt")))
-    library = text_of(ROOT / "python/gix_config_value/_library.py")
     header = text_of(HEADER)
     found = re.findall(r"^#\[repr\(C\)\]\n(?:#[^\n]*\n)*pub struct (\w+) \{\n(.*?)^\}$", source, re.MULTILINE | re.DOTALL)
     # the structs in a struct come first
     for name, body in sorted(found, key=lambda it: it[1].count("Gcv")):
         struct, wanted = TYPES[name], fields_of(body, r"^    pub (\w+): (\w+),$")
         told = re.search(rf"^typedef struct {struct} \{{\n(.*?)^\}} {struct};$", header, re.MULTILINE | re.DOTALL)
-        given = [(name, kind) for kind, name in re.findall(r"^    (\w+) (\w+);", told[1] if told else "", re.MULTILINE)]
+        told = NUMBERED.sub("uint32_t", told[1] if told else "")
+        given = [(name, kind) for kind, name in re.findall(r"^    (\w+) (\w+);", told, re.MULTILINE)]
         yield f"the header, {struct}", given, wanted
-        told = re.search(rf"^class C{name[3:]}\(.*?_fields_ = (.*?)\n", library, re.MULTILINE | re.DOTALL)
-        yield f"Python, {struct}", fields_of(told[1] if told else "", r'\("(\w+)", (\w+)\)'), wanted
         size, widest, offsets = 0, 1, {}
         for field, kind in wanted:
             taken, alignment = SIZES[kind]
@@ -160,6 +149,7 @@ def calls():
     exported = re.findall(r'^pub extern "C" fn (\w+)\((.*?)\)(?: -> (\w+))?$', source, re.MULTILINE | re.DOTALL)
     declared = {}
     for result, name, words in re.findall(r"^(\w+) (gcv_raw_\w+)\((.*?)\);$", text_of(HEADER), re.MULTILINE | re.DOTALL):
+        words = NUMBERED.sub("uint32_t", re.sub(r"\bchar\b", "uint8_t", words))
         declared[name] = result, [re.sub(r"\w+$", "", word.strip()).strip() for word in words.split(",")]
     wanted = {name: ({"u32": "gcv_status", "": "void"}[result], list(parameters(" ".join(words.split()))))
               for name, words, result in exported}
@@ -167,11 +157,23 @@ def calls():
         yield f"the header, {name}", declared.get(name), wanted.get(name)
 
 
+def names():
+    """Python's codes of the faults, in the order of their numbers, its attributes, and the statuses that have a text."""
+    faults = re.findall(r"^    GCV_FAULT_(\w+) = \d+", text_of(HEADER), re.MULTILINE)
+    listed = re.search(r"^static const char \*const codes\[\] = \{(.*?)\};$", text_of(MODULE), re.MULTILINE | re.DOTALL)
+    yield "Python, codes", re.findall(r'"(\w+)"', listed[1]), ["suffix", *map(str.lower, faults[1:])]
+    bits = [name.replace("GCV_", "") for name, _ in BITS.findall(text_of(HEADER))]
+    yield "Python, attributes", re.findall(r'\{"(\w+)", GCV_\1\}', text_of(MODULE)), bits
+    # each status has a text of its own
+    statuses = re.findall(r"^    (GCV_\w+) = \d", text_of(HEADER).split("} gcv_status;")[0], re.MULTILINE)
+    yield "the texts of statuses", re.findall(r"^    case (GCV_\w+):$", text_of(CALLS), re.MULTILINE), statuses
+
+
 def built(prefix, version):
     """What pkg-config and the shared library in the prefix say, and what they should."""
     module = pathlib.Path(prefix) / "lib/pkgconfig/gix_config_value.pc"
     yield str(module), said(module, r"^Version: (.*)$"), version
-    soname = f"libgix_config_value.so.{version.split('.')[0]}"
+    soname = "libgix_config_value.so." + (version.rpartition(".")[0] if version[:2] == "0." else version.split(".")[0])
     library = pathlib.Path(prefix) / "lib" / f"libgix_config_value.so.{version}"
     dynamic = subprocess.run(["readelf", "-d", library], capture_output=True, text=True, check=False).stdout
     found = re.search(r"SONAME.*\[(.*)\]", dynamic)
@@ -180,10 +182,12 @@ def built(prefix, version):
 
 def main():
     version = text_of(CRATE / "VERSION").strip()
-    told = [(PLACES, version), (FIRST_NUMBERS, version.split(".")[0]), (LENGTHS, said(*LONGEST) or "a number")]
+    told = [(PLACES, version), (LENGTHS, said(*LONGEST) or "a number")]
     rows = [(str(path.relative_to(ROOT)), said(path, pattern), wanted)
             for places, wanted in told for path, pattern in places]
-    rows += [*numbers(), *structs(), *calls()]
+    rows += [(f"the header, part {at} of the version", said(*place), version.split(".")[at])
+             for at, place in enumerate(PARTS)]
+    rows += [*numbers(), *structs(), *calls(), *names()]
     if len(sys.argv) > 1:
         rows += built(sys.argv[1], version)
     wrong = [f"{place} says {given}, and not {wanted}" for place, given, wanted in rows if given != wanted]

@@ -77,7 +77,8 @@ archive=$prefix/lib/libgix_config_value.a
 holds "the header" python3 "$tests/header.py" "$prefix"
 
 # the calls that the header declares are the symbols that the library shows, and it needs none but those of docs/C.md
-grep -oE 'gcv_raw_[a-z0-9_]+' "$prefix/include/gix_config_value.h" | sort -u > "$work/declared"
+sed -nE 's/^(GCV_ANSWERS|GCV_CALL|gcv_status|void|const char).*[ *](gcv_[a-z0-9_]+)\(.*/\2/p' \
+    "$prefix/include/gix_config_value.h" | sort > "$work/declared"
 nm -g --defined-only "$archive" | sed -n 's/.* [A-Z] //p' | sort > "$work/shown"
 holds "the archive shows the calls of the header" diff "$work/declared" "$work/shown"
 nm -D --defined-only "$prefix/lib/libgix_config_value.so" | sed -n 's/.* [A-Z] //p' | sort > "$work/shown"
@@ -85,6 +86,31 @@ holds "the shared library shows the calls of the header" diff "$work/declared" "
 printf '%s\n' free malloc memcpy memmove memset realloc > "$work/known"
 nm -u "$archive" | sed -n 's/^ *U //p' | sort -u > "$work/needed"
 holds "the archive needs memory and copies of it alone" diff "$work/known" "$work/needed"
+# what processors of x86-64 before 2008 lack
+objdump -d --no-show-raw-insn "$archive" | cut -f 2 | cut -d ' ' -f 1 | sort -u | grep -E \
+    '^(v|pabs|palign|pshufb|phadd|psign|pinsr[bdq]|pextr[bdq]|pmov[sz]x|ptest|pmulld|pcmp(eq|gt)q|pblend|popcnt|crc32|round)' \
+    > "$work/newer"
+holds "the archive runs on every x86-64" test ! -s "$work/newer"
+
+# what DESTDIR, LIBDIR, LDFLAGS and a mask of the caller do, and that nothing is left
+built=${GCV_ARCHIVE:-$tests/../out/libgix_config_value_c.a}
+# shellcheck disable=SC2317
+installed() {
+    (umask 077 && env DESTDIR="$work/dest" LIBDIR=/usr/lib/here LDFLAGS=-Wl,-z,now GCV_ARCHIVE="$built" \
+        sh "$tests/../build.sh" "$@" /usr)
+}
+if [ ! -f "$built" ]; then
+    echo "skipped: the installation, for want of $built"
+else
+    holds "it is installed below DESTDIR" installed
+    holds "LIBDIR" test -f "$work/dest/usr/lib/here/libgix_config_value.a"
+    holds "LDFLAGS" sh -c "readelf -d '$work/dest/usr/lib/here/libgix_config_value.so' | grep -q BIND_NOW"
+    holds "all can read it" sh -c "[ -z \"\$(find '$work/dest' ! -perm -a+r)\" ]"
+    holds "pkg-config knows the folders of the system" sh -c "[ \"\$(PKG_CONFIG_PATH='$work/dest/usr/lib/here/pkgconfig' \
+        pkg-config --cflags --libs gix_config_value | tr -d ' ')\" = -L/usr/lib/here-lgix_config_value ]"
+    holds "it is taken away" installed --uninstall
+    holds "nothing is left" sh -c "[ -z \"\$(find '$work/dest' ! -type d)\" ]"
+fi
 
 # what pkg-config says is enough to build and run an example
 if ! command -v pkg-config > /dev/null; then
@@ -97,7 +123,7 @@ else
 fi
 
 # the examples, by each compiler as C99 and as C++, over the shared library and over the archive
-warnings="-Wall -Wextra -Wconversion -Wpedantic -Werror"
+warnings="-Wall -Wextra -Wconversion -Wsign-conversion -Wcast-qual -Wpedantic -Werror"
 # a program that ends with this status, and whose output begins with this text: answers STATUS TEXT PROGRAM ARGUMENT..
 # shellcheck disable=SC2317
 answers() {
@@ -109,6 +135,25 @@ answers() {
     cat "$work/answer"
     [ "$status" -eq "$wanted" ] && grep -q "^$text" "$work/answer"
 }
+# what a compiler refuses: refuses NAME CODE, where the code without what is wrong is taken
+body() {
+    printf '#include <gix_config_value.h>\n#include <string.h>\nint main(void)\n{\n    char t[64] = "1";\n'
+    printf '    uint32_t b = 0;\n    size_t n = 0;\n    gcv_context c;\n    gcv_color both;\n'
+    printf '    memset(&c, 0, sizeof c);\n    memset(&both, 0, sizeof both);\n    return %s;\n}\n' "$1"
+}
+refuses() {
+    body "$2" > "$work/wrong.c"
+    # shellcheck disable=SC2086
+    holds "gcc tells of $1" sh -c "! gcc -std=c99 -O2 $warnings -Wno-unused -Wunused-result -I'$prefix/include' \
+        -c -o '$work/wrong.o' '$work/wrong.c'"
+}
+if command -v gcc > /dev/null; then
+    refuses "a status that nobody looks at" 'gcv_read_boolean(t, 1, &b, NULL), 0'
+    refuses "a null pointer" 'gcv_read_boolean(t, 1, NULL, NULL) == GCV_OK'
+    refuses "a status that is no status" 'gcv_read_boolean(t, 1, &b, NULL) == GCV_FAULT_BOOLEAN'
+    refuses "a path over itself" 'gcv_interpolate(t, 1, &c, t, sizeof t, &n, NULL) == GCV_OK'
+    refuses "a color over itself" 'gcv_compose(&both, &both, &both) == GCV_OK'
+fi
 for compiler in gcc clang g++ clang++; do
     if ! command -v "$compiler" > /dev/null; then
         echo "skipped: the examples by $compiler, which is not there"
@@ -118,6 +163,13 @@ for compiler in gcc clang g++ clang++; do
         *++) language="-x c++ -std=c++11" ;;
         *) language="-std=c99" ;;
     esac
+    body 'gcv_read_boolean(t, 1, &b, NULL) == GCV_OK ? (both.attributes = b, both.attributes &= ~GCV_UL) > n : c.home != NULL' \
+        > "$work/right.c"
+    casts=
+    case $compiler in *++) casts="-Wold-style-cast" ;; esac
+    # shellcheck disable=SC2086
+    holds "no warning by $compiler" "$compiler" $language -O2 $warnings $casts -I"$prefix/include" \
+        -c -o "$work/right.o" "$work/right.c"
     for linked in archive shared; do
         case $linked in
             archive) set -- "$archive" ;;
@@ -139,20 +191,49 @@ for compiler in gcc clang g++ clang++; do
     done
 done
 
-# the Python package, where the library was built
-if ! python3 -c 'import ctypes' 2> /dev/null; then
-    echo "skipped: the Python package, for want of ctypes"
-else
-    holds "the Python package" env PYTHONDONTWRITEBYTECODE=1 PYTHONPATH="$prefix/python" \
-        python3 -m unittest discover -s "$root/python/tests"
-fi
-if ! python3 -m pip --version > /dev/null 2>&1; then
-    echo "skipped: the install of the Python package, for want of pip"
-else
-    holds "the Python package installs" python3 -m pip install --quiet --disable-pip-version-check --no-index \
-        --no-build-isolation --target "$work/site" "$prefix/python"
-    holds "the installed package runs" env PYTHONPATH="$work/site" \
-        sh -c "[ \"\$(python3 -m gix_config_value integer 0x10k)\" = 16k ]"
+# the Python package: wheels by the headers of each Python of 3.9 and later that is here, each on all of them
+# shellcheck disable=SC2317
+wheel() {
+    mkdir "$1"
+    (cd "$root/python" && "$2" -B -W error -c 'import sys, wheel_of_package as it; it.build_wheel(sys.argv[1])' "$1")
+}
+pythons=
+versions=
+for python in python3 "${PYENV_ROOT:-$HOME/.pyenv}"/versions/*/bin/python3; do
+    version=$("$python" -c 'import os, sys, sysconfig
+os.stat(sysconfig.get_path("include") + "/Python.h")
+sys.exit("too old" if sys.version_info < (3, 9) else print(sys.version))' 2> /dev/null) || continue
+    case $versions in
+        *"/$version/"*) ;;
+        *)
+            pythons="$pythons $python"
+            versions="$versions/$version/"
+            ;;
+    esac
+done
+[ -n "$pythons" ] || echo "skipped: the Python package, for want of Python 3.9 with its headers"
+for builder in $pythons; do
+    by=$("$builder" -V)
+    rm -rf "$work/wheel" "$work/site"
+    holds "the wheel by $by" wheel "$work/wheel" "$builder"
+    holds "the wheel by $by, taken apart" "$builder" -m zipfile -e "$work"/wheel/*.whl "$work/site"
+    for python in $pythons; do
+        holds "the package by $by on $("$python" -V)" env -C "$root/python/tests" PYTHONDONTWRITEBYTECODE=1 \
+            PYTHONPATH="$work/site" "$python" -X dev -W error -bb -m unittest test_package
+    done
+done
+for python in $pythons; do
+    "$python" -m pip --version > /dev/null 2>&1 || continue
+    holds "$("$python" -V) takes the wheel" "$python" -m pip install --quiet --disable-pip-version-check --no-index \
+        --target "$work/$("$python" -V)" "$work"/wheel/*.whl
+done
+if [ -n "$pythons" ]; then
+    holds "the wheel, again" wheel "$work/again" "$builder"
+    holds "the wheel is reproducible" diff -r "$work/wheel" "$work/again"
+    holds "an archive of the sources" env -C "$root/python" \
+        python3 -B -W error -c 'import sys, wheel_of_package as it; it.build_sdist(sys.argv[1])' "$work"
+    holds "pip builds the package of its sources" python3 -m pip wheel --quiet --disable-pip-version-check --no-index \
+        --no-deps --wheel-dir "$work/by_pip" "$work"/gix_config_value-*.tar.gz
 fi
 
 # the calls, under sanitizers where clang has them

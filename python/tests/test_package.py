@@ -1,0 +1,322 @@
+"""The package over the stored answers of the Rust crate, and as a value of Python.
+
+Run: python -W error -bb -m unittest discover -s tests, where the package can be imported.
+"""
+import array
+import copy
+import doctest
+import itertools
+import json
+import os
+import pathlib
+import pickle
+import pwd
+import re
+import subprocess
+import sys
+import unittest
+
+import gix_config_value as gcv
+from gix_config_value import Attribute, Color, Name, Refused, boolean, integer, integer_parts, interpolate, lookup
+
+ROOT = pathlib.Path(__file__).resolve().parents[2]
+READERS = {"suffix": gcv.suffix, "amount": integer, "boolean": boolean, "name": Name, "attribute": Attribute.parse,
+           "color": Color.parse}
+WORDS = "bold dim italic ul blink reverse strike reset nodim nobold noitalic noul noblink noreverse nostrike".split()
+ATTRIBUTES = [Attribute.parse(word) for word in WORDS]
+VALUES = [Name("normal"), Name("red"), Name("12"), Name("#abc"), Attribute(), Attribute.UL | Attribute.BOLD,
+          ~Attribute.BOLD, Color(), Color.parse("#fff ul"), Color.parse("red blue bold noul")]
+
+
+def run(*words, **variables):
+    return subprocess.run([sys.executable, "-W", "error", *words], env={**os.environ, **variables}, check=False,
+                          stdout=subprocess.PIPE, stderr=subprocess.PIPE)
+
+
+class Stored(unittest.TestCase):
+    def test_texts(self):
+        lines = (ROOT / "compare/lines.txt").read_bytes().split(b"\n")[:-1]
+        answers = (ROOT / "compare/answers.txt").read_bytes().split(b"\n")[:-1]
+        self.assertEqual(len(lines), 9729)
+        for line, answer in itertools.zip_longest(lines, answers):
+            kind, _, text = line.partition(b" ")
+            kind = kind.decode(errors="replace")
+            if answer == b"unknown kind":
+                self.assertRaises(ValueError, gcv.normalize, kind, text)
+            elif answer == b"refused":
+                for call in (READERS.get(kind, integer_parts), lambda text, kind=kind: gcv.normalize(kind, text),
+                             lambda text, kind=kind: lookup(kind, [("a", text)], "a"),
+                             lambda text, kind=kind: gcv.same(kind, text, text)):
+                    with self.assertRaises(Refused) as caught:
+                        call(text)
+                    self.assertEqual(caught.exception.input, text)
+            else:
+                canonical = answer[3:].decode()
+                self.assertEqual(gcv.normalize(kind, text), canonical)
+                self.assertTrue(gcv.same(kind, text, canonical))
+                value = READERS.get(kind, integer_parts)(text)
+                if kind == "integer":
+                    value = f"{value[0]}{value[1] or ''}"
+                self.assertEqual(str(value).lower() if kind == "boolean" else str(value), canonical)
+
+    def test_paths(self):
+        calls = (ROOT / "crates/path_answers/stdin").read_text("ascii").splitlines()
+        answers = (ROOT / "crates/path_answers/stdout").read_text("ascii").splitlines()
+        self.assertEqual(len(calls), 1646)
+        for call, answer in itertools.zip_longest(calls, answers):
+            value, prefix, home, known = call.split("\t")
+            prefix, home = (None if field == "-" else bytes.fromhex(field) for field in (prefix, home))
+            users = {} if known == "-" else dict(map(bytes.fromhex, entry.split("=")) for entry in
+                                                 filter(None, known.split(",")))
+            asked = []
+
+            def find(name):
+                asked.append(name)
+                return users.get(name.encode())
+
+            flag, rest, count, name, *more = answer.split("\t")
+            value = bytes.fromhex(value)
+            self.assertEqual(gcv.cut_mark(value), (flag == "1", bytes.fromhex(rest)))
+            words = {"prefix": prefix, "home": home, "users": None if known == "-" else find}
+            if name == "ok":
+                self.assertEqual(interpolate(value, **words), bytes.fromhex(more[0]))
+            else:
+                with self.assertRaises(Refused) as caught:
+                    interpolate(value, **words)
+                camel = "".join([name, *more[:1]]).replace("Whole", "Path")
+                self.assertEqual(caught.exception.code, re.sub("(?<!^)(?=[A-Z])", "_", camel).lower())
+                self.assertEqual(caught.exception.input, value)
+            self.assertEqual(len(asked), int(count))
+
+
+class Texts(unittest.TestCase):
+    def test_types(self):
+        self.assertIs(boolean(b"yes"), True)
+        self.assertIs(boolean("off"), False)
+        self.assertIs(type(integer("10m")), int)
+        self.assertEqual(integer(bytearray(b"0x10k")), 16384)
+        self.assertEqual(integer_parts(memoryview(b"-0x10G")), (-16, "g"))
+        self.assertEqual(integer_parts(array.array("B", b"7")), (7, None))
+        self.assertEqual(integer(memoryview(b"1-2")[::2]), 12)
+        for text in (0, 3, None, ["1"], 1.0, object()):
+            for call in (boolean, integer, Color.parse, Name, lambda text: gcv.normalize("boolean", text),
+                         lambda text: gcv.same("boolean", "1", text), lambda text: lookup("boolean", [], text),
+                         lambda text: lookup("boolean", [("a", text if text is not None else 0)], "a")):
+                self.assertRaises(TypeError, call, text)
+
+    def test_no_text_lies(self):
+        class Liar(bytes):
+            def __len__(self):
+                return 1 << 40
+
+            def __bytes__(self):
+                return Liar(b"yes")
+
+            def __getitem__(self, index):
+                raise AssertionError
+
+        class Text(str):
+            def encode(self, *_):
+                return Liar(b" " * 262144)
+
+            def __str__(self):
+                return "no"
+
+            def __len__(self):
+                return 1 << 40
+
+        class Array(bytearray):
+            __len__ = Liar.__len__
+
+        for text in (Text("yes"), Liar(b"yes"), Array(b"yes")):
+            self.assertIs(boolean(text), True)
+            self.assertEqual(gcv.normalize("boolean", text), "true")
+            self.assertIs(lookup("boolean", [(Text("a"), text)], "a"), True)
+        self.assertRaises(Refused, lookup, "boolean", [("a", Text("maybe"))], "a")
+        self.assertRaises(Refused, Color.parse, Text("yes"))
+
+    def test_surrogates(self):
+        for text, wanted in (("\udce9", b"\xe9"), ("\ud800", b"\xed\xa0\x80")):
+            for kind in gcv.KINDS:
+                with self.assertRaises(Refused) as caught:
+                    gcv.normalize(kind, text)
+                self.assertEqual(caught.exception.input, wanted)
+
+    def test_refused(self):
+        for call, text, code in ((boolean, "maybe", "boolean"), (integer, "x", "integer"), (gcv.suffix, "x", "suffix"),
+                                 (integer, "9223372036854775807k", "overflow"), (Color.parse, "red x", "color"),
+                                 (integer, "9223372036854775808", "integer"), (Name, "x", "color"),
+                                 (interpolate, "", "path_missing"), (interpolate, "~u", "lookup_missing")):
+            with self.assertRaises(Refused) as caught:
+                call(text)
+            refused = caught.exception
+            self.assertEqual((refused.code, refused.input), (code, text.encode()))
+            self.assertEqual(str(refused), f"{refused.fault}: {text.encode()!r}")
+            again = pickle.loads(pickle.dumps(refused))
+            self.assertEqual((again.code, again.fault, again.input), (code, refused.fault, refused.input))
+        with self.assertRaises(Refused) as caught:
+            boolean("x" * 10_000_000)
+        self.assertLess(len(str(caught.exception)), 250)
+        self.assertEqual(len(caught.exception.input), 10_000_000)
+        self.assertRaises(ValueError, gcv.normalize, "number", "1")
+        self.assertRaises(ValueError, lookup, "number", {}, "a")
+        self.assertRaises(TypeError, gcv.normalize, 1, "1")
+        self.assertRaises(Refused, gcv.same, "integer", "9223372036854775807k", "x")
+
+    def test_same(self):
+        self.assertIs(gcv.same("amount", "1k", "1024"), True)
+        self.assertIs(gcv.same("integer", "1k", "1024"), False)
+        self.assertIs(gcv.same("boolean", "yes", "no"), False)
+
+    def test_lookup(self):
+        entries = [("a", "1"), ("b", "x"), (b"a", "2k"), ("", b""), ("b", "yes"), ("c", None), ("i", "x")]
+        for known in (entries, iter(entries)):
+            self.assertEqual(lookup("integer", known, "a"), 2048)
+        self.assertEqual(lookup("integer", {"a": "2k"}, "a"), 2048)
+        self.assertIs(lookup("boolean", entries, b"b"), True)
+        self.assertIs(lookup("boolean", entries, ""), False)
+        self.assertIs(lookup("boolean", entries, "c"), True)
+        self.assertIs(lookup("boolean", {"c": None}, "c"), True)
+        self.assertIsNone(lookup("boolean", {"c": None}, "d"))
+        self.assertIs(lookup("boolean", os.environ, "no such", False), False)
+        self.assertEqual(lookup("color", entries, "d", 5), 5)
+        self.assertIsNone(lookup("boolean", [], "a"))
+        for name in ("c", "i"):
+            self.assertRaises(Refused, lookup, "integer", entries, name)
+        for entry in (("a",), ("a", "1", "2")):
+            self.assertRaises(ValueError, lookup, "integer", [entry, ("a", "1")], "a")
+
+
+class Values(unittest.TestCase):
+    def test_attributes(self):
+        self.assertEqual(list(~Attribute()), ATTRIBUTES)
+        self.assertEqual(int(~Attribute.BOLD), 266338812)  # as the Rust crate has it
+        self.assertEqual(str(~Attribute.BOLD), " ".join(WORDS[1:]))
+        self.assertEqual(str(Color(attributes=~Attribute.BOLD).compose(Color())), " ".join(WORDS[1:]))
+        both = Attribute.BOLD | Attribute.UL
+        self.assertEqual([*both], [Attribute.BOLD, Attribute.UL])
+        self.assertEqual((both & ~Attribute.BOLD, both ^ Attribute.BOLD, both - Attribute.BOLD), (Attribute.UL,) * 3)
+        self.assertEqual((len(both), bool(both), bool(Attribute()), int(both)), (2, True, False, 18))
+        self.assertTrue(Attribute.UL in both and Attribute() in both and Attribute.DIM not in both)
+        for bits in (1, -1, 1 << 9, 1 << 32, 1 << 80):
+            self.assertRaises(ValueError, Attribute, bits)
+        for call in (lambda: both | 1, lambda: 1 in both, lambda: Attribute("bold"), lambda: both < 1):
+            self.assertRaises(TypeError, call)
+        for word, attribute in zip(WORDS, ATTRIBUTES):
+            self.assertEqual(getattr(Attribute, word.upper().replace("NO", "NO_")), attribute)
+
+    def test_colors(self):
+        color = Color.parse("bold red #12aBff")
+        self.assertEqual((color.foreground, color.background.rgb, color.attributes),
+                         (Name("red"), (0x12, 0xAB, 0xFF), Attribute.BOLD))
+        self.assertEqual((Name("12").palette, Name("red").palette, Name("12").rgb), (12, None, None))
+        self.assertEqual((Color().foreground, Color(Name("red")).background), (None, None))
+        self.assertEqual(color, Color(Name("red"), Name("#12abff"), Attribute.BOLD))
+        self.assertEqual(str(Color.parse("red").compose(Color.parse("ul blue"))), "red blue ul")
+        for call in (lambda: color.compose(Color.parse("green")), lambda: Color(None, Name("red")), lambda: Name("")):
+            self.assertRaises(ValueError, call)
+        for call in (lambda: Color("red"), lambda: Color(0), lambda: Color(attributes=2), lambda: color.compose("red"),
+                     lambda: Name(3), lambda: Color(Attribute.BOLD)):
+            self.assertRaises(TypeError, call)
+
+    def test_as_values(self):
+        for value in VALUES:
+            self.assertEqual(eval(repr(value)), value)
+            for version in range(pickle.HIGHEST_PROTOCOL + 1):
+                self.assertEqual(pickle.loads(pickle.dumps(value, version)), value)
+            for again in (copy.copy(value), copy.deepcopy(value)):
+                self.assertEqual((again, hash(again)), (value, hash(value)))
+            for width in ("", ">40", "^40", "<40.3"):
+                self.assertEqual(format(value, width), format(str(value), width))
+            self.assertEqual(json.dumps({"a": value}, default=str), json.dumps({"a": str(value)}))
+            self.assertRaises(AttributeError, setattr, value, "foreground", None)
+            self.assertRaises(AttributeError, setattr, value, "other", None)
+            self.assertRaises(TypeError, type, "Sub", (type(value),), {})
+            self.assertNotEqual(value, str(value))
+        self.assertEqual(len(set(VALUES)), len(VALUES))
+
+    def test_order(self):
+        names = "normal default black brightblack red brightred white brightwhite 0 3 255 #000000 #0000ff #010000"
+        names = [Name(text) for text in names.split()]
+        attributes = [Attribute(), *ATTRIBUTES]
+        colors = [Color.parse(text) for text in ("", "bold", "normal", "red", "red ul", "red black", "#000 red")]
+        for values in (names, attributes, colors):
+            self.assertEqual(sorted(reversed(values)), values)
+            for (at, one), (place, other) in itertools.product(enumerate(values), repeat=2):
+                self.assertEqual((one < other, one <= other, one == other, one >= other, one > other, one != other),
+                                 (at < place, at <= place, at == place, at >= place, at > place, at != place))
+        self.assertRaises(TypeError, lambda: names[0] < colors[0])
+
+
+    def test_references(self):
+        objects = [Name, Attribute, Color, Refused, ATTRIBUTES[0]]
+        if sys.version_info < (3, 12):  # where these are not immortal
+            objects += [None, True, False, NotImplemented]
+        before = [sys.getrefcount(one) for one in objects]
+        for _ in range(2000):
+            for value in VALUES:
+                self.assertFalse(value < value or value != copy.copy(value) or value == 1)
+                self.assertTrue(value <= value and str(value) == f"{value}" and repr(value))
+            self.assertEqual((Name("red").palette, Name("red").rgb, Color().foreground), (None, None, None))
+            self.assertEqual((boolean("on"), boolean(""), integer_parts("1"), gcv.cut_mark("")[0]),
+                             (True, False, (1, None), False))
+            self.assertRaises(Refused, interpolate, "~u", users={}.get)
+        for one, count in zip(objects, before):
+            self.assertLess(abs(sys.getrefcount(one) - count), 100, one)
+
+
+class Paths(unittest.TestCase):
+    def test_directories(self):
+        self.assertEqual(interpolate(":(optional)%(prefix)/x", prefix=pathlib.Path("/usr")), "/usr/x")
+        self.assertEqual(interpolate(pathlib.Path("~/x"), home=b"/h"), "/h/x")
+        self.assertEqual(interpolate(b"~u/x", users=lambda name: f"/home/{name}"), b"/home/u/x")
+        self.assertEqual(interpolate("~u", users=lambda name: pathlib.Path("/h")), "/h")
+        self.assertEqual(interpolate("/x", home=None, users=self.fail), "/x")
+        user = pwd.getpwuid(os.getuid())
+        self.assertEqual(interpolate(f"~{user.pw_name}/x", users=gcv.home_of_user), os.path.join(user.pw_dir, "x"))
+        self.assertIsNone(gcv.home_of_user("no such user"))
+        self.assertRaises(ZeroDivisionError, interpolate, "~u", users=lambda name: 1 // 0)
+        for call in (lambda: interpolate("~u", users=lambda name: 3), lambda: interpolate("~", home=3),
+                     lambda: interpolate("~u", users=3), lambda: interpolate(3)):
+            self.assertRaises(TypeError, call)
+
+
+class Package(unittest.TestCase):
+    def test_examples(self):
+        self.assertEqual(doctest.testmod(gcv).failed, 0)
+        page = ROOT / "docs/PYTHON.md"
+        tested = doctest.testfile(str(page), module_relative=False)
+        self.assertTrue(tested.attempted > 0 and tested.failed == 0, tested)
+
+    def test_stubs(self):
+        stubs = pathlib.Path(gcv.__file__).with_suffix(".pyi").read_text("utf-8")
+        compile(stubs, "stubs", "exec")
+        for name in gcv.__all__:
+            self.assertRegex(stubs, rf"(?m)^(def |class |){name}\b")
+        for kind in (Name, Attribute, Color):
+            body = re.search(rf"(?ms)^class {kind.__name__}:$(.*?)^(?=\S)", stubs)[1]
+            told = set(re.findall(r"^    (?:def )?(\w+)", body, re.MULTILINE))
+            here = {name for name in vars(kind) if not name.startswith("__")}
+            self.assertEqual({name for name in told if not name.startswith("__")}, here)
+            for name in told:
+                self.assertTrue(hasattr(kind, name), name)
+
+    def test_import(self):
+        code = "import sys, gix_config_value; print(*sorted({'ctypes', 'dataclasses', 'enum', 're', 'typing', 'pwd'}"
+        loaded = [run("-S", "-c", f"{code} & set(sys.modules)))").stdout, run("-S", "-c", "print()").stdout]
+        self.assertEqual(*loaded)
+
+    def test_command(self):
+        for text, wanted in (("0x10k", (0, b"16k\n")), ("x", (1, b""))):
+            done = run("-m", "gix_config_value", "integer", text)
+            self.assertEqual((done.returncode, done.stdout), wanted)
+        # A0 alone is no white space: the byte of an argument is read as it is
+        done = run("-m", "gix_config_value", "color", b"red\xa0blue")
+        self.assertEqual((done.returncode, done.stdout), (1, b""))
+        done = run("-m", "gix_config_value", "--version")
+        self.assertEqual((done.returncode, done.stdout), (0, f"gix_config_value {gcv.__version__}\n".encode()))
+        self.assertEqual(run("-m", "gix_config_value").returncode, 2)
+
+
+if __name__ == "__main__":
+    unittest.main()
