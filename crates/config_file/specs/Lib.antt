@@ -1,0 +1,10 @@
+pub mod Bytes
+pub mod Runs
+pub mod Subsection
+pub mod Header
+pub mod Value
+pub mod File
+pub mod Views
+pub mod Left
+pub mod Reading
+pub mod Laws

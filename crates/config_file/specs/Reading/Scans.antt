@@ -1,0 +1,68 @@
+-- What scans take at a time.
+use Rattle.std.specs.Prelude.{◌≡◌, ℕ, Bool, true, false, not, List, [], ◌∷◌, ◌++◌, Option, Some, None, ⊤, ◌&&◌, ◌==◌, if◌then◌else◌, is_some, drop}
+use Rattle.std.specs.Char.{is_ascii_alphabetic}
+use Rattle.config_file.specs.declared.bytes.Class.{Class}
+use Rattle.config_file.specs.declared.bytes.Class.TheVariants.{Name, Key, Blank, Space, Comment}
+use Rattle.config_file.specs.Bytes.{line_feed, carriage_return, is_name_byte, is_key_byte, is_blank, is_space, is_comment_byte, is_comment_sign, is_text_byte}
+use Rattle.config_file.specs.Subsection.{SpellsSubsection, IsSubsection}
+use Rattle.config_file.specs.Value.{Spells, SpellsValue, escape}
+
+-- the test of a class of bytes
+abbrev pub passes : Class → ℕ → Bool
+passes Name = is_name_byte
+passes Key = is_key_byte
+passes Blank = is_blank
+passes Space = is_space
+passes Comment = is_comment_byte
+
+-- the scan of a subsection has passed these first bytes of the text
+pub record PassedSubsection (text at : List ℕ) : Type 0 where
+  pub raw : List ℕ
+  pub joined : text ≡ raw ++ at
+  pub extends : (more spelled : List ℕ) → SpellsSubsection more spelled → IsSubsection (raw ++ more)
+
+-- the scan of a value has passed these first bytes of the text, and is in quotes or not
+pub record PassedValue (text : List ℕ) (quoted : Bool) (at : List ℕ) : Type 0 where
+  pub raw : List ℕ
+  pub value : List ℕ
+  pub held : ℕ
+  pub joined : text ≡ raw ++ at
+  pub extends : (more spelled : List ℕ) (open_end : Bool) → Spells quoted value held more spelled open_end → SpellsValue (raw ++ more) spelled open_end
+
+-- the scan of a value goes on after this byte
+abbrev pub goes_on : Bool → ℕ → Bool
+goes_on true b = is_text_byte b
+goes_on false b = is_text_byte b && not (is_comment_sign b)
+
+-- the scan ends before this rest, which begins with no quote and no backslash
+abbrev pub EndsScan : Bool → List ℕ → Type 0
+EndsScan quoted [] = ⊤
+EndsScan quoted (b ∷ rest) = goes_on quoted b ≡ false
+
+-- after a backslash, the text begins with a byte that it escapes, or with a line end
+pub data Escapes : List ℕ → List ℕ → Type 0 where
+  letter : {e c : ℕ} {text rest : List ℕ} → text ≡ e ∷ rest → escape e ≡ Some c → Escapes text rest
+  line : {e : ℕ} {text rest : List ℕ} → text ≡ e ∷ rest → e ≡ line_feed → Escapes text rest
+  line_after_return : {e f : ℕ} {text rest : List ℕ} → text ≡ e ∷ f ∷ rest → e ≡ carriage_return → f ≡ line_feed → Escapes text rest
+
+-- the text begins with a letter
+abbrev pub BeginsWithLetter : List ℕ → Type 0
+BeginsWithLetter text = (b : ℕ) × (rest : List ℕ) × (text ≡ b ∷ rest) × (is_ascii_alphabetic b ≡ true)
+
+-- after a backslash: the byte that it and a letter stand for, unless they continue the line, and what follows
+abbrev pub unescape : List ℕ → Option ℕ × List ℕ
+unescape [] = (None, [])
+unescape (e ∷ rest) =
+    if is_some (escape e) then (escape e, rest)
+    else if e == carriage_return then (None, drop 1 rest)
+    else (None, rest)
+
+-- a blank outside quotes
+abbrev pub is_held_back : Bool → ℕ → Bool
+is_held_back true b = false
+is_held_back false b = is_blank b
+
+-- the value with the byte that a backslash and a letter stand for, if there is one
+abbrev pub append_some : List ℕ → Option ℕ → List ℕ
+append_some value None = value
+append_some value (Some b) = value ++ b ∷ []

@@ -1,0 +1,79 @@
+//! Entries, and the texts that their parts spell.
+ghost use Rattle.std.specs.Prelude.{◌≡◌, MatchResult};
+ghost use Rattle.config_file.specs.File.{TakesEntry, EntryStops};
+ghost use Rattle.config_file.specs.Views.{value_of};
+
+use crate::bytes::{Class, after_byte, is_at_line_end, run};
+use crate::errors::{Stop, stop_at};
+use crate::section::Section;
+use crate::value::{Taken, Value, read_value};
+use std::alloc::{AllocError, Global};
+
+/// An entry: its section, key and value, and the line that Git tells for it.
+#[derive(Clone, Copy)]
+pub struct Entry<'a> {
+    pub section: Option<Section<'a>>,
+    pub key: &'a [u8],
+    pub value: Option<Value<'a>>,
+    pub line: usize,
+}
+
+/// What an entry is made of, without its section.
+#[derive(Clone, Copy)]
+pub(crate) struct Parts<'a> {
+    pub key: &'a [u8],
+    pub value: Option<Value<'a>>,
+    pub lines: usize,
+    pub rest: &'a [u8],
+}
+
+/// Reads the entry that begins here.
+pub(crate) fn read_entry(text: &[u8]) -> Result<Parts<'_>, Stop>
+    ensures { MatchResult result
+        (λ parts. TakesEntry text.now parts.key.now (value_of parts.value) parts.lines parts.rest.now)
+        (λ stop. EntryStops text.now stop.lines stop.fault) }
+{
+    let (key, spaced) = run(text, Class::Key);
+    let (_, rest) = run(spaced, Class::Space);
+    if is_at_line_end(rest) {
+        return Ok(Parts {
+            key,
+            value: None,
+            lines: 0,
+            rest,
+        });
+    }
+    match after_byte(b'=', rest) {
+        Some(after) => {
+            let Taken { value, lines, rest } = read_value(after)?;
+            Ok(Parts {
+                key,
+                value: Some(value),
+                lines,
+                rest,
+            })
+        }
+        None => Err(stop_at(rest)),
+    }
+}
+
+impl<'a> Entry<'a> {
+    /// The key as Git lists it.
+    pub fn key_text(&self, alloc: Global) -> Result<Vec<u8>, AllocError> {
+        let mut text = Vec::new(alloc);
+        if let Some(section) = &self.section {
+            for byte in section.name {
+                text.push(byte.to_ascii_lowercase())?;
+            }
+            text.push(b'.')?;
+            if let Some(subsection) = &section.subsection {
+                subsection.push_text(&mut text)?;
+                text.push(b'.')?;
+            }
+        }
+        for byte in self.key {
+            text.push(byte.to_ascii_lowercase())?;
+        }
+        Ok(text)
+    }
+}

@@ -1,0 +1,10 @@
+//! Git's configuration files: the entries of a text, read as Git reads them.
+#![tactic(auto)]
+
+mod bytes;
+pub mod entry;
+pub mod errors;
+mod header;
+pub mod reader;
+pub mod section;
+pub mod value;

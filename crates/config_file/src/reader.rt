@@ -1,0 +1,136 @@
+//! The reader: the entries of a text, one by one.
+ghost use Rattle.std.specs.Prelude.{◌≡◌, ◌+◌, ◌<◌, ◌^◌, ◌↔◌, IsTrue, None, Some, Option, List, [], length, option_map};
+ghost use Rattle.config_file.specs.File.{Begins, after_mark, IsPartOfMark};
+ghost use Rattle.config_file.specs.Reading.Scans.{BeginsWithLetter};
+
+use crate::bytes::{Class, is_at_line_end, is_blank, is_comment_sign, run, split};
+use crate::entry::{Entry, read_entry};
+use crate::errors::{Error, Stop, fault_at};
+use crate::header::read_header;
+use crate::section::Section;
+
+/// The entries of a text that are left.
+#[derive(Drop)]
+pub struct Entries<'a> {
+    section: Option<Section<'a>>,
+    line: usize,
+    rest: &'a [u8],
+    ghost line_fits: { line + length rest.now < 2 ^ 63 + 2 },
+}
+
+/// What follows the byte order mark.
+fn after_mark(text: &[u8]) -> Option<&[u8]>
+    ensures { option_map (λ rest. rest.now) result ≡ after_mark text.now }
+{
+    match text {
+        [0xef, 0xbb, 0xbf, rest @ ..] => Some(rest),
+        _ => None,
+    }
+}
+
+/// Whether one or two bytes of the mark end the line.
+fn is_part_of_mark(text: &[u8]) -> bool
+    ensures { IsTrue result ↔ (IsPartOfMark text.now) }
+{
+    match text {
+        [0xef] => true,
+        [0xef, second, rest @ ..] => {
+            is_at_line_end(&text[1..]) || *second == 0xbb && is_at_line_end(rest)
+        }
+        _ => false,
+    }
+}
+
+impl<'a> Entries<'a> {
+    ghost use Rattle.config_file.specs.Left.{GivesEntry, HasLeft};
+
+    /// The entries of a text.
+    pub fn new(text: &'a [u8]) -> Self
+        ensures section { result.section ≡ None }
+        ensures begins { Begins text.now result.line result.rest.now }
+    {
+        if let Some(rest) = after_mark(text) {
+            return Self {
+                section: None,
+                line: 1,
+                rest,
+            };
+        }
+        if is_part_of_mark(text) {
+            return Self {
+                section: None,
+                line: 2,
+                rest: text,
+            };
+        }
+        Self {
+            section: None,
+            line: 1,
+            rest: text,
+        }
+    }
+
+    /// The next entry, or the error at which the text is refused. After the last entry and after an error, `None`.
+    pub fn next_entry(&mut self) -> Option<Result<Entry<'a>, Error>>
+        ensures { GivesEntry self.old result self.new }
+    {
+        'items: while let Some((byte, rest)) = split(self.rest) {
+            if is_blank(byte) {
+                self.rest = rest;
+            } else if byte == b'\n' {
+                self.line += 1;
+                self.rest = rest;
+            } else if is_comment_sign(byte) {
+                self.rest = run(rest, Class::Comment).1;
+            } else if byte == b'[' {
+                match read_header(rest) {
+                    Ok((section, after)) => {
+                        self.section = Some(section);
+                        self.rest = after;
+                    }
+                    Err(stop) => return Some(Err(self.refused(stop))),
+                }
+            } else if byte.is_ascii_alphabetic() {
+                return Some(self.entry_here());
+            } else {
+                let fault = fault_at(self.rest);
+                return Some(Err(self.refused(Stop { lines: 0, fault })));
+            }
+        }
+        None
+    }
+
+    /// The entry that begins with the next byte, or why it is refused.
+    fn entry_here(&mut self) -> Result<Entry<'a>, Error>
+        requires { BeginsWithLetter self.old.rest.now }
+        ensures { GivesEntry self.old (Some result) self.new }
+    {
+        match read_entry(self.rest) {
+            Ok(parts) => {
+                self.line += parts.lines;
+                self.rest = parts.rest;
+                Ok(Entry {
+                    section: self.section,
+                    key: parts.key,
+                    value: parts.value,
+                    line: self.line,
+                })
+            }
+            Err(stop) => Err(self.refused(stop)),
+        }
+    }
+
+    /// Ends the reading with an error.
+    fn refused(&mut self, stop: Stop) -> Error
+        requires { self.old.line + stop.lines < 2 ^ 64 }
+        ensures line { result.line ≡ self.old.line + stop.lines }
+        ensures fault { result.fault ≡ stop.fault }
+        ensures left { HasLeft self.new [] None }
+    {
+        self.rest = &[];
+        Error {
+            line: self.line + stop.lines,
+            fault: stop.fault,
+        }
+    }
+}
