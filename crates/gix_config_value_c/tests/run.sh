@@ -77,7 +77,7 @@ archive=$prefix/lib/libgix_config_value.a
 holds "the header" python3 "$tests/header.py" "$prefix"
 
 # the calls that the header declares are the symbols that the library shows, and it needs none but those of docs/C.md
-sed -nE 's/^(GCV_ANSWERS|GCV_CALL|gcv_status|void|const char).*[ *](gcv_[a-z0-9_]+)\(.*/\2/p' \
+sed -nE 's/^(GCV_RETURNS|GCV_CALL|gcv_status|void|const char).*[ *](gcv_[a-z0-9_]+)\(.*/\2/p' \
     "$prefix/include/gix_config_value.h" | sort > "$work/declared"
 nm -g --defined-only "$archive" | sed -n 's/.* [A-Z] //p' | sort > "$work/shown"
 holds "the archive shows the calls of the header" diff "$work/declared" "$work/shown"
@@ -100,7 +100,7 @@ installed() {
         sh "$tests/../build.sh" "$@" /usr)
 }
 if [ ! -f "$built" ]; then
-    echo "skipped: the installation, for want of $built"
+    echo "skipped: the installation, without $built"
 else
     holds "it is installed below DESTDIR" installed
     holds "LIBDIR" test -f "$work/dest/usr/lib/here/libgix_config_value.a"
@@ -211,7 +211,7 @@ sys.exit("too old" if sys.version_info < (3, 9) else print(sys.version))' 2> /de
             ;;
     esac
 done
-[ -n "$pythons" ] || echo "skipped: the Python package, for want of Python 3.9 with its headers"
+[ -n "$pythons" ] || echo "skipped: the Python package, without Python 3.9 and its headers"
 for builder in $pythons; do
     by=$("$builder" -V)
     rm -rf "$work/wheel" "$work/site"
