@@ -61,3 +61,45 @@ gcv_status gcv_fault_text(gcv_fault fault, char *GCV_RESTRICT buffer, size_t cap
     memcpy(buffer, suffix, *size);
     return GCV_OK;
 }
+
+/* As a key without `=` has no text, it has that of a true boolean. */
+static const char *or_true(const char *text)
+{
+    return text ? text : "true";
+}
+
+gcv_status gcv_parse_bool(const char *text, int *GCV_RESTRICT out, gcv_fault *fault)
+{
+    uint32_t value = 0;
+    gcv_status status = gcv_read_boolean(or_true(text), strlen(or_true(text)), &value, fault);
+    if (status == GCV_OK) {
+        *out = value == 1;
+    }
+    return status;
+}
+
+gcv_status gcv_parse_int32(const char *text, int32_t *GCV_RESTRICT out, gcv_fault *fault)
+{
+    int64_t value = 0;
+    gcv_status status = gcv_parse_int64(text, &value, fault);
+    if (status == GCV_OK && (value < INT32_MIN || value > INT32_MAX)) {
+        if (fault) {
+            *fault = GCV_FAULT_OUT_OF_RANGE;
+        }
+        return GCV_REFUSED;
+    }
+    if (status == GCV_OK) {
+        *out = (int32_t)value;
+    }
+    return status;
+}
+
+gcv_status gcv_parse_int64(const char *text, int64_t *GCV_RESTRICT out, gcv_fault *fault)
+{
+    return gcv_read_amount(or_true(text), strlen(or_true(text)), out, fault);
+}
+
+gcv_status gcv_parse_color(const char *text, gcv_color *GCV_RESTRICT out, gcv_fault *fault)
+{
+    return gcv_read_color(or_true(text), strlen(or_true(text)), out, fault);
+}

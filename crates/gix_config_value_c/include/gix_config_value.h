@@ -245,6 +245,18 @@ const char *gcv_status_text(gcv_status status);
  * fault. */
 gcv_status gcv_fault_text(gcv_fault fault, char *GCV_RESTRICT buffer, size_t capacity, size_t *size) GCV_NONNULL((4));
 
+/* Readers of texts that end with NUL, as a callback over a configuration has them. A null text is that of a key without
+ * `=`, which is true as a boolean, and has no other value. What they put, and the faults, are those of gcv_read_boolean,
+ * gcv_read_amount and gcv_read_color; GCV_FAULT_OUT_OF_RANGE if an amount leaves int32_t. */
+GCV_CHECKED gcv_status gcv_parse_bool(const char *text, int *GCV_RESTRICT out, gcv_fault *fault)
+    GCV_NONNULL((2));
+GCV_CHECKED gcv_status gcv_parse_int32(const char *text, int32_t *GCV_RESTRICT out, gcv_fault *fault)
+    GCV_NONNULL((2));
+GCV_CHECKED gcv_status gcv_parse_int64(const char *text, int64_t *GCV_RESTRICT out, gcv_fault *fault)
+    GCV_NONNULL((2));
+GCV_CHECKED gcv_status gcv_parse_color(const char *text, gcv_color *GCV_RESTRICT out, gcv_fault *fault)
+    GCV_NONNULL((2));
+
 /* What the library is proved for. No pointer may be null. */
 gcv_status gcv_raw_read_suffix(const char *text, size_t length, gcv_suffix *out, gcv_fault *fault);
 gcv_status gcv_raw_read_integer(const char *text, size_t length, gcv_integer *out, gcv_fault *fault);

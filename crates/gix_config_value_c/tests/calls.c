@@ -269,6 +269,55 @@ static void fault_texts(void)
     }
 }
 
+/* Texts that end with NUL, and that of a key without `=`, which Git takes for true; the rest by docs/GRAMMAR.md. */
+static void parsed(void)
+{
+    static const struct {
+        const char *text;
+        int is_true;          /* 2: refused */
+        gcv_fault fault;      /* of gcv_parse_int32 */
+        gcv_fault long_fault; /* of gcv_parse_int64 */
+        int64_t number;
+    } rows[] = {
+        {NULL, 1, GCV_FAULT_INTEGER, GCV_FAULT_INTEGER, 0},
+        {"", 0, GCV_FAULT_INTEGER, GCV_FAULT_INTEGER, 0},
+        {"On", 1, GCV_FAULT_INTEGER, GCV_FAULT_INTEGER, 0},
+        {"0x10", 1, GCV_FAULT_NONE, GCV_FAULT_NONE, 16},
+        {"0", 0, GCV_FAULT_NONE, GCV_FAULT_NONE, 0},
+        {"2147483647", 1, GCV_FAULT_NONE, GCV_FAULT_NONE, INT32_MAX},
+        {"-2147483648", 1, GCV_FAULT_NONE, GCV_FAULT_NONE, INT32_MIN},
+        {"2147483648", 1, GCV_FAULT_OUT_OF_RANGE, GCV_FAULT_NONE, INT64_C(2147483648)},
+        {"-2147483649", 1, GCV_FAULT_OUT_OF_RANGE, GCV_FAULT_NONE, INT64_C(-2147483649)},
+        {"3g", 1, GCV_FAULT_OUT_OF_RANGE, GCV_FAULT_NONE, INT64_C(3221225472)},
+        {"8589934592g", 2, GCV_FAULT_OVERFLOW, GCV_FAULT_OVERFLOW, 0},
+        {"x", 2, GCV_FAULT_INTEGER, GCV_FAULT_INTEGER, 0},
+    };
+    for (size_t at = 0; at < sizeof rows / sizeof rows[0]; at++) {
+        const char *text = rows[at].text;
+        int is_true = 2;
+        int32_t number = UNTOUCHED;
+        int64_t long_number = UNTOUCHED;
+        gcv_fault faults[3] = {GCV_FAULT_NONE, GCV_FAULT_NONE, GCV_FAULT_NONE};
+        int is_read = gcv_parse_bool(text, &is_true, &faults[0]) == GCV_OK;
+        count(is_true == rows[at].is_true && is_read == (is_true != 2) && is_read == (faults[0] != GCV_FAULT_BOOLEAN),
+              "a boolean that ends with NUL");
+        is_read = gcv_parse_int32(text, &number, &faults[1]) == GCV_OK;
+        count(faults[1] == rows[at].fault && is_read == (faults[1] == GCV_FAULT_NONE) &&
+                  number == (is_read ? rows[at].number : UNTOUCHED),
+              "an int32_t that ends with NUL");
+        is_read = gcv_parse_int64(text, &long_number, &faults[2]) == GCV_OK;
+        count(faults[2] == rows[at].long_fault && is_read == (faults[2] == GCV_FAULT_NONE) &&
+                  long_number == (is_read ? rows[at].number : UNTOUCHED),
+              "an int64_t that ends with NUL");
+        count(gcv_parse_int32(text, &number, NULL) == (rows[at].fault == GCV_FAULT_NONE ? GCV_OK : GCV_REFUSED), "no fault");
+    }
+    gcv_color color;
+    gcv_fault fault = GCV_FAULT_NONE;
+    count(gcv_parse_color("red ul", &color, NULL) == GCV_OK && color.foreground.tag == GCV_RED && color.attributes == GCV_UL,
+          "a color that ends with NUL");
+    count(gcv_parse_color(NULL, &color, &fault) == GCV_REFUSED && fault == GCV_FAULT_COLOR, "a color of a key alone");
+}
+
 /* Each status has a text of its own, and other numbers have one together. */
 static void status_texts(void)
 {
@@ -363,6 +412,7 @@ int main(void)
     contexts();
     fault_texts();
     status_texts();
+    parsed();
     fields();
     words();
     return finish();
