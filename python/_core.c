@@ -575,6 +575,15 @@ static PyGetSetDef color_fields[] = {
     {NULL, NULL, NULL, NULL, NULL},
 };
 
+static PyObject *color_escape(PyObject *self, PyObject *Py_UNUSED(unused))
+{
+    char text[GCV_LONGEST_TEXT];
+    size_t size = 0;
+    if (gcv_escape_color(&((Value *)self)->color, text, sizeof text, &size) != GCV_OK)
+        return PyErr_Format(PyExc_SystemError, "a color has no sequence");
+    return ascii(text, size);
+}
+
 static PyMethodDef color_methods[] = {
     {"parse", read_color, METH_O | METH_CLASS,
      "parse($type, text, /)\n--\n\nThe color that a text reads to."},
@@ -582,6 +591,8 @@ static PyMethodDef color_methods[] = {
      "compose($self, other, /)\n--\n\nThe color that a text of this one, a space and a text of the other one "
      "reads to.\n"
      "ValueError if they have more than two names together."},
+    {"escape", color_escape, METH_NOARGS,
+     "escape($self, /)\n--\n\nThe escape sequence that gives a terminal this color, as Git has it."},
     SHARED_METHODS,
 };
 

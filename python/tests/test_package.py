@@ -12,6 +12,7 @@ import pathlib
 import pickle
 import pwd
 import re
+import shutil
 import subprocess
 import sys
 import unittest
@@ -218,6 +219,17 @@ class Values(unittest.TestCase):
         for call in (lambda: Color("red"), lambda: Color(0), lambda: Color(attributes=2), lambda: color.compose("red"),
                      lambda: Name(3), lambda: Color(Attribute.BOLD)):
             self.assertRaises(TypeError, call)
+
+    @unittest.skipUnless(shutil.which("git"), "Git is not there")
+    def test_escape_sequences(self):
+        words = "normal default black red green yellow blue magenta cyan white".split()
+        names = [*words, *(f"bright{word}" for word in words[2:]), "0", "7", "8", "15", "16", "255", "#010203", "#0a00ff"]
+        texts = [*WORDS, *map(" ".join, zip(names, reversed(names))), " ".join(WORDS[:7]), " ".join(WORDS[8:]), "",
+                 "reset ul red", "bold #ffffff 231", "normal bold"]
+        for text in texts:
+            git = subprocess.run(["git", "-c", f"a.b={text}", "config", "--get-color", "a.b"], check=True,
+                                 stdout=subprocess.PIPE)
+            self.assertEqual(Color.parse(text).escape(), git.stdout.decode(), text)
 
     def test_as_values(self):
         for value in VALUES:

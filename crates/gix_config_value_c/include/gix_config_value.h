@@ -257,6 +257,11 @@ GCV_CHECKED gcv_status gcv_parse_int64(const char *text, int64_t *GCV_RESTRICT o
 GCV_CHECKED gcv_status gcv_parse_color(const char *text, gcv_color *GCV_RESTRICT out, gcv_fault *fault)
     GCV_NONNULL((2));
 
+/* Writes the escape sequence that gives a terminal this color, as Git has it: its attributes, reset first, then its
+ * foreground and its background. Nothing for a color that changes nothing. GCV_BAD_NAME as gcv_show_color has it. */
+GCV_CHECKED gcv_status gcv_escape_color(const gcv_color *value, char *GCV_RESTRICT buffer, size_t capacity, size_t *size)
+    GCV_NONNULL((1, 4));
+
 /* What the library is proved for. No pointer may be null. */
 gcv_status gcv_raw_read_suffix(const char *text, size_t length, gcv_suffix *out, gcv_fault *fault);
 gcv_status gcv_raw_read_integer(const char *text, size_t length, gcv_integer *out, gcv_fault *fault);
