@@ -2,16 +2,16 @@
  *
  * Every object is a value that some text reads to, so each has a canonical text, and `str` cannot fail.
  *
- * What the headers of one Python make of a macro must be right on each other one. So no format has a `#`, whose length
- * is an int or not by the version, and no macro returns None, which 3.12 and later no longer count. */
+ * What the headers of one Python make of a macro must be right on each other one. So no format has a `#`, whose
+ * length is an int or not by the version, and no macro returns None, which 3.12 and later no longer count. */
 #define Py_LIMITED_API 0x03090000
 #include <Python.h>
 #include <string.h>
 
 #include "gix_config_value.h"
 
-/* An immutable Name, Attribute or Color. A name is kept as the color of that foreground alone, and a set of attributes
- * as the color of these alone, so one order, one hash and one text serve all three. */
+/* An immutable Name, Attribute or Color. A name is kept as the color of that foreground alone, and a set of
+ * attributes as the color of these alone, so one order, one hash and one text serve all three. */
 typedef struct {
     PyObject_HEAD
     gcv_color color;
@@ -575,6 +575,15 @@ static PyGetSetDef color_fields[] = {
     {NULL, NULL, NULL, NULL, NULL},
 };
 
+static PyObject *color_escape(PyObject *self, PyObject *Py_UNUSED(unused))
+{
+    char text[GCV_LONGEST_TEXT];
+    size_t size = 0;
+    if (gcv_escape_color(&((Value *)self)->color, text, sizeof text, &size) != GCV_OK)
+        return PyErr_Format(PyExc_SystemError, "a color has no sequence");
+    return ascii(text, size);
+}
+
 static PyMethodDef color_methods[] = {
     {"parse", read_color, METH_O | METH_CLASS,
      "parse($type, text, /)\n--\n\nThe color that a text reads to."},
@@ -582,6 +591,8 @@ static PyMethodDef color_methods[] = {
      "compose($self, other, /)\n--\n\nThe color that a text of this one, a space and a text of the other one "
      "reads to.\n"
      "ValueError if they have more than two names together."},
+    {"escape", color_escape, METH_NOARGS,
+     "escape($self, /)\n--\n\nThe escape sequence that gives a terminal this color, as Git has it."},
     SHARED_METHODS,
 };
 
@@ -703,19 +714,24 @@ static PyObject *path_of_user(PyObject *path, PyObject *users, gcv_fault *fault)
     return whole;
 }
 
-/* The path, the install directory and the home, as bytes or None, and what finds a user's home. */
+/* The path, the install directory and the home, as bytes or None, and what finds a user's home. A directory that
+ * the path does not ask for is not passed on, so it may be of any bytes. */
 static PyObject *interpolated(PyObject *Py_UNUSED(module), PyObject *args)
 {
     PyObject *path, *prefix, *home, *users;
     gcv_fault fault = GCV_FAULT_NONE;
     gcv_context context = {0};
+    uint32_t is_optional = 0;
+    size_t start = 0;
     if (!PyArg_ParseTuple(args, "SOOO", &path, &prefix, &home, &users))
         return NULL;
-    if (prefix != Py_None) {
+    gcv_cut_mark(PyBytes_AsString(path), (size_t)PyBytes_Size(path), &is_optional, &start);
+    const char *value = PyBytes_AsString(path) + start;
+    if (prefix != Py_None && *value == '%') {
         context.install_dir = PyBytes_AsString(prefix);
         context.install_dir_length = (size_t)PyBytes_Size(prefix);
     }
-    if (home != Py_None) {
+    if (home != Py_None && *value == '~') {
         context.home = PyBytes_AsString(home);
         context.home_length = (size_t)PyBytes_Size(home);
     }
@@ -747,7 +763,7 @@ static PyObject *mark_cut(PyObject *Py_UNUSED(module), PyObject *path)
 static PyMethodDef functions[] = {
     {"suffix", read_suffix, METH_O, "suffix(text, /)\n--\n\nThe suffix that a text names: 'k', 'm' or 'g'."},
     {"integer", read_amount, METH_O,
-     "integer(text, /)\n--\n\nThe number that a text writes, times the factor of its suffix. It fits 64 bits."},
+     "integer(text, /)\n--\n\nThe number that a text writes, times the factor of its suffix, of 64 bits."},
     {"integer_parts", read_integer_parts, METH_O,
      "integer_parts(text, /)\n--\n\nThe number that a text writes, and its suffix: 'k', 'm', 'g' or None."},
     {"boolean", read_boolean, METH_O,

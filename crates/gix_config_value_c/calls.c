@@ -46,18 +46,154 @@ const char *gcv_status_text(gcv_status status)
     return "unknown status";
 }
 
+/* Writes a text, as every call does that writes one. */
+static gcv_status write_text(const char *text, size_t length, char *buffer, size_t capacity, size_t *size)
+{
+    *size = length;
+    if (length > capacity) {
+        return GCV_SHORT_BUFFER;
+    }
+    if (length > 0) {
+        memcpy(buffer, text, length);
+    }
+    return GCV_OK;
+}
+
 gcv_status gcv_fault_text(gcv_fault fault, char *GCV_RESTRICT buffer, size_t capacity, size_t *size)
 {
     /* that of a refused suffix, which has no text where the contracts are proved */
     static const char suffix[] = "Suffixes need to be 'k', 'm' or 'g'";
     char none[1] = {0};
-    if (fault != GCV_FAULT_NONE) {
-        return gcv_raw_fault_text(fault, capacity == 0 ? none : buffer, capacity, size);
+    if (fault == GCV_FAULT_NONE) {
+        return write_text(suffix, sizeof suffix - 1, buffer, capacity, size);
     }
-    *size = sizeof suffix - 1;
-    if (*size > capacity) {
-        return GCV_SHORT_BUFFER;
+    return gcv_raw_fault_text(fault, capacity == 0 ? none : buffer, capacity, size);
+}
+
+/* As a key without `=` has no text, it has that of a true boolean. */
+static const char *or_true(const char *text)
+{
+    return text ? text : "true";
+}
+
+gcv_status gcv_parse_bool(const char *text, int *GCV_RESTRICT out, gcv_fault *fault)
+{
+    uint32_t value = 0;
+    gcv_status status = gcv_read_boolean(or_true(text), strlen(or_true(text)), &value, fault);
+    if (status == GCV_OK) {
+        *out = value == 1;
     }
-    memcpy(buffer, suffix, *size);
-    return GCV_OK;
+    return status;
+}
+
+gcv_status gcv_parse_int32(const char *text, int32_t *GCV_RESTRICT out, gcv_fault *fault)
+{
+    int64_t value = 0;
+    gcv_status status = gcv_parse_int64(text, &value, fault);
+    if (status == GCV_OK && (value < INT32_MIN || value > INT32_MAX)) {
+        if (fault) {
+            *fault = GCV_FAULT_OUT_OF_RANGE;
+        }
+        return GCV_REFUSED;
+    }
+    if (status == GCV_OK) {
+        *out = (int32_t)value;
+    }
+    return status;
+}
+
+gcv_status gcv_parse_int64(const char *text, int64_t *GCV_RESTRICT out, gcv_fault *fault)
+{
+    return gcv_read_amount(or_true(text), strlen(or_true(text)), out, fault);
+}
+
+gcv_status gcv_parse_color(const char *text, gcv_color *GCV_RESTRICT out, gcv_fault *fault)
+{
+    return gcv_read_color(or_true(text), strlen(or_true(text)), out, fault);
+}
+
+/* An escape sequence as far as it is written. */
+typedef struct sequence {
+    char text[GCV_LONGEST_TEXT];
+    size_t length;
+} sequence;
+
+static void put_digits(sequence *to, unsigned number)
+{
+    if (number >= 10) {
+        put_digits(to, number / 10);
+    }
+    to->text[to->length++] = (char)('0' + number % 10);
+}
+
+static void put_number(sequence *to, unsigned number)
+{
+    to->text[to->length++] = ';';
+    put_digits(to, number);
+}
+
+/* A code, after what begins the sequence or a separator. That of reset is empty. */
+static void put_code(sequence *to, unsigned code)
+{
+    if (to->length > 0) {
+        to->text[to->length++] = ';';
+    } else {
+        to->text[to->length++] = '\033';
+        to->text[to->length++] = '[';
+    }
+    if (code != 0) {
+        put_digits(to, code);
+    }
+}
+
+/* The codes of a name; `ground` is 0 for a foreground, and 10 for a background. */
+static void put_name(sequence *to, const gcv_name *name, unsigned ground)
+{
+    /* of a word: the eight basic colors, each with its bright one after it */
+    unsigned place = (unsigned)name->tag - GCV_BLACK;
+    unsigned number = name->tag == GCV_ANSI ? name->palette : place / 2 + 8 * (place % 2);
+    if (name->tag == GCV_DEFAULT) {
+        put_code(to, 39 + ground);
+    } else if (name->tag == GCV_RGB) {
+        put_code(to, 38 + ground);
+        put_number(to, 2);
+        put_number(to, name->red);
+        put_number(to, name->green);
+        put_number(to, name->blue);
+    } else if (name->tag >= GCV_BLACK && number < 16) {
+        put_code(to, (number < 8 ? 30 + number : 90 + number - 8) + ground);
+    } else if (name->tag == GCV_ANSI) {
+        put_code(to, 38 + ground);
+        put_number(to, 5);
+        put_number(to, number);
+    }
+}
+
+gcv_status gcv_escape_color(const gcv_color *value, char *GCV_RESTRICT buffer, size_t capacity, size_t *size)
+{
+    static const struct {
+        uint32_t bits;
+        unsigned code;
+    } codes[] = {{GCV_RESET, 0},       {GCV_BOLD, 1},      {GCV_DIM, 2},
+                 {GCV_ITALIC, 3},      {GCV_UL, 4},        {GCV_BLINK, 5},
+                 {GCV_REVERSE, 7},     {GCV_STRIKE, 9},    {GCV_NO_BOLD | GCV_NO_DIM, 22},
+                 {GCV_NO_ITALIC, 23},  {GCV_NO_UL, 24},    {GCV_NO_BLINK, 25},
+                 {GCV_NO_REVERSE, 27}, {GCV_NO_STRIKE, 29}};
+    sequence to = {{0}, 0};
+    size_t shown = 0;
+    gcv_status status = gcv_show_color(value, to.text, sizeof to.text, &shown);
+    if (status != GCV_OK) {
+        return status;
+    }
+    for (size_t at = 0; at < sizeof codes / sizeof codes[0]; at++) {
+        if (value->attributes & codes[at].bits) {
+            put_code(&to, codes[at].code);
+        }
+    }
+    put_name(&to, &value->foreground, 0);
+    put_name(&to, &value->background, 10);
+    if (to.length > 0) {
+        to.text[to.length++] = 'm';
+    }
+    return write_text(to.text, to.length, buffer, capacity, size);
 }

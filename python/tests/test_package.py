@@ -12,6 +12,7 @@ import pathlib
 import pickle
 import pwd
 import re
+import shutil
 import subprocess
 import sys
 import unittest
@@ -219,6 +220,17 @@ class Values(unittest.TestCase):
                      lambda: Name(3), lambda: Color(Attribute.BOLD)):
             self.assertRaises(TypeError, call)
 
+    @unittest.skipUnless(shutil.which("git"), "Git is not there")
+    def test_escape_sequences(self):
+        words = "normal default black red green yellow blue magenta cyan white".split()
+        names = [*words, *(f"bright{word}" for word in words[2:]), "0", "7", "8", "15", "16", "255", "#010203", "#0a00ff"]
+        texts = [*WORDS, *map(" ".join, zip(names, reversed(names))), " ".join(WORDS[:7]), " ".join(WORDS[8:]), "",
+                 "reset ul red", "bold #ffffff 231", "normal bold"]
+        for text in texts:
+            git = subprocess.run(["git", "-c", f"a.b={text}", "config", "--get-color", "a.b"], check=True,
+                                 stdout=subprocess.PIPE)
+            self.assertEqual(Color.parse(text).escape(), git.stdout.decode(), text)
+
     def test_as_values(self):
         for value in VALUES:
             self.assertEqual(eval(repr(value)), value)
@@ -271,7 +283,8 @@ class Paths(unittest.TestCase):
         self.assertEqual(interpolate(pathlib.Path("~/x"), home=b"/h"), "/h/x")
         self.assertEqual(interpolate(b"~u/x", users=lambda name: f"/home/{name}"), b"/home/u/x")
         self.assertEqual(interpolate("~u", users=lambda name: pathlib.Path("/h")), "/h")
-        self.assertEqual(interpolate("/x", home=None, users=self.fail), "/x")
+        self.assertEqual(interpolate("/x", home=b"/home/J\xf6rg", users=self.fail), "/x")
+        self.assertEqual(interpolate("%(prefix)/x", prefix="/usr", home="/home/J\udcf6rg"), "/usr/x")
         user = pwd.getpwuid(os.getuid())
         self.assertEqual(interpolate(f"~{user.pw_name}/x", users=gcv.home_of_user), os.path.join(user.pw_dir, "x"))
         self.assertIsNone(gcv.home_of_user("no such user"))

@@ -56,7 +56,7 @@ extern "C" {
 #define GCV_CHECKED
 #define GCV_RESTRICT
 #endif
-#define GCV_ANSWERS(positions) GCV_CALL GCV_CHECKED GCV_NONNULL(positions) gcv_status
+#define GCV_RETURNS(positions) GCV_CALL GCV_CHECKED GCV_NONNULL(positions) gcv_status
 
 /* An enum has a type of its own, of 32 bits, so that a compiler can tell a status from a fault. */
 #if defined(__cplusplus) && __cplusplus >= 201103L
@@ -245,6 +245,23 @@ const char *gcv_status_text(gcv_status status);
  * fault. */
 gcv_status gcv_fault_text(gcv_fault fault, char *GCV_RESTRICT buffer, size_t capacity, size_t *size) GCV_NONNULL((4));
 
+/* Readers of texts that end with NUL, as a callback over a configuration has them. A null text is that of a key without
+ * `=`, which is true as a boolean, and has no other value. What they put, and the faults, are those of gcv_read_boolean,
+ * gcv_read_amount and gcv_read_color; GCV_FAULT_OUT_OF_RANGE if an amount leaves int32_t. */
+GCV_CHECKED gcv_status gcv_parse_bool(const char *text, int *GCV_RESTRICT out, gcv_fault *fault)
+    GCV_NONNULL((2));
+GCV_CHECKED gcv_status gcv_parse_int32(const char *text, int32_t *GCV_RESTRICT out, gcv_fault *fault)
+    GCV_NONNULL((2));
+GCV_CHECKED gcv_status gcv_parse_int64(const char *text, int64_t *GCV_RESTRICT out, gcv_fault *fault)
+    GCV_NONNULL((2));
+GCV_CHECKED gcv_status gcv_parse_color(const char *text, gcv_color *GCV_RESTRICT out, gcv_fault *fault)
+    GCV_NONNULL((2));
+
+/* Writes the escape sequence that gives a terminal this color, as Git has it: its attributes, reset first, then its
+ * foreground and its background. Nothing for a color that changes nothing. GCV_BAD_NAME as gcv_show_color has it. */
+GCV_CHECKED gcv_status gcv_escape_color(const gcv_color *value, char *GCV_RESTRICT buffer, size_t capacity, size_t *size)
+    GCV_NONNULL((1, 4));
+
 /* What the library is proved for. No pointer may be null. */
 gcv_status gcv_raw_read_suffix(const char *text, size_t length, gcv_suffix *out, gcv_fault *fault);
 gcv_status gcv_raw_read_integer(const char *text, size_t length, gcv_integer *out, gcv_fault *fault);
@@ -290,14 +307,14 @@ GCV_INLINE const char *gcv_bytes(const char *text, size_t length)
  * the fault into `*fault`. The other one is as it was. */
 
 /* Puts GCV_KIBI, GCV_MEBI or GCV_GIBI. The fault is GCV_FAULT_NONE. */
-GCV_ANSWERS((3)) gcv_read_suffix(const char *text, size_t length, gcv_suffix *GCV_RESTRICT out, gcv_fault *fault)
+GCV_RETURNS((3)) gcv_read_suffix(const char *text, size_t length, gcv_suffix *GCV_RESTRICT out, gcv_fault *fault)
 {
     gcv_fault unused = GCV_FAULT_NONE;
     return gcv_raw_read_suffix(gcv_bytes(text, length), length, out, fault ? fault : &unused);
 }
 
 /* Puts a number and its suffix, whose product may leave int64_t. The fault is GCV_FAULT_INTEGER. */
-GCV_ANSWERS((3)) gcv_read_integer(const char *text, size_t length, gcv_integer *GCV_RESTRICT out, gcv_fault *fault)
+GCV_RETURNS((3)) gcv_read_integer(const char *text, size_t length, gcv_integer *GCV_RESTRICT out, gcv_fault *fault)
 {
     gcv_fault unused = GCV_FAULT_NONE;
     return gcv_raw_read_integer(gcv_bytes(text, length), length, out, fault ? fault : &unused);
@@ -305,35 +322,35 @@ GCV_ANSWERS((3)) gcv_read_integer(const char *text, size_t length, gcv_integer *
 
 /* Puts the product of a number and its suffix. The fault is GCV_FAULT_INTEGER where the text is no integer, and
  * GCV_FAULT_OVERFLOW where the product leaves int64_t. */
-GCV_ANSWERS((3)) gcv_read_amount(const char *text, size_t length, int64_t *GCV_RESTRICT out, gcv_fault *fault)
+GCV_RETURNS((3)) gcv_read_amount(const char *text, size_t length, int64_t *GCV_RESTRICT out, gcv_fault *fault)
 {
     gcv_fault unused = GCV_FAULT_NONE;
     return gcv_raw_read_amount(gcv_bytes(text, length), length, out, fault ? fault : &unused);
 }
 
 /* Puts 1 for true and 0 for false. The fault is GCV_FAULT_BOOLEAN. */
-GCV_ANSWERS((3)) gcv_read_boolean(const char *text, size_t length, uint32_t *GCV_RESTRICT out, gcv_fault *fault)
+GCV_RETURNS((3)) gcv_read_boolean(const char *text, size_t length, uint32_t *GCV_RESTRICT out, gcv_fault *fault)
 {
     gcv_fault unused = GCV_FAULT_NONE;
     return gcv_raw_read_boolean(gcv_bytes(text, length), length, out, fault ? fault : &unused);
 }
 
 /* Puts a name, whose tag is not GCV_NO_NAME. The fault is GCV_FAULT_COLOR. */
-GCV_ANSWERS((3)) gcv_read_name(const char *text, size_t length, gcv_name *GCV_RESTRICT out, gcv_fault *fault)
+GCV_RETURNS((3)) gcv_read_name(const char *text, size_t length, gcv_name *GCV_RESTRICT out, gcv_fault *fault)
 {
     gcv_fault unused = GCV_FAULT_NONE;
     return gcv_raw_read_name(gcv_bytes(text, length), length, out, fault ? fault : &unused);
 }
 
 /* Puts the one bit of the attribute. The fault is GCV_FAULT_COLOR. */
-GCV_ANSWERS((3)) gcv_read_attribute(const char *text, size_t length, uint32_t *GCV_RESTRICT out, gcv_fault *fault)
+GCV_RETURNS((3)) gcv_read_attribute(const char *text, size_t length, uint32_t *GCV_RESTRICT out, gcv_fault *fault)
 {
     gcv_fault unused = GCV_FAULT_NONE;
     return gcv_raw_read_attribute(gcv_bytes(text, length), length, out, fault ? fault : &unused);
 }
 
 /* Puts a color. The fault is GCV_FAULT_COLOR. */
-GCV_ANSWERS((3)) gcv_read_color(const char *text, size_t length, gcv_color *GCV_RESTRICT out, gcv_fault *fault)
+GCV_RETURNS((3)) gcv_read_color(const char *text, size_t length, gcv_color *GCV_RESTRICT out, gcv_fault *fault)
 {
     gcv_fault unused = GCV_FAULT_NONE;
     return gcv_raw_read_color(gcv_bytes(text, length), length, out, fault ? fault : &unused);
@@ -341,7 +358,7 @@ GCV_ANSWERS((3)) gcv_read_color(const char *text, size_t length, gcv_color *GCV_
 
 /* Puts the number times the factor of its suffix into `*out`. GCV_OVERFLOW where that leaves int64_t, and
  * GCV_BAD_SUFFIX where the suffix has no such number: then `*out` is as it was. */
-GCV_ANSWERS((1, 2)) gcv_product(const gcv_integer *value, int64_t *GCV_RESTRICT out)
+GCV_RETURNS((1, 2)) gcv_product(const gcv_integer *value, int64_t *GCV_RESTRICT out)
 {
     return gcv_raw_product(value, out);
 }
@@ -349,42 +366,42 @@ GCV_ANSWERS((1, 2)) gcv_product(const gcv_integer *value, int64_t *GCV_RESTRICT 
 /* Values as they are shown. A value that some text reads to is shown as its canonical text. */
 
 /* Writes k, m or g. GCV_BAD_SUFFIX where the number is not that of one. */
-GCV_ANSWERS((4)) gcv_show_suffix(gcv_suffix suffix, char *GCV_RESTRICT buffer, size_t capacity, size_t *size)
+GCV_RETURNS((4)) gcv_show_suffix(gcv_suffix suffix, char *GCV_RESTRICT buffer, size_t capacity, size_t *size)
 {
     char none[1] = {0};
     return gcv_raw_show_suffix(suffix, capacity == 0 ? none : buffer, capacity, size);
 }
 
 /* Writes the number in decimal and the letter of its suffix. GCV_BAD_SUFFIX where the suffix has no such number. */
-GCV_ANSWERS((1, 4)) gcv_show_integer(const gcv_integer *value, char *GCV_RESTRICT buffer, size_t capacity, size_t *size)
+GCV_RETURNS((1, 4)) gcv_show_integer(const gcv_integer *value, char *GCV_RESTRICT buffer, size_t capacity, size_t *size)
 {
     char none[1] = {0};
     return gcv_raw_show_integer(value, capacity == 0 ? none : buffer, capacity, size);
 }
 
 /* Writes the number in decimal. */
-GCV_ANSWERS((4)) gcv_show_amount(int64_t value, char *GCV_RESTRICT buffer, size_t capacity, size_t *size)
+GCV_RETURNS((4)) gcv_show_amount(int64_t value, char *GCV_RESTRICT buffer, size_t capacity, size_t *size)
 {
     char none[1] = {0};
     return gcv_raw_show_amount(value, capacity == 0 ? none : buffer, capacity, size);
 }
 
 /* Writes true for 1 and false for 0. GCV_BAD_FLAG where the value is neither. */
-GCV_ANSWERS((4)) gcv_show_boolean(uint32_t value, char *GCV_RESTRICT buffer, size_t capacity, size_t *size)
+GCV_RETURNS((4)) gcv_show_boolean(uint32_t value, char *GCV_RESTRICT buffer, size_t capacity, size_t *size)
 {
     char none[1] = {0};
     return gcv_raw_show_boolean(value, capacity == 0 ? none : buffer, capacity, size);
 }
 
 /* Writes the word of the name, its number, or # and six digits. GCV_BAD_NAME where the struct is not that of a name. */
-GCV_ANSWERS((1, 4)) gcv_show_name(const gcv_name *value, char *GCV_RESTRICT buffer, size_t capacity, size_t *size)
+GCV_RETURNS((1, 4)) gcv_show_name(const gcv_name *value, char *GCV_RESTRICT buffer, size_t capacity, size_t *size)
 {
     char none[1] = {0};
     return gcv_raw_show_name(value, capacity == 0 ? none : buffer, capacity, size);
 }
 
 /* Writes the words of the bits that have one, by rising bit, with one space between. */
-GCV_ANSWERS((4)) gcv_show_attribute(uint32_t bits, char *GCV_RESTRICT buffer, size_t capacity, size_t *size)
+GCV_RETURNS((4)) gcv_show_attribute(uint32_t bits, char *GCV_RESTRICT buffer, size_t capacity, size_t *size)
 {
     char none[1] = {0};
     return gcv_raw_show_attribute(bits, capacity == 0 ? none : buffer, capacity, size);
@@ -392,7 +409,7 @@ GCV_ANSWERS((4)) gcv_show_attribute(uint32_t bits, char *GCV_RESTRICT buffer, si
 
 /* Writes the foreground, the background and the attributes, those that there are, with one space between. GCV_BAD_NAME
  * where the struct of one of its names is neither that of a name nor all 0. */
-GCV_ANSWERS((1, 4)) gcv_show_color(const gcv_color *value, char *GCV_RESTRICT buffer, size_t capacity, size_t *size)
+GCV_RETURNS((1, 4)) gcv_show_color(const gcv_color *value, char *GCV_RESTRICT buffer, size_t capacity, size_t *size)
 {
     char none[1] = {0};
     return gcv_raw_show_color(value, capacity == 0 ? none : buffer, capacity, size);
@@ -402,35 +419,35 @@ GCV_ANSWERS((1, 4)) gcv_show_color(const gcv_color *value, char *GCV_RESTRICT bu
  * memory from malloc for the text and give it back before they end. GCV_NO_MEMORY where it is refused. */
 
 /* GCV_BAD_SUFFIX where the number is not that of a suffix. */
-GCV_ANSWERS((4)) gcv_json_suffix(gcv_suffix suffix, char *GCV_RESTRICT buffer, size_t capacity, size_t *size)
+GCV_RETURNS((4)) gcv_json_suffix(gcv_suffix suffix, char *GCV_RESTRICT buffer, size_t capacity, size_t *size)
 {
     char none[1] = {0};
     return gcv_raw_json_suffix(suffix, capacity == 0 ? none : buffer, capacity, size);
 }
 
 /* Writes the product. GCV_OVERFLOW where it leaves int64_t, and GCV_BAD_SUFFIX where the suffix has no such number. */
-GCV_ANSWERS((1, 4)) gcv_json_integer(const gcv_integer *value, char *GCV_RESTRICT buffer, size_t capacity, size_t *size)
+GCV_RETURNS((1, 4)) gcv_json_integer(const gcv_integer *value, char *GCV_RESTRICT buffer, size_t capacity, size_t *size)
 {
     char none[1] = {0};
     return gcv_raw_json_integer(value, capacity == 0 ? none : buffer, capacity, size);
 }
 
 /* GCV_BAD_FLAG where the value is neither 0 nor 1. */
-GCV_ANSWERS((4)) gcv_json_boolean(uint32_t value, char *GCV_RESTRICT buffer, size_t capacity, size_t *size)
+GCV_RETURNS((4)) gcv_json_boolean(uint32_t value, char *GCV_RESTRICT buffer, size_t capacity, size_t *size)
 {
     char none[1] = {0};
     return gcv_raw_json_boolean(value, capacity == 0 ? none : buffer, capacity, size);
 }
 
 /* GCV_BAD_NAME where the struct is not that of a name. */
-GCV_ANSWERS((1, 4)) gcv_json_name(const gcv_name *value, char *GCV_RESTRICT buffer, size_t capacity, size_t *size)
+GCV_RETURNS((1, 4)) gcv_json_name(const gcv_name *value, char *GCV_RESTRICT buffer, size_t capacity, size_t *size)
 {
     char none[1] = {0};
     return gcv_raw_json_name(value, capacity == 0 ? none : buffer, capacity, size);
 }
 
 /* Writes the words of the bits that have one, as one string. */
-GCV_ANSWERS((4)) gcv_json_attribute(uint32_t bits, char *GCV_RESTRICT buffer, size_t capacity, size_t *size)
+GCV_RETURNS((4)) gcv_json_attribute(uint32_t bits, char *GCV_RESTRICT buffer, size_t capacity, size_t *size)
 {
     char none[1] = {0};
     return gcv_raw_json_attribute(bits, capacity == 0 ? none : buffer, capacity, size);
@@ -440,7 +457,7 @@ GCV_ANSWERS((4)) gcv_json_attribute(uint32_t bits, char *GCV_RESTRICT buffer, si
 
 /* Writes the one canonical text of the value of a text, of at most GCV_LONGEST_TEXT bytes. GCV_REFUSED where the text
  * has no value of the kind (its reader tells the fault), and GCV_UNKNOWN_KIND where no kind has the number. */
-GCV_ANSWERS((6)) gcv_normalize(gcv_kind kind, const char *text, size_t length, char *GCV_RESTRICT buffer,
+GCV_RETURNS((6)) gcv_normalize(gcv_kind kind, const char *text, size_t length, char *GCV_RESTRICT buffer,
                                size_t capacity, size_t *size)
 {
     char none[1] = {0};
@@ -449,7 +466,7 @@ GCV_ANSWERS((6)) gcv_normalize(gcv_kind kind, const char *text, size_t length, c
 
 /* Puts into `*out` 1 where both texts mean the same, and else 0. GCV_REFUSED where one of them has no value of the
  * kind, and GCV_UNKNOWN_KIND where the number is not that of a kind: then `*out` is as it was. */
-GCV_ANSWERS((6)) gcv_same(gcv_kind kind, const char *first, size_t first_length, const char *second,
+GCV_RETURNS((6)) gcv_same(gcv_kind kind, const char *first, size_t first_length, const char *second,
                           size_t second_length, uint32_t *GCV_RESTRICT out)
 {
     return gcv_raw_same(kind, gcv_bytes(first, first_length), first_length, gcv_bytes(second, second_length),
@@ -460,7 +477,7 @@ GCV_ANSWERS((6)) gcv_same(gcv_kind kind, const char *first, size_t first_length,
  * GCV_BAD_NAME where one of them has the struct of no name, GCV_NO_TEXT where no text reads to one of them (it has a
  * bit without a word, or a background alone), and GCV_TOO_MANY_NAMES where they have more than two names together: then
  * `*out` is as it was. */
-GCV_ANSWERS((1, 2, 3)) gcv_compose(const gcv_color *first, const gcv_color *second, gcv_color *GCV_RESTRICT out)
+GCV_RETURNS((1, 2, 3)) gcv_compose(const gcv_color *first, const gcv_color *second, gcv_color *GCV_RESTRICT out)
 {
     return gcv_raw_compose(first, second, out);
 }
@@ -472,7 +489,7 @@ GCV_ANSWERS((1, 2, 3)) gcv_compose(const gcv_color *first, const gcv_color *seco
  * and the kind's reader at `bytes + out->start` tells the value or the fault. GCV_ABSENT where no entry has the name,
  * GCV_BAD_LENGTHS where the lengths are odd in number or do not sum to `bytes_length`, and GCV_UNKNOWN_KIND where the
  * number is not that of a kind: then `*out` is as it was. */
-GCV_ANSWERS((8)) gcv_lookup(gcv_kind kind, const char *bytes, size_t bytes_length, const size_t *lengths,
+GCV_RETURNS((8)) gcv_lookup(gcv_kind kind, const char *bytes, size_t bytes_length, const size_t *lengths,
                             size_t lengths_count, const char *name, size_t name_length, gcv_entry *GCV_RESTRICT out)
 {
     size_t none[1] = {0};
@@ -495,7 +512,7 @@ GCV_CALL GCV_NONNULL((3, 4)) void gcv_cut_mark(const char *text, size_t length, 
  * GCV_REFUSED where it stands for nothing: `*fault` is one of the faults of paths, and is as it was after any other
  * answer. GCV_NOT_UTF8 where a text of the context is no UTF-8. The call takes no memory; GCV_NO_MEMORY where what the
  * path stands for is longer than PTRDIFF_MAX. */
-GCV_ANSWERS((3, 6)) gcv_interpolate(const char *text, size_t length, const gcv_context *context,
+GCV_RETURNS((3, 6)) gcv_interpolate(const char *text, size_t length, const gcv_context *context,
                                     char *GCV_RESTRICT buffer, size_t capacity, size_t *size, gcv_fault *fault)
 {
     char none[1] = {0};

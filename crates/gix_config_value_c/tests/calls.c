@@ -22,6 +22,7 @@ WRITER(show_boolean, uint32_t, gcv_show_boolean(*value, buffer, capacity, size))
 WRITER(show_name, gcv_name, gcv_show_name(value, buffer, capacity, size))
 WRITER(show_attribute, uint32_t, gcv_show_attribute(*value, buffer, capacity, size))
 WRITER(show_color, gcv_color, gcv_show_color(value, buffer, capacity, size))
+WRITER(escape_color, gcv_color, gcv_escape_color(value, buffer, capacity, size))
 WRITER(json_suffix, uint32_t, gcv_json_suffix(*value, buffer, capacity, size))
 WRITER(json_integer, gcv_integer, gcv_json_integer(value, buffer, capacity, size))
 WRITER(json_boolean, uint32_t, gcv_json_boolean(*value, buffer, capacity, size))
@@ -71,6 +72,7 @@ static void bad_numbers(void)
             count(writes_nothing(buffer_area, show_name, &name, GCV_BAD_NAME), "show_name");
             count(writes_nothing(buffer_area, json_name, &name, GCV_BAD_NAME), "json_name");
             count(writes_nothing(buffer_area, show_color, &color, GCV_BAD_NAME), "show_color");
+            count(writes_nothing(buffer_area, escape_color, &color, GCV_BAD_NAME), "escape_color");
         }
         if (number > GCV_FAULT_ILL_FORMED_PATH) {
             count(writes_nothing(buffer_area, fault_text, &number, GCV_UNKNOWN_FAULT), "fault_text");
@@ -269,6 +271,88 @@ static void fault_texts(void)
     }
 }
 
+/* What git 2.39.5 prints by `git -c a.b=TEXT config --get-color a.b`. */
+static void escape_sequences(void)
+{
+    static const char *const rows[][2] = {
+        {"", ""},
+        {"normal", ""},
+        {"-1 red", "\033[41m"},
+        {"default blue", "\033[39;44m"},
+        {"bold red", "\033[1;31m"},
+        {"reset", "\033[m"},
+        {"red reset bold", "\033[;1;31m"},
+        {"brightred brightblue", "\033[91;104m"},
+        {"black white", "\033[30;47m"},
+        {"green yellow", "\033[32;43m"},
+        {"magenta cyan", "\033[35;46m"},
+        {"brightblack brightwhite", "\033[90;107m"},
+        {"0 7", "\033[30;47m"},
+        {"8 15", "\033[90;107m"},
+        {"16 255", "\033[38;5;16;48;5;255m"},
+        {"#010203 #0a00ff", "\033[38;2;1;2;3;48;2;10;0;255m"},
+        {"bold dim italic ul blink reverse strike", "\033[1;2;3;4;5;7;9m"},
+        {"nobold nodim noitalic noul noblink noreverse nostrike", "\033[22;23;24;25;27;29m"},
+        {"dim nodim red", "\033[2;22;31m"},
+    };
+    for (size_t at = 0; at < sizeof rows / sizeof rows[0]; at++) {
+        gcv_color color;
+        const char *wanted = rows[at][1];
+        count(gcv_read_color(rows[at][0], strlen(rows[at][0]), &color, NULL) == GCV_OK &&
+                  writes(buffer_area, escape_color, &color, wanted, strlen(wanted)),
+              rows[at][0]);
+    }
+}
+
+/* Texts that end with NUL, and that of a key without `=`, which Git takes for true; the rest by docs/GRAMMAR.md. */
+static void parsed(void)
+{
+    static const struct {
+        const char *text;
+        int is_true;          /* 2: refused */
+        gcv_fault fault;      /* of gcv_parse_int32 */
+        gcv_fault long_fault; /* of gcv_parse_int64 */
+        int64_t number;
+    } rows[] = {
+        {NULL, 1, GCV_FAULT_INTEGER, GCV_FAULT_INTEGER, 0},
+        {"", 0, GCV_FAULT_INTEGER, GCV_FAULT_INTEGER, 0},
+        {"On", 1, GCV_FAULT_INTEGER, GCV_FAULT_INTEGER, 0},
+        {"0x10", 1, GCV_FAULT_NONE, GCV_FAULT_NONE, 16},
+        {"0", 0, GCV_FAULT_NONE, GCV_FAULT_NONE, 0},
+        {"2147483647", 1, GCV_FAULT_NONE, GCV_FAULT_NONE, INT32_MAX},
+        {"-2147483648", 1, GCV_FAULT_NONE, GCV_FAULT_NONE, INT32_MIN},
+        {"2147483648", 1, GCV_FAULT_OUT_OF_RANGE, GCV_FAULT_NONE, INT64_C(2147483648)},
+        {"-2147483649", 1, GCV_FAULT_OUT_OF_RANGE, GCV_FAULT_NONE, INT64_C(-2147483649)},
+        {"3g", 1, GCV_FAULT_OUT_OF_RANGE, GCV_FAULT_NONE, INT64_C(3221225472)},
+        {"8589934592g", 2, GCV_FAULT_OVERFLOW, GCV_FAULT_OVERFLOW, 0},
+        {"x", 2, GCV_FAULT_INTEGER, GCV_FAULT_INTEGER, 0},
+    };
+    for (size_t at = 0; at < sizeof rows / sizeof rows[0]; at++) {
+        const char *text = rows[at].text;
+        int is_true = 2;
+        int32_t number = UNTOUCHED;
+        int64_t long_number = UNTOUCHED;
+        gcv_fault faults[3] = {GCV_FAULT_NONE, GCV_FAULT_NONE, GCV_FAULT_NONE};
+        int is_read = gcv_parse_bool(text, &is_true, &faults[0]) == GCV_OK;
+        count(is_true == rows[at].is_true && is_read == (is_true != 2) && is_read == (faults[0] != GCV_FAULT_BOOLEAN),
+              "a boolean that ends with NUL");
+        is_read = gcv_parse_int32(text, &number, &faults[1]) == GCV_OK;
+        count(faults[1] == rows[at].fault && is_read == (faults[1] == GCV_FAULT_NONE) &&
+                  number == (is_read ? rows[at].number : UNTOUCHED),
+              "an int32_t that ends with NUL");
+        is_read = gcv_parse_int64(text, &long_number, &faults[2]) == GCV_OK;
+        count(faults[2] == rows[at].long_fault && is_read == (faults[2] == GCV_FAULT_NONE) &&
+                  long_number == (is_read ? rows[at].number : UNTOUCHED),
+              "an int64_t that ends with NUL");
+        count(gcv_parse_int32(text, &number, NULL) == (rows[at].fault == GCV_FAULT_NONE ? GCV_OK : GCV_REFUSED), "no fault");
+    }
+    gcv_color color;
+    gcv_fault fault = GCV_FAULT_NONE;
+    count(gcv_parse_color("red ul", &color, NULL) == GCV_OK && color.foreground.tag == GCV_RED && color.attributes == GCV_UL,
+          "a color that ends with NUL");
+    count(gcv_parse_color(NULL, &color, &fault) == GCV_REFUSED && fault == GCV_FAULT_COLOR, "a color of a key alone");
+}
+
 /* Each status has a text of its own, and other numbers have one together. */
 static void status_texts(void)
 {
@@ -363,6 +447,8 @@ int main(void)
     contexts();
     fault_texts();
     status_texts();
+    parsed();
+    escape_sequences();
     fields();
     words();
     return finish();

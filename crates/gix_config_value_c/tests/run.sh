@@ -77,15 +77,15 @@ archive=$prefix/lib/libgix_config_value.a
 holds "the header" python3 "$tests/header.py" "$prefix"
 
 # the calls that the header declares are the symbols that the library shows, and it needs none but those of docs/C.md
-sed -nE 's/^(GCV_ANSWERS|GCV_CALL|gcv_status|void|const char).*[ *](gcv_[a-z0-9_]+)\(.*/\2/p' \
+sed -nE 's/^(GCV_RETURNS|GCV_CALL|GCV_CHECKED|gcv_status|void|const char).*[ *](gcv_[a-z0-9_]+)\(.*/\2/p' \
     "$prefix/include/gix_config_value.h" | sort > "$work/declared"
 nm -g --defined-only "$archive" | sed -n 's/.* [A-Z] //p' | sort > "$work/shown"
 holds "the archive shows the calls of the header" diff "$work/declared" "$work/shown"
 nm -D --defined-only "$prefix/lib/libgix_config_value.so" | sed -n 's/.* [A-Z] //p' | sort > "$work/shown"
 holds "the shared library shows the calls of the header" diff "$work/declared" "$work/shown"
-printf '%s\n' free malloc memcpy memmove memset realloc > "$work/known"
+printf '%s\n' free malloc memcpy memmove memset realloc strlen > "$work/known"
 nm -u "$archive" | sed -n 's/^ *U //p' | sort -u > "$work/needed"
-holds "the archive needs memory and copies of it alone" diff "$work/known" "$work/needed"
+holds "the archive needs memory, copies of it and strlen alone" diff "$work/known" "$work/needed"
 # what processors of x86-64 before 2008 lack
 objdump -d --no-show-raw-insn "$archive" | cut -f 2 | cut -d ' ' -f 1 | sort -u | grep -E \
     '^(v|pabs|palign|pshufb|phadd|psign|pinsr[bdq]|pextr[bdq]|pmov[sz]x|ptest|pmulld|pcmp(eq|gt)q|pblend|popcnt|crc32|round)' \
@@ -100,7 +100,7 @@ installed() {
         sh "$tests/../build.sh" "$@" /usr)
 }
 if [ ! -f "$built" ]; then
-    echo "skipped: the installation, for want of $built"
+    echo "skipped: the installation, without $built"
 else
     holds "it is installed below DESTDIR" installed
     holds "LIBDIR" test -f "$work/dest/usr/lib/here/libgix_config_value.a"
@@ -211,7 +211,7 @@ sys.exit("too old" if sys.version_info < (3, 9) else print(sys.version))' 2> /de
             ;;
     esac
 done
-[ -n "$pythons" ] || echo "skipped: the Python package, for want of Python 3.9 with its headers"
+[ -n "$pythons" ] || echo "skipped: the Python package, without Python 3.9 and its headers"
 for builder in $pythons; do
     by=$("$builder" -V)
     rm -rf "$work/wheel" "$work/site"
