@@ -297,7 +297,7 @@ class Paths(unittest.TestCase):
 class Package(unittest.TestCase):
     def test_examples(self):
         self.assertEqual(doctest.testmod(gcv).failed, 0)
-        page = ROOT / "docs/PYTHON.md"
+        page = ROOT / "docs/C.md"
         tested = doctest.testfile(str(page), module_relative=False)
         self.assertTrue(tested.attempted > 0 and tested.failed == 0, tested)
 
