@@ -30,8 +30,9 @@ expanded_have_forms = (refl, (refl, ((refl, λ e. cc (e), is_name), (refl, tt)))
   is_name = (λ e. omega (arith, e), (λ e. omega (arith, e), (λ e. omega (arith, e), (λ e. omega (arith, e), tt))))
 
 -- "a literal path .. that should not be expanded .. needs to be prefixed by ./, like so: ./%(prefix)/bin"
-pub literal_path : HasForm (codes "./%(prefix)/bin") other
+pub literal_path : HasForm (codes "./%(prefix)/bin") (other (codes "./%(prefix)/bin"))
 literal_path = (
+  refl,
   λ e. cc (e),
   λ rest. other_first 46 37 _ _ (λ e. omega (arith, e)),
   λ rest. other_first 46 126 _ _ (λ e. omega (arith, e)),

@@ -1,6 +1,6 @@
 -- What a path value gives: the path table.
 use Rattle.std.specs.Prelude.{◌≡◌, ◌≢◌, ℕ, nat_eq, List, [], ◌∷◌, ◌++◌, codes, Option, None, Some}
-use Rattle.std.specs.Prelude.{option_copied, Result, Ok, Err, string_bytes, IsUtf8, if◌then◌else◌}
+use Rattle.std.specs.Prelude.{option_copied, Result, Ok, Err, string_bytes, IsUtf8, if◌then◌else◌, ⊤}
 use Rattle.std.specs.Fn.{Once, FnOnceReturnsAt}
 use Rattle.std.specs.List.{starts_with, ends_with, AllByRecursion}
 use Rattle.std.specs.declared.string.String.{String}
@@ -23,7 +23,7 @@ pub data Form : Type 0 where
   below_prefix : (rest : List ℕ) → Form
   below_home : (rest : Option (List ℕ)) → Form
   below_user : (name : List ℕ) → (rest : Option (List ℕ)) → Form
-  other : Form
+  other : (value : List ℕ) → Form
 
 -- `/`
 abbrev pub slash : ℕ
@@ -44,7 +44,7 @@ HasForm value empty = value ≡ []
 HasForm value (below_prefix rest) = value ≡ codes "%(prefix)/" ++ rest
 HasForm value (below_home rest) = value ≡ codes "~" ++ below [] rest
 HasForm value (below_user name rest) = (value ≡ codes "~" ++ below name rest) × (name ≢ []) × IsOneName name
-HasForm value other = (value ≢ []) × ((rest : List ℕ) → value ≢ codes "%(prefix)/" ++ rest) × ((rest : List ℕ) → value ≢ codes "~" ++ rest)
+HasForm value (other whole) = (whole ≡ value) × (value ≢ []) × ((rest : List ℕ) → value ≢ codes "%(prefix)/" ++ rest) × ((rest : List ℕ) → value ≢ codes "~" ++ rest)
 
 -- what stands between a directory and a rest: a `/`, unless the directory is empty or ends in one
 abbrev pub separator : List ℕ → List ℕ
@@ -55,77 +55,121 @@ separator (c ∷ cs) = if ends_with nat_eq (c ∷ cs) (codes "/") then [] else c
 abbrev pub join : List ℕ → List ℕ → List ℕ
 join dir rest = if starts_with nat_eq rest (codes "/") then rest else dir ++ separator dir ++ rest
 
--- the text, or out of memory, which is an answer only where the text is not empty
-abbrev pub GivesText : List ℕ → Result (String Global) Error → Type 0
-GivesText text (Ok s) = string_bytes s ≡ text
-GivesText text (Err (Memory e)) = text ≢ []
-GivesText text (Err _) = ⊥
+-- ---- the path table
 
--- ill-formed UTF-8 at this place; the error lends just these bytes
-abbrev pub IsIllFormed : Place → List ℕ → Error → Type 0
-IsIllFormed place bytes (IllFormed at input) = (at ≡ place) × (input.now ≡ bytes)
-IsIllFormed place bytes _ = ⊥
+-- the users that a caller knows: none, since there is no lookup, or the homes that a lookup may give for a name
+pub data Users : Type 1 where
+  no_lookup : Users
+  looked_up : (may_give : List ℕ → Option (List ℕ) → Type 0) → Users
 
--- refused as ill-formed UTF-8 at this place
-abbrev pub RefusesBytes : Place → List ℕ → Result (String Global) Error → Type 0
-RefusesBytes place bytes (Err e) = IsIllFormed place bytes e
-RefusesBytes place bytes (Ok s) = ⊥
+-- what a caller knows of the directories that a path may refer to
+pub record Known : Type 1 where
+  pub install_dir : Option (List ℕ)
+  pub home_dir : Option (List ℕ)
+  pub users : Users
 
--- the bytes have to be UTF-8, or they are refused at this place
-abbrev pub WhereUtf8 : Place → List ℕ → Type 0 → Result (String Global) Error → Type 0
-WhereUtf8 place bytes answer r = (IsUtf8 bytes → answer) × (¬ (IsUtf8 bytes) → RefusesBytes place bytes r)
+-- what a value gives: a text, or a fault, or the fault that these bytes at this place are not UTF-8
+pub data PathResult : Type 0 where
+  text : List ℕ → PathResult
+  fault : Error → PathResult
+  ill_formed : Place → List ℕ → PathResult
 
--- the directory, or the directory and the rest joined
-abbrev pub GivesBelow : Place → List ℕ → Option (List ℕ) → Result (String Global) Error → Type 0
-GivesBelow place dir None r = GivesText dir r
-GivesBelow place dir (Some rest) r = WhereUtf8 place rest (GivesText (join dir rest) r) r
+-- the bytes are UTF-8 and the row says what is given, or they are not, which is the fault
+pub data WhereUtf8 (place : Place) (bytes : List ℕ) (row : Type 0) (result : PathResult) : Type 0 where
+  utf8 : IsUtf8 bytes → row → WhereUtf8 place bytes row result
+  other_bytes : ¬ (IsUtf8 bytes) → result ≡ ill_formed place bytes → WhereUtf8 place bytes row result
 
--- the same below a directory that the context may lack
-abbrev pub GivesBelowGiven : Error → Place → Option (List ℕ) → Option (List ℕ) → Result (String Global) Error
-    → Type 0
-GivesBelowGiven missing place None rest r = r ≡ Err missing
-GivesBelowGiven missing place (Some dir) rest r = GivesBelow place dir rest r
+-- a row for a directory and a rest: what is given if there is no directory, and the place if the rest is not UTF-8
+pub record Row : Type 0 where
+  pub dir : Option (List ℕ)
+  pub missing : PathResult
+  pub rest : Option (List ℕ)
+  pub place : Place
 
--- below the directory that the lookup answered, or no such user
-abbrev pub GivesAnswered : Option (List ℕ) → Option (List ℕ) → Result (String Global) Error → Type 0
-GivesAnswered None rest r = r ≡ Err UserNotFound
-GivesAnswered (Some dir) rest r = GivesBelow PastUser dir rest r
+-- a directory gives itself, or what it and the rest are joined to
+pub data IsBelow (row : Row) (result : PathResult) : Type 0 where
+  no_dir : row.dir ≡ None → result ≡ row.missing → IsBelow row result
+  no_rest : (dir : List ℕ) → row.dir ≡ Some dir → row.rest ≡ None → result ≡ text dir → IsBelow row result
+  both : (dir rest : List ℕ) → row.dir ≡ Some dir → row.rest ≡ Some rest
+      → WhereUtf8 row.place rest (result ≡ text (join dir rest)) result
+      → IsBelow row result
 
--- below the directory that the lookup answers for the name: first the lookup has to be there, then the name
--- to be UTF-8
-abbrev pub GivesBelowUser : {F : Type 0} → (F → List ℕ → Option (List ℕ) → Type 0) → Option F → List ℕ
-    → Option (List ℕ) → Result (String Global) Error → Type 0
-GivesBelowUser answers None name rest r = r ≡ Err LookupMissing
-GivesBelowUser answers (Some f) name rest r =
-    WhereUtf8 Username name ((answer : Option (List ℕ)) × answers f name answer × GivesAnswered answer rest r) r
-
--- the value itself
-abbrev pub GivesValue : List ℕ → Result (String Global) Error → Type 0
-GivesValue value r = WhereUtf8 Whole value (GivesText value r) r
+-- below the home of the user of this name: first there has to be a lookup, and then the name has to be UTF-8
+abbrev pub IsBelowUser : Users → List ℕ → Option (List ℕ) → PathResult → Type 0
+IsBelowUser no_lookup name rest result = result ≡ fault LookupMissing
+IsBelowUser (looked_up may_give) name rest result = WhereUtf8 Username name ((home : Option (List ℕ)) × may_give name home × IsBelow (record { dir = home; missing = fault UserNotFound; rest = rest; place = PastUser }) result) result
 
 -- the path table: what a value of this form gives
-abbrev pub Gives : {F : Type 0} → (F → List ℕ → Option (List ℕ) → Type 0) → Context F → List ℕ → Form
-    → Result (String Global) Error → Type 0
-Gives answers context value empty r = r ≡ Err PathMissing
-Gives answers context value (below_prefix rest) r =
-    GivesBelowGiven InstallDirMissing PastPrefix (option_copied context.git_install_dir) (Some rest) r
-Gives answers context value (below_home rest) r =
-    GivesBelowGiven HomeMissing PastHome (option_copied context.home_dir) rest r
-Gives answers context value (below_user name rest) r =
-    GivesBelowUser answers context.home_for_user name rest r
-Gives answers context value other r = GivesValue value r
+abbrev pub Gives : Known → Form → PathResult → Type 0
+Gives known empty result = result ≡ fault PathMissing
+Gives known (below_prefix rest) result = IsBelow (record { dir = known.install_dir; missing = fault InstallDirMissing; rest = Some rest; place = PastPrefix }) result
+Gives known (below_home rest) result = IsBelow (record { dir = known.home_dir; missing = fault HomeMissing; rest = rest; place = PastHome }) result
+Gives known (below_user name rest) result = IsBelowUser known.users name rest result
+Gives known (other value) result = WhereUtf8 Whole value (result ≡ text value) result
 
--- interpolated: what the table says at the form that the value has
-pub record Interpolated {F : Type 0} (answers : F → List ℕ → Option (List ℕ) → Type 0) (context : Context F) (value : List ℕ) (r : Result (String Global) Error) : Type 0 where
+-- what the table gives at the form that the value has
+pub record PathTable (known : Known) (value : List ℕ) (result : PathResult) : Type 0 where
   pub form : Form
   pub has_form : HasForm value form
-  pub gives : Gives answers context value form r
+  pub gives : Gives known form result
+
+-- ---- what a call returns
+
+-- an error as a result of the table
+abbrev pub refusal : Error → PathResult
+refusal (IllFormed place input) = ill_formed place input.now
+refusal e = fault e
+
+-- what was returned as a result of the table
+abbrev pub returned : Result (String Global) Error → PathResult
+returned (Ok s) = text (string_bytes s)
+returned (Err e) = refusal e
+
+-- this result is returned; or out of memory for a text that is not empty
+abbrev pub IsAllocated : PathResult → Result (String Global) Error → Type 0
+IsAllocated result (Err (Memory e)) = (t : List ℕ) × (result ≡ text t) × (t ≢ [])
+IsAllocated result r = result ≡ returned r
+
+-- interpolated: what the table gives is returned
+pub record Interpolated (known : Known) (value : List ℕ) (r : Result (String Global) Error) : Type 0 where
+  pub result : PathResult
+  pub table : PathTable known value result
+  pub allocated : IsAllocated result r
+
+-- ---- what a context knows
 
 -- the lookup may answer this directory, or none, for the name
 abbrev pub LooksUp : {F : Type 0} → Once F (Bor (List ℕ) × Unit {0}) (Option (Bor (List ℕ))) → F → List ℕ
     → Option (List ℕ) → Type 0
 LooksUp lookup f name answer =
     (r : Option (Bor (List ℕ))) × FnOnceReturnsAt lookup f name r × (option_copied r ≡ answer)
+
+-- the users that a lookup knows, if there is one
+abbrev pub users_of : {F : Type 0} → Once F (Bor (List ℕ) × Unit {0}) (Option (Bor (List ℕ))) → Option F → Users
+users_of lookup None = no_lookup
+users_of lookup (Some f) = looked_up (LooksUp lookup f)
+
+-- what a context knows
+abbrev pub known_in : {F : Type 0} → Once F (Bor (List ℕ) × Unit {0}) (Option (Bor (List ℕ))) → Context F → Known
+known_in lookup context = record {
+  install_dir = option_copied context.git_install_dir;
+  home_dir = option_copied context.home_dir;
+  users = users_of lookup context.home_for_user;
+}
+
+-- ---- laws: what a lookup that is a function makes of the table
+
+-- a name has one home
+abbrev pub HaveOneHome : Users → Type 0
+HaveOneHome no_lookup = ⊤
+HaveOneHome (looked_up may_give) = (name : List ℕ) (a b : Option (List ℕ)) → may_give name a → may_give name b → a ≡ b
+
+-- memory was refused
+abbrev pub IsOutOfMemory : Result (String Global) Error → Type 0
+IsOutOfMemory (Err (Memory e)) = ⊤
+IsOutOfMemory r = ⊥
+
+-- ---- errors
 
 -- how a place is shown
 abbrev pub place_shown : Place → List ℕ

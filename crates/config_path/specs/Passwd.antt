@@ -1,5 +1,5 @@
 -- The home directory of a user in a passwd text.
-use Rattle.std.specs.Prelude.{ℕ, ◌==◌, List, [], ◌∷◌, Option, None, Some, if◌then◌else◌}
+use Rattle.std.specs.Prelude.{◌≡◌, ℕ, ◌==◌, List, [], ◌∷◌, Option, None, Some, if◌then◌else◌}
 use Rattle.std.specs.List.{slice_split, list_any}
 use Rattle.std.specs.Option.{option_or}
 use Rattle.std.specs.Str.{bytes_eq}
@@ -33,3 +33,7 @@ home_in_lines name (line ∷ lines) =
 abbrev pub home_in : List ℕ → List ℕ → Option (List ℕ)
 home_in passwd name =
     if list_any (λ b. b == nul) name then None else home_in_lines name (pieces line_feed passwd)
+
+-- what a lookup of users in a passwd text gives for a name
+abbrev pub IsHomeIn : List ℕ → List ℕ → Option (List ℕ) → Type 0
+IsHomeIn passwd name home = home ≡ home_in passwd name

@@ -2,12 +2,14 @@
 //!
 //! No memory is asked for. `Path::interpolate` makes one text of the parts, and a caller with a buffer writes
 //! them there.
-ghost use Rattle.std.specs.Prelude.{◌≡◌, ◌≢◌, [], None, IsUtf8, MatchResult, IfErr, codes, if◌then◌else◌};
+ghost use Rattle.std.specs.Prelude.{◌≡◌, ◌≢◌, [], IsUtf8, MatchResult, codes, if◌then◌else◌};
 ghost use Rattle.std.specs.Prelude.{option_copied, string_bytes};
 ghost use Rattle.std.specs.Option.{ForSome};
-ghost use Rattle.config_path.specs.Interpolation.{Interpolated, LooksUp, IsOneName, below, join, IsIllFormed};
-ghost use Rattle.config_path.specs.Interpolation.{GivesBelow, GivesBelowGiven, GivesBelowUser, GivesValue};
-ghost use Rattle.config_path.specs.Parts.{parts_text, IsNotMemory, Makes};
+ghost use Rattle.config_path.specs.declared.interpolate.Place.TheVariants.{Whole};
+ghost use Rattle.config_path.specs.Interpolation.{PathTable, WhereUtf8, IsBelow, IsBelowUser, IsOneName};
+ghost use Rattle.config_path.specs.Interpolation.{below, join, refusal, users_of, known_in};
+ghost use Rattle.config_path.specs.Interpolation.PathResult.{text as whole_text, ill_formed};
+ghost use Rattle.config_path.specs.Parts.{parts_text, parts_result};
 
 use crate::interpolate::{Context, Error, Place};
 use crate::path::strip_front;
@@ -70,10 +72,9 @@ impl Parts<'_, '_> {
 
 /// The bytes as text. Fails with `IllFormed`, which holds the place and all the bytes.
 fn text_at<'p>(place: Place, bytes: &'p [u8]) -> Result<&'p str, Error<'p>>
-    ensures text { MatchResult result
+    ensures { MatchResult result
         (λ text. (text.now ≡ bytes.now) × IsUtf8 bytes.now)
-        (λ e. ¬ (IsUtf8 bytes.now) × IsIllFormed place bytes.now e) }
-    ensures no_memory { IfErr result IsNotMemory }
+        (λ e. ¬ (IsUtf8 bytes.now) × (refusal e ≡ ill_formed place bytes.now)) }
 {
     match str::from_utf8(bytes) {
         Ok(text) => Ok(text),
@@ -103,16 +104,24 @@ fn joined<'a, 'p>(dir: &'a str, rest: &'p str) -> Parts<'a, 'p>
     }
 }
 
-/// The directory, or the directory and the rest joined. Fails with `IllFormed` at the place where
-/// the rest is not UTF-8.
+/// The directory, or the directory and the rest joined. Fails with `missing` if there is no directory, and
+/// with `IllFormed` at the place if the rest is not UTF-8.
 fn below_dir<'a, 'p>(
-    place: Place,
-    dir: &'a str,
+    dir: Option<&'a str>,
+    missing: Error<'p>,
     rest: Option<&'p [u8]>,
+    place: Place,
 ) -> Result<Parts<'a, 'p>, Error<'p>>
-    ensures made { Makes result (GivesBelow place dir.now (option_copied rest.entry)) }
-    ensures no_memory { IfErr result IsNotMemory }
+    ensures { IsBelow (record {
+      dir = option_copied dir.entry;
+      missing = refusal missing.entry;
+      rest = option_copied rest.entry;
+      place = place;
+    }) (parts_result result) }
 {
+    let Some(dir) = dir else {
+        return Err(missing);
+    };
     match rest {
         None => Ok(Parts {
             dir,
@@ -120,23 +129,6 @@ fn below_dir<'a, 'p>(
             rest: "",
         }),
         Some(rest) => Ok(joined(dir, text_at(place, rest)?)),
-    }
-}
-
-/// The same below a directory that may be missing: then it fails with `missing`.
-fn below_given<'a, 'p>(
-    missing: Error<'p>,
-    place: Place,
-    dir: Option<&'a str>,
-    rest: Option<&'p [u8]>,
-) -> Result<Parts<'a, 'p>, Error<'p>>
-    ensures made { Makes result (GivesBelowGiven missing.entry place (option_copied dir.entry)
-        (option_copied rest.entry)) }
-    ensures no_memory { IsNotMemory missing.entry → IfErr result IsNotMemory }
-{
-    match dir {
-        None => Err(missing),
-        Some(dir) => below_dir(place, dir, rest),
     }
 }
 
@@ -149,18 +141,14 @@ fn below_user<'p, 'a, F>(
 where
     F: FnOnce(&str) -> Option<&'a str> + Drop,
     requires { ForSome lookup (λ f. (name : _) → IsUtf8 name.now → F.pre f name) }
-    ensures made { Makes result (GivesBelowUser (LooksUp F.FnOnce) lookup name.now
-        (option_copied rest.entry)) }
-    ensures no_memory { IfErr result IsNotMemory }
+    ensures { IsBelowUser (users_of F.FnOnce lookup) name.now (option_copied rest.entry)
+        (parts_result result) }
 {
     let Some(lookup) = lookup else {
         return Err(Error::LookupMissing);
     };
     let name = text_at(Place::Username, name)?;
-    match lookup(name) {
-        None => Err(Error::UserNotFound),
-        Some(dir) => below_dir(Place::PastUser, dir, rest),
-    }
+    below_dir(lookup(name), Error::UserNotFound, rest, Place::PastUser)
 }
 
 /// What is before the first `/`, or all, and what follows that `/`, if there is one.
@@ -176,8 +164,7 @@ fn name_and_rest(path: &[u8]) -> (&[u8], Option<&[u8]>)
 
 /// The value itself. Fails with `IllFormed` where it is not UTF-8.
 fn unchanged<'a, 'p>(value: &'p [u8]) -> Result<Parts<'a, 'p>, Error<'p>>
-    ensures made { Makes result (GivesValue value.now) }
-    ensures no_memory { IfErr result IsNotMemory }
+    ensures { WhereUtf8 Whole value.now (parts_result result ≡ whole_text value.now) (parts_result result) }
 {
     Ok(Parts {
         dir: "",
@@ -186,8 +173,8 @@ fn unchanged<'a, 'p>(value: &'p [u8]) -> Result<Parts<'a, 'p>, Error<'p>>
     })
 }
 
-/// The parts of what a value stands for: each string of their text is what the path table gives, and so is
-/// each refusal. It refuses as `Path::interpolate` does, and never with `Memory`.
+/// The parts of what a value stands for, as the path table gives it. It refuses as `Path::interpolate` does,
+/// and never with `Memory`, since the table never gives that.
 pub fn parts_of<'p, 'a, F>(
     value: &'p [u8],
     context: Context<'a, F>,
@@ -195,8 +182,7 @@ pub fn parts_of<'p, 'a, F>(
 where
     F: FnOnce(&str) -> Option<&'a str> + Drop,
     requires { ForSome context.home_for_user (λ f. (name : _) → IsUtf8 name.now → F.pre f name) }
-    ensures made { Makes result (Interpolated (LooksUp F.FnOnce) context.entry value.now) }
-    ensures no_memory { IfErr result IsNotMemory }
+    ensures { PathTable (known_in F.FnOnce context.entry) value.now (parts_result result) }
 {
     let Context {
         git_install_dir,
@@ -208,14 +194,14 @@ where
     }
     if let Some(rest) = strip_front(value, PREFIX) {
         let missing = Error::InstallDirMissing;
-        return below_given(missing, Place::PastPrefix, git_install_dir, Some(rest));
+        return below_dir(git_install_dir, missing, Some(rest), Place::PastPrefix);
     }
     let Some(path) = strip_front(value, b"~") else {
         return unchanged(value);
     };
     let (name, rest) = name_and_rest(path);
     if name.is_empty() {
-        return below_given(Error::HomeMissing, Place::PastHome, home_dir, rest);
+        return below_dir(home_dir, Error::HomeMissing, rest, Place::PastHome);
     }
     below_user(home_for_user, name, rest)
 }

@@ -5,7 +5,7 @@ ghost use Rattle.std.specs.Cow.{cow_slice_items, IsOwnedSlice};
 ghost use Rattle.bstr.specs.BStr.{bstr_bytes};
 ghost use Rattle.bstr.specs.Owned.{bstring_bytes};
 ghost use Rattle.config_path.specs.Path.{Marked, IsPathOf, IsEqualPath};
-ghost use Rattle.config_path.specs.Interpolation.{Form, HasForm, Gives, Interpolated, LooksUp};
+ghost use Rattle.config_path.specs.Interpolation.{Interpolated, known_in};
 
 use crate::interpolate::{Context, Error};
 use crate::parts::parts_of;
@@ -170,7 +170,6 @@ impl Path {
     /// let whole = path.interpolate(alloc, context)?;
     /// assert_eq!(rt; whole.as_str(), "/home/ann/.gitignore");
     /// ```
-    #[tactic(auto, using(crate::specs::Laws::Interpolation::at_form))]
     pub fn interpolate<'p, 'a, F>(
         &'p self,
         alloc: Global,
@@ -180,10 +179,7 @@ impl Path {
         F: FnOnce(&str) -> Option<&'a str> + Drop,
         requires { ForSome context.home_for_user
             (λ f. (name : _) → IsUtf8 name.now → F.pre f name) }
-        ensures answer { Interpolated (LooksUp F.FnOnce) context.entry
-            (bstring_bytes self.now.value) result }
-        ensures at_form { (form : Form) → HasForm (bstring_bytes self.now.value) form
-            → Gives (LooksUp F.FnOnce) context.entry (bstring_bytes self.now.value) form result }
+        ensures { Interpolated (known_in F.FnOnce context.entry) (bstring_bytes self.now.value) result }
     {
         let parts = parts_of(self.as_bytes(), context)?;
         // no `map_err`: the borrow checker does not cover a function whose result names a lifetime

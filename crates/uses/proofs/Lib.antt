@@ -1,5 +1,4 @@
 pub mod Places
 pub mod Joined
-pub mod PathRows
 mod EntryFacts
 mod HeadlineLemmas

@@ -1,6 +1,5 @@
 pub mod Entries
 pub mod Precedence
-pub mod Paths
 pub mod PushDefault
 pub mod Headline
 pub mod Laws

@@ -1,9 +1,9 @@
 //! Paths interpolated without a lookup of users, and with one over a passwd text.
 ghost use Rattle.std.specs.Prelude.{None, Some};
 ghost use Rattle.bstr.specs.Owned.{bstring_bytes};
-ghost use Rattle.gix_config_value.specs.Interpolation.{Form, HasForm};
-ghost use Rattle.gix_config_value.specs.Passwd.{home_in};
-ghost use Rattle.uses.specs.Paths.{PathTable};
+ghost use Rattle.gix_config_value.specs.Interpolation.{Interpolated};
+ghost use Rattle.gix_config_value.specs.Interpolation.Users.{no_lookup, looked_up};
+ghost use Rattle.gix_config_value.specs.Passwd.{IsHomeIn};
 
 use gix_config_value::Path;
 use gix_config_value::path::interpolate::{Context, Error, absent, home_for_user};
@@ -11,8 +11,8 @@ use std::alloc::Global;
 
 /// The path, if `~` is this home directory and no user is looked up.
 pub fn path_at_home<'p>(alloc: Global, path: &'p Path, home: &str) -> Result<String, Error<'p>>
-    ensures { (form : Form) → HasForm (bstring_bytes path.now.value) form
-        → PathTable None (Some home.now) None (bstring_bytes path.now.value) form result }
+    ensures { Interpolated (record { install_dir = None; home_dir = Some home.now; users = no_lookup })
+        (bstring_bytes path.now.value) result }
 {
     path.interpolate(
         alloc,
@@ -26,8 +26,8 @@ pub fn path_at_home<'p>(alloc: Global, path: &'p Path, home: &str) -> Result<Str
 
 /// The path, if `~user` is the home directory that the passwd text has for that user.
 pub fn path_of_user<'p>(alloc: Global, path: &'p Path, passwd: &str) -> Result<String, Error<'p>>
-    ensures { (form : Form) → HasForm (bstring_bytes path.now.value) form
-        → PathTable None None (Some (home_in passwd.now)) (bstring_bytes path.now.value) form result }
+    ensures { Interpolated (record { install_dir = None; home_dir = None; users = looked_up (IsHomeIn passwd.now) })
+        (bstring_bytes path.now.value) result }
 {
     path.interpolate(
         alloc,
