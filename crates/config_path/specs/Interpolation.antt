@@ -38,13 +38,18 @@ abbrev pub below : List ℕ → Option (List ℕ) → List ℕ
 below name None = name
 below name (Some rest) = name ++ codes "/" ++ rest
 
+-- a text that does not begin with this
+abbrev pub LacksFront : List ℕ → List ℕ → Type 0
+LacksFront front value = (rest : List ℕ) → value ≢ front ++ rest
+
 -- what a value of each form is; each value has just one form
 abbrev pub HasForm : List ℕ → Form → Type 0
 HasForm value empty = value ≡ []
 HasForm value (below_prefix rest) = value ≡ codes "%(prefix)/" ++ rest
 HasForm value (below_home rest) = value ≡ codes "~" ++ below [] rest
 HasForm value (below_user name rest) = (value ≡ codes "~" ++ below name rest) × (name ≢ []) × IsOneName name
-HasForm value (other whole) = (whole ≡ value) × (value ≢ []) × ((rest : List ℕ) → value ≢ codes "%(prefix)/" ++ rest) × ((rest : List ℕ) → value ≢ codes "~" ++ rest)
+HasForm value (other whole) =
+    (whole ≡ value) × (value ≢ []) × LacksFront (codes "%(prefix)/") value × LacksFront (codes "~") value
 
 -- what stands between a directory and a rest: a `/`, unless the directory is empty or ends in one
 abbrev pub separator : List ℕ → List ℕ
@@ -57,7 +62,7 @@ join dir rest = if starts_with nat_eq rest (codes "/") then rest else dir ++ sep
 
 -- ---- the path table
 
--- the users that a caller knows: none, since there is no lookup, or the homes that a lookup may give for a name
+-- the users that a caller knows: no lookup, or one, which relates a name to the homes that it may give
 pub data Users : Type 1 where
   no_lookup : Users
   looked_up : (may_give : List ℕ → Option (List ℕ) → Type 0) → Users
@@ -68,25 +73,25 @@ pub record Known : Type 1 where
   pub home_dir : Option (List ℕ)
   pub users : Users
 
--- what a value gives: a text, or a fault, or the fault that these bytes at this place are not UTF-8
+-- what a value gives: a text, a fault, or the fault that the bytes at this place are not UTF-8
 pub data PathResult : Type 0 where
   text : List ℕ → PathResult
   fault : Error → PathResult
   ill_formed : Place → List ℕ → PathResult
 
--- the bytes are UTF-8 and the row says what is given, or they are not, which is the fault
+-- these bytes are UTF-8 and the row decides; or they are not, which is the fault
 pub data WhereUtf8 (place : Place) (bytes : List ℕ) (row : Type 0) (result : PathResult) : Type 0 where
   utf8 : IsUtf8 bytes → row → WhereUtf8 place bytes row result
   other_bytes : ¬ (IsUtf8 bytes) → result ≡ ill_formed place bytes → WhereUtf8 place bytes row result
 
--- a row for a directory and a rest: what is given if there is no directory, and the place if the rest is not UTF-8
+-- a row for a directory: what it gives if there is none, and a rest with its place, which has to be UTF-8
 pub record Row : Type 0 where
   pub dir : Option (List ℕ)
   pub missing : PathResult
   pub rest : Option (List ℕ)
   pub place : Place
 
--- a directory gives itself, or what it and the rest are joined to
+-- what the row gives: the directory, or the directory and the rest joined
 pub data IsBelow (row : Row) (result : PathResult) : Type 0 where
   no_dir : row.dir ≡ None → result ≡ row.missing → IsBelow row result
   no_rest : (dir : List ℕ) → row.dir ≡ Some dir → row.rest ≡ None → result ≡ text dir → IsBelow row result
@@ -94,16 +99,31 @@ pub data IsBelow (row : Row) (result : PathResult) : Type 0 where
       → WhereUtf8 row.place rest (result ≡ text (join dir rest)) result
       → IsBelow row result
 
+-- the row for the home of a user
+abbrev pub home_row : Option (List ℕ) → Option (List ℕ) → Row
+home_row home rest = record { dir = home; missing = fault UserNotFound; rest = rest; place = PastUser }
+
 -- below the home of the user of this name: first there has to be a lookup, and then the name has to be UTF-8
 abbrev pub IsBelowUser : Users → List ℕ → Option (List ℕ) → PathResult → Type 0
 IsBelowUser no_lookup name rest result = result ≡ fault LookupMissing
-IsBelowUser (looked_up may_give) name rest result = WhereUtf8 Username name ((home : Option (List ℕ)) × may_give name home × IsBelow (record { dir = home; missing = fault UserNotFound; rest = rest; place = PastUser }) result) result
+IsBelowUser (looked_up may_give) name rest result = WhereUtf8 Username name
+    ((home : Option (List ℕ)) × may_give name home × IsBelow (home_row home rest) result) result
 
 -- the path table: what a value of this form gives
 abbrev pub Gives : Known → Form → PathResult → Type 0
 Gives known empty result = result ≡ fault PathMissing
-Gives known (below_prefix rest) result = IsBelow (record { dir = known.install_dir; missing = fault InstallDirMissing; rest = Some rest; place = PastPrefix }) result
-Gives known (below_home rest) result = IsBelow (record { dir = known.home_dir; missing = fault HomeMissing; rest = rest; place = PastHome }) result
+Gives known (below_prefix rest) result = IsBelow (record {
+  dir = known.install_dir;
+  missing = fault InstallDirMissing;
+  rest = Some rest;
+  place = PastPrefix;
+}) result
+Gives known (below_home rest) result = IsBelow (record {
+  dir = known.home_dir;
+  missing = fault HomeMissing;
+  rest = rest;
+  place = PastHome;
+}) result
 Gives known (below_user name rest) result = IsBelowUser known.users name rest result
 Gives known (other value) result = WhereUtf8 Whole value (result ≡ text value) result
 
@@ -145,12 +165,14 @@ LooksUp lookup f name answer =
     (r : Option (Bor (List ℕ))) × FnOnceReturnsAt lookup f name r × (option_copied r ≡ answer)
 
 -- the users that a lookup knows, if there is one
-abbrev pub users_of : {F : Type 0} → Once F (Bor (List ℕ) × Unit {0}) (Option (Bor (List ℕ))) → Option F → Users
+abbrev pub users_of : {F : Type 0} → Once F (Bor (List ℕ) × Unit {0}) (Option (Bor (List ℕ))) → Option F
+    → Users
 users_of lookup None = no_lookup
 users_of lookup (Some f) = looked_up (LooksUp lookup f)
 
 -- what a context knows
-abbrev pub known_in : {F : Type 0} → Once F (Bor (List ℕ) × Unit {0}) (Option (Bor (List ℕ))) → Context F → Known
+abbrev pub known_in : {F : Type 0} → Once F (Bor (List ℕ) × Unit {0}) (Option (Bor (List ℕ))) → Context F
+    → Known
 known_in lookup context = record {
   install_dir = option_copied context.git_install_dir;
   home_dir = option_copied context.home_dir;
@@ -162,7 +184,9 @@ known_in lookup context = record {
 -- a name has one home
 abbrev pub HaveOneHome : Users → Type 0
 HaveOneHome no_lookup = ⊤
-HaveOneHome (looked_up may_give) = (name : List ℕ) (a b : Option (List ℕ)) → may_give name a → may_give name b → a ≡ b
+HaveOneHome (looked_up may_give) =
+    (name : List ℕ) (home other_home : Option (List ℕ)) → may_give name home → may_give name other_home
+    → home ≡ other_home
 
 -- memory was refused
 abbrev pub IsOutOfMemory : Result (String Global) Error → Type 0

@@ -1,22 +1,22 @@
 -- Each value has just one form and one result in the path table.
 use Rattle.std.proofs.Common.{◌≡◌, ◌≢◌, inl, inr, ◌⊎◌, ℕ, List, [], ◌∷◌, ◌++◌, codes, Option, None, Some, Result}
-use Rattle.std.proofs.Common.{Bool, true, false, refl, sym, ap, ◌∙◌, subst, arith, drop, IsUtf8, Ok, Err, string_bytes, ◌↔◌}
+use Rattle.std.proofs.Common.{Bool, true, false, refl, sym, ap, ◌∙◌, subst, arith, drop, IsUtf8, Ok, Err, ◌↔◌}
 use Rattle.std.specs.declared.string.String.{String}
 use Rattle.std.specs.declared.alloc.Global.{Global}
 use Rattle.std.proofs.lemmas.Bool.Decides.{Decides-eqb, eqb_tells}
 use Rattle.std.proofs.lemmas.Slice.Eq.{starts_is}
 use Rattle.std.specs.declared.alloc.AllocError.{AllocError}
 use Rattle.config_path.specs.declared.interpolate.Place.{Place}
-use Rattle.config_path.specs.declared.interpolate.Place.TheVariants.{Username, PastUser, Whole}
+use Rattle.config_path.specs.declared.interpolate.Place.TheVariants.{Username, Whole}
 use Rattle.config_path.specs.declared.interpolate.Error.{Error}
 use Rattle.config_path.specs.declared.interpolate.Error.TheVariants.{PathMissing, InstallDirMissing}
 use Rattle.config_path.specs.declared.interpolate.Error.TheVariants.{HomeMissing, LookupMissing, UserNotFound}
 use Rattle.config_path.specs.declared.interpolate.Error.TheVariants.{IllFormed, Memory}
 use Rattle.config_path.specs.Interpolation.{Form, HasForm, below, join, IsOneName, Users, Known, PathResult, WhereUtf8}
-use Rattle.config_path.specs.Interpolation.{Row, IsBelow, IsBelowUser, Gives, PathTable, refusal, returned}
+use Rattle.config_path.specs.Interpolation.{Row, home_row, IsBelow, IsBelowUser, Gives, PathTable, refusal, returned}
 use Rattle.config_path.specs.Interpolation.{IsAllocated, Interpolated, HaveOneHome, IsOutOfMemory}
 use Rattle.config_path.specs.Interpolation.Users.{no_lookup, looked_up}
-use Rattle.config_path.specs.Interpolation.PathResult.{text, fault, ill_formed}
+use Rattle.config_path.specs.Interpolation.PathResult.{text, fault}
 use Rattle.config_path.specs.Interpolation.WhereUtf8.{utf8, other_bytes}
 use Rattle.config_path.specs.Interpolation.IsBelow.{no_dir, no_rest, both}
 use Rattle.config_path.specs.Interpolation.Form.{empty, below_prefix, below_home, below_user, other}
@@ -158,7 +158,7 @@ one_user : (users : Users) → HaveOneHome users → (name : List ℕ) (rest : O
     → IsBelowUser users name rest r → IsBelowUser users name rest s → r ≡ s
 one_user no_lookup one name rest r s p q = p ∙ sym q
 one_user (looked_up may_give) one name rest r s p q =
-    one_where Username name _ _ r s (λ h k. one_below _ r s h.2 (subst (λ x. IsBelow (record { dir = x; missing = fault UserNotFound; rest = rest; place = PastUser }) s) (one name k.0 h.0 k.1 h.1) k.2)) p q
+    one_where Username name _ _ r s (λ h k. one_below _ r s h.2 (subst (λ x. IsBelow (home_row x rest) s) (one name k.0 h.0 k.1 h.1) k.2)) p q
 
 -- a form has one result
 pub one_row : (known : Known) → HaveOneHome known.users → (form : Form) (r s : PathResult) → Gives known form r
