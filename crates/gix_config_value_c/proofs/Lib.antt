@@ -5,5 +5,6 @@ pub mod NumbersApart
 pub mod OneAnswer
 pub mod OneComposition
 pub mod OneEntry
+pub mod OnePath
 pub mod OneText
 pub mod StructsApart

@@ -99,7 +99,7 @@ json_once json buffer a b size m n s r (none why kept same) (put t is puts) both
 json_once json buffer a b size m n s r (none why kept same) (none also left too) both =
     (kept ∙ sym left, same ∙ sym too, why ∙ sym also)
 
-left_once : (said : Status) (buffer a b : List ℕ) (size m n s r : ℕ) → LeavesBuffer said buffer a size m s
+pub left_once : (said : Status) (buffer a b : List ℕ) (size m n s r : ℕ) → LeavesBuffer said buffer a size m s
     → LeavesBuffer said buffer b size n r → (a ≡ b) × (m ≡ n) × (s ≡ r)
 left_once said buffer a b size m n s r p q = (p.0 ∙ sym q.0, p.1 ∙ sym q.1, p.2 ∙ sym q.2)
 

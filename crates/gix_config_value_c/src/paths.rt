@@ -1,18 +1,17 @@
 //! Path values: the mark of an optional path, and the directories that a path refers to.
-ghost use Rattle.std.specs.Prelude.{◌≡◌, ℕ, ◌≤◌, ◌<◌, List, MatchResult, Result, IsUtf8, option_copied, Some};
-ghost use Rattle.std.specs.Prelude.{None, length as text_length};
-ghost use Rattle.std.specs.declared.string.String.{String};
-ghost use Rattle.std.specs.declared.alloc.Global.{Global};
-ghost use Rattle.config_path.specs.declared.interpolate.Error.{Error};
-ghost use Rattle.config_path.specs.Parts.{parts_text, IsMadeOf, Makes};
-ghost use Rattle.gix_config_value_c.specs.Buffers.{AnswersText};
-ghost use Rattle.gix_config_value_c.specs.Paths.{CutsMark, IsGiven, IsBad, InterpolatedIn, PutsPath};
+ghost use Rattle.std.specs.Prelude.{◌≡◌, ℕ, MatchResult, option_copied, Some, None};
+ghost use Rattle.config_path.specs.Parts.{parts_text, parts_result};
+ghost use Rattle.gix_config_value.specs.Interpolation.{PathTable};
+ghost use Rattle.gix_config_value.specs.Interpolation.PathResult.{text as whole_text};
+ghost use Rattle.gix_config_value_c.specs.declared.status.Status.{Status};
+ghost use Rattle.gix_config_value_c.specs.Numbers.{status_number};
+ghost use Rattle.gix_config_value_c.specs.Paths.{CutsMark, IsGiven, IsBad, known_of, PutsPath};
 ghost use Rattle.gix_config_value_c.specs.Paths.{InterpolatesInto};
 
 use crate::buffer::push;
 use crate::faults::path_fault_number;
 use crate::numbers::{flag_number, flag_of};
-use crate::status::{BAD_FLAG, NO_MEMORY, NOT_UTF8, OK, REFUSED, SHORT_BUFFER};
+use crate::status::Status;
 use gix_config_value::path::cut_mark;
 use gix_config_value::path::interpolate::{Context, Error, absent, home_for_user};
 use gix_config_value::path::parts::{Parts, parts_of};
@@ -31,22 +30,22 @@ pub extern "C" fn gcv_raw_cut_mark(text: &[u8], optional: &mut u32, start: &mut 
     *start = text.len() - path.len();
 }
 
-/// The text where the flag is 1, and none where it is 0. `BAD_FLAG` if it is neither, and `NOT_UTF8` where
-/// the text is not UTF-8.
+/// The text if the flag is 1, and nothing if it is 0. Fails with `BadFlag` if it is neither, and with
+/// `NotUtf8` if the text is not UTF-8.
 fn given<'a>(flag: u32, bytes: &'a [u8]) -> Result<Option<&'a str>, u32>
     ensures { MatchResult result
         (λ text. IsGiven (flag, bytes.now) (option_copied text))
-        (λ status. IsBad status (flag, bytes.now)) }
+        (λ number. (said : Status) × IsBad said (flag, bytes.now) × (number ≡ status_number said)) }
 {
     let Some(is_given) = flag_of(flag) else {
-        return Err(BAD_FLAG);
+        return Err(Status::BadFlag as u32);
     };
     if !is_given {
         return Ok(None);
     }
     match str::from_utf8(bytes) {
         Ok(text) => Ok(Some(text)),
-        Err(_) => Err(NOT_UTF8),
+        Err(_) => Err(Status::NotUtf8 as u32),
     }
 }
 
@@ -57,8 +56,8 @@ fn with_users<'a, 'p>(
     home: Option<&'a str>,
     passwd: &'a str,
 ) -> Result<Parts<'a, 'p>, Error<'p>>
-    ensures { Makes result (InterpolatedIn (option_copied install_dir.entry) (option_copied home.entry)
-        (Some passwd.now) path.now) }
+    ensures { PathTable (known_of (option_copied install_dir.entry) (option_copied home.entry)
+        (Some passwd.now)) path.now (parts_result result) }
 {
     let context = Context {
         git_install_dir: install_dir,
@@ -74,8 +73,8 @@ fn without_users<'a, 'p>(
     install_dir: Option<&'a str>,
     home: Option<&'a str>,
 ) -> Result<Parts<'a, 'p>, Error<'p>>
-    ensures { Makes result (InterpolatedIn (option_copied install_dir.entry) (option_copied home.entry)
-        None path.now) }
+    ensures { PathTable (known_of (option_copied install_dir.entry) (option_copied home.entry) None)
+        path.now (parts_result result) }
 {
     let context = Context {
         git_install_dir: install_dir,
@@ -92,8 +91,8 @@ fn interpolated<'a, 'p>(
     home: Option<&'a str>,
     passwd: Option<&'a str>,
 ) -> Result<Parts<'a, 'p>, Error<'p>>
-    ensures { Makes result (InterpolatedIn (option_copied install_dir.entry) (option_copied home.entry)
-        (option_copied passwd.entry) path.now) }
+    ensures { PathTable (known_of (option_copied install_dir.entry) (option_copied home.entry)
+        (option_copied passwd.entry)) path.now (parts_result result) }
 {
     match passwd {
         Some(passwd) => with_users(path, install_dir, home, passwd),
@@ -101,13 +100,10 @@ fn interpolated<'a, 'p>(
     }
 }
 
-/// Puts the text of the parts into the buffer. A text that no block of memory could hold is refused as
-/// `NO_MEMORY`.
+/// Puts the text of the parts into the buffer. `NoMemory` if no block of memory could hold the text.
 fn put_parts(parts: Parts<'_, '_>, buffer: &mut [u8], length: &mut usize) -> u32
-    ensures { AnswersText
-        (λ text. (text ≡ parts_text parts.entry) × IsUtf8 text × (text_length text ≤ LONGEST_BLOCK))
-        (λ reason. (reason ≡ NO_MEMORY) × (LONGEST_BLOCK < text_length (parts_text parts.entry)))
-        buffer.old buffer.new length.old length.new result }
+    ensures { (fault : ℕ) → PutsPath LONGEST_BLOCK (whole_text (parts_text parts.entry))
+        buffer.old buffer.new length.old length.new fault fault result }
 {
     let (dir, slash, rest) = (
         parts.dir.as_bytes(),
@@ -116,45 +112,34 @@ fn put_parts(parts: Parts<'_, '_>, buffer: &mut [u8], length: &mut usize) -> u32
     );
     let size = dir.len() + slash.len() + rest.len();
     if size > LONGEST_BLOCK {
-        return NO_MEMORY;
+        return Status::NoMemory as u32;
     }
     *length = size;
     if buffer.len() < size {
-        return SHORT_BUFFER;
+        return Status::ShortBuffer as u32;
     }
     let at = push(dir, buffer, 0);
     let at = push(slash, buffer, at);
     push(rest, buffer, at);
-    OK
+    Status::Ok as u32
 }
 
-/// Puts the number of a fault into `fault`. No part of a path asks for memory, so `NO_MEMORY` is not met.
-fn put_fault(error: Error<'_>, fault: &mut u32) -> u32
-    ensures { (buffer : List ℕ) (size : ℕ)
-        → PutsPath (Err error.entry) buffer buffer size size fault.old fault.new result }
-{
-    match error {
-        Error::Memory(_) => NO_MEMORY,
-        error => {
-            *fault = path_fault_number(error);
-            REFUSED
-        }
-    }
-}
-
-/// Puts the text of the parts into the buffer, or the fault into `fault`.
+/// Puts the text of the parts into the buffer, or the number of the fault into `fault`.
 fn put_path(
     answer: Result<Parts<'_, '_>, Error<'_>>,
     buffer: &mut [u8],
     length: &mut usize,
     fault: &mut u32,
 ) -> u32
-    ensures { (r : Result (String Global) Error) × IsMadeOf answer.entry r
-        × PutsPath r buffer.old buffer.new length.old length.new fault.old fault.new result }
+    ensures { PutsPath LONGEST_BLOCK (parts_result answer.entry)
+        buffer.old buffer.new length.old length.new fault.old fault.new result }
 {
     match answer {
         Ok(parts) => put_parts(parts, buffer, length),
-        Err(error) => put_fault(error, fault),
+        Err(error) => {
+            *fault = path_fault_number(error);
+            Status::Refused as u32
+        }
     }
 }
 
@@ -162,10 +147,10 @@ fn put_path(
 /// path is cut off first. Each of the install directory, the home directory and the passwd text is there
 /// where its flag is 1.
 ///
-/// `BAD_FLAG` if a flag is neither 0 nor 1, and `NOT_UTF8` if a text that is there is not UTF-8.
-/// `REFUSED` if the path stands for nothing: the number of the fault is put into `fault`. `NO_MEMORY`
-/// where the text is longer than a block of memory can be; the call takes none. `SHORT_BUFFER` if the
-/// buffer is shorter than the text.
+/// `BadFlag` if a flag is neither 0 nor 1, and `NotUtf8` if a text that is there is not UTF-8: the first of
+/// the three that is bad decides. `Refused` if the path stands for nothing: the number of the fault is put
+/// into `fault`. `NoMemory` if the text is longer than a block of memory can be; the call takes none.
+/// `ShortBuffer` if the buffer is shorter than the text.
 #[unsafe(no_mangle)]
 pub extern "C" fn gcv_raw_interpolate(
     text: &[u8],

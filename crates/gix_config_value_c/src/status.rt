@@ -34,16 +34,3 @@ pub enum Status {
     /// Memory was refused, or a path stands for more than there can be.
     NoMemory = 14,
 }
-
-/// The call has put its result.
-pub const OK: u32 = 0;
-/// The text has no value, or the path stands for none.
-pub const REFUSED: u32 = 1;
-/// A flag is neither 0 nor 1.
-pub const BAD_FLAG: u32 = 10;
-/// A directory or the passwd text is not UTF-8.
-pub const NOT_UTF8: u32 = 11;
-/// The buffer is shorter than the text.
-pub const SHORT_BUFFER: u32 = 13;
-/// Memory was refused, or a path stands for more than there can be.
-pub const NO_MEMORY: u32 = 14;

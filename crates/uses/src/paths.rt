@@ -26,7 +26,8 @@ pub fn path_at_home<'p>(alloc: Global, path: &'p Path, home: &str) -> Result<Str
 
 /// The path, if `~user` is the home directory that the passwd text has for that user.
 pub fn path_of_user<'p>(alloc: Global, path: &'p Path, passwd: &str) -> Result<String, Error<'p>>
-    ensures { Interpolated (record { install_dir = None; home_dir = None; users = looked_up (IsHomeIn passwd.now) })
+    ensures { Interpolated
+        (record { install_dir = None; home_dir = None; users = looked_up (IsHomeIn passwd.now) })
         (bstring_bytes path.now.value) result }
 {
     path.interpolate(

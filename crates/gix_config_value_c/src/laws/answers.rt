@@ -25,6 +25,7 @@ ghost use Rattle.gix_config_value_c.specs.Colors.{ComposesInto};
 ghost use Rattle.gix_config_value_c.specs.Faults.{TellsFault};
 ghost use Rattle.gix_config_value_c.specs.Json.{PutsJson, WritesJson, WritesProduct};
 ghost use Rattle.gix_config_value_c.specs.Numbers.{suffix_number, flag_number};
+ghost use Rattle.gix_config_value_c.specs.Paths.{InterpolatesInto};
 ghost use Rattle.gix_config_value_c.specs.Readers.{ReadsInto, Faults, NoFault};
 ghost use Rattle.gix_config_value_c.specs.Settings.{LooksUpInto};
 ghost use Rattle.gix_config_value_c.specs.Structs.{integer_struct, name_struct, color_struct};
@@ -77,8 +78,8 @@ pub fn json()
         (WritesJson name_struct (λ n. string (name_shown n)) statuses.BadName c) }
 {}
 
-/// Each of the other calls has one answer: normal forms, comparisons, compositions, lookups, products, and
-/// the texts of faults.
+/// Each of the other calls has one answer: normal forms, comparisons, compositions, lookups, products, the
+/// texts of faults, and paths. That of a path is a buffer and the number of a fault.
 pub fn calls()
     ensures normalizes { (number : ℕ) (t : List ℕ) → HasOneAnswer (NormalizesInto number t) }
     ensures compares { (number : ℕ) (a b : List ℕ) → HasOneResult (ComparesInto number a b) }
@@ -87,6 +88,9 @@ pub fn calls()
         → HasOneResult (LooksUpInto number bytes lengths name) }
     ensures multiplies { (c : GcvInteger) → HasOneResult (Multiplies c) }
     ensures faults { (number : ℕ) → HasOneAnswer (TellsFault number) }
+    ensures interpolates { (t : List ℕ) (install_dir home passwd : ℕ × List ℕ) → HasOneAnswer
+        (λ (out out' : List ℕ × ℕ) size size' status. InterpolatesInto t install_dir home passwd
+        out.0 out'.0 size size' out.1 out'.1 status) }
 {
     one_composition();
 }

@@ -2,6 +2,7 @@ use Rattle.gix_config_value_c.proofs.OneAnswer.{multiplies_once, tells_once}
 use Rattle.gix_config_value_c.proofs.OneComposition.{composes_once}
 use Rattle.gix_config_value_c.proofs.OneText.{normalizes_once, compares_once}
 use Rattle.gix_config_value_c.proofs.OneEntry.{looks_up_once}
+use Rattle.gix_config_value_c.proofs.OnePath.{interpolates_once}
 use Rattle.gix_config_value_c.proofs.laws.answers.calls.Goals as goal
 
 pub returns-clause-normalizes : goal.returns-clause-normalizes
@@ -21,3 +22,6 @@ returns-clause-multiplies c = multiplies_once
 
 pub returns-clause-faults : goal.returns-clause-faults
 returns-clause-faults c = tells_once
+
+pub returns-clause-interpolates : goal.returns-clause-interpolates
+returns-clause-interpolates c = interpolates_once

@@ -1,0 +1,10 @@
+use Rattle.std.proofs.Common.{◌≡◌, option_copied, rules, sym, ◌∙◌}
+use Rattle.gix_config_value.specs.Passwd.{home_in, IsHomeIn}
+use Rattle.config_path.specs.Laws.Interpolation.{by_lookup}
+use Rattle.gix_config_value_c.proofs.paths.with_users.Goals as goal
+
+pub returns : goal.returns
+returns c =
+    by_lookup _ _ _ (IsHomeIn c.args.passwd.now) (λ name home u h.
+    let found : option_copied h.0 ≡ home_in c.args.passwd.now name = let p = h.1.1 in let n = h.1.2 in search rules in
+    sym h.2 ∙ found) _ _ c.parts_of.ensures
