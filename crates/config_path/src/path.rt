@@ -170,6 +170,7 @@ impl Path {
     /// let whole = path.interpolate(alloc, context)?;
     /// assert_eq!(rt; whole.as_str(), "/home/ann/.gitignore");
     /// ```
+    #[tactic(auto, using(crate::specs::Laws::Interpolation::returned_error))]
     pub fn interpolate<'p, 'a, F>(
         &'p self,
         alloc: Global,
