@@ -117,7 +117,7 @@ def reached(text, file, seen):
     for word in words.cited(text, file):
         if word and word.file == file and word.name not in seen and not word.text.startswith("pub data"):
             seen.add(word.name)
-            text += reached(words.without_comments(word.text), file, seen)
+            text += "\n" + reached(words.without_comments(word.text), file, seen)
     return text
 
 
@@ -134,9 +134,9 @@ def paths():
         form = value or form
         table.setdefault(form, set()).update(set(spans(result)) & set(variants) - {"IllFormed"})
     known = {}
-    for form, more in re.findall(r"^Gives .*?\(?\b(empty|below_\w+|other)\b.*? r =(.*(?:\n  .*)*)",
+    for form, more in re.findall(r"^Gives .*?\(?\b(empty|below_\w+|other)\b.*? result =(.*(?:\n(?!Gives ).*)*)",
                                  spec("config_path", "Interpolation", "Gives"), re.MULTILINE):
-        cited = set(re.findall(r"\w+", reached(more, file, {"Gives", "HasForm", "GivesText", "IsIllFormed"})))
+        cited = set(re.findall(r"\w+", reached(more, file, {"Gives"})))
         known[form] = cited & set(variants) - {"IllFormed", "Memory"}
     yield "the path table", list(known.values()), list(table.values())
     yield "refusals of paths", set(variants) - set().union(*table.values()), {"IllFormed", "Memory"}

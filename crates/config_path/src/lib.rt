@@ -14,8 +14,8 @@
 //! What fails says why: [`interpolate::Error`], by [`interpolate::Class`]. Results are allocated,
 //! so each call that makes one takes the allocator.
 //!
-//! [`laws`] states what holds of paths beside their calls: a text stands for one path, and how paths
-//! compare. Each path has just one form in the table of `interpolate`.
+//! [`laws`] states what holds of paths beside their calls: a text stands for one path, how paths compare,
+//! and that a value has one result in the table of `interpolate`.
 #![tactic(auto)]
 
 pub mod interpolate;
