@@ -519,7 +519,7 @@ static PyType_Slot attribute_slots[] = {
 static PyObject *color_new(PyTypeObject *type, PyObject *args, PyObject *keywords)
 {
     static char *names[] = {"foreground", "background", "attributes", NULL};
-    PyObject *parts[3] = {Py_None, Py_None, NULL};
+    PyObject *parts[3] = {Py_None, Py_None, Py_None};
     gcv_color color;
     if (!PyArg_ParseTupleAndKeywords(args, keywords, "|OOO:Color", names, &parts[0], &parts[1], &parts[2]))
         return NULL;
@@ -531,8 +531,8 @@ static PyObject *color_new(PyTypeObject *type, PyObject *args, PyObject *keyword
             return NULL;
         *(at == 0 ? &color.foreground : &color.background) = ((Value *)parts[at])->color.foreground;
     }
-    if (parts[2]) {
-        if (!is_of(parts[2], attribute_type, "attributes are an Attribute"))
+    if (parts[2] != Py_None) {
+        if (!is_of(parts[2], attribute_type, "attributes are an Attribute or None"))
             return NULL;
         color.attributes = bits_of(parts[2]);
     }
@@ -597,7 +597,7 @@ static PyMethodDef color_methods[] = {
 };
 
 static PyType_Slot color_slots[] = {
-    {Py_tp_doc, "Color(foreground=None, background=None, attributes=Attribute())\n--\n\nA foreground, a "
+    {Py_tp_doc, "Color(foreground=None, background=None, attributes=None)\n--\n\nA foreground, a "
                 "background and attributes.\n"
                 "ValueError if there is a background without a foreground, to which no text reads."},
     {Py_tp_new, color_new},

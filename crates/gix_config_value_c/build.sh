@@ -7,6 +7,7 @@
 # PREFIX/share/doc/gix_config_value. It needs `rt`, a C compiler (CC, or cc) and binutils.
 #
 # CFLAGS and LDFLAGS are passed on to the compiler. With DESTDIR all files go below that folder, and say nothing of it.
+# A PREFIX that has moved is found by `pkg-config --define-prefix`.
 # Where GCV_ARCHIVE names a static library that `rt` has built already, it takes that one and proves nothing.
 set -eu
 action=install

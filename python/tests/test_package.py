@@ -5,6 +5,7 @@ Run: python -W error -bb -m unittest discover -s tests, where the package can be
 import array
 import copy
 import doctest
+import inspect
 import itertools
 import json
 import os
@@ -213,6 +214,9 @@ class Values(unittest.TestCase):
         self.assertEqual((Name("12").palette, Name("red").palette, Name("12").rgb), (12, None, None))
         self.assertEqual((Color().foreground, Color(Name("red")).background), (None, None))
         self.assertEqual(color, Color(Name("red"), Name("#12abff"), Attribute.BOLD))
+        self.assertEqual(Color(attributes=None), Color())
+        self.assertEqual(list(inspect.signature(lookup).parameters), ["kind", "entries", "name", "default"])
+        self.assertEqual(list(inspect.signature(boolean).parameters), ["text"])
         self.assertEqual(str(Color.parse("red").compose(Color.parse("ul blue"))), "red blue ul")
         for call in (lambda: color.compose(Color.parse("green")), lambda: Color(None, Name("red")), lambda: Name("")):
             self.assertRaises(ValueError, call)
