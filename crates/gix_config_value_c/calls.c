@@ -2,6 +2,7 @@
 #define GCV_CALL extern
 #include "gix_config_value.h"
 
+#include <stdlib.h>
 #include <string.h>
 
 const char *gcv_version(void)
@@ -196,4 +197,64 @@ gcv_status gcv_escape_color(const gcv_color *value, char *GCV_RESTRICT buffer, s
         to.text[to.length++] = 'm';
     }
     return write_text(to.text, to.length, buffer, capacity, size);
+}
+
+/* A path of a user: it stands for what `~` and the rest stand for, if the home is that of the user. */
+static gcv_status interpolate_user(const char *text, size_t length, gcv_find_home *find, void *state, char *buffer,
+                                   size_t capacity, size_t *size, gcv_fault *fault)
+{
+    gcv_context context;
+    uint32_t is_optional = 0;
+    size_t start = 0, rest;
+    gcv_cut_mark(text, length, &is_optional, &start);
+    start++;
+    for (rest = start; rest < length && text[rest] != '/'; rest++) {
+    }
+    memset(&context, 0, sizeof context);
+    context.home = find(state, text + start, rest - start);
+    if (!context.home) {
+        *fault = GCV_FAULT_USER_NOT_FOUND;
+        return GCV_REFUSED;
+    }
+    context.home_length = strlen(context.home);
+    char *below_home = malloc(length - rest + 1);
+    if (!below_home) {
+        return GCV_NO_MEMORY;
+    }
+    below_home[0] = '~';
+    memcpy(below_home + 1, text + rest, length - rest);
+    gcv_status status = gcv_interpolate(below_home, length - rest + 1, &context, buffer, capacity, size, fault);
+    free(below_home);
+    if (status == GCV_REFUSED && *fault == GCV_FAULT_ILL_FORMED_PAST_HOME) {
+        *fault = GCV_FAULT_ILL_FORMED_PAST_USER;
+    }
+    return status;
+}
+
+gcv_status gcv_interpolate_with(const char *text, size_t length, const gcv_context *context, gcv_find_home *find,
+                                void *state, char *GCV_RESTRICT buffer, size_t capacity, size_t *size,
+                                gcv_fault *fault)
+{
+    gcv_context asked = *context;
+    gcv_fault why = GCV_FAULT_NONE;
+    uint32_t is_optional = 0;
+    size_t start = 0;
+    gcv_cut_mark(text, length, &is_optional, &start);
+    /* only what the path asks for is read; a passwd text without users tells which path has one */
+    if (start == length || text[start] != '%') {
+        asked.install_dir = NULL;
+    }
+    if (start == length || text[start] != '~') {
+        asked.home = NULL;
+    }
+    asked.passwd = "";
+    asked.passwd_length = 0;
+    gcv_status status = gcv_interpolate(text, length, &asked, buffer, capacity, size, &why);
+    if (status == GCV_REFUSED && why == GCV_FAULT_USER_NOT_FOUND) {
+        status = interpolate_user(text, length, find, state, buffer, capacity, size, &why);
+    }
+    if (status == GCV_REFUSED && fault) {
+        *fault = why;
+    }
+    return status;
 }

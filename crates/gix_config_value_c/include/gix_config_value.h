@@ -262,6 +262,17 @@ GCV_CHECKED gcv_status gcv_parse_color(const char *text, gcv_color *GCV_RESTRICT
 GCV_CHECKED gcv_status gcv_escape_color(const gcv_color *value, char *GCV_RESTRICT buffer, size_t capacity, size_t *size)
     GCV_NONNULL((1, 4));
 
+/* Finds a user, whose name is UTF-8 and need not end with NUL. Returns the home directory, which ends with NUL and stays
+ * until the path call returns, or null if there is no such user. */
+typedef const char *gcv_find_home(void *state, const char *name, size_t length);
+
+/* As gcv_interpolate, with what `find(state, ..)` finds in place of the passwd text, which is not read. It is called once
+ * for ~user, and for no other path. GCV_NOT_UTF8 only for a directory that the path asks for. A path of a user takes
+ * memory from malloc, and gives it back: GCV_NO_MEMORY if it is refused. */
+GCV_CHECKED gcv_status gcv_interpolate_with(const char *text, size_t length, const gcv_context *context,
+                                            gcv_find_home *find, void *state, char *GCV_RESTRICT buffer,
+                                            size_t capacity, size_t *size, gcv_fault *fault) GCV_NONNULL((3, 4, 8));
+
 /* What the library is proved for. No pointer may be null. */
 gcv_status gcv_raw_read_suffix(const char *text, size_t length, gcv_suffix *out, gcv_fault *fault);
 gcv_status gcv_raw_read_integer(const char *text, size_t length, gcv_integer *out, gcv_fault *fault);
@@ -528,6 +539,39 @@ GCV_RETURNS((3, 6)) gcv_interpolate(const char *text, size_t length, const gcv_c
 }
 
 #ifdef __cplusplus
+}
+#endif
+
+/* The users of this system, for who defines GCV_WITH_USERS; a C library may want _POSIX_C_SOURCE for it. */
+#ifdef GCV_WITH_USERS
+#include <pwd.h>
+#include <string.h>
+
+/* Room for a user: one for each thread. */
+typedef struct gcv_user {
+    struct passwd entry;
+    char name[256];
+    char texts[16384];
+} gcv_user;
+
+/* A gcv_find_home over getpwnam_r, whose state is the address of a gcv_user. */
+GCV_INLINE const char *gcv_find_user(void *state, const char *name, size_t length)
+{
+#ifdef __cplusplus
+    gcv_user *user = static_cast<gcv_user *>(state);
+#else
+    gcv_user *user = (gcv_user *)state;
+#endif
+    struct passwd *found = NULL;
+    if (length >= sizeof user->name || memchr(name, '\0', length) != NULL) {
+        return NULL;
+    }
+    memcpy(user->name, name, length);
+    user->name[length] = '\0';
+    if (getpwnam_r(user->name, &user->entry, user->texts, sizeof user->texts, &found) != 0 || found == NULL) {
+        return NULL;
+    }
+    return found->pw_dir;
 }
 #endif
 

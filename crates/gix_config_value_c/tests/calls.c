@@ -271,6 +271,33 @@ static void fault_texts(void)
     }
 }
 
+/* The users of this system: the one who runs this, as getpwuid tells. */
+static void users(void)
+{
+    static gcv_user room;
+    const struct passwd *self = getpwuid(getuid());
+    const char *home = self ? gcv_find_user(&room, self->pw_name, strlen(self->pw_name)) : NULL;
+    count(!self || (home && strcmp(home, self->pw_dir) == 0), "a user");
+    static char long_name[300];
+    memset(long_name, 'a', sizeof long_name);
+    count(!gcv_find_user(&room, "no such user", 12) && !gcv_find_user(&room, "root", 0) && !gcv_find_user(&room, "root\0", 5) &&
+              !gcv_find_user(&room, long_name, sizeof long_name),
+          "no user");
+    /* directories that the path does not ask for may be of any bytes */
+    gcv_context bad = {"\xff", 1, "\xff", 1, "\xff", 1};
+    static const struct {
+        const char *path;
+        gcv_status status;
+    } rows[] = {{"/etc/x", GCV_OK}, {"~/x", GCV_NOT_UTF8}, {"%(prefix)/x", GCV_NOT_UTF8}, {":(optional)x", GCV_OK}};
+    for (size_t at = 0; at < 4; at++) {
+        char text[64];
+        size_t size = 0;
+        count(gcv_interpolate_with(rows[at].path, strlen(rows[at].path), &bad, gcv_find_user, &room, text, sizeof text, &size,
+                                   NULL) == rows[at].status,
+              rows[at].path);
+    }
+}
+
 /* What git 2.39.5 prints by `git -c a.b=TEXT config --get-color a.b`. */
 static void escape_sequences(void)
 {
@@ -448,6 +475,7 @@ int main(void)
     fault_texts();
     status_texts();
     parsed();
+    users();
     escape_sequences();
     fields();
     words();

@@ -3,6 +3,7 @@
 #define GUARDED_H
 
 #define _DEFAULT_SOURCE
+#define GCV_WITH_USERS
 #include <gix_config_value.h>
 #include <stdio.h>
 #include <stdlib.h>

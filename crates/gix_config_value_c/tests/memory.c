@@ -78,6 +78,19 @@ static gcv_status interpolate(const void *state, char *buffer, size_t capacity, 
     return fault == UNTOUCHED ? status : UNTOUCHED;
 }
 
+static const char *find(void *state, const char *name, size_t length)
+{
+    (void)state;
+    return length == 1 && *name == 'u' ? "/home/u" : NULL;
+}
+
+static gcv_status interpolate_with(const void *state, char *buffer, size_t capacity, size_t *size)
+{
+    static const gcv_context context = {NULL, 0, NULL, 0, NULL, 0};
+    (void)state;
+    return gcv_interpolate_with("~u/file", 7, &context, find, NULL, buffer, capacity, size, NULL);
+}
+
 static gcv_status read_and_show(const void *state, char *buffer, size_t capacity, size_t *size)
 {
     gcv_color color;
@@ -121,6 +134,7 @@ int main(void)
     count(asks(json_name, "\"#010203\"", 2), "json_name");
     count(asks(json_attribute, "\"bold ul\"", 2), "json_attribute");
     count(asks(interpolate, "/home/u/file", 0), "interpolate");
+    count(asks(interpolate_with, "/home/u/file", 1), "interpolate_with");
     count(asks(read_and_show, "red bold", 0), "read_color and show_color");
     count(asks(normalize, "16k", 0), "normalize");
     return finish();

@@ -2,7 +2,7 @@
  *
  * Each line has, between tabs, the value, the install directory, the home directory, what a lookup knows, the flag, the
  * value behind the mark, how often the lookup was called, and the text or the error. Every text is written as
- * hexadecimal digits. A lookup is said by a passwd text with a line for each user. */
+ * hexadecimal digits. A lookup is said by a passwd text with a line for each user, and by a call that finds them. */
 #include "guarded.h"
 
 enum { LONGEST = 1 << 16 };
@@ -19,7 +19,11 @@ typedef struct path_call {
     size_t length;
     gcv_context context;
     uint32_t *fault;
+    const char *users;
+    size_t users_length;
 } path_call;
+
+static unsigned long found;
 
 static gcv_status interpolate(const void *state, char *buffer, size_t capacity, size_t *size)
 {
@@ -81,6 +85,50 @@ static int add_users(text *to, const char *users, size_t length)
     return 1;
 }
 
+/* The home of a user among those of a call. */
+static const char *find(void *state, const char *name, size_t length)
+{
+    static text user, home;
+    const path_call *call = (const path_call *)state;
+    const char *rest = call->users;
+    const char *end = rest + call->users_length;
+    found++;
+    while (rest < end) {
+        size_t entry_length;
+        const char *entry = field(&rest, end, ',', &entry_length);
+        const char *equals = (const char *)memchr(entry, '=', entry_length);
+        user.length = home.length = 0;
+        add_digits(&user, entry, (size_t)(equals - entry));
+        if (user.length == length && memcmp(user.bytes, name, length) == 0) {
+            add_digits(&home, equals + 1, (size_t)(entry + entry_length - equals - 1));
+            home.bytes[home.length] = '\0';
+            return home.bytes;
+        }
+    }
+    return NULL;
+}
+
+static gcv_status interpolate_with(const void *state, char *buffer, size_t capacity, size_t *size)
+{
+    path_call call = *(const path_call *)state;
+    return gcv_interpolate_with(call.value, call.length, &call.context, find, &call, buffer, capacity, size, call.fault);
+}
+
+/* The call once more, with one that finds users, if the stored call had a lookup. */
+static int is_found(path_call *call, const text *wanted, uint32_t fault, unsigned long count)
+{
+    size_t size = UNTOUCHED;
+    uint32_t why = UNTOUCHED;
+    call->fault = &why;
+    found = 0;
+    gcv_status status = call_at(buffer_area, interpolate_with, call, LONGEST, &size);
+    HOLDS(found == count);
+    HOLDS(status == (wanted ? GCV_OK : GCV_REFUSED) && why == fault);
+    HOLDS(wanted ? writes(buffer_area, interpolate_with, call, wanted->bytes, wanted->length)
+                 : writes_nothing(buffer_area, interpolate_with, call, GCV_REFUSED));
+    return 1;
+}
+
 /* A text that is there, at a page's end, though it may be empty, or null. */
 static const char *given(area place, const text *of, int is_there)
 {
@@ -130,12 +178,10 @@ static int answers(line asked)
     add_digits(&value, fields[0], lengths[0]);
     add_digits(&install_dir, fields[1], has_install_dir ? lengths[1] : 0);
     add_digits(&home, fields[2], has_home ? lengths[2] : 0);
-    if (has_passwd && !add_users(&passwd, fields[3], lengths[3])) {
-        return 2;
-    }
+    int is_said = !has_passwd || add_users(&passwd, fields[3], lengths[3]);
     add_digits(&kept, fields[5], lengths[5]);
     uint32_t fault = UNTOUCHED;
-    path_call call = {lent(value_area, value.bytes, value.length), value.length, {0}, &fault};
+    path_call call = {lent(value_area, value.bytes, value.length), value.length, {0}, &fault, fields[3], lengths[3]};
     call.context.install_dir = given(install_area, &install_dir, has_install_dir);
     call.context.install_dir_length = install_dir.length;
     call.context.home = given(home_area, &home, has_home);
@@ -143,13 +189,26 @@ static int answers(line asked)
     call.context.passwd = given(passwd_area, &passwd, has_passwd);
     call.context.passwd_length = passwd.length;
     HOLDS(has_mark(&value, call.value, fields[4][0] == '1', &kept));
-    if (lengths[7] == 2 && memcmp(fields[7], "ok", 2) == 0) {
+    int is_ok = lengths[7] == 2 && memcmp(fields[7], "ok", 2) == 0;
+    uint32_t why = is_ok ? UNTOUCHED : fault_of(fields[7], lengths[7], fields[8], lengths[8]);
+    if (is_ok) {
         add_digits(&wanted, fields[8], lengths[8]);
+    } else {
+        HOLDS(why != UNTOUCHED);
+    }
+    if (has_passwd) {
+        HOLDS(is_found(&call, is_ok ? &wanted : NULL, why, (unsigned long)(fields[6][0] - '0')));
+    }
+    if (!is_said) {
+        return 2;
+    }
+    call.fault = &fault;
+    if (is_ok) {
         HOLDS(writes(buffer_area, interpolate, &call, wanted.bytes, wanted.length));
         HOLDS(fault == UNTOUCHED);
     } else {
         HOLDS(writes_nothing(buffer_area, interpolate, &call, GCV_REFUSED));
-        HOLDS(fault == fault_of(fields[7], lengths[7], fields[8], lengths[8]) && fault != UNTOUCHED);
+        HOLDS(fault == why);
         call.fault = NULL;
         HOLDS(writes_nothing(buffer_area, interpolate, &call, GCV_REFUSED));
     }

@@ -137,6 +137,7 @@ answers() {
 }
 # what a compiler refuses: refuses NAME CODE, where the code without what is wrong is taken
 body() {
+    printf '#define _DEFAULT_SOURCE\n#define GCV_WITH_USERS\n'
     printf '#include <gix_config_value.h>\n#include <string.h>\nint main(void)\n{\n    char t[64] = "1";\n'
     printf '    uint32_t b = 0;\n    size_t n = 0;\n    gcv_context c;\n    gcv_color both;\n'
     printf '    memset(&c, 0, sizeof c);\n    memset(&both, 0, sizeof both);\n    return %s;\n}\n' "$1"
