@@ -656,93 +656,67 @@ static PyObject *encoded(PyObject *Py_UNUSED(module), PyObject *text)
 
 /* Paths */
 
-/* What a path in a context stands for, as `bytes`; or NULL, with an exception or with a fault. */
-static PyObject *whole_path(PyObject *path, const gcv_context *context, gcv_fault *fault)
-{
-    const char *text = PyBytes_AsString(path);
-    size_t length = (size_t)PyBytes_Size(path), size = 0;
-    gcv_status status = gcv_interpolate(text, length, context, NULL, 0, &size, fault);
-    if (status == GCV_OK || status == GCV_SHORT_BUFFER) {
-        PyObject *whole = PyBytes_FromStringAndSize(NULL, (Py_ssize_t)size);
-        if (!whole)
-            return NULL;
-        status = gcv_interpolate(text, length, context, PyBytes_AsString(whole), size, &size, fault);
-        if (status == GCV_OK)
-            return whole;
-        Py_DECREF(whole);
-    }
-    if (status == GCV_NO_MEMORY)
-        return PyErr_NoMemory();
-    return status == GCV_REFUSED ? NULL : PyErr_Format(PyExc_ValueError, "%s", gcv_status_text(status));
-}
+/* A callable that finds the homes of users, and the one that it found, as `bytes`. */
+typedef struct {
+    PyObject *callable, *home;
+} Users;
 
-/* The same for a path whose user the library asks for: it stands for what `~` and the rest stand for where
- * the home is that of the user. */
-static PyObject *path_of_user(PyObject *path, PyObject *users, gcv_fault *fault)
+/* A gcv_find_home, which asks the callable once. It may leave an exception. */
+static const char *home_of_user(void *state, const char *name, size_t length)
 {
-    const char *text = PyBytes_AsString(path), *end = text + PyBytes_Size(path);
-    uint32_t is_optional = 0;
-    size_t start = 0;
-    gcv_context context = {0};
-    gcv_cut_mark(text, (size_t)PyBytes_Size(path), &is_optional, &start);
-    const char *name = text + start + 1, *rest = name;
-    while (rest < end && *rest != '/')
-        rest++;
-    PyObject *user = PyUnicode_DecodeUTF8(name, rest - name, NULL);
-    PyObject *found = user ? PyObject_CallFunctionObjArgs(users, user, NULL) : NULL;
-    Py_XDECREF(user);
-    if (!found || found == Py_None) {
+    Users *users = state;
+    char *text = NULL;
+    if (!users->home) {
+        PyObject *user = PyUnicode_DecodeUTF8(name, (Py_ssize_t)length, NULL);
+        PyObject *found = user ? PyObject_CallFunctionObjArgs(users->callable, user, NULL) : NULL;
+        PyObject *directory = found && found != Py_None ? PyOS_FSPath(found) : NULL;
+        users->home = directory ? bytes_of(directory) : NULL;
+        Py_XDECREF(user);
         Py_XDECREF(found);
-        return NULL;
+        Py_XDECREF(directory);
     }
-    PyObject *directory = PyOS_FSPath(found), *home = directory ? bytes_of(directory) : NULL, *whole = NULL;
-    PyObject *below_home = PyBytes_FromStringAndSize(NULL, end - rest + 1);
-    if (home && below_home) {
-        char *written = PyBytes_AsString(below_home);
-        written[0] = '~';
-        memcpy(written + 1, rest, (size_t)(end - rest));
-        context.home = PyBytes_AsString(home);
-        context.home_length = (size_t)PyBytes_Size(home);
-        whole = whole_path(below_home, &context, fault);
-        if (*fault == GCV_FAULT_ILL_FORMED_PAST_HOME)
-            *fault = GCV_FAULT_ILL_FORMED_PAST_USER;
-    }
-    Py_DECREF(found);
-    Py_XDECREF(directory);
-    Py_XDECREF(home);
-    Py_XDECREF(below_home);
-    return whole;
+    /* with no place for a length it refuses a directory that holds NUL */
+    return users->home && PyBytes_AsStringAndSize(users->home, &text, NULL) == 0 ? text : NULL;
 }
 
-/* The path, the install directory and the home, as bytes or None, and what finds a user's home. A directory that
- * the path does not ask for is not passed on, so it may be of any bytes. */
+/* The path, the install directory and the home, as bytes or None, and what finds a user's home. */
 static PyObject *interpolated(PyObject *Py_UNUSED(module), PyObject *args)
 {
-    PyObject *path, *prefix, *home, *users;
+    PyObject *path, *prefix, *home, *whole = NULL;
+    Users users = {NULL, NULL};
     gcv_fault fault = GCV_FAULT_NONE;
     gcv_context context = {0};
-    uint32_t is_optional = 0;
-    size_t start = 0;
-    if (!PyArg_ParseTuple(args, "SOOO", &path, &prefix, &home, &users))
+    size_t size = 0;
+    if (!PyArg_ParseTuple(args, "SOOO", &path, &prefix, &home, &users.callable))
         return NULL;
-    gcv_cut_mark(PyBytes_AsString(path), (size_t)PyBytes_Size(path), &is_optional, &start);
-    const char *value = PyBytes_AsString(path) + start;
-    if (prefix != Py_None && *value == '%') {
+    if (prefix != Py_None) {
         context.install_dir = PyBytes_AsString(prefix);
         context.install_dir_length = (size_t)PyBytes_Size(prefix);
     }
-    if (home != Py_None && *value == '~') {
+    if (home != Py_None) {
         context.home = PyBytes_AsString(home);
         context.home_length = (size_t)PyBytes_Size(home);
     }
-    if (users != Py_None)
-        context.passwd = ""; /* has no user, so each one that is asked for is told by the fault */
     if (PyErr_Occurred())
         return NULL;
-    PyObject *whole = whole_path(path, &context, &fault);
-    if (!whole && fault == GCV_FAULT_USER_NOT_FOUND)
-        whole = path_of_user(path, users, &fault);
-    return whole || PyErr_Occurred() ? whole : refuse(fault, path);
+    const char *text = PyBytes_AsString(path);
+    size_t length = (size_t)PyBytes_Size(path);
+    gcv_find_home *find = users.callable == Py_None ? NULL : home_of_user;
+    gcv_status status = gcv_interpolate_with(text, length, &context, find, &users, NULL, 0, &size, &fault);
+    if (status == GCV_OK || status == GCV_SHORT_BUFFER) {
+        whole = PyBytes_FromStringAndSize(NULL, (Py_ssize_t)size);
+        if (whole)
+            status = gcv_interpolate_with(text, length, &context, find, &users, PyBytes_AsString(whole), size,
+                                          &size, &fault);
+    }
+    Py_XDECREF(users.home);
+    if (status == GCV_OK || PyErr_Occurred())
+        return whole;
+    Py_XDECREF(whole);
+    if (status == GCV_REFUSED)
+        return refuse(fault, path);
+    return status == GCV_NO_MEMORY ? PyErr_NoMemory()
+                                   : PyErr_Format(PyExc_ValueError, "%s", gcv_status_text(status));
 }
 
 static PyObject *mark_cut(PyObject *Py_UNUSED(module), PyObject *path)

@@ -247,7 +247,7 @@ gcv_status gcv_interpolate_with(const char *text, size_t length, const gcv_conte
     if (start == length || text[start] != '~') {
         asked.home = NULL;
     }
-    asked.passwd = "";
+    asked.passwd = find ? "" : NULL;
     asked.passwd_length = 0;
     gcv_status status = gcv_interpolate(text, length, &asked, buffer, capacity, size, &why);
     if (status == GCV_REFUSED && why == GCV_FAULT_USER_NOT_FOUND) {

@@ -292,7 +292,10 @@ class Paths(unittest.TestCase):
         user = pwd.getpwuid(os.getuid())
         self.assertEqual(interpolate(f"~{user.pw_name}/x", users=gcv.home_of_user), os.path.join(user.pw_dir, "x"))
         self.assertIsNone(gcv.home_of_user("no such user"))
+        self.assertEqual(interpolate("~u/" + "x" * 5000, users={"u": "/h"}.get), "/h/" + "x" * 5000)
         self.assertRaises(ZeroDivisionError, interpolate, "~u", users=lambda name: 1 // 0)
+        self.assertRaises(ValueError, interpolate, "~u", users={"u": "/h\0"}.get)
+        self.assertRaises(ValueError, interpolate, "~u", users={"u": b"/\xff"}.get)
         for call in (lambda: interpolate("~u", users=lambda name: 3), lambda: interpolate("~", home=3),
                      lambda: interpolate("~u", users=3), lambda: interpolate(3)):
             self.assertRaises(TypeError, call)

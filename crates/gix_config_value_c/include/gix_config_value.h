@@ -267,11 +267,11 @@ GCV_CHECKED gcv_status gcv_escape_color(const gcv_color *value, char *GCV_RESTRI
 typedef const char *gcv_find_home(void *state, const char *name, size_t length);
 
 /* As gcv_interpolate, with what `find(state, ..)` finds in place of the passwd text, which is not read. It is called once
- * for ~user, and for no other path. GCV_NOT_UTF8 only for a directory that the path asks for. A path of a user takes
- * memory from malloc, and gives it back: GCV_NO_MEMORY if it is refused. */
+ * for ~user, and for no other path; a null `find` is as a null passwd text. GCV_NOT_UTF8 only for a directory that the
+ * path asks for. A path of a user takes memory from malloc, and gives it back: GCV_NO_MEMORY if it is refused. */
 GCV_CHECKED gcv_status gcv_interpolate_with(const char *text, size_t length, const gcv_context *context,
                                             gcv_find_home *find, void *state, char *GCV_RESTRICT buffer,
-                                            size_t capacity, size_t *size, gcv_fault *fault) GCV_NONNULL((3, 4, 8));
+                                            size_t capacity, size_t *size, gcv_fault *fault) GCV_NONNULL((3, 8));
 
 /* What the library is proved for. No pointer may be null. */
 gcv_status gcv_raw_read_suffix(const char *text, size_t length, gcv_suffix *out, gcv_fault *fault);

@@ -111,10 +111,11 @@ static const char *find(void *state, const char *name, size_t length)
 static gcv_status interpolate_with(const void *state, char *buffer, size_t capacity, size_t *size)
 {
     path_call call = *(const path_call *)state;
-    return gcv_interpolate_with(call.value, call.length, &call.context, find, &call, buffer, capacity, size, call.fault);
+    return gcv_interpolate_with(call.value, call.length, &call.context, call.users[0] == '-' ? NULL : find, &call, buffer,
+                                capacity, size, call.fault);
 }
 
-/* The call once more, with one that finds users, if the stored call had a lookup. */
+/* The call once more, with one that finds users as often as the stored call did. */
 static int is_found(path_call *call, const text *wanted, uint32_t fault, unsigned long count)
 {
     size_t size = UNTOUCHED;
@@ -196,9 +197,7 @@ static int answers(line asked)
     } else {
         HOLDS(why != UNTOUCHED);
     }
-    if (has_passwd) {
-        HOLDS(is_found(&call, is_ok ? &wanted : NULL, why, (unsigned long)(fields[6][0] - '0')));
-    }
+    HOLDS(is_found(&call, is_ok ? &wanted : NULL, why, (unsigned long)(fields[6][0] - '0')));
     if (!is_said) {
         return 2;
     }
