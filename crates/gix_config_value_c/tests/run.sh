@@ -166,11 +166,15 @@ for compiler in gcc clang g++ clang++; do
     esac
     body 'gcv_read_boolean(t, 1, &b, NULL) == GCV_OK ? (both.attributes = b, both.attributes &= ~GCV_UL) > n : c.home != NULL' \
         > "$work/right.c"
-    casts=
-    case $compiler in *++) casts="-Wold-style-cast" ;; esac
-    # shellcheck disable=SC2086
-    holds "no warning by $compiler" "$compiler" $language -O2 $warnings $casts -I"$prefix/include" \
-        -c -o "$work/right.o" "$work/right.c"
+    case $compiler in
+        *++) also="-x c++ -std=c++98 -Wold-style-cast" ;;
+        *) also="-std=c89" ;;
+    esac
+    for dialect in "$language" "$also"; do
+        # shellcheck disable=SC2086
+        holds "no warning by $compiler $dialect" "$compiler" $dialect -O2 $warnings -I"$prefix/include" \
+            -c -o "$work/right.o" "$work/right.c"
+    done
     for linked in archive shared; do
         case $linked in
             archive) set -- "$archive" ;;
