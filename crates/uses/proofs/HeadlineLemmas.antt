@@ -1,6 +1,6 @@
 -- What a text means, and what joined texts are read as, say the headline.
-use Rattle.std.proofs.Common.{◌≡◌, ◌↔◌, ◌≤◌, ◌⊎◌, length, ℕ, List, Option, None, Some, refl, sym, ◌∙◌, ap, subst}
-use Rattle.config_text.specs.Value.{IsRefused, IsTextOf, HasMeaning, Means, Reads}
+use Rattle.std.proofs.Common.{◌≡◌, ◌↔◌, ◌≤◌, ◌⊎◌, length, ℕ, List, Option, None, Some, refl, sym, ap, subst}
+use Rattle.config_text.specs.Value.{IsRefused, IsTextOf, Means, Reads}
 use Rattle.config_color.specs.declared.color.Color.{Color}
 use Rattle.config_color.specs.Color.{ColorText}
 use Rattle.config_color.specs.Composition.{Joined, HaveTooManyNames}
