@@ -34,7 +34,7 @@ held_is_no_backslash : (q : Bool) (b : ℕ) → is_held_back q b ≡ true → b 
 held_is_no_backslash true b held e = cc
 held_is_no_backslash false b held e = blank_is_no_backslash b held e
 
-after_held : {q : Bool} {o : Ending} {value rest spelled : List ℕ} {held b : ℕ} → Spells q value held (b ∷ rest) spelled o → is_held_back q b ≡ true
+pub after_held : {q : Bool} {o : Ending} {value rest spelled : List ℕ} {held b : ℕ} → Spells q value held (b ∷ rest) spelled o → is_held_back q b ≡ true
     → Spells q value (held + 1) rest spelled o
 after_held (ends_at_backslash {b = b} e) is = absurd (held_is_no_backslash false b is e)
 after_held (quote {quoted = q} {b = b} e s) is = absurd (held_is_no_quote q b is e)
@@ -54,7 +54,7 @@ after_quote (continued_after_return e l n s) is = absurd (omega arith)
 after_quote (blank {b = b} e s) is = absurd (blank_is_no_quote b e is)
 after_quote (plain {quoted = q} {b = b} e s) is = absurd (plain_is_no_quote q b e is)
 
-after_plain : {q : Bool} {o : Ending} {value rest spelled : List ℕ} {held b : ℕ} → Spells q value held (b ∷ rest) spelled o → is_held_back q b ≡ false → b ≢ 34 → b ≢ 92
+pub after_plain : {q : Bool} {o : Ending} {value rest spelled : List ℕ} {held b : ℕ} → Spells q value held (b ∷ rest) spelled o → is_held_back q b ≡ false → b ≢ 34 → b ≢ 92
     → Spells q (kept value held ++ b ∷ []) 0 rest spelled o
 after_plain (ends_at_backslash e) is not_quote not_backslash = absurd (not_backslash e)
 after_plain (quote e s) is not_quote not_backslash = absurd (not_quote e)

@@ -1,14 +1,16 @@
 //! The value of an entry.
-ghost use Rattle.std.specs.Prelude.{◌≡◌, ◌≢◌, ℕ, List, [], ◌∷◌, ◌≤◌, length, IfOk, OnOk, MatchOption, MatchResult};
+ghost use Rattle.std.specs.Prelude.{◌≡◌, ◌≢◌, ℕ, List, [], ◌∷◌, ◌≤◌, length, IfOk, IfSome, OnOk, MatchOption, MatchResult};
+ghost use Rattle.std.specs.Cow.{cow_slice_items};
 ghost use Rattle.config_file.specs.Value as spec;
 ghost use Rattle.config_file.specs.Value.{TakesValue, ValueStops, IsNoEscape, SpellsValue, kept, Ending};
 ghost use Rattle.config_file.specs.Reading.Scans.{PassedValue, EndsScan, Escapes, goes_on, is_held_back, unescape};
 
 use crate::bytes::{
-    after_byte, before, is_blank, is_comment_sign, is_text_byte, line_feeds, split,
+    Class, after_byte, before, is_blank, is_comment_sign, is_text_byte, line_feeds, run, split,
 };
 use crate::errors::{Fault, Stop, fault_at};
 use std::alloc::{AllocError, Global};
+use std::borrow::CowSlice;
 
 /// The byte that a letter stands for after a backslash.
 pub(crate) fn escape(letter: u8) -> Option<u8>
@@ -38,7 +40,19 @@ pub(crate) struct Taken<'a> {
 }
 
 impl<'a> Value<'a> {
-    /// The text that these bytes spell, as those of every entry that is read.
+    /// The text that these bytes spell. It is borrowed if they need no memory: where nothing is in quotes or escaped, and
+    /// each blank within the text is a space.
+    pub fn text(&self, alloc: Global) -> Result<CowSlice<'a, u8>, AllocError>
+        ensures { (spelled : List ℕ) (ending : Ending) → SpellsValue self.now.raw.now spelled ending
+            → IfOk result (λ text. cow_slice_items text ≡ spelled) }
+    {
+        match plain_text(self.raw) {
+            Some(text) => Ok(CowSlice::Borrowed(text)),
+            None => Ok(CowSlice::Owned(self.to_vec(alloc)?)),
+        }
+    }
+
+    /// The text that these bytes spell, in memory of its own.
     pub fn to_vec(&self, alloc: Global) -> Result<Vec<u8>, AllocError>
         ensures { (spelled : List ℕ) (ending : Ending) → SpellsValue self.now.raw.now spelled ending
             → IfOk result (λ text. text.items ≡ spelled) }
@@ -71,6 +85,29 @@ impl<'a> Value<'a> {
         }
         Ok(text)
     }
+}
+
+/// The text of the bytes of a value, if it is a part of them.
+fn plain_text(raw: &[u8]) -> Option<&[u8]>
+    ensures { (spelled : List ℕ) (ending : Ending) → SpellsValue raw.now spelled ending
+        → IfSome result (λ text. text.now ≡ spelled) }
+{
+    let (_, start) = run(raw, Class::Blank);
+    let mut at = start;
+    let mut length = 0usize;
+    let mut has_other_blank = false;
+    'bytes: while let Some((byte, rest)) = split(at) {
+        at = rest;
+        if is_blank(byte) {
+            has_other_blank = has_other_blank || byte != b' ';
+            continue;
+        }
+        if has_other_blank || byte == b'"' || byte == b'\\' {
+            return None;
+        }
+        length = start.len() - at.len();
+    }
+    Some(&start[..length])
 }
 
 /// Whether this byte is a blank outside quotes, which counts only if a byte of the value follows it.

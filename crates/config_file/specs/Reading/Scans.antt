@@ -1,9 +1,10 @@
 -- What scans take at a time.
-use Rattle.std.specs.Prelude.{◌≡◌, ℕ, Bool, true, false, not, List, [], ◌∷◌, ◌++◌, Option, Some, None, ⊤, ◌&&◌, ◌==◌, if◌then◌else◌, is_some, drop}
+use Rattle.std.specs.Prelude.{◌≡◌, ◌≢◌, ℕ, Bool, true, false, not, List, [], ◌∷◌, ◌++◌, Option, Some, None, ⊤, ◌&&◌, ◌==◌, if◌then◌else◌, is_some, drop, length, replicate}
 use Rattle.std.specs.Char.{is_ascii_alphabetic}
 use Rattle.config_file.specs.declared.bytes.Class.{Class}
 use Rattle.config_file.specs.declared.bytes.Class.TheVariants.{Name, Key, Blank, Space, Comment}
 use Rattle.config_file.specs.Bytes.{line_feed, carriage_return, is_name_byte, is_key_byte, is_blank, is_space, is_comment_byte, is_comment_sign, is_text_byte}
+use Rattle.config_file.specs.Runs.{StopsRun}
 use Rattle.config_file.specs.Subsection.{SpellsSubsection, IsSubsection}
 use Rattle.config_file.specs.Value.{Ending, Spells, SpellsValue, escape}
 
@@ -66,3 +67,15 @@ is_held_back false b = is_blank b
 abbrev pub append_some : List ℕ → Option ℕ → List ℕ
 append_some value None = value
 append_some value (Some b) = value ++ b ∷ []
+
+-- Of the bytes of a value after their first blanks, a front is the text so far, and a gap of blanks follows it, of spaces
+-- unless it has another blank.
+pub record PassedPlain (raw start at : List ℕ) (count : ℕ) (has_other_blank : Bool) : Type 0 where
+  pub front : List ℕ
+  pub gap : List ℕ
+  pub joined : start ≡ (front ++ gap) ++ at
+  pub counted : count ≡ length front
+  pub begins : StopsRun is_blank start
+  pub spaces : has_other_blank ≡ false → gap ≡ replicate (length gap) 32
+  pub spells : (spelled : List ℕ) (ending : Ending) → SpellsValue raw spelled ending
+      → (o : Ending) × (held : ℕ) × (front ≢ [] → held ≡ length gap) × Spells false front held at spelled o
