@@ -1,9 +1,8 @@
 -- The text that the bytes of a value or of a subsection spell, a piece at a time.
-use Rattle.std.proofs.Common.{◌≡◌, ◌≢◌, ℕ, ◌+◌, Bool, true, false, not, List, [], ◌∷◌, ◌++◌, Option, refl, sym, ap, ◌∙◌, subst, arith, append_assoc}
+use Rattle.std.proofs.Common.{◌≡◌, ◌≢◌, ℕ, ◌+◌, Bool, true, false, not, List, [], ◌∷◌, ◌++◌, Option, refl, sym, ap, ◌∙◌, subst, arith}
 use Rattle.std.proofs.lemmas.Bool.{true≢false}
 use Rattle.std.proofs.lemmas.Bool.Decides.{nat_tests}
 use Rattle.config_file.specs.Bytes.{is_blank, is_plain}
-use Rattle.config_file.specs.Subsection as sub
 use Rattle.config_file.specs.Subsection.{SpellsSubsection}
 use Rattle.config_file.specs.Value.{Ending, outside, Spells, ends_outside, ends_inside, ends_at_backslash, quote, escaped, continued, continued_after_return, blank, plain, kept}
 use Rattle.config_file.specs.Reading.Scans.{is_held_back, unescape, append_some}
@@ -104,30 +103,7 @@ spelled_end ends_inside = refl
 pub spelled_whole : {q : Bool} {o : Ending} {value spelled : List ℕ} {held : ℕ} (at : List ℕ) → at ≡ [] → Spells q value held at spelled o → value ≡ spelled
 spelled_whole {q = q} {o = o} {value = value} {spelled = spelled} {held = held} at e s = spelled_end (subst (λ x. Spells q value held x spelled o) e s)
 
--- subsections
-after_plain_in_subsection : {b : ℕ} {rest spelled : List ℕ} → SpellsSubsection (b ∷ rest) spelled → b ≢ 92
-    → (more : List ℕ) × SpellsSubsection rest more × (spelled ≡ b ∷ more)
-after_plain_in_subsection (sub.escaped e l s) other = absurd (other e)
-after_plain_in_subsection (sub.plain {text = text} e s) other = (text, s, refl)
-
-after_backslash_in_subsection : {b c : ℕ} {rest spelled : List ℕ} → SpellsSubsection (b ∷ c ∷ rest) spelled → b ≡ 92
-    → (more : List ℕ) × SpellsSubsection rest more × (spelled ≡ c ∷ more)
-after_backslash_in_subsection (sub.escaped {text = text} e l s) is = (text, s, refl)
-after_backslash_in_subsection (sub.plain {b = b} e s) is = absurd (plain_is_no_backslash true b e is)
-
 -- what is written and what is left make the whole
 abbrev pub Writes : List ℕ → List ℕ → List ℕ → List ℕ → Type 0
 Writes at spelled old new =
     (written : List ℕ) × (more : List ℕ) × SpellsSubsection at more × (spelled ≡ written ++ more) × (new ≡ old ++ written)
-
-pub writes_plain : {b : ℕ} {rest newer : List ℕ} (at spelled old new : List ℕ) → Writes at spelled old new → at ≡ b ∷ rest → b ≢ 92 → newer ≡ new ++ b ∷ []
-    → Writes rest spelled old newer
-writes_plain {b = b} at spelled old new (written, more, left, whole, appended) e other same =
-    let (after, s, rest_whole) = after_plain_in_subsection (subst (λ x. SpellsSubsection x more) e left) other in
-    (written ++ b ∷ [], after, s, whole ∙ ap (◌++◌ written) rest_whole ∙ sym (append_assoc written (b ∷ []) after), same ∙ rw appended (append_assoc old written (b ∷ [])))
-
-pub writes_escaped : {b c : ℕ} {rest after newer : List ℕ} (at spelled old new : List ℕ) → Writes at spelled old new → at ≡ b ∷ rest → b ≡ 92 → rest ≡ c ∷ after → newer ≡ new ++ c ∷ []
-    → Writes after spelled old newer
-writes_escaped {b = b} {c = c} at spelled old new (written, more, left, whole, appended) e is f same =
-    let (later, s, rest_whole) = after_backslash_in_subsection (subst (λ x. SpellsSubsection x more) (e ∙ ap (◌∷◌ b) f) left) is in
-    (written ++ c ∷ [], later, s, whole ∙ ap (◌++◌ written) rest_whole ∙ sym (append_assoc written (c ∷ []) later), same ∙ rw appended (append_assoc old written (c ∷ [])))

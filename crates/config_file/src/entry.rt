@@ -1,5 +1,5 @@
 //! Entries, and the texts that their parts spell.
-ghost use Rattle.std.specs.Prelude.{◌≡◌, ℕ, List, ◌++◌, IfOk, OnOk, MatchResult, map, option_map};
+ghost use Rattle.std.specs.Prelude.{◌↔◌, IsTrue, ◌≡◌, ℕ, List, ◌++◌, IfOk, OnOk, MatchResult, map, option_map};
 ghost use Rattle.std.specs.Char.{to_ascii_lowercase};
 ghost use Rattle.config_file.specs.Listing.{IsListed, IsListedSection};
 ghost use Rattle.config_file.specs.File.{TakesEntry, EntryStops};
@@ -60,6 +60,14 @@ pub(crate) fn read_entry(text: &[u8]) -> Result<Parts<'_>, Stop>
 }
 
 impl<'a> Entry<'a> {
+    /// Whether the entry has this key, ignoring ASCII case, as Git compares it.
+    pub fn has_key(&self, key: &[u8]) -> bool
+        ensures { IsTrue result
+            ↔ (map to_ascii_lowercase self.now.key.now ≡ map to_ascii_lowercase key.now) }
+    {
+        self.key.eq_ignore_ascii_case(key)
+    }
+
     /// The key as `git config --list` shows it: the section and the key in lower case, and the subsection as it is.
     pub fn key_text(&self, alloc: Global) -> Result<Vec<u8>, AllocError>
         ensures { (listed : List ℕ) → IsListed (option_map section_of self.now.section) self.now.key.now listed

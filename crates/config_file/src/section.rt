@@ -1,20 +1,34 @@
 //! Sections and subsections.
-ghost use Rattle.std.specs.Prelude.{◌≡◌, ℕ, List, ◌++◌, OnOk};
+ghost use Rattle.std.specs.Prelude.{◌≡◌, ℕ, ◌<◌, ◌↔◌, List, [], ◌∷◌, ◌++◌, length, map, IsTrue, IfSome, OnOk, MatchOption};
+ghost use Rattle.std.specs.Char.{to_ascii_lowercase};
 ghost use Rattle.config_file.specs.Subsection.{SpellsSubsection};
 
-use crate::bytes::split;
+use crate::bytes::{after_byte, split};
 use std::alloc::AllocError;
 
 /// A section: its name, and its subsection if the header has one.
 #[derive(Clone, Copy)]
 pub struct Section<'a> {
+    /// Letters, digits, `-` and `.`, in the case of the text. It is empty only before a subsection.
     pub name: &'a [u8],
+    /// The subsection, which the header has in quotes.
     pub subsection: Option<Subsection<'a>>,
+}
+
+impl<'a> Section<'a> {
+    /// Whether the section has this name, ignoring ASCII case, as Git compares it.
+    pub fn has_name(&self, name: &[u8]) -> bool
+        ensures { IsTrue result
+            ↔ (map to_ascii_lowercase self.now.name.now ≡ map to_ascii_lowercase name.now) }
+    {
+        self.name.eq_ignore_ascii_case(name)
+    }
 }
 
 /// A subsection: the bytes between its quotes.
 #[derive(Clone, Copy)]
 pub struct Subsection<'a> {
+    /// The bytes as they are in the text, with their backslashes.
     pub raw: &'a [u8],
 }
 
@@ -25,18 +39,43 @@ impl<'a> Subsection<'a> {
             → OnOk result (text.new.items ≡ text.old.items ++ spelled) }
     {
         let mut at = self.raw;
-        'bytes: while let Some((byte, rest)) = split(at) {
-            if byte != b'\\' {
-                text.push(byte)?;
-                at = rest;
-                continue;
-            }
-            let Some((escaped, after)) = split(rest) else {
-                return Ok(());
-            };
-            text.push(escaped)?;
-            at = after;
+        'bytes: while let Some((byte, rest)) = spelled_byte(at) {
+            text.push(byte)?;
+            at = rest;
         }
         Ok(())
+    }
+
+    /// Whether these bytes spell this text. Case counts, as in Git.
+    pub fn is(&self, text: &[u8]) -> bool
+        ensures { (spelled : List ℕ) → SpellsSubsection self.now.raw.now spelled
+            → (IsTrue result ↔ (spelled ≡ text.now)) }
+    {
+        let mut at = self.raw;
+        let mut left = text;
+        'bytes: while let Some((byte, rest)) = spelled_byte(at) {
+            match after_byte(byte, left) {
+                Some(more) => {
+                    at = rest;
+                    left = more;
+                }
+                None => return false,
+            }
+        }
+        left.is_empty()
+    }
+}
+
+/// The first byte of the text that these bytes spell, and the bytes that spell what follows it.
+fn spelled_byte(raw: &[u8]) -> Option<(u8, &[u8])>
+    ensures spelled { (spelled : List ℕ) → SpellsSubsection raw.now spelled → MatchOption result (spelled ≡ [])
+        (λ p. (more : List ℕ) × SpellsSubsection p.1.now more × (spelled ≡ p.0 ∷ more)) }
+    ensures shorter { IfSome result (λ p. length p.1.now < length raw.now) }
+{
+    let (byte, rest) = split(raw)?;
+    if byte == b'\\' {
+        split(rest)
+    } else {
+        Some((byte, rest))
     }
 }
