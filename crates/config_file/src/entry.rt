@@ -11,12 +11,16 @@ use crate::section::Section;
 use crate::value::{Taken, Value, read_value};
 use std::alloc::{AllocError, Global};
 
-/// An entry: its section, key and value, and the line that Git tells for it.
+/// An entry, in parts of the text that it was read from.
 #[derive(Clone, Copy)]
 pub struct Entry<'a> {
+    /// The section of the last header before it; `None` if no header precedes it.
     pub section: Option<Section<'a>>,
+    /// The key, in the case of the text.
     pub key: &'a [u8],
+    /// The value; `None` if the key has no `=`, which is not the empty value.
     pub value: Option<Value<'a>>,
+    /// The line on which the entry ends, from 1.
     pub line: usize,
 }
 
@@ -68,7 +72,8 @@ impl<'a> Entry<'a> {
         self.key.eq_ignore_ascii_case(key)
     }
 
-    /// The key as `git config --list` shows it: the section and the key in lower case, and the subsection as it is.
+    /// The key as `git config --list` shows it: section and key in lower case, and the subsection as it is spelled.
+    /// It fails only if memory is refused.
     pub fn key_text(&self, alloc: Global) -> Result<Vec<u8>, AllocError>
         ensures { (listed : List ℕ) → IsListed (option_map section_of self.now.section) self.now.key.now listed
             → IfOk result (λ text. text.items ≡ listed) }

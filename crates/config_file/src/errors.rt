@@ -2,19 +2,21 @@
 ghost use Rattle.std.specs.Prelude.{◌≡◌};
 ghost use Rattle.config_file.specs.Header.{fault_at};
 
-/// What is wrong with a line.
+/// Why the reading stops.
 #[derive(Clone, Copy, PartialEq, Eq, Debug)]
 pub enum Fault {
-    /// Git refuses the line.
+    /// A byte with which nothing goes on there, or the end of the text. Git tells `bad config line`.
     BadLine,
-    /// A NUL, outside a comment.
+    /// A NUL outside a comment. Git reads on only in a value and in a subsection, which it cuts there.
     Nul,
 }
 
-/// A refused text: the line that Git tells, from 1, and what is wrong with it.
+/// Why a text is no configuration file.
 #[derive(Clone, Copy, PartialEq, Eq, Debug)]
 pub struct Error {
+    /// The line that Git tells, from 1: docs/FILES.md, Lines.
     pub line: usize,
+    /// Why the reading stops on that line.
     pub fault: Fault,
 }
 

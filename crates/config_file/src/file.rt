@@ -9,7 +9,7 @@ use crate::errors::Error;
 use crate::reader::Entries;
 use std::alloc::{AllocError, Global};
 
-/// Why a file is not read.
+/// Why the entries of a text are not given.
 #[derive(Drop, Debug)]
 pub enum ReadError {
     /// Memory was refused.
@@ -18,7 +18,8 @@ pub enum ReadError {
     Refused(Error),
 }
 
-/// The entries of a text, in order.
+/// The entries of a text, in order. It returns `Refused` if the text is no configuration file, and `Memory` if memory is
+/// refused to the list.
 pub fn read<'a>(alloc: Global, text: &'a [u8]) -> Result<Vec<Entry<'a>>, ReadError>
     ensures read { IfOk result (λ entries. IsFile text.now (map entry_of entries.items) None) }
     ensures refused { (error : Error) → result ≡ Err (ReadError.Refused error)

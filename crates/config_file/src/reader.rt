@@ -9,7 +9,21 @@ use crate::errors::{Error, Stop, fault_at};
 use crate::header::read_header;
 use crate::section::Section;
 
-/// The entries of a text that are left.
+/// The entries of a text that are left. It yields each entry, in order, and takes no memory. At an item that Git
+/// refuses it yields the error, and nothing after it. Texts of any length are read, in one pass.
+///
+/// ```rust
+/// use config_file::errors::Fault;
+/// use config_file::reader::Entries;
+///
+/// let mut entries = Entries::new(b"[core]\n\tbare = false\n[remote \"origin\"");
+/// let entry = entries.next().expect(&rt, "an entry").expect(&rt, "no error");
+/// assert!(rt; entry.has_key(b"Bare"));
+/// assert_eq!(rt; entry.line, 2);
+/// let error = entries.next().expect(&rt, "an error").unwrap_err();
+/// assert_eq!(rt; error.line, 4); // Git counts the end of the text after a closing quote
+/// assert!(rt; error.fault == Fault::BadLine);
+/// ```
 #[derive(Drop)]
 pub struct Entries<'a> {
     section: Option<Section<'a>>,
@@ -44,7 +58,7 @@ fn is_part_of_mark(text: &[u8]) -> bool
 impl<'a> Entries<'a> {
     ghost use Rattle.config_file.specs.Left.{GivesEntry, HasLeft};
 
-    /// The entries of a text.
+    /// The entries of a text, after its byte order mark if it has one.
     pub fn new(text: &'a [u8]) -> Self
         ensures section { result.section ≡ None }
         ensures begins { Begins text.now result.line result.rest.now }

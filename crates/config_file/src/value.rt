@@ -25,9 +25,10 @@ pub(crate) fn escape(letter: u8) -> Option<u8>
     }
 }
 
-/// A value: its bytes, from the `=` to the end of its line or to a comment.
+/// A value, as the text has it.
 #[derive(Clone, Copy)]
 pub struct Value<'a> {
+    /// The bytes from the `=` to the line end or to the comment, with quotes, backslashes and all blanks.
     pub raw: &'a [u8],
 }
 
@@ -40,8 +41,16 @@ pub(crate) struct Taken<'a> {
 }
 
 impl<'a> Value<'a> {
-    /// The text that these bytes spell. It is borrowed if they need no memory: where nothing is in quotes or escaped, and
-    /// each blank within the text is a space.
+    /// The text that these bytes spell: docs/FILES.md, Values. It is borrowed, and takes no memory, if they have no quote and
+    /// no backslash, and each blank within the text is a space. It fails only if memory is refused.
+    ///
+    /// ```rust
+    /// use config_file::reader::Entries;
+    ///
+    /// let entry = Entries::new(b"[a]b = c  d # e").next().expect(&rt, "an entry").expect(&rt, "no error");
+    /// let value = entry.value.expect(&rt, "a value").to_vec(alloc)?;
+    /// assert!(rt; value.as_slice() == b"c  d");
+    /// ```
     pub fn text(&self, alloc: Global) -> Result<CowSlice<'a, u8>, AllocError>
         ensures { (spelled : List ℕ) (ending : Ending) → SpellsValue self.now.raw.now spelled ending
             → IfOk result (λ text. cow_slice_items text ≡ spelled) }
@@ -52,7 +61,7 @@ impl<'a> Value<'a> {
         }
     }
 
-    /// The text that these bytes spell, in memory of its own.
+    /// The text that these bytes spell, in memory of its own. It fails only if memory is refused.
     pub fn to_vec(&self, alloc: Global) -> Result<Vec<u8>, AllocError>
         ensures { (spelled : List ℕ) (ending : Ending) → SpellsValue self.now.raw.now spelled ending
             → IfOk result (λ text. text.items ≡ spelled) }
