@@ -1,0 +1,48 @@
+-- Headers.
+use Rattle.std.proofs.Common.{◌≡◌, ◌≢◌, ℕ, true, false, IsTrue, List, [], ◌∷◌, ◌++◌, refl, sym, ◌∙◌, subst, length, arith, None}
+use Rattle.config_file.specs.declared.errors.Fault.{Fault}
+use Rattle.config_file.specs.declared.errors.Fault.TheVariants.{BadLine, Nul}
+use Rattle.config_file.specs.Bytes.{is_name_byte, is_blank, IsAtLineEnd}
+use Rattle.config_file.specs.Runs.{Run, StopsRun}
+use Rattle.config_file.specs.Subsection.{TakesSubsection, StopsInSubsection}
+use Rattle.config_file.specs.Header as header
+use Rattle.config_file.specs.Header.{fault_at, BeginsWithout, ClosesSubsection, closes, SubsectionStops, within, closed, closed_at_line_end, OpensSubsection, Header, plain, NameStops, at_end, empty, not_closed, HeaderStops}
+
+pub closes_at : {text raw rest : List ℕ} (at : List ℕ) → TakesSubsection text raw at → at ≡ 93 ∷ rest → ClosesSubsection text raw rest
+closes_at {text = text} {raw = raw} at takes e = closes (subst (λ x. TakesSubsection text raw x) e takes) refl
+
+-- the fault and the line of a stop, as a call gives them
+pub subsection_stops : {text : List ℕ} (lines lines' : ℕ) (fault fault' : Fault) → lines ≡ lines' → fault ≡ fault' → SubsectionStops text lines' fault' → SubsectionStops text lines fault
+subsection_stops lines lines' fault fault' e f stops = rw (e, f) stops
+
+pub name_stops_at_end : {name after : List ℕ} → after ≡ [] → NameStops name after 1 BadLine
+name_stops_at_end e = rw e at_end
+
+pub name_stops_empty : (name after : List ℕ) → after ≢ [] → name ≡ [] → NameStops name after 0 (fault_at after)
+name_stops_empty name [] some e = absurd (some refl)
+name_stops_empty name (b ∷ rest) some e = rw e empty
+
+pub name_stops_not_closed : (name after : List ℕ) → after ≢ [] → BeginsWithout 93 after → NameStops name after 0 (fault_at after)
+name_stops_not_closed name [] some h = absurd (some refl)
+name_stops_not_closed name (b ∷ rest) some h = not_closed h
+
+-- where no blank runs, the text begins with none
+pub no_blanks : {after quoted : List ℕ} (run : List ℕ) → Run is_blank after run quoted → run ≡ [] → StopsRun is_blank after
+no_blanks [] h e = rw h.joined h.longest
+no_blanks (b ∷ run) h e = cc
+
+pub named : {text name rest : List ℕ} (after : List ℕ) → Run is_name_byte text name after → name ≢ [] → after ≡ 93 ∷ rest → Header text (name, None) rest
+named {text = text} {name = name} after run some e = plain (subst (λ x. Run is_name_byte text name x) e run) some refl
+
+pub opened : {text name inner : List ℕ} (after blanks quoted : List ℕ) → Run is_name_byte text name after → Run is_blank after blanks quoted
+    → blanks ≢ [] → quoted ≡ 34 ∷ inner → OpensSubsection text name inner
+opened {inner = inner} after blanks quoted name_run blank_run some e =
+    record {
+      blanks = blanks;
+      blanked = after;
+      quote = 34;
+      name_run = name_run;
+      blank_run = subst (λ x. Run is_blank after blanks x) e blank_run;
+      some_blank = some;
+      is_quote = refl
+    }

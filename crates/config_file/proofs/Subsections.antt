@@ -1,0 +1,45 @@
+-- The scan of a subsection.
+use Rattle.std.proofs.Common.{◌≡◌, ℕ, true, List, [], ◌∷◌, ◌++◌, refl, sym, ◌∙◌, append_assoc, append-nil, subst, arith, ◌≢◌, rules}
+use Rattle.std.proofs.lemmas.List.{append_cancel_right}
+use Rattle.std.proofs.lemmas.Bool.Decides.{nat_tests}
+use Rattle.config_file.specs.Bytes.{is_text_byte, is_plain_in_quotes, EndsText}
+use Rattle.config_file.specs.Subsection.{SpellsSubsection, ends, escaped, plain, IsSubsection, TakesSubsection, StopsInSubsection, stops, stops_escaped}
+
+use Rattle.config_file.specs.Reading.Scans.{PassedSubsection}
+
+pub passed_none : (text : List ℕ) → PassedSubsection text text
+passed_none text = record { raw = []; joined = refl; extends = λ more spelled h. (spelled, h) }
+
+pub passed_plain : {text rest : List ℕ} {b : ℕ} (at : List ℕ) → PassedSubsection text at → at ≡ b ∷ rest → is_plain_in_quotes b ≡ true → PassedSubsection text rest
+passed_plain {rest = rest} {b = b} at passed e is_plain =
+    record {
+      raw = passed.raw ++ b ∷ [];
+      joined = passed.joined ∙ (rw e (sym (append_assoc passed.raw (b ∷ []) rest)));
+      extends = λ more spelled h. rw (append_assoc passed.raw (b ∷ []) more) (passed.extends (b ∷ more) (b ∷ spelled) (plain is_plain h))
+    }
+
+pub passed_escaped : {text rest after : List ℕ} {b e : ℕ} (at : List ℕ) → PassedSubsection text at → at ≡ b ∷ rest → rest ≡ e ∷ after → b ≡ 92 → is_text_byte e ≡ true → PassedSubsection text after
+passed_escaped {after = after} {b = b} {e = e} at passed p q is_backslash is_text =
+    record {
+      raw = passed.raw ++ b ∷ e ∷ [];
+      joined = passed.joined ∙ (rw (p, q) (sym (append_assoc passed.raw (b ∷ e ∷ []) after)));
+      extends = λ more spelled h. rw (append_assoc passed.raw (b ∷ e ∷ []) more) (passed.extends (b ∷ e ∷ more) (e ∷ spelled) (escaped is_backslash is_text h))
+    }
+
+pub passed_is_subsection : {text at : List ℕ} → (passed : PassedSubsection text at) → IsSubsection passed.raw
+passed_is_subsection passed = rw (append-nil passed.raw) at (passed.extends [] [] ends)
+
+pub takes : {text rest : List ℕ} {b : ℕ} (at raw : List ℕ) → PassedSubsection text at → at ≡ b ∷ rest → b ≡ 34 → text ≡ raw ++ at → TakesSubsection text raw rest
+takes {rest = rest} at raw passed e is_quote joined =
+    let same : passed.raw ≡ raw = append_cancel_right passed.raw raw at (sym passed.joined ∙ joined) in
+    record { is_subsection = rw same at (passed_is_subsection passed); joined = joined ∙ rw (e, is_quote) }
+
+pub stops_here : {text : List ℕ} (at : List ℕ) → PassedSubsection text at → EndsText at → StopsInSubsection text at
+stops_here at passed h = stops (passed_is_subsection passed) passed.joined h
+
+pub stops_after_backslash : {text rest : List ℕ} {b : ℕ} (at : List ℕ) → PassedSubsection text at → at ≡ b ∷ rest → b ≡ 92 → EndsText rest → StopsInSubsection text rest
+stops_after_backslash {rest = rest} at passed e is_backslash h = stops_escaped (passed_is_subsection passed) (passed.joined ∙ rw e) is_backslash h
+
+-- a byte that is no LF, no NUL, no quote and no backslash stands for itself
+pub plain_byte : (b : ℕ) → is_text_byte b ≡ true → b ≢ 34 → b ≢ 92 → is_plain_in_quotes b ≡ true
+plain_byte b text quote backslash = grind (arith, nat_tests)

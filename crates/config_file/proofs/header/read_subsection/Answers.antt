@@ -1,0 +1,16 @@
+use Rattle.std.proofs.Common.{rules, refl}
+use Rattle.config_file.specs.Header.{within, closed, closed_at_line_end}
+use Rattle.config_file.proofs.Headers.{closes_at}
+use Rattle.config_file.proofs.header.read_subsection.Goals as goal
+
+pub returns-in-Err : goal.returns-in-Err
+returns-in-Err c = rw (c.stop_at.ensures.lines, c.stop_at.ensures.fault) (within c.in-Err.ensures)
+
+pub returns-in-Some : goal.returns-in-Some
+returns-in-Some c = closes_at _ c.in-Ok.ensures c.in-Some.ensures
+
+pub returns-then-is_at_line_end : goal.returns-then-is_at_line_end
+returns-then-is_at_line_end c = closed_at_line_end c.in-Ok.ensures (search rules)
+
+pub returns : goal.returns
+returns c = rw (c.stop_at-2.ensures.lines, c.stop_at-2.ensures.fault) (closed c.in-Ok.ensures c.in_default.ensures (search rules))

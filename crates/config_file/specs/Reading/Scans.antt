@@ -1,0 +1,45 @@
+-- What scans take at a time, and how the specs see the structs of the code.
+use Rattle.std.specs.Prelude.{◌≡◌, ◌≢◌, ℕ, Bool, true, false, not, List, [], ◌∷◌, ◌++◌, Option, Some, None, ⊤, option_map, ◌&&◌}
+use Rattle.config_file.specs.declared.bytes.Class.{Class}
+use Rattle.config_file.specs.declared.bytes.Class.TheVariants.{Name, Key, Blank, Space, Comment}
+use Rattle.config_file.specs.declared.entry.Section as code
+use Rattle.config_file.specs.Header.{Section}
+use Rattle.config_file.specs.Bytes.{is_name_byte, is_key_byte, is_blank, is_space, is_comment_byte, is_comment_sign, is_text_byte}
+use Rattle.config_file.specs.Subsection.{SpellsSubsection, IsSubsection}
+use Rattle.config_file.specs.Value.{Spells, SpellsValue}
+
+-- the test of a class of bytes
+abbrev pub passes : Class → ℕ → Bool
+passes Name = is_name_byte
+passes Key = is_key_byte
+passes Blank = is_blank
+passes Space = is_space
+passes Comment = is_comment_byte
+
+-- a section by its bytes
+abbrev pub section_of : code.Section → Section
+section_of s = (s.name.now, option_map (λ sub. sub.raw.now) s.subsection)
+
+-- the scan of a subsection has passed these first bytes of the text
+pub record PassedSubsection (text at : List ℕ) : Type 0 where
+  pub raw : List ℕ
+  pub joined : text ≡ raw ++ at
+  pub extends : (more spelled : List ℕ) → SpellsSubsection more spelled → IsSubsection (raw ++ more)
+
+-- the scan of a value has passed these first bytes of the text, and is in quotes or not
+pub record PassedValue (text : List ℕ) (quoted : Bool) (at : List ℕ) : Type 0 where
+  pub raw : List ℕ
+  pub value : List ℕ
+  pub held : ℕ
+  pub joined : text ≡ raw ++ at
+  pub extends : (more spelled : List ℕ) (open_end : Bool) → Spells quoted value held more spelled open_end → SpellsValue (raw ++ more) spelled open_end
+
+-- the scan of a value goes on after this byte
+abbrev pub goes_on : Bool → ℕ → Bool
+goes_on true b = is_text_byte b
+goes_on false b = is_text_byte b && not (is_comment_sign b)
+
+-- the scan ends before this rest, which begins with no quote and no backslash
+abbrev pub EndsScan : Bool → List ℕ → Type 0
+EndsScan quoted [] = ⊤
+EndsScan quoted (b ∷ rest) = goes_on quoted b ≡ false

@@ -1,0 +1,26 @@
+-- The subsection of a header: what is in its quotes.
+use Rattle.std.specs.Prelude.{◌≡◌, ℕ, Bool, true, false, List, [], ◌∷◌, ◌++◌}
+use Rattle.config_file.specs.Bytes.{double_quote, backslash, is_text_byte, is_plain_in_quotes, EndsText}
+
+-- these bytes spell this subsection: a backslash is dropped, and the byte after it is kept
+pub data SpellsSubsection : List ℕ → List ℕ → Type 0 where
+  ends : SpellsSubsection [] []
+  escaped : {b e : ℕ} {raw text : List ℕ} → b ≡ backslash → is_text_byte e ≡ true
+      → SpellsSubsection raw text → SpellsSubsection (b ∷ e ∷ raw) (e ∷ text)
+  plain : {b : ℕ} {raw text : List ℕ} → is_plain_in_quotes b ≡ true
+      → SpellsSubsection raw text → SpellsSubsection (b ∷ raw) (b ∷ text)
+
+-- these bytes are what quotes may hold
+abbrev pub IsSubsection : List ℕ → Type 0
+IsSubsection raw = (text : List ℕ) × SpellsSubsection raw text
+
+-- after the quote, the text begins with these bytes and the closing quote, and the rest follows
+pub record TakesSubsection (text raw rest : List ℕ) : Type 0 where
+  pub is_subsection : IsSubsection raw
+  pub joined : text ≡ raw ++ double_quote ∷ rest
+
+-- after the quote, the reading stops before this rest: at its end, at an LF or at a NUL, after a backslash or not
+pub data StopsInSubsection : List ℕ → List ℕ → Type 0 where
+  stops : {text raw rest : List ℕ} → IsSubsection raw → text ≡ raw ++ rest → EndsText rest → StopsInSubsection text rest
+  stops_escaped : {b : ℕ} {text raw rest : List ℕ} → IsSubsection raw → text ≡ raw ++ b ∷ rest → b ≡ backslash
+      → EndsText rest → StopsInSubsection text rest

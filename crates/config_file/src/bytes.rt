@@ -1,0 +1,125 @@
+//! Bytes, and runs of them.
+ghost use Rattle.std.specs.Prelude.{◌≡◌, ℕ, ◌<◌, ◌≤◌, ◌↔◌, List, [], ◌∷◌, ◌++◌, length, MatchOption, IsTrue, take, drop};
+ghost use Rattle.std.specs.Prelude.{count_by, ◌==◌};
+ghost use Rattle.std.specs.List.{prefix_len};
+ghost use Rattle.config_file.specs.Bytes as spec;
+ghost use Rattle.config_file.specs.Bytes.{IsAtLineEnd};
+ghost use Rattle.config_file.specs.Header.{BeginsWithout};
+ghost use Rattle.config_file.specs.Runs.{Run};
+ghost use Rattle.config_file.specs.Value.{line_feeds};
+ghost use Rattle.config_file.specs.Reading.Scans.{passes};
+
+/// The first byte of a text, and what follows it.
+#[inline(always)]
+pub(crate) fn split(text: &[u8]) -> Option<(u8, &[u8])>
+    ensures { MatchOption result (text.now ≡ []) (λ p. text.now ≡ p.0 ∷ p.1.now) }
+{
+    match text {
+        [first, rest @ ..] => Some((*first, rest)),
+        [] => None,
+    }
+}
+
+/// What follows this byte, if the text begins with it.
+#[inline(always)]
+pub(crate) fn after_byte(byte: u8, text: &[u8]) -> Option<&[u8]>
+    ensures { MatchOption result (BeginsWithout byte text.now) (λ rest. text.now ≡ byte ∷ rest.now) }
+{
+    let (first, rest) = split(text)?;
+    if first == byte { Some(rest) } else { None }
+}
+
+#[inline]
+pub(crate) fn is_blank(byte: u8) -> bool
+    ensures { result ≡ spec.is_blank byte }
+{
+    byte == b' ' || byte == b'\t' || byte == b'\r'
+}
+
+#[inline]
+pub(crate) fn is_comment_sign(byte: u8) -> bool
+    ensures { result ≡ spec.is_comment_sign byte }
+{
+    byte == b'#' || byte == b';'
+}
+
+#[inline]
+fn is_key_byte(byte: u8) -> bool
+    ensures { result ≡ spec.is_key_byte byte }
+{
+    byte.is_ascii_alphanumeric() || byte == b'-'
+}
+
+/// Whether this byte is neither LF nor NUL.
+#[inline]
+pub(crate) fn is_text_byte(byte: u8) -> bool
+    ensures { result ≡ spec.is_text_byte byte }
+{
+    byte != 0 && byte != b'\n'
+}
+
+/// Whether a line ends before these bytes, or with their first one or two.
+pub(crate) fn is_at_line_end(text: &[u8]) -> bool
+    ensures { IsTrue result ↔ (IsAtLineEnd text.now) }
+{
+    match text {
+        [] => true,
+        [first] => *first == b'\n',
+        [first, second, ..] => *first == b'\n' || *first == b'\r' && *second == b'\n',
+    }
+}
+
+/// A set of bytes, to find a run of them.
+#[derive(Clone, Copy)]
+pub(crate) enum Class {
+    Name,
+    Key,
+    Blank,
+    Space,
+    Comment,
+}
+
+#[inline(always)]
+fn is_in(class: Class, byte: u8) -> bool
+    ensures { result ≡ passes class byte }
+{
+    match class {
+        Class::Name => is_key_byte(byte) || byte == b'.',
+        Class::Key => is_key_byte(byte),
+        Class::Blank => is_blank(byte),
+        Class::Space => byte == b' ' || byte == b'\t',
+        Class::Comment => byte != b'\n',
+    }
+}
+
+#[inline(always)]
+fn run_length(text: &[u8], class: Class) -> usize
+    ensures length { result ≡ prefix_len (passes class) text.now }
+    ensures within { result ≤ length text.now }
+{
+    text.iter().take_while(|byte| is_in(class, **byte)).count()
+}
+
+/// The longest run of bytes of a class at the front, and the rest.
+#[inline(always)]
+pub(crate) fn run(text: &[u8], class: Class) -> (&[u8], &[u8])
+    ensures { Run (passes class) text.now result.0.now result.1.now }
+{
+    text.split_at(run_length(text, class))
+}
+
+/// How many LFs a text has.
+pub(crate) fn line_feeds(text: &[u8]) -> usize
+    ensures count { result ≡ line_feeds text.now }
+    ensures within { result ≤ length text.now }
+{
+    text.iter().filter(|byte| **byte == b'\n').count()
+}
+
+/// What of the text precedes its rest.
+pub(crate) fn before<'a>(text: &'a [u8], rest: &[u8]) -> &'a [u8]
+    requires { (front : List ℕ) × (text.now ≡ front ++ rest.now) }
+    ensures { text.now ≡ result.now ++ rest.now }
+{
+    &text[..text.len() - rest.len()]
+}

@@ -1,0 +1,9 @@
+//! Git's configuration files: the entries of a text, read as Git reads them.
+#![tactic(auto)]
+
+mod bytes;
+pub mod entry;
+pub mod errors;
+mod header;
+pub mod reader;
+mod value;
