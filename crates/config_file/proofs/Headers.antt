@@ -44,5 +44,5 @@ opened {inner = inner} after blanks quoted name_run blank_run some e =
       name_run = name_run;
       blank_run = subst (λ x. Run is_blank after blanks x) e blank_run;
       some_blank = some;
-      is_quote = refl
+      is_quote = refl;
     }

@@ -1,3 +1,4 @@
 pub mod Runs
 pub mod Subsections
 pub mod Headers
+pub mod Values

@@ -4,7 +4,6 @@ use Rattle.std.proofs.lemmas.List.{append_cancel_right}
 use Rattle.std.proofs.lemmas.Bool.Decides.{nat_tests}
 use Rattle.config_file.specs.Bytes.{is_text_byte, is_plain_in_quotes, EndsText}
 use Rattle.config_file.specs.Subsection.{SpellsSubsection, ends, escaped, plain, IsSubsection, TakesSubsection, StopsInSubsection, stops, stops_escaped}
-
 use Rattle.config_file.specs.Reading.Scans.{PassedSubsection}
 
 pub passed_none : (text : List ℕ) → PassedSubsection text text
@@ -15,7 +14,7 @@ passed_plain {rest = rest} {b = b} at passed e is_plain =
     record {
       raw = passed.raw ++ b ∷ [];
       joined = passed.joined ∙ (rw e (sym (append_assoc passed.raw (b ∷ []) rest)));
-      extends = λ more spelled h. rw (append_assoc passed.raw (b ∷ []) more) (passed.extends (b ∷ more) (b ∷ spelled) (plain is_plain h))
+      extends = λ more spelled h. rw (append_assoc passed.raw (b ∷ []) more) (passed.extends (b ∷ more) (b ∷ spelled) (plain is_plain h));
     }
 
 pub passed_escaped : {text rest after : List ℕ} {b e : ℕ} (at : List ℕ) → PassedSubsection text at → at ≡ b ∷ rest → rest ≡ e ∷ after → b ≡ 92 → is_text_byte e ≡ true → PassedSubsection text after
@@ -23,7 +22,7 @@ passed_escaped {after = after} {b = b} {e = e} at passed p q is_backslash is_tex
     record {
       raw = passed.raw ++ b ∷ e ∷ [];
       joined = passed.joined ∙ (rw (p, q) (sym (append_assoc passed.raw (b ∷ e ∷ []) after)));
-      extends = λ more spelled h. rw (append_assoc passed.raw (b ∷ e ∷ []) more) (passed.extends (b ∷ e ∷ more) (e ∷ spelled) (escaped is_backslash is_text h))
+      extends = λ more spelled h. rw (append_assoc passed.raw (b ∷ e ∷ []) more) (passed.extends (b ∷ e ∷ more) (e ∷ spelled) (escaped is_backslash is_text h));
     }
 
 pub passed_is_subsection : {text at : List ℕ} → (passed : PassedSubsection text at) → IsSubsection passed.raw

@@ -1,9 +1,8 @@
 //! Entries, and the texts that their parts spell.
-use std::alloc::{AllocError, Global};
-
 use crate::bytes::{Class, is_at_line_end, is_blank, run, split};
 use crate::errors::{Stop, stop_at};
 use crate::value::{Taken, escape, read_value};
+use std::alloc::{AllocError, Global};
 
 /// A section: its name, and its subsection if the header has one.
 #[derive(Clone, Copy)]
@@ -47,12 +46,22 @@ pub(crate) fn read_entry(text: &[u8]) -> Result<Parts<'_>, Stop> {
     let (key, spaced) = run(text, Class::Key);
     let (_, rest) = run(spaced, Class::Space);
     if is_at_line_end(rest) {
-        return Ok(Parts { key, value: None, lines: 0, rest });
+        return Ok(Parts {
+            key,
+            value: None,
+            lines: 0,
+            rest,
+        });
     }
     match split(rest) {
         Some((b'=', after)) => {
             let Taken { raw, lines, rest } = read_value(after)?;
-            Ok(Parts { key, value: Some(Value { raw }), lines, rest })
+            Ok(Parts {
+                key,
+                value: Some(Value { raw }),
+                lines,
+                rest,
+            })
         }
         _ => Err(stop_at(rest)),
     }

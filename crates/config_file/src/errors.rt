@@ -40,5 +40,8 @@ pub(crate) fn stop_at(rest: &[u8]) -> Stop
     ensures lines { result.lines ≡ 0 }
     ensures fault { result.fault ≡ fault_at rest.now }
 {
-    Stop { lines: 0, fault: fault_at(rest) }
+    Stop {
+        lines: 0,
+        fault: fault_at(rest),
+    }
 }

@@ -18,13 +18,25 @@ pub(crate) fn read_header(text: &[u8]) -> Result<(Section<'_>, &[u8]), Stop>
     let (blanks, quoted) = run(after, Class::Blank);
     if blanks.is_empty() {
         let rest = close_name(name, after)?;
-        return Ok((Section { name, subsection: None }, rest));
+        return Ok((
+            Section {
+                name,
+                subsection: None,
+            },
+            rest,
+        ));
     }
     let Some(inner) = after_byte(b'"', quoted) else {
         return Err(stop_at(quoted));
     };
     let (subsection, rest) = read_subsection(inner)?;
-    Ok((Section { name, subsection: Some(subsection) }, rest))
+    Ok((
+        Section {
+            name,
+            subsection: Some(subsection),
+        },
+        rest,
+    ))
 }
 
 /// What follows the `]` that closes a name.
@@ -33,7 +45,10 @@ fn close_name<'a>(name: &[u8], after: &'a [u8]) -> Result<&'a [u8], Stop>
         (λ stop. NameStops name.now after.now stop.lines stop.fault) }
 {
     if after.is_empty() {
-        return Err(Stop { lines: 1, fault: Fault::BadLine });
+        return Err(Stop {
+            lines: 1,
+            fault: Fault::BadLine,
+        });
     }
     if name.is_empty() {
         return Err(stop_at(after));
@@ -57,7 +72,10 @@ fn read_subsection(text: &[u8]) -> Result<(Subsection<'_>, &[u8]), Stop>
         return Ok((Subsection { raw }, rest));
     }
     if is_at_line_end(after) {
-        return Err(Stop { lines: 1, fault: Fault::BadLine });
+        return Err(Stop {
+            lines: 1,
+            fault: Fault::BadLine,
+        });
     }
     Err(stop_at(after))
 }

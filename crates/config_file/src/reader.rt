@@ -21,7 +21,11 @@ impl<'a> Entries<'a> {
             [0xef, rest @ ..] if is_at_line_end(rest) => (2, text),
             _ => (1, text),
         };
-        Self { section: None, line, rest }
+        Self {
+            section: None,
+            line,
+            rest,
+        }
     }
 
     /// The next entry.
@@ -66,6 +70,9 @@ impl<'a> Entries<'a> {
 
     fn refused(&mut self, stop: Stop) -> Error {
         self.rest = &[];
-        Error { line: self.line + stop.lines, fault: stop.fault }
+        Error {
+            line: self.line + stop.lines,
+            fault: stop.fault,
+        }
     }
 }

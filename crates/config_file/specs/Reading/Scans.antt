@@ -4,9 +4,9 @@ use Rattle.config_file.specs.declared.bytes.Class.{Class}
 use Rattle.config_file.specs.declared.bytes.Class.TheVariants.{Name, Key, Blank, Space, Comment}
 use Rattle.config_file.specs.declared.entry.Section as code
 use Rattle.config_file.specs.Header.{Section}
-use Rattle.config_file.specs.Bytes.{is_name_byte, is_key_byte, is_blank, is_space, is_comment_byte, is_comment_sign, is_text_byte}
+use Rattle.config_file.specs.Bytes.{line_feed, carriage_return, is_name_byte, is_key_byte, is_blank, is_space, is_comment_byte, is_comment_sign, is_text_byte}
 use Rattle.config_file.specs.Subsection.{SpellsSubsection, IsSubsection}
-use Rattle.config_file.specs.Value.{Spells, SpellsValue}
+use Rattle.config_file.specs.Value.{Spells, SpellsValue, escape}
 
 -- the test of a class of bytes
 abbrev pub passes : Class → ℕ → Bool
@@ -43,3 +43,9 @@ goes_on false b = is_text_byte b && not (is_comment_sign b)
 abbrev pub EndsScan : Bool → List ℕ → Type 0
 EndsScan quoted [] = ⊤
 EndsScan quoted (b ∷ rest) = goes_on quoted b ≡ false
+
+-- after a backslash, the text begins with a byte that it escapes, or with a line end
+pub data Escapes : List ℕ → List ℕ → Type 0 where
+  letter : {e c : ℕ} {text rest : List ℕ} → text ≡ e ∷ rest → escape e ≡ Some c → Escapes text rest
+  line : {e : ℕ} {text rest : List ℕ} → text ≡ e ∷ rest → e ≡ line_feed → Escapes text rest
+  line_after_return : {e f : ℕ} {text rest : List ℕ} → text ≡ e ∷ f ∷ rest → e ≡ carriage_return → f ≡ line_feed → Escapes text rest

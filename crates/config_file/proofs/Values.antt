@@ -1,0 +1,131 @@
+-- The scan of a value.
+use Rattle.std.proofs.Common.{◌≡◌, ◌≢◌, ℕ, ◌+◌, Bool, true, false, not, List, [], ◌∷◌, ◌++◌, Option, Some, None, is_some, refl, sym, ap, ◌∙◌, subst, append_assoc, append-nil, arith, inl, inr, ◌⊎◌, ◌==◌}
+use Rattle.std.proofs.lemmas.List.{append_cancel_right}
+use Rattle.std.proofs.lemmas.Bool.{cases_Bool}
+use Rattle.std.proofs.lemmas.Bool.Decides.{nat_tests}
+use Rattle.config_file.specs.declared.errors.Fault.{Fault}
+use Rattle.config_file.specs.declared.errors.Fault.TheVariants.{BadLine, Nul}
+use Rattle.config_file.specs.Bytes.{is_text_byte, is_plain, is_blank, is_comment_sign, EndsText}
+use Rattle.config_file.specs.Header.{fault_at}
+use Rattle.config_file.specs.Value.{Spells, ends, ends_open, quote, escaped, continued, continued_after_return, blank, plain, SpellsValue, IsPart, EndsValue, IsNoEscape, line_feeds, kept, escape}
+use Rattle.config_file.specs.Value.{TakesValue, closed, open_end, ValueStops, nul, unclosed, unclosed_open_end, no_escape}
+use Rattle.config_file.specs.Reading.Scans.{PassedValue, EndsScan, Escapes, letter, line, line_after_return, goes_on}
+
+pub passed_none : (text : List ℕ) → PassedValue text false text
+passed_none text = record { raw = []; value = []; held = 0; joined = refl; extends = λ more spelled o h. h }
+
+-- the scan has passed these bytes too, and goes on with this value and these held blanks
+pub passed_more : {text at rest : List ℕ} {q r : Bool} (piece value : List ℕ) (held : ℕ) → (passed : PassedValue text q at) → at ≡ piece ++ rest
+    → ((more spelled : List ℕ) (o : Bool) → Spells r value held more spelled o → Spells q passed.value passed.held (piece ++ more) spelled o)
+    → PassedValue text r rest
+passed_more {rest = rest} piece value held passed e spells =
+    record {
+      raw = passed.raw ++ piece;
+      value = value;
+      held = held;
+      joined = passed.joined ∙ rw e (sym (append_assoc passed.raw piece rest));
+      extends = λ more spelled o h. rw (append_assoc passed.raw piece more) (passed.extends (piece ++ more) spelled o (spells more spelled o h));
+    }
+
+pub passed_quote : {text rest : List ℕ} {q : Bool} {b : ℕ} (at : List ℕ) → PassedValue text q at → at ≡ b ∷ rest → b ≡ 34 → PassedValue text (not q) rest
+passed_quote {b = b} at passed e is_quote =
+    passed_more (b ∷ []) (kept passed.value passed.held) 0 passed e (λ more spelled o h. quote is_quote h)
+
+pub passed_escape : {text rest after : List ℕ} {q : Bool} {b : ℕ} (at : List ℕ) → PassedValue text q at → at ≡ b ∷ rest → b ≡ 92
+    → Escapes rest after → PassedValue text q after
+passed_escape {b = b} at passed e is_backslash (letter {e = l} {c = c} s is) =
+    passed_more (b ∷ l ∷ []) (kept passed.value passed.held ++ c ∷ []) 0 passed (e ∙ ap (◌∷◌ b) s) (λ more spelled o h. escaped is_backslash is h)
+passed_escape {b = b} at passed e is_backslash (line {e = l} s is) =
+    passed_more (b ∷ l ∷ []) (kept passed.value passed.held) 0 passed (e ∙ ap (◌∷◌ b) s) (λ more spelled o h. continued is_backslash is h)
+passed_escape {b = b} at passed e is_backslash (line_after_return {e = l} {f = f} s is next) =
+    passed_more (b ∷ l ∷ f ∷ []) (kept passed.value passed.held) 0 passed (e ∙ ap (◌∷◌ b) s)
+    (λ more spelled o h. continued_after_return is_backslash is next h)
+
+plain_quoted : (b : ℕ) → goes_on true b ≡ true → b ≢ 34 → b ≢ 92 → is_plain true b ≡ true
+plain_quoted b on not_quote not_backslash = grind (arith, nat_tests)
+
+plain_unquoted : (b : ℕ) → goes_on false b ≡ true → b ≢ 34 → b ≢ 92 → is_blank b ≡ false → is_plain false b ≡ true
+plain_unquoted b on not_quote not_backslash not_blank = grind (arith, nat_tests)
+
+pub passed_byte : {text rest : List ℕ} {b : ℕ} (q : Bool) (at : List ℕ) → PassedValue text q at → at ≡ b ∷ rest → goes_on q b ≡ true → b ≢ 34 → b ≢ 92 → PassedValue text q rest
+passed_byte {b = b} true at passed e on not_quote not_backslash =
+    passed_more (b ∷ []) (kept passed.value passed.held ++ b ∷ []) 0 passed e
+    (λ more spelled o h. plain (plain_quoted b on not_quote not_backslash) h)
+passed_byte {b = b} false at passed e on not_quote not_backslash =
+    elim (cases_Bool (is_blank b)) [
+      | inl is ↦ passed_more (b ∷ []) passed.value (passed.held + 1) passed e (λ more spelled o h. blank is h)
+      | inr other ↦ passed_more (b ∷ []) (kept passed.value passed.held ++ b ∷ []) 0 passed e
+          (λ more spelled o h. plain (plain_unquoted b on not_quote not_backslash other) h)
+    ]
+
+passed_part : {text at : List ℕ} (q : Bool) → (passed : PassedValue text q at) → IsPart q passed.raw
+passed_part true passed = (kept passed.value passed.held, passed.extends (34 ∷ []) _ false (quote refl ends))
+passed_part false passed = (passed.value, rw (append-nil passed.raw) at (passed.extends [] _ false ends))
+
+-- what `before` returns is what the scan has passed
+pub part : {text at : List ℕ} (q : Bool) (raw : List ℕ) → PassedValue text q at → text ≡ raw ++ at → IsPart q raw
+part {at = at} q raw passed joined =
+    let same : passed.raw ≡ raw = append_cancel_right passed.raw raw at (sym passed.joined ∙ joined) in
+    subst (λ x. IsPart q x) same (passed_part q passed)
+
+ends_text : (at : List ℕ) → EndsScan true at → EndsText at
+ends_text [] h = tt
+ends_text (b ∷ rest) h = h
+
+pub ends_in_quotes : {text at : List ℕ} (q : Bool) (raw : List ℕ) → PassedValue text q at → EndsScan q at → q ≡ true → text ≡ raw ++ at
+    → ValueStops text (line_feeds raw) (fault_at at)
+ends_in_quotes {at = at} true raw passed h e joined = unclosed raw at joined (part true raw passed joined) (ends_text at h)
+ends_in_quotes false raw passed h e joined = cc
+
+nul_byte : (b : ℕ) (rest : List ℕ) → fault_at (b ∷ rest) ≡ Nul → b ≡ 0
+nul_byte b rest e = elim (cases_Bool (b == 0)) [ inl is ↦ grind (arith, nat_tests) | inr other ↦ let no : BadLine ≡ Nul = rw other at e in cc ]
+
+pub ends_at_nul : {text : List ℕ} (q : Bool) (at raw : List ℕ) → PassedValue text q at → q ≡ false → fault_at at ≡ Nul → text ≡ raw ++ at
+    → ValueStops text (line_feeds raw) Nul
+ends_at_nul true at raw passed off e joined = cc
+ends_at_nul false [] raw passed off e joined = cc
+ends_at_nul false (b ∷ rest) raw passed off e joined = nul raw rest joined (part false raw passed joined) (nul_byte b rest e)
+
+not_nul : (b : ℕ) (rest : List ℕ) → fault_at (b ∷ rest) ≡ BadLine → b ≢ 0
+not_nul b rest e is = let no : Nul ≡ BadLine = rw is at e in cc
+
+ends_byte : (b : ℕ) → goes_on false b ≡ false → b ≢ 0 → (b ≡ 10) ⊎ (is_comment_sign b ≡ true)
+ends_byte b h not_nul =
+    elim (cases_Bool (is_comment_sign b)) [ inl is ↦ inr is | inr other ↦ inl (grind (arith, nat_tests)) ]
+
+ends_value : (at : List ℕ) → EndsScan false at → fault_at at ≡ BadLine → EndsValue at
+ends_value [] h e = tt
+ends_value (b ∷ rest) h e = ends_byte b h (not_nul b rest e)
+
+pub ends_closed : {text : List ℕ} (q : Bool) (at raw : List ℕ) → PassedValue text q at → EndsScan q at → q ≡ false → fault_at at ≡ BadLine → text ≡ raw ++ at
+    → TakesValue text raw (line_feeds raw) at
+ends_closed true at raw passed h off e joined = cc
+ends_closed false at raw passed h off e joined =
+    let (value, spells) = part false raw passed joined in
+    closed joined spells (ends_value at h e)
+
+pub stops_after_backslash : {text rest : List ℕ} (q : Bool) (at raw : List ℕ) → PassedValue text q at → at ≡ 92 ∷ rest → IsNoEscape rest → text ≡ raw ++ at
+    → ValueStops text (line_feeds raw) (fault_at rest)
+stops_after_backslash {rest = rest} q at raw passed e is_none joined = no_escape q raw rest (joined ∙ ap (◌++◌ raw) e) (part q raw passed joined) refl is_none
+
+pub stops_at_open_end : {text rest : List ℕ} (q : Bool) (at raw : List ℕ) → PassedValue text q at → q ≡ true → at ≡ 92 ∷ rest → rest ≡ [] → text ≡ raw ++ at
+    → ValueStops text (line_feeds raw + 1) BadLine
+stops_at_open_end true at raw passed on e none joined = unclosed_open_end raw (joined ∙ ap (◌++◌ raw) (e ∙ ap (◌∷◌ 92) none)) (part true raw passed joined) refl
+stops_at_open_end false at raw passed on e none joined = cc
+
+pub ends_open_here : {text rest : List ℕ} (q : Bool) (at : List ℕ) → PassedValue text q at → q ≡ false → at ≡ 92 ∷ rest → rest ≡ []
+    → TakesValue text text (line_feeds text + 1) rest
+ends_open_here true at passed off e none = cc
+ends_open_here {text = text} false at passed off e none =
+    let whole : passed.raw ++ 92 ∷ [] ≡ text = sym (passed.joined ∙ ap (◌++◌ passed.raw) (e ∙ ap (◌∷◌ 92) none)) in
+    rw none (open_end (subst (λ x. SpellsValue x (kept passed.value passed.held) true) whole (passed.extends (92 ∷ []) _ true (ends_open refl))))
+
+some_from : (o : Option ℕ) → is_some o ≡ true → (c : ℕ) × (o ≡ Some c)
+some_from None h = cc
+some_from (Some c) h = (c, refl)
+
+pub escape_some : {e : ℕ} {text rest : List ℕ} → text ≡ e ∷ rest → is_some (escape e) ≡ true → Escapes text rest
+escape_some {e = e} s some = let (c, is) = some_from (escape e) some in letter s is
+
+pub line_end_after_return : {e f : ℕ} {text rest after : List ℕ} → text ≡ e ∷ rest → rest ≡ f ∷ after → e ≡ 13 → f ≡ 10 → Escapes text after
+line_end_after_return {e = e} s t is next = line_after_return (s ∙ ap (◌∷◌ e) t) is next
