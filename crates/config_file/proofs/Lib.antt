@@ -2,3 +2,4 @@ pub mod Runs
 pub mod Subsections
 pub mod Headers
 pub mod Values
+pub mod Entries

@@ -4,5 +4,6 @@ pub mod Subsection
 pub mod Header
 pub mod Value
 pub mod File
+pub mod Left
 pub mod Reading
 pub mod Laws

@@ -1,5 +1,9 @@
 //! Entries, and the texts that their parts spell.
-use crate::bytes::{Class, is_at_line_end, is_blank, run, split};
+ghost use Rattle.std.specs.Prelude.{◌≡◌, MatchResult};
+ghost use Rattle.config_file.specs.File.{TakesEntry, EntryStops};
+ghost use Rattle.config_file.specs.Reading.Scans.{value_of};
+
+use crate::bytes::{Class, after_byte, is_at_line_end, is_blank, run, split};
 use crate::errors::{Stop, stop_at};
 use crate::value::{Taken, escape, read_value};
 use std::alloc::{AllocError, Global};
@@ -42,7 +46,11 @@ pub(crate) struct Parts<'a> {
 }
 
 /// Reads the entry that begins here.
-pub(crate) fn read_entry(text: &[u8]) -> Result<Parts<'_>, Stop> {
+pub(crate) fn read_entry(text: &[u8]) -> Result<Parts<'_>, Stop>
+    ensures { MatchResult result
+        (λ parts. TakesEntry text.now parts.key.now (value_of parts.value) parts.lines parts.rest.now)
+        (λ stop. EntryStops text.now stop.lines stop.fault) }
+{
     let (key, spaced) = run(text, Class::Key);
     let (_, rest) = run(spaced, Class::Space);
     if is_at_line_end(rest) {
@@ -53,8 +61,8 @@ pub(crate) fn read_entry(text: &[u8]) -> Result<Parts<'_>, Stop> {
             rest,
         });
     }
-    match split(rest) {
-        Some((b'=', after)) => {
+    match after_byte(b'=', rest) {
+        Some(after) => {
             let Taken { raw, lines, rest } = read_value(after)?;
             Ok(Parts {
                 key,
@@ -63,7 +71,7 @@ pub(crate) fn read_entry(text: &[u8]) -> Result<Parts<'_>, Stop> {
                 rest,
             })
         }
-        _ => Err(stop_at(rest)),
+        None => Err(stop_at(rest)),
     }
 }
 

@@ -1,35 +1,77 @@
 //! The reader: the entries of a text, one by one.
+ghost use Rattle.std.specs.Prelude.{◌≡◌, ◌+◌, ◌<◌, ◌^◌, ◌↔◌, IsTrue, None, Option, List, [], length, option_map};
+ghost use Rattle.config_file.specs.File.{Begins, after_mark, IsPartOfMark};
+
 use crate::bytes::{Class, is_at_line_end, is_blank, is_comment_sign, run, split};
 use crate::entry::{Entry, Section, read_entry};
 use crate::errors::{Error, Stop, fault_at};
 use crate::header::read_header;
 
 /// The entries of a text that are left.
-#[derive(Clone, Copy)]
+#[derive(Drop)]
 pub struct Entries<'a> {
     section: Option<Section<'a>>,
     line: usize,
     rest: &'a [u8],
+    ghost line_fits: { line + length rest.now < 2 ^ 63 + 2 },
+}
+
+/// What follows the byte order mark.
+fn after_mark(text: &[u8]) -> Option<&[u8]>
+    ensures { option_map (λ rest. rest.now) result ≡ after_mark text.now }
+{
+    match text {
+        [0xef, 0xbb, 0xbf, rest @ ..] => Some(rest),
+        _ => None,
+    }
+}
+
+/// Whether one or two bytes of the mark end the line.
+fn is_part_of_mark(text: &[u8]) -> bool
+    ensures { IsTrue result ↔ (IsPartOfMark text.now) }
+{
+    match text {
+        [0xef] => true,
+        [0xef, second, rest @ ..] => {
+            is_at_line_end(&text[1..]) || *second == 0xbb && is_at_line_end(rest)
+        }
+        _ => false,
+    }
 }
 
 impl<'a> Entries<'a> {
+    ghost use Rattle.config_file.specs.Left.{GivesEntry};
+
     /// The entries of a text.
-    pub fn new(text: &'a [u8]) -> Self {
-        let (line, rest) = match text {
-            [0xef, 0xbb, 0xbf, rest @ ..] => (1, rest),
-            [0xef, 0xbb, rest @ ..] if is_at_line_end(rest) => (2, text),
-            [0xef, rest @ ..] if is_at_line_end(rest) => (2, text),
-            _ => (1, text),
-        };
+    pub fn new(text: &'a [u8]) -> Self
+        ensures section { result.section ≡ None }
+        ensures begins { Begins text.now result.line result.rest.now }
+    {
+        if let Some(rest) = after_mark(text) {
+            return Self {
+                section: None,
+                line: 1,
+                rest,
+            };
+        }
+        if is_part_of_mark(text) {
+            return Self {
+                section: None,
+                line: 2,
+                rest: text,
+            };
+        }
         Self {
             section: None,
-            line,
-            rest,
+            line: 1,
+            rest: text,
         }
     }
 
-    /// The next entry.
-    pub fn next_entry(&mut self) -> Option<Result<Entry<'a>, Error>> {
+    /// The next entry, or the error at which the text is refused. After the last entry and after an error, `None`.
+    pub fn next_entry(&mut self) -> Option<Result<Entry<'a>, Error>>
+        ensures { GivesEntry self.old result self.new }
+    {
         'items: while let Some((byte, rest)) = split(self.rest) {
             if is_blank(byte) {
                 self.rest = rest;
@@ -47,19 +89,7 @@ impl<'a> Entries<'a> {
                     Err(stop) => return Some(Err(self.refused(stop))),
                 }
             } else if byte.is_ascii_alphabetic() {
-                match read_entry(self.rest) {
-                    Ok(parts) => {
-                        self.line += parts.lines;
-                        self.rest = parts.rest;
-                        return Some(Ok(Entry {
-                            section: self.section,
-                            key: parts.key,
-                            value: parts.value,
-                            line: self.line,
-                        }));
-                    }
-                    Err(stop) => return Some(Err(self.refused(stop))),
-                }
+                return Some(self.entry_here());
             } else {
                 let fault = fault_at(self.rest);
                 return Some(Err(self.refused(Stop { lines: 0, fault })));
@@ -68,7 +98,28 @@ impl<'a> Entries<'a> {
         None
     }
 
-    fn refused(&mut self, stop: Stop) -> Error {
+    fn entry_here(&mut self) -> Result<Entry<'a>, Error> {
+        match read_entry(self.rest) {
+            Ok(parts) => {
+                self.line += parts.lines;
+                self.rest = parts.rest;
+                Ok(Entry {
+                    section: self.section,
+                    key: parts.key,
+                    value: parts.value,
+                    line: self.line,
+                })
+            }
+            Err(stop) => Err(self.refused(stop)),
+        }
+    }
+
+    fn refused(&mut self, stop: Stop) -> Error
+        requires { self.old.line + stop.lines < 2 ^ 64 }
+        ensures line { result.line ≡ self.old.line + stop.lines }
+        ensures fault { result.fault ≡ stop.fault }
+        ensures rest { self.new.rest.now ≡ [] }
+    {
         self.rest = &[];
         Error {
             line: self.line + stop.lines,

@@ -3,6 +3,7 @@ use Rattle.std.specs.Prelude.{◌≡◌, ◌≢◌, ℕ, Bool, true, false, not,
 use Rattle.config_file.specs.declared.bytes.Class.{Class}
 use Rattle.config_file.specs.declared.bytes.Class.TheVariants.{Name, Key, Blank, Space, Comment}
 use Rattle.config_file.specs.declared.entry.Section as code
+use Rattle.config_file.specs.declared.entry.Value as value
 use Rattle.config_file.specs.Header.{Section}
 use Rattle.config_file.specs.Bytes.{line_feed, carriage_return, is_name_byte, is_key_byte, is_blank, is_space, is_comment_byte, is_comment_sign, is_text_byte}
 use Rattle.config_file.specs.Subsection.{SpellsSubsection, IsSubsection}
@@ -19,6 +20,10 @@ passes Comment = is_comment_byte
 -- a section by its bytes
 abbrev pub section_of : code.Section → Section
 section_of s = (s.name.now, option_map (λ sub. sub.raw.now) s.subsection)
+
+-- the bytes of a value
+abbrev pub value_of : Option value.Value → Option (List ℕ)
+value_of v = option_map (λ value. value.raw.now) v
 
 -- the scan of a subsection has passed these first bytes of the text
 pub record PassedSubsection (text at : List ℕ) : Type 0 where

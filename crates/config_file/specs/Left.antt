@@ -1,0 +1,22 @@
+-- What the reader has left to read.
+use Rattle.std.specs.Prelude.{ℕ, List, [], ◌∷◌, Option, Some, None, Result, Ok, Err, option_map}
+use Rattle.config_file.specs.declared.errors.Error.{Error}
+use Rattle.config_file.specs.declared.entry.Entry as code
+use Rattle.config_file.specs.declared.reader.Entries as reader
+use Rattle.config_file.specs.File.{Entry, Reads}
+use Rattle.config_file.specs.Reading.Scans.{section_of, value_of}
+
+-- an entry by its bytes
+abbrev pub entry_of : code.Entry → Entry
+entry_of e = record { section = option_map section_of e.section; key = e.key.now; value = value_of e.value; line = e.line }
+
+-- the reader has these entries left, up to the end of its text or to this error
+abbrev pub HasLeft : reader.Entries → List Entry → Option Error → Type 0
+HasLeft entries left error = Reads (option_map section_of entries.section) entries.line entries.rest.now left error
+
+-- The reader gives the next entry, and then has the others left. At the end of the text and after an error it has none.
+abbrev pub GivesEntry : reader.Entries → Option (Result code.Entry Error) → reader.Entries → Type 0
+GivesEntry old None new = HasLeft old [] None × HasLeft new [] None
+GivesEntry old (Some (Ok entry)) new =
+    (left : List Entry) (error : Option Error) → HasLeft new left error → HasLeft old (entry_of entry ∷ left) error
+GivesEntry old (Some (Err error)) new = HasLeft old [] (Some error) × HasLeft new [] None
