@@ -3,3 +3,5 @@ pub mod Subsections
 pub mod Headers
 pub mod Values
 pub mod Entries
+pub mod Bounds
+pub mod Readings

@@ -1,6 +1,7 @@
 //! The reader: the entries of a text, one by one.
-ghost use Rattle.std.specs.Prelude.{◌≡◌, ◌+◌, ◌<◌, ◌^◌, ◌↔◌, IsTrue, None, Option, List, [], length, option_map};
+ghost use Rattle.std.specs.Prelude.{◌≡◌, ◌+◌, ◌<◌, ◌^◌, ◌↔◌, IsTrue, None, Some, Option, List, [], length, option_map};
 ghost use Rattle.config_file.specs.File.{Begins, after_mark, IsPartOfMark};
+ghost use Rattle.config_file.specs.Reading.Scans.{BeginsWithLetter};
 
 use crate::bytes::{Class, is_at_line_end, is_blank, is_comment_sign, run, split};
 use crate::entry::{Entry, Section, read_entry};
@@ -40,7 +41,7 @@ fn is_part_of_mark(text: &[u8]) -> bool
 }
 
 impl<'a> Entries<'a> {
-    ghost use Rattle.config_file.specs.Left.{GivesEntry};
+    ghost use Rattle.config_file.specs.Left.{GivesEntry, HasLeft};
 
     /// The entries of a text.
     pub fn new(text: &'a [u8]) -> Self
@@ -98,7 +99,11 @@ impl<'a> Entries<'a> {
         None
     }
 
-    fn entry_here(&mut self) -> Result<Entry<'a>, Error> {
+    /// The entry that begins with the next byte, or why it is refused.
+    fn entry_here(&mut self) -> Result<Entry<'a>, Error>
+        requires { BeginsWithLetter self.old.rest.now }
+        ensures { GivesEntry self.old (Some result) self.new }
+    {
         match read_entry(self.rest) {
             Ok(parts) => {
                 self.line += parts.lines;
@@ -114,11 +119,12 @@ impl<'a> Entries<'a> {
         }
     }
 
+    /// Ends the reading with an error.
     fn refused(&mut self, stop: Stop) -> Error
         requires { self.old.line + stop.lines < 2 ^ 64 }
         ensures line { result.line ≡ self.old.line + stop.lines }
         ensures fault { result.fault ≡ stop.fault }
-        ensures rest { self.new.rest.now ≡ [] }
+        ensures left { HasLeft self.new [] None }
     {
         self.rest = &[];
         Error {

@@ -1,5 +1,6 @@
 -- What scans take at a time, and how the specs see the structs of the code.
 use Rattle.std.specs.Prelude.{◌≡◌, ◌≢◌, ℕ, Bool, true, false, not, List, [], ◌∷◌, ◌++◌, Option, Some, None, ⊤, option_map, ◌&&◌}
+use Rattle.std.specs.Char.{is_ascii_alphabetic}
 use Rattle.config_file.specs.declared.bytes.Class.{Class}
 use Rattle.config_file.specs.declared.bytes.Class.TheVariants.{Name, Key, Blank, Space, Comment}
 use Rattle.config_file.specs.declared.entry.Section as code
@@ -54,3 +55,7 @@ pub data Escapes : List ℕ → List ℕ → Type 0 where
   letter : {e c : ℕ} {text rest : List ℕ} → text ≡ e ∷ rest → escape e ≡ Some c → Escapes text rest
   line : {e : ℕ} {text rest : List ℕ} → text ≡ e ∷ rest → e ≡ line_feed → Escapes text rest
   line_after_return : {e f : ℕ} {text rest : List ℕ} → text ≡ e ∷ f ∷ rest → e ≡ carriage_return → f ≡ line_feed → Escapes text rest
+
+-- the text begins with a letter
+abbrev pub BeginsWithLetter : List ℕ → Type 0
+BeginsWithLetter text = (b : ℕ) × (rest : List ℕ) × (text ≡ b ∷ rest) × (is_ascii_alphabetic b ≡ true)

@@ -1,0 +1,74 @@
+-- The reader, an item at a time.
+use Rattle.std.proofs.Common.{◌≡◌, ◌≢◌, ℕ, ◌+◌, Bool, true, false, List, [], ◌∷◌, Option, Some, None, Result, Ok, Err, refl, sym, ap, ◌∙◌, subst, arith}
+use Rattle.std.proofs.lemmas.Bool.Decides.{nat_tests}
+use Rattle.std.specs.Char.{is_ascii_alphabetic}
+use Rattle.config_file.specs.declared.errors.Error.{Error}
+use Rattle.config_file.specs.declared.errors.Fault.{Fault}
+use Rattle.config_file.specs.declared.entry.Entry as code
+use Rattle.config_file.specs.declared.reader.Entries as reader
+use Rattle.config_file.specs.Bytes.{is_blank, is_comment_sign, is_comment_byte}
+use Rattle.config_file.specs.Runs.{Run}
+use Rattle.config_file.specs.Header.{Section, Header, HeaderStops, fault_at}
+use Rattle.config_file.specs.File as file
+use Rattle.config_file.specs.File.{Entry, TakesEntry, EntryStops, Reads, begins_item}
+use Rattle.config_file.specs.Left.{HasLeft, GivesEntry, entry_of}
+
+module _ {section : Option Section} {line : ℕ} (left : List Entry) (error : Option Error) where
+  pub at_blank : {b : ℕ} {rest : List ℕ} (at : List ℕ) → at ≡ b ∷ rest → is_blank b ≡ true
+      → Reads section line rest left error → Reads section line at left error
+  at_blank at e is h = rw e (file.blank is h)
+
+  pub at_line_end : {b : ℕ} {rest : List ℕ} (at : List ℕ) → at ≡ b ∷ rest → b ≡ 10
+      → Reads section (line + 1) rest left error → Reads section line at left error
+  at_line_end at e is h = rw e (file.line_end is h)
+
+  pub at_comment : {b : ℕ} {rest comment after : List ℕ} (at : List ℕ) → at ≡ b ∷ rest → is_comment_sign b ≡ true → Run is_comment_byte rest comment after
+      → Reads section line after left error → Reads section line at left error
+  at_comment at e is run h = rw e (file.comment is run h)
+
+  pub at_header : {b : ℕ} {next : Section} {rest after : List ℕ} (at : List ℕ) → at ≡ b ∷ rest → b ≡ 91 → Header rest next after
+      → Reads (Some next) line after left error → Reads section line at left error
+  at_header at e is taken h = rw e (file.header is taken h)
+
+-- an error by its parts
+refused_as : {section : Option Section} {line at_line : ℕ} {fault : Fault} {text : List ℕ} (error : Error) → error.line ≡ at_line → error.fault ≡ fault
+    → Reads section line text [] (Some (record { line = at_line; fault = fault })) → Reads section line text [] (Some error)
+refused_as {section = section} {line = line} {fault = fault} {text = text} error same_line same_fault h =
+    let first = subst (λ l. Reads section line text [] (Some (record { line = l; fault = fault }))) (sym same_line) h in
+    subst (λ f. Reads section line text [] (Some (record { line = error.line; fault = f }))) (sym same_fault) first
+
+module _ {section : Option Section} {line : ℕ} (error : Error) where
+  pub header_refused : {b lines : ℕ} {fault : Fault} {rest : List ℕ} (at : List ℕ) → at ≡ b ∷ rest → b ≡ 91 → HeaderStops rest lines fault
+      → error.line ≡ line + lines → error.fault ≡ fault → Reads section line at [] (Some error)
+  header_refused at e is stops same_line same_fault = refused_as error same_line same_fault (rw e (file.header_refused is stops))
+
+  pub entry_refused : {b lines : ℕ} {fault : Fault} {rest : List ℕ} (at : List ℕ) → at ≡ b ∷ rest → is_ascii_alphabetic b ≡ true → EntryStops at lines fault
+      → error.line ≡ line + lines → error.fault ≡ fault → Reads section line at [] (Some error)
+  entry_refused {lines = lines} {fault = fault} at e letter stops same_line same_fault =
+      refused_as error same_line same_fault (rw e (file.entry_refused letter (subst (λ t. EntryStops t lines fault) e stops)))
+
+  pub no_item : {b : ℕ} {rest : List ℕ} (at : List ℕ) → at ≡ b ∷ rest → begins_item b ≡ false
+      → error.line ≡ line + 0 → error.fault ≡ fault_at at → Reads section line at [] (Some error)
+  no_item {b = b} at e other same_line same_fault =
+      let same : error.line ≡ line = omega arith in
+      refused_as error same (same_fault ∙ ap fault_at e) (rw e (file.no_item other))
+
+pub at_entry : {section : Option Section} {line b lines : ℕ} {rest key after : List ℕ} {value : Option (List ℕ)} (left : List Entry) (error : Option Error) (at : List ℕ)
+    → at ≡ b ∷ rest → is_ascii_alphabetic b ≡ true → TakesEntry at key value lines after → Reads section (line + lines) after left error
+    → Reads section line at (record { section = section; key = key; value = value; line = line + lines } ∷ left) error
+at_entry {lines = lines} {key = key} {after = after} {value = value} left error at e letter taken h =
+    rw e (file.entry letter (subst (λ t. TakesEntry t key value lines after) e taken) h)
+
+pub none_left : {section : Option Section} {line : ℕ} (at : List ℕ) → at ≡ [] → Reads section line at [] None
+none_left at e = rw e file.ends
+
+-- what a later reader gives, an earlier one gives that has the same left
+pub gives_from : (old mid : reader.Entries) (result : Result code.Entry Error) (new : reader.Entries)
+    → ((left : List Entry) (error : Option Error) → HasLeft mid left error → HasLeft old left error)
+    → GivesEntry mid (Some result) new → GivesEntry old (Some result) new
+gives_from old mid (Ok entry) new same gives = λ left error h. same (entry_of entry ∷ left) error (gives left error h)
+gives_from old mid (Err error) new same gives = (same [] (Some error) gives.0, gives.1)
+
+-- a byte at which the code finds no item begins none
+pub begins_none : (b : ℕ) → is_blank b ≡ false → b ≢ 10 → is_comment_sign b ≡ false → b ≢ 91 → is_ascii_alphabetic b ≡ false → begins_item b ≡ false
+begins_none b not_blank not_line_end not_sign not_bracket not_letter = grind (arith, nat_tests)

@@ -1,0 +1,35 @@
+use Rattle.std.proofs.Common.{arith, length, ap, ◌+◌, ◌≤◌, ◌≡◌, ◌∷◌, ◌<◌, ◌^◌}
+use Rattle.config_file.specs.declared.reader.Entries as reader
+use Rattle.config_file.proofs.Bounds.{entry_bound_at, entry_stops_bound}
+use Rattle.config_file.proofs.Readings.{at_entry, entry_refused}
+use Rattle.config_file.proofs.reader.Entries.entry_here.Goals as goal
+
+pub overflow_add-self : goal.overflow_add-self
+overflow_add-self c =
+    let (b, rest, is, letter) = c.requires in
+    let bound = entry_bound_at c.args.self.now.rest.now is letter c.in-Ok.ensures in
+    let fits : c.args.self.now.line + length c.args.self.now.rest.now < 2 ^ 63 + 2 = c.args.self.now.line_fits in
+    omega arith
+
+pub invariant_of-self : goal.invariant_of-self
+invariant_of-self c =
+    let (b, rest, is, letter) = c.requires in
+    let bound = entry_bound_at c.args.self.now.rest.now is letter c.in-Ok.ensures in
+    let fits : c.args.self.now.line + length c.args.self.now.rest.now < 2 ^ 63 + 2 = c.args.self.now.line_fits in
+    omega arith
+
+pub refused-requires : goal.refused-requires
+refused-requires c =
+    let bound = entry_stops_bound c.in-Err.ensures in
+    let fits : c.args.self.now.line + length c.args.self.now.rest.now < 2 ^ 63 + 2 = c.args.self.now.line_fits in
+    omega arith
+
+pub returns-in-Ok : goal.returns-in-Ok
+returns-in-Ok c =
+    let (b, rest, is, letter) = c.requires in
+    λ left error h. at_entry left error _ is letter c.in-Ok.ensures h
+
+pub returns-in-Err : goal.returns-in-Err
+returns-in-Err c =
+    let (b, rest, is, letter) = c.requires in
+    (entry_refused _ _ is letter c.in-Err.ensures c.refused.ensures.line c.refused.ensures.fault, c.refused.ensures.left)
