@@ -1,5 +1,5 @@
 -- Entries.
-use Rattle.std.proofs.Common.{◌≡◌, ◌≢◌, ℕ, ◌+◌, ◌≤◌, ◌<◌, true, false, List, [], ◌∷◌, ◌++◌, length, refl, sym, subst, arith}
+use Rattle.std.proofs.Common.{◌≡◌, ℕ, List, ◌∷◌, subst}
 use Rattle.config_file.specs.Bytes.{is_key_byte, is_space}
 use Rattle.config_file.specs.Runs.{Run}
 use Rattle.config_file.specs.File.{TakesKey}

@@ -1,12 +1,11 @@
 -- Headers.
-use Rattle.std.proofs.Common.{◌≡◌, ◌≢◌, ℕ, true, false, IsTrue, List, [], ◌∷◌, ◌++◌, refl, sym, ◌∙◌, subst, length, arith, None}
+use Rattle.std.proofs.Common.{◌≡◌, ◌≢◌, ℕ, List, [], ◌∷◌, refl, subst, None}
 use Rattle.config_file.specs.declared.errors.Fault.{Fault}
-use Rattle.config_file.specs.declared.errors.Fault.TheVariants.{BadLine, Nul}
-use Rattle.config_file.specs.Bytes.{is_name_byte, is_blank, IsAtLineEnd}
+use Rattle.config_file.specs.declared.errors.Fault.TheVariants.{BadLine}
+use Rattle.config_file.specs.Bytes.{is_name_byte, is_blank}
 use Rattle.config_file.specs.Runs.{Run, StopsRun}
-use Rattle.config_file.specs.Subsection.{TakesSubsection, StopsInSubsection}
-use Rattle.config_file.specs.Header as header
-use Rattle.config_file.specs.Header.{fault_at, BeginsWithout, ClosesSubsection, closes, SubsectionStops, within, closed, closed_at_line_end, OpensSubsection, Header, plain, NameStops, at_end, empty, not_closed, HeaderStops}
+use Rattle.config_file.specs.Subsection.{TakesSubsection}
+use Rattle.config_file.specs.Header.{fault_at, BeginsWithout, ClosesSubsection, closes, SubsectionStops, OpensSubsection, Header, plain, NameStops, at_end, empty, not_closed}
 
 pub closes_at : {text raw rest : List ℕ} (at : List ℕ) → TakesSubsection text raw at → at ≡ 93 ∷ rest → ClosesSubsection text raw rest
 closes_at {text = text} {raw = raw} at takes e = closes (subst (λ x. TakesSubsection text raw x) e takes) refl

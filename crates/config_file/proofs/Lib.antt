@@ -5,3 +5,4 @@ pub mod Values
 pub mod Entries
 pub mod Bounds
 pub mod Readings
+pub mod Spelled

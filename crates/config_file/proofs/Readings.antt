@@ -1,5 +1,5 @@
 -- The reader, an item at a time.
-use Rattle.std.proofs.Common.{◌≡◌, ◌≢◌, ℕ, ◌+◌, Bool, true, false, List, [], ◌∷◌, Option, Some, None, Result, Ok, Err, refl, sym, ap, ◌∙◌, subst, arith}
+use Rattle.std.proofs.Common.{◌≡◌, ◌≢◌, ℕ, ◌+◌, true, false, List, [], ◌∷◌, Option, Some, None, Result, Ok, Err, sym, ap, ◌∙◌, subst, arith}
 use Rattle.std.proofs.lemmas.Bool.Decides.{nat_tests}
 use Rattle.std.specs.Char.{is_ascii_alphabetic}
 use Rattle.config_file.specs.declared.errors.Error.{Error}
@@ -11,7 +11,8 @@ use Rattle.config_file.specs.Runs.{Run}
 use Rattle.config_file.specs.Header.{Section, Header, HeaderStops, fault_at}
 use Rattle.config_file.specs.File as file
 use Rattle.config_file.specs.File.{Entry, TakesEntry, EntryStops, Reads, begins_item}
-use Rattle.config_file.specs.Left.{HasLeft, GivesEntry, entry_of}
+use Rattle.config_file.specs.Left.{HasLeft, GivesEntry}
+use Rattle.config_file.specs.Views.{entry_of}
 
 module _ {section : Option Section} {line : ℕ} (left : List Entry) (error : Option Error) where
   pub at_blank : {b : ℕ} {rest : List ℕ} (at : List ℕ) → at ≡ b ∷ rest → is_blank b ≡ true

@@ -1,9 +1,9 @@
 -- Runs of bytes.
-use Rattle.std.proofs.Common.{◌≡◌, ℕ, suc, ◌+◌, Bool, true, false, List, [], ◌∷◌, ◌++◌, take, drop, refl, ap, arith}
+use Rattle.std.proofs.Common.{◌≡◌, ℕ, suc, ◌+◌, Bool, List, [], ◌∷◌, take, drop, refl, ap, arith}
 use Rattle.std.proofs.lemmas.Bool.{cases_Bool}
 use Rattle.std.proofs.Common.{inl, inr}
-use Rattle.std.specs.List.{prefix_len, list_all}
-use Rattle.config_file.specs.Runs.{Run, StopsRun}
+use Rattle.std.specs.List.{prefix_len}
+use Rattle.config_file.specs.Runs.{Run}
 
 -- the front that `prefix_len` counts is the longest run
 pub run_split : (test : ℕ → Bool) (text : List ℕ) → Run test text (take (prefix_len test text) text) (drop (prefix_len test text) text)

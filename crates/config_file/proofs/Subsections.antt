@@ -1,9 +1,9 @@
 -- The scan of a subsection.
-use Rattle.std.proofs.Common.{◌≡◌, ℕ, true, List, [], ◌∷◌, ◌++◌, refl, sym, ◌∙◌, append_assoc, append-nil, subst, arith, ◌≢◌, rules}
+use Rattle.std.proofs.Common.{◌≡◌, ℕ, true, List, [], ◌∷◌, ◌++◌, refl, sym, ◌∙◌, append_assoc, append-nil, arith, ◌≢◌}
 use Rattle.std.proofs.lemmas.List.{append_cancel_right}
 use Rattle.std.proofs.lemmas.Bool.Decides.{nat_tests}
 use Rattle.config_file.specs.Bytes.{is_text_byte, is_plain_in_quotes, EndsText}
-use Rattle.config_file.specs.Subsection.{SpellsSubsection, ends, escaped, plain, IsSubsection, TakesSubsection, StopsInSubsection, stops, stops_escaped}
+use Rattle.config_file.specs.Subsection.{ends, escaped, plain, IsSubsection, TakesSubsection, StopsInSubsection, stops, stops_escaped}
 use Rattle.config_file.specs.Reading.Scans.{PassedSubsection}
 
 pub passed_none : (text : List ℕ) → PassedSubsection text text

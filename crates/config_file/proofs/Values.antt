@@ -3,9 +3,8 @@ use Rattle.std.proofs.Common.{◌≡◌, ◌≢◌, ℕ, ◌+◌, Bool, true, fa
 use Rattle.std.proofs.lemmas.List.{append_cancel_right}
 use Rattle.std.proofs.lemmas.Bool.{cases_Bool}
 use Rattle.std.proofs.lemmas.Bool.Decides.{nat_tests}
-use Rattle.config_file.specs.declared.errors.Fault.{Fault}
 use Rattle.config_file.specs.declared.errors.Fault.TheVariants.{BadLine, Nul}
-use Rattle.config_file.specs.Bytes.{is_text_byte, is_plain, is_blank, is_comment_sign, EndsText}
+use Rattle.config_file.specs.Bytes.{is_plain, is_blank, is_comment_sign, EndsText}
 use Rattle.config_file.specs.Header.{fault_at}
 use Rattle.config_file.specs.Value.{Spells, ends, ends_open, quote, escaped, continued, continued_after_return, blank, plain, SpellsValue, IsPart, EndsValue, IsNoEscape, line_feeds, kept, escape}
 use Rattle.config_file.specs.Value.{TakesValue, closed, open_end, ValueStops, nul, unclosed, unclosed_open_end, no_escape}

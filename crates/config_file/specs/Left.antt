@@ -1,14 +1,10 @@
 -- What the reader has left to read.
-use Rattle.std.specs.Prelude.{ℕ, List, [], ◌∷◌, Option, Some, None, Result, Ok, Err, option_map}
+use Rattle.std.specs.Prelude.{List, [], ◌∷◌, Option, Some, None, Result, Ok, Err, option_map}
 use Rattle.config_file.specs.declared.errors.Error.{Error}
 use Rattle.config_file.specs.declared.entry.Entry as code
 use Rattle.config_file.specs.declared.reader.Entries as reader
 use Rattle.config_file.specs.File.{Entry, Reads}
-use Rattle.config_file.specs.Reading.Scans.{section_of, value_of}
-
--- an entry by its bytes
-abbrev pub entry_of : code.Entry → Entry
-entry_of e = record { section = option_map section_of e.section; key = e.key.now; value = value_of e.value; line = e.line }
+use Rattle.config_file.specs.Views.{section_of, entry_of}
 
 -- the reader has these entries left, up to the end of its text or to this error
 abbrev pub HasLeft : reader.Entries → List Entry → Option Error → Type 0

@@ -1,5 +1,5 @@
 -- The subsection of a header: what is in its quotes.
-use Rattle.std.specs.Prelude.{◌≡◌, ℕ, Bool, true, false, List, [], ◌∷◌, ◌++◌}
+use Rattle.std.specs.Prelude.{◌≡◌, ℕ, true, List, [], ◌∷◌, ◌++◌}
 use Rattle.config_file.specs.Bytes.{double_quote, backslash, is_text_byte, is_plain_in_quotes, EndsText}
 
 -- these bytes spell this subsection: a backslash is dropped, and the byte after it is kept

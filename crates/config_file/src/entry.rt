@@ -1,31 +1,13 @@
 //! Entries, and the texts that their parts spell.
 ghost use Rattle.std.specs.Prelude.{◌≡◌, MatchResult};
 ghost use Rattle.config_file.specs.File.{TakesEntry, EntryStops};
-ghost use Rattle.config_file.specs.Reading.Scans.{value_of};
+ghost use Rattle.config_file.specs.Views.{value_of};
 
-use crate::bytes::{Class, after_byte, is_at_line_end, is_blank, run, split};
+use crate::bytes::{Class, after_byte, is_at_line_end, run};
 use crate::errors::{Stop, stop_at};
-use crate::value::{Taken, escape, read_value};
+use crate::section::Section;
+use crate::value::{Taken, Value, read_value};
 use std::alloc::{AllocError, Global};
-
-/// A section: its name, and its subsection if the header has one.
-#[derive(Clone, Copy)]
-pub struct Section<'a> {
-    pub name: &'a [u8],
-    pub subsection: Option<Subsection<'a>>,
-}
-
-/// The bytes between the quotes of a subsection.
-#[derive(Clone, Copy)]
-pub struct Subsection<'a> {
-    pub raw: &'a [u8],
-}
-
-/// The bytes of a value, from the `=` to the end of its line or to a comment.
-#[derive(Clone, Copy)]
-pub struct Value<'a> {
-    pub raw: &'a [u8],
-}
 
 /// An entry: its section, key and value, and the line that Git tells for it.
 #[derive(Clone, Copy)]
@@ -63,81 +45,15 @@ pub(crate) fn read_entry(text: &[u8]) -> Result<Parts<'_>, Stop>
     }
     match after_byte(b'=', rest) {
         Some(after) => {
-            let Taken { raw, lines, rest } = read_value(after)?;
+            let Taken { value, lines, rest } = read_value(after)?;
             Ok(Parts {
                 key,
-                value: Some(Value { raw }),
+                value: Some(value),
                 lines,
                 rest,
             })
         }
         None => Err(stop_at(rest)),
-    }
-}
-
-impl<'a> Value<'a> {
-    /// Appends the text that these bytes spell.
-    pub fn push_text(&self, text: &mut Vec<u8>) -> Result<(), AllocError> {
-        let mut at = self.raw;
-        let mut quoted = false;
-        let mut held = 0usize;
-        let mut begun = false;
-        'pieces: while let Some((byte, rest)) = split(at) {
-            at = rest;
-            if !quoted && is_blank(byte) {
-                held += 1;
-                continue;
-            }
-            if begun {
-                for _ in 0..held {
-                    text.push(b' ')?;
-                }
-            }
-            held = 0;
-            if byte == b'"' {
-                quoted = !quoted;
-                continue;
-            }
-            if byte != b'\\' {
-                text.push(byte)?;
-                begun = true;
-                continue;
-            }
-            let Some((letter, after)) = split(rest) else {
-                return Ok(());
-            };
-            at = after;
-            match escape(letter) {
-                Some(escaped) => {
-                    text.push(escaped)?;
-                    begun = true;
-                }
-                None if letter == b'\r' => {
-                    if let Some((_, after)) = split(at) {
-                        at = after;
-                    }
-                }
-                None => {}
-            }
-        }
-        Ok(())
-    }
-}
-
-impl<'a> Subsection<'a> {
-    /// Appends the text that these bytes spell.
-    pub fn push_text(&self, text: &mut Vec<u8>) -> Result<(), AllocError> {
-        let mut at = self.raw;
-        'bytes: while let Some((byte, rest)) = split(at) {
-            at = rest;
-            if byte != b'\\' {
-                text.push(byte)?;
-            } else if let Some((escaped, after)) = split(rest) {
-                text.push(escaped)?;
-                at = after;
-            }
-        }
-        Ok(())
     }
 }
 

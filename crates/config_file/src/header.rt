@@ -3,11 +3,11 @@ ghost use Rattle.std.specs.Prelude.{◌≡◌, ◌≢◌, ℕ, true, List, [], �
 ghost use Rattle.config_file.specs.Bytes.{is_text_byte, EndsText};
 ghost use Rattle.config_file.specs.Header.{Header, HeaderStops, ClosesSubsection, SubsectionStops, NameStops};
 ghost use Rattle.config_file.specs.Subsection.{TakesSubsection, StopsInSubsection};
-ghost use Rattle.config_file.specs.Reading.Scans.{section_of};
+ghost use Rattle.config_file.specs.Views.{section_of};
 
 use crate::bytes::{Class, after_byte, before, is_at_line_end, is_text_byte, run, split};
-use crate::entry::{Section, Subsection};
 use crate::errors::{Fault, Stop, stop_at};
+use crate::section::{Section, Subsection};
 
 /// Reads a header after its `[`: the section, and what follows the header.
 pub(crate) fn read_header(text: &[u8]) -> Result<(Section<'_>, &[u8]), Stop>

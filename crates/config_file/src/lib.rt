@@ -6,4 +6,5 @@ pub mod entry;
 pub mod errors;
 mod header;
 pub mod reader;
-mod value;
+pub mod section;
+pub mod value;

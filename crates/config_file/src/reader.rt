@@ -4,9 +4,10 @@ ghost use Rattle.config_file.specs.File.{Begins, after_mark, IsPartOfMark};
 ghost use Rattle.config_file.specs.Reading.Scans.{BeginsWithLetter};
 
 use crate::bytes::{Class, is_at_line_end, is_blank, is_comment_sign, run, split};
-use crate::entry::{Entry, Section, read_entry};
+use crate::entry::{Entry, read_entry};
 use crate::errors::{Error, Stop, fault_at};
 use crate::header::read_header;
+use crate::section::Section;
 
 /// The entries of a text that are left.
 #[derive(Drop)]

@@ -1,11 +1,14 @@
 //! The value of an entry.
-ghost use Rattle.std.specs.Prelude.{◌≡◌, ◌≢◌, List, [], ◌∷◌, MatchOption, MatchResult};
+ghost use Rattle.std.specs.Prelude.{◌≡◌, ◌≢◌, ℕ, List, [], ◌∷◌, ◌≤◌, length, Bool, IfOk, OnOk, MatchOption, MatchResult};
 ghost use Rattle.config_file.specs.Value as spec;
-ghost use Rattle.config_file.specs.Value.{TakesValue, ValueStops, IsNoEscape};
-ghost use Rattle.config_file.specs.Reading.Scans.{PassedValue, EndsScan, Escapes, goes_on};
+ghost use Rattle.config_file.specs.Value.{TakesValue, ValueStops, IsNoEscape, SpellsValue, kept};
+ghost use Rattle.config_file.specs.Reading.Scans.{PassedValue, EndsScan, Escapes, goes_on, is_held_back, unescape};
 
-use crate::bytes::{after_byte, before, is_comment_sign, is_text_byte, line_feeds, split};
+use crate::bytes::{
+    after_byte, before, is_blank, is_comment_sign, is_text_byte, line_feeds, split,
+};
 use crate::errors::{Fault, Stop, fault_at};
+use std::alloc::{AllocError, Global};
 
 /// The byte that a letter stands for after a backslash.
 pub(crate) fn escape(letter: u8) -> Option<u8>
@@ -20,12 +23,92 @@ pub(crate) fn escape(letter: u8) -> Option<u8>
     }
 }
 
-/// The bytes of a value, and how many line ends it continues over.
+/// A value: its bytes, from the `=` to the end of its line or to a comment.
+#[derive(Clone, Copy)]
+pub struct Value<'a> {
+    pub raw: &'a [u8],
+}
+
+/// A value, how many line ends it continues over, and what follows it.
 #[derive(Clone, Copy)]
 pub(crate) struct Taken<'a> {
-    pub raw: &'a [u8],
+    pub value: Value<'a>,
     pub lines: usize,
     pub rest: &'a [u8],
+}
+
+impl<'a> Value<'a> {
+    /// The text that these bytes spell, as those of every entry that is read.
+    pub fn to_vec(&self, alloc: Global) -> Result<Vec<u8>, AllocError>
+        ensures { (spelled : List ℕ) (open_end : Bool) → SpellsValue self.now.raw.now spelled open_end
+            → IfOk result (λ text. text.items ≡ spelled) }
+    {
+        let mut text = Vec::new(alloc);
+        let mut at = self.raw;
+        let mut quoted = false;
+        let mut held = 0usize;
+        'pieces: while let Some((byte, rest)) = split(at) {
+            if is_held_back(quoted, byte) {
+                held += 1;
+                at = rest;
+                continue;
+            }
+            push_held(&mut text, held)?;
+            held = 0;
+            if byte == b'"' {
+                quoted = !quoted;
+                at = rest;
+            } else if byte == b'\\' {
+                let (escaped, after) = unescape(rest);
+                if let Some(escaped) = escaped {
+                    text.push(escaped)?;
+                }
+                at = after;
+            } else {
+                text.push(byte)?;
+                at = rest;
+            }
+        }
+        Ok(text)
+    }
+}
+
+/// Whether this byte is a blank outside quotes, which counts only if a byte of the value follows it.
+fn is_held_back(quoted: bool, byte: u8) -> bool
+    ensures { result ≡ is_held_back quoted byte }
+{
+    !quoted && is_blank(byte)
+}
+
+/// Writes the blanks that were held back, unless the value has no byte yet.
+fn push_held(text: &mut Vec<u8>, held: usize) -> Result<(), AllocError>
+    ensures { OnOk result (text.new.items ≡ kept text.old.items held) }
+{
+    if text.is_empty() {
+        return Ok(());
+    }
+    'blanks: for _written in 0..held {
+        text.push(b' ')?;
+    }
+    Ok(())
+}
+
+/// The byte that a backslash and a letter stand for, unless they continue the line, and what follows.
+fn unescape(text: &[u8]) -> (Option<u8>, &[u8])
+    ensures unescaped { (result.0, result.1.now) ≡ unescape text.now }
+    ensures within { length result.1.now ≤ length text.now }
+{
+    let Some((letter, rest)) = split(text) else {
+        return (None, text);
+    };
+    let escaped = escape(letter);
+    if escaped.is_some() || letter != b'\r' {
+        return (escaped, rest);
+    }
+    match split(rest) {
+        Some((_, after)) => (None, after),
+        None => (None, rest),
+    }
 }
 
 /// What follows a backslash and what it escapes, or a line end that it continues over.
@@ -53,7 +136,7 @@ fn goes_on(quoted: bool, byte: u8) -> bool
 
 /// Reads a value after its `=`, up to the end of its line or to a comment.
 pub(crate) fn read_value(text: &[u8]) -> Result<Taken<'_>, Stop>
-    ensures { MatchResult result (λ taken. TakesValue text.now taken.raw.now taken.lines taken.rest.now)
+    ensures { MatchResult result (λ taken. TakesValue text.now taken.value.raw.now taken.lines taken.rest.now)
         (λ stop. ValueStops text.now stop.lines stop.fault) }
 {
     let mut at = text;
@@ -80,7 +163,7 @@ pub(crate) fn read_value(text: &[u8]) -> Result<Taken<'_>, Stop>
 fn end<'a>(text: &'a [u8], at: &'a [u8], quoted: bool) -> Result<Taken<'a>, Stop>
     requires passed { PassedValue text.now quoted at.now }
     requires ends { EndsScan quoted at.now }
-    ensures { MatchResult result (λ taken. TakesValue text.now taken.raw.now taken.lines taken.rest.now)
+    ensures { MatchResult result (λ taken. TakesValue text.now taken.value.raw.now taken.lines taken.rest.now)
         (λ stop. ValueStops text.now stop.lines stop.fault) }
 {
     let raw = before(text, at);
@@ -97,7 +180,7 @@ fn end<'a>(text: &'a [u8], at: &'a [u8], quoted: bool) -> Result<Taken<'a>, Stop
             fault: Fault::Nul,
         }),
         Fault::BadLine => Ok(Taken {
-            raw,
+            value: Value { raw },
             lines,
             rest: at,
         }),
@@ -114,7 +197,7 @@ fn end_after_backslash<'a>(
     requires passed { PassedValue text.now quoted at.now }
     requires backslash { at.now ≡ 92 ∷ rest.now }
     requires stops { rest.now ≢ [] → IsNoEscape rest.now }
-    ensures { MatchResult result (λ taken. TakesValue text.now taken.raw.now taken.lines taken.rest.now)
+    ensures { MatchResult result (λ taken. TakesValue text.now taken.value.raw.now taken.lines taken.rest.now)
         (λ stop. ValueStops text.now stop.lines stop.fault) }
 {
     if !rest.is_empty() {
@@ -130,7 +213,7 @@ fn end_after_backslash<'a>(
         });
     }
     Ok(Taken {
-        raw: text,
+        value: Value { raw: text },
         lines: line_feeds(text) + 1,
         rest,
     })

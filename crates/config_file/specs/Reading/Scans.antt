@@ -1,11 +1,8 @@
--- What scans take at a time, and how the specs see the structs of the code.
-use Rattle.std.specs.Prelude.{◌≡◌, ◌≢◌, ℕ, Bool, true, false, not, List, [], ◌∷◌, ◌++◌, Option, Some, None, ⊤, option_map, ◌&&◌}
+-- What scans take at a time.
+use Rattle.std.specs.Prelude.{◌≡◌, ℕ, Bool, true, false, not, List, [], ◌∷◌, ◌++◌, Option, Some, None, ⊤, ◌&&◌, ◌==◌, if◌then◌else◌, is_some, drop}
 use Rattle.std.specs.Char.{is_ascii_alphabetic}
 use Rattle.config_file.specs.declared.bytes.Class.{Class}
 use Rattle.config_file.specs.declared.bytes.Class.TheVariants.{Name, Key, Blank, Space, Comment}
-use Rattle.config_file.specs.declared.entry.Section as code
-use Rattle.config_file.specs.declared.entry.Value as value
-use Rattle.config_file.specs.Header.{Section}
 use Rattle.config_file.specs.Bytes.{line_feed, carriage_return, is_name_byte, is_key_byte, is_blank, is_space, is_comment_byte, is_comment_sign, is_text_byte}
 use Rattle.config_file.specs.Subsection.{SpellsSubsection, IsSubsection}
 use Rattle.config_file.specs.Value.{Spells, SpellsValue, escape}
@@ -17,14 +14,6 @@ passes Key = is_key_byte
 passes Blank = is_blank
 passes Space = is_space
 passes Comment = is_comment_byte
-
--- a section by its bytes
-abbrev pub section_of : code.Section → Section
-section_of s = (s.name.now, option_map (λ sub. sub.raw.now) s.subsection)
-
--- the bytes of a value
-abbrev pub value_of : Option value.Value → Option (List ℕ)
-value_of v = option_map (λ value. value.raw.now) v
 
 -- the scan of a subsection has passed these first bytes of the text
 pub record PassedSubsection (text at : List ℕ) : Type 0 where
@@ -59,3 +48,21 @@ pub data Escapes : List ℕ → List ℕ → Type 0 where
 -- the text begins with a letter
 abbrev pub BeginsWithLetter : List ℕ → Type 0
 BeginsWithLetter text = (b : ℕ) × (rest : List ℕ) × (text ≡ b ∷ rest) × (is_ascii_alphabetic b ≡ true)
+
+-- after a backslash: the byte that it and a letter stand for, unless they continue the line, and what follows
+abbrev pub unescape : List ℕ → Option ℕ × List ℕ
+unescape [] = (None, [])
+unescape (e ∷ rest) =
+    if is_some (escape e) then (escape e, rest)
+    else if e == carriage_return then (None, drop 1 rest)
+    else (None, rest)
+
+-- a blank outside quotes
+abbrev pub is_held_back : Bool → ℕ → Bool
+is_held_back true b = false
+is_held_back false b = is_blank b
+
+-- the value with the byte that a backslash and a letter stand for, if there is one
+abbrev pub append_some : List ℕ → Option ℕ → List ℕ
+append_some value None = value
+append_some value (Some b) = value ++ b ∷ []

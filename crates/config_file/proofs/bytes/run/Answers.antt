@@ -1,4 +1,3 @@
-use Rattle.std.proofs.Common.{rules}
 use Rattle.config_file.proofs.Runs.{run_split}
 use Rattle.config_file.specs.Reading.Scans.{passes}
 use Rattle.config_file.proofs.bytes.run.Goals as goal

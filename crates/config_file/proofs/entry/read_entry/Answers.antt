@@ -7,14 +7,14 @@ use Rattle.config_file.proofs.entry.read_entry.Goals as goal
 pub returns-then-is_at_line_end : goal.returns-then-is_at_line_end
 returns-then-is_at_line_end c = alone (takes_key _ c.run.ensures c.run-2.ensures) (search rules)
 
-pub returns-in_err-raw-in-Some : goal.returns-in_err-raw-in-Some
-returns-in_err-raw-in-Some c =
+pub returns-in_err-value-in-Some : goal.returns-in_err-value-in-Some
+returns-in_err-value-in-Some c =
     let (stop, is, same) = err_from_is_err_and c.from_residual.result c.from_residual.ensures.1 in
-    rw (is, same) (value (takes_key_and _ _ c.run.ensures c.run-2.ensures c.in-Some.ensures) refl c.in_err-raw-in-Some.ensures)
+    rw (is, same) (value (takes_key_and _ _ c.run.ensures c.run-2.ensures c.in-Some.ensures) refl c.in_err-value-in-Some.ensures)
 
-pub returns-in_ok-raw-in-Some : goal.returns-in_ok-raw-in-Some
-returns-in_ok-raw-in-Some c =
-    valued (takes_key_and _ _ c.run.ensures c.run-2.ensures c.in-Some.ensures) refl c.in_ok-raw-in-Some.ensures
+pub returns-in_ok-value-in-Some : goal.returns-in_ok-value-in-Some
+returns-in_ok-value-in-Some c =
+    valued (takes_key_and _ _ c.run.ensures c.run-2.ensures c.in-Some.ensures) refl c.in_ok-value-in-Some.ensures
 
 pub returns-in-None : goal.returns-in-None
 returns-in-None c =

@@ -1,4 +1,4 @@
-use Rattle.std.proofs.Common.{◌≡◌, ◌≢◌, List, [], rules, refl, arith, length}
+use Rattle.std.proofs.Common.{rules}
 use Rattle.std.proofs.lemmas.List.{nil_from_length}
 use Rattle.config_file.proofs.Headers.{name_stops_at_end, name_stops_empty, name_stops_not_closed}
 use Rattle.config_file.proofs.header.close_name.Goals as goal

@@ -1,6 +1,5 @@
-use Rattle.std.proofs.Common.{ℕ, true, ◌≡◌, rules, ◌∙◌, refl}
+use Rattle.std.proofs.Common.{rules}
 use Rattle.config_file.proofs.Subsections.{passed_none, passed_plain, passed_escaped, takes, stops_here, stops_after_backslash, plain_byte}
-use Rattle.config_file.specs.Bytes.{EndsText}
 use Rattle.config_file.proofs.header.quoted.Goals as goal
 
 pub bytes-init : goal.bytes-init

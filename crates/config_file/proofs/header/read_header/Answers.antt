@@ -1,7 +1,7 @@
-use Rattle.std.proofs.Common.{rules, refl, subst, List, ℕ, ◌∷◌, ◌≢◌, []}
+use Rattle.std.proofs.Common.{rules}
 use Rattle.std.proofs.lemmas.List.{nil_from_length}
 use Rattle.std.proofs.lemmas.Result.{err_from_is_err_and}
-use Rattle.config_file.specs.Header.{Header, plain, quoted, HeaderStops, name, blanks, subsection}
+use Rattle.config_file.specs.Header.{quoted, name, blanks, subsection}
 use Rattle.config_file.proofs.Headers.{no_blanks, named, opened}
 use Rattle.config_file.proofs.header.read_header.Goals as goal
 

@@ -1,4 +1,4 @@
-use Rattle.std.proofs.Common.{rules, refl}
+use Rattle.std.proofs.Common.{rules}
 use Rattle.config_file.specs.Header.{within, closed, closed_at_line_end}
 use Rattle.config_file.proofs.Headers.{closes_at}
 use Rattle.config_file.proofs.header.read_subsection.Goals as goal

@@ -1,5 +1,4 @@
-use Rattle.std.proofs.Common.{arith, length, ap, ◌+◌, ◌≤◌, ◌≡◌, ◌∷◌, ◌<◌, ◌^◌}
-use Rattle.config_file.specs.declared.reader.Entries as reader
+use Rattle.std.proofs.Common.{arith, length, ◌+◌, ◌<◌, ◌^◌}
 use Rattle.config_file.proofs.Bounds.{entry_bound_at, entry_stops_bound}
 use Rattle.config_file.proofs.Readings.{at_entry, entry_refused}
 use Rattle.config_file.proofs.reader.Entries.entry_here.Goals as goal

@@ -1,4 +1,4 @@
-use Rattle.std.proofs.Common.{arith, rules, length, ap, ◌+◌, ◌≤◌, ◌≡◌, ◌∷◌, ◌<◌, ◌^◌, ◌∙◌, []}
+use Rattle.std.proofs.Common.{arith, rules, length, ap, ◌+◌, ◌<◌, ◌^◌, ◌∙◌, []}
 use Rattle.config_file.proofs.Bounds.{header_shortens, header_stops_soon}
 use Rattle.config_file.proofs.Readings.{at_blank, at_line_end, at_comment, at_header, header_refused, no_item, none_left, gives_from, begins_none}
 use Rattle.config_file.proofs.reader.Entries.next_entry.Goals as goal
