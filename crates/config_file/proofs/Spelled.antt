@@ -5,7 +5,7 @@ use Rattle.std.proofs.lemmas.Bool.Decides.{nat_tests}
 use Rattle.config_file.specs.Bytes.{is_blank, is_plain}
 use Rattle.config_file.specs.Subsection as sub
 use Rattle.config_file.specs.Subsection.{SpellsSubsection}
-use Rattle.config_file.specs.Value.{Spells, ends, ends_open, quote, escaped, continued, continued_after_return, blank, plain, kept}
+use Rattle.config_file.specs.Value.{Ending, outside, Spells, ends_outside, ends_inside, ends_at_backslash, quote, escaped, continued, continued_after_return, blank, plain, kept}
 use Rattle.config_file.specs.Reading.Scans.{is_held_back, unescape, append_some}
 
 blank_is_no_quote : (b : ℕ) → is_blank b ≡ true → b ≡ 34 → ⊥
@@ -34,9 +34,9 @@ held_is_no_backslash : (q : Bool) (b : ℕ) → is_held_back q b ≡ true → b 
 held_is_no_backslash true b held e = cc
 held_is_no_backslash false b held e = blank_is_no_backslash b held e
 
-after_held : {q o : Bool} {value rest spelled : List ℕ} {held b : ℕ} → Spells q value held (b ∷ rest) spelled o → is_held_back q b ≡ true
+after_held : {q : Bool} {o : Ending} {value rest spelled : List ℕ} {held b : ℕ} → Spells q value held (b ∷ rest) spelled o → is_held_back q b ≡ true
     → Spells q value (held + 1) rest spelled o
-after_held (ends_open {b = b} e) is = absurd (held_is_no_backslash false b is e)
+after_held (ends_at_backslash {b = b} e) is = absurd (held_is_no_backslash false b is e)
 after_held (quote {quoted = q} {b = b} e s) is = absurd (held_is_no_quote q b is e)
 after_held (escaped {quoted = q} {b = b} e l s) is = absurd (held_is_no_backslash q b is e)
 after_held (continued {quoted = q} {b = b} e l s) is = absurd (held_is_no_backslash q b is e)
@@ -44,9 +44,9 @@ after_held (continued_after_return {quoted = q} {b = b} e l n s) is = absurd (he
 after_held (blank e s) is = s
 after_held (plain {quoted = q} {b = b} e s) is = absurd (plain_is_not_held q b e is)
 
-after_quote : {q o : Bool} {value rest spelled : List ℕ} {held b : ℕ} → Spells q value held (b ∷ rest) spelled o → b ≡ 34
+after_quote : {q : Bool} {o : Ending} {value rest spelled : List ℕ} {held b : ℕ} → Spells q value held (b ∷ rest) spelled o → b ≡ 34
     → Spells (not q) (kept value held) 0 rest spelled o
-after_quote (ends_open e) is = absurd (omega arith)
+after_quote (ends_at_backslash e) is = absurd (omega arith)
 after_quote (quote e s) is = s
 after_quote (escaped e l s) is = absurd (omega arith)
 after_quote (continued e l s) is = absurd (omega arith)
@@ -54,9 +54,9 @@ after_quote (continued_after_return e l n s) is = absurd (omega arith)
 after_quote (blank {b = b} e s) is = absurd (blank_is_no_quote b e is)
 after_quote (plain {quoted = q} {b = b} e s) is = absurd (plain_is_no_quote q b e is)
 
-after_plain : {q o : Bool} {value rest spelled : List ℕ} {held b : ℕ} → Spells q value held (b ∷ rest) spelled o → is_held_back q b ≡ false → b ≢ 34 → b ≢ 92
+after_plain : {q : Bool} {o : Ending} {value rest spelled : List ℕ} {held b : ℕ} → Spells q value held (b ∷ rest) spelled o → is_held_back q b ≡ false → b ≢ 34 → b ≢ 92
     → Spells q (kept value held ++ b ∷ []) 0 rest spelled o
-after_plain (ends_open e) is not_quote not_backslash = absurd (not_backslash e)
+after_plain (ends_at_backslash e) is not_quote not_backslash = absurd (not_backslash e)
 after_plain (quote e s) is not_quote not_backslash = absurd (not_quote e)
 after_plain (escaped e l s) is not_quote not_backslash = absurd (not_backslash e)
 after_plain (continued e l s) is not_quote not_backslash = absurd (not_backslash e)
@@ -64,9 +64,9 @@ after_plain (continued_after_return e l n s) is not_quote not_backslash = absurd
 after_plain (blank e s) is not_quote not_backslash = absurd (true≢false (sym e ∙ is))
 after_plain (plain e s) is not_quote not_backslash = s
 
-after_backslash : {q o : Bool} {value rest spelled : List ℕ} {held b : ℕ} → Spells q value held (b ∷ rest) spelled o → b ≡ 92
-    → (open_end : Bool) × Spells q (append_some (kept value held) (unescape rest).0) 0 (unescape rest).1 spelled open_end
-after_backslash (ends_open e) is = (false, ends)
+after_backslash : {q : Bool} {o : Ending} {value rest spelled : List ℕ} {held b : ℕ} → Spells q value held (b ∷ rest) spelled o → b ≡ 92
+    → (ending : Ending) × Spells q (append_some (kept value held) (unescape rest).0) 0 (unescape rest).1 spelled ending
+after_backslash (ends_at_backslash e) is = (outside, ends_outside)
 after_backslash (quote e s) is = absurd (omega arith)
 after_backslash {o = o} (escaped e l s) is = (o, rw l s)
 after_backslash {o = o} (continued e l s) is = (o, rw l s)
@@ -76,31 +76,32 @@ after_backslash (plain {quoted = q} {b = b} e s) is = absurd (plain_is_no_backsl
 
 -- the same, for the loop
 module _ {q : Bool} {value rest : List ℕ} {held b : ℕ} (at : List ℕ) (e : at ≡ b ∷ rest) where
-  pub held_next : {spelled : List ℕ} {o : Bool} → is_held_back q b ≡ true → Spells q value held at spelled o → (open_end : Bool) × Spells q value (held + 1) rest spelled open_end
+  pub held_next : {spelled : List ℕ} {o : Ending} → is_held_back q b ≡ true → Spells q value held at spelled o → (ending : Ending) × Spells q value (held + 1) rest spelled ending
   held_next {spelled = spelled} {o = o} is s = (o, after_held (subst (λ x. Spells q value held x spelled o) e s) is)
 
-  pub quote_next : {spelled text : List ℕ} {o : Bool} → b ≡ 34 → text ≡ kept value held → Spells q value held at spelled o
-      → (open_end : Bool) × Spells (not q) text 0 rest spelled open_end
+  pub quote_next : {spelled text : List ℕ} {o : Ending} → b ≡ 34 → text ≡ kept value held → Spells q value held at spelled o
+      → (ending : Ending) × Spells (not q) text 0 rest spelled ending
   quote_next {spelled = spelled} {o = o} is same s = (o, rw same (after_quote (subst (λ x. Spells q value held x spelled o) e s) is))
 
-  pub plain_next : {spelled kept_text text : List ℕ} {o : Bool} → is_held_back q b ≡ false → b ≢ 34 → b ≢ 92 → kept_text ≡ kept value held → text ≡ kept_text ++ b ∷ []
-      → Spells q value held at spelled o → (open_end : Bool) × Spells q text 0 rest spelled open_end
+  pub plain_next : {spelled kept_text text : List ℕ} {o : Ending} → is_held_back q b ≡ false → b ≢ 34 → b ≢ 92 → kept_text ≡ kept value held → text ≡ kept_text ++ b ∷ []
+      → Spells q value held at spelled o → (ending : Ending) × Spells q text 0 rest spelled ending
   plain_next {spelled = spelled} {o = o} is not_quote not_backslash same same_text s =
       (o, rw (same_text, same) (after_plain (subst (λ x. Spells q value held x spelled o) e s) is not_quote not_backslash))
 
-  pub backslash_next : {spelled kept_text text after : List ℕ} {o : Bool} (escaped_byte : Option ℕ) → b ≡ 92 → kept_text ≡ kept value held
+  pub backslash_next : {spelled kept_text text after : List ℕ} {o : Ending} (escaped_byte : Option ℕ) → b ≡ 92 → kept_text ≡ kept value held
       → (escaped_byte, after) ≡ unescape rest → text ≡ append_some kept_text escaped_byte
-      → Spells q value held at spelled o → (open_end : Bool) × Spells q text 0 after spelled open_end
+      → Spells q value held at spelled o → (ending : Ending) × Spells q text 0 after spelled ending
   backslash_next {spelled = spelled} {o = o} escaped_byte is same unescaped same_text s =
       let first = ap (λ p. p.0) unescaped in
       let second = ap (λ p. p.1) unescaped in
-      let (open_end, more) = after_backslash (subst (λ x. Spells q value held x spelled o) e s) is in
-      (open_end, rw (same_text, same, first, second) more)
+      let (ending, more) = after_backslash (subst (λ x. Spells q value held x spelled o) e s) is in
+      (ending, rw (same_text, same, first, second) more)
 
-spelled_end : {q o : Bool} {value spelled : List ℕ} {held : ℕ} → Spells q value held [] spelled o → value ≡ spelled
-spelled_end ends = refl
+spelled_end : {q : Bool} {o : Ending} {value spelled : List ℕ} {held : ℕ} → Spells q value held [] spelled o → value ≡ spelled
+spelled_end ends_outside = refl
+spelled_end ends_inside = refl
 
-pub spelled_whole : {q o : Bool} {value spelled : List ℕ} {held : ℕ} (at : List ℕ) → at ≡ [] → Spells q value held at spelled o → value ≡ spelled
+pub spelled_whole : {q : Bool} {o : Ending} {value spelled : List ℕ} {held : ℕ} (at : List ℕ) → at ≡ [] → Spells q value held at spelled o → value ≡ spelled
 spelled_whole {q = q} {o = o} {value = value} {spelled = spelled} {held = held} at e s = spelled_end (subst (λ x. Spells q value held x spelled o) e s)
 
 -- subsections

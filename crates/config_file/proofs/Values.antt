@@ -6,7 +6,7 @@ use Rattle.std.proofs.lemmas.Bool.Decides.{nat_tests}
 use Rattle.config_file.specs.declared.errors.Fault.TheVariants.{BadLine, Nul}
 use Rattle.config_file.specs.Bytes.{is_plain, is_blank, is_comment_sign, EndsText}
 use Rattle.config_file.specs.Header.{fault_at}
-use Rattle.config_file.specs.Value.{Spells, ends, ends_open, quote, escaped, continued, continued_after_return, blank, plain, SpellsValue, IsPart, EndsValue, IsNoEscape, line_feeds, kept, escape}
+use Rattle.config_file.specs.Value.{Ending, outside, inside, at_backslash, Spells, ends_outside, ends_inside, ends_at_backslash, quote, escaped, continued, continued_after_return, blank, plain, SpellsValue, IsPart, EndsValue, IsNoEscape, line_feeds, kept, escape}
 use Rattle.config_file.specs.Value.{TakesValue, closed, open_end, ValueStops, nul, unclosed, unclosed_open_end, no_escape}
 use Rattle.config_file.specs.Reading.Scans.{PassedValue, EndsScan, Escapes, letter, line, line_after_return, goes_on}
 
@@ -15,7 +15,7 @@ passed_none text = record { raw = []; value = []; held = 0; joined = refl; exten
 
 -- the scan has passed these bytes too, and goes on with this value and these held blanks
 pub passed_more : {text at rest : List ℕ} {q r : Bool} (piece value : List ℕ) (held : ℕ) → (passed : PassedValue text q at) → at ≡ piece ++ rest
-    → ((more spelled : List ℕ) (o : Bool) → Spells r value held more spelled o → Spells q passed.value passed.held (piece ++ more) spelled o)
+    → ((more spelled : List ℕ) (o : Ending) → Spells r value held more spelled o → Spells q passed.value passed.held (piece ++ more) spelled o)
     → PassedValue text r rest
 passed_more {rest = rest} piece value held passed e spells =
     record {
@@ -58,8 +58,8 @@ passed_byte {b = b} false at passed e on not_quote not_backslash =
     ]
 
 passed_part : {text at : List ℕ} (q : Bool) → (passed : PassedValue text q at) → IsPart q passed.raw
-passed_part true passed = (kept passed.value passed.held, passed.extends (34 ∷ []) _ false (quote refl ends))
-passed_part false passed = (passed.value, rw (append-nil passed.raw) at (passed.extends [] _ false ends))
+passed_part true passed = (passed.value, rw (append-nil passed.raw) at (passed.extends [] _ inside ends_inside))
+passed_part false passed = (passed.value, rw (append-nil passed.raw) at (passed.extends [] _ outside ends_outside))
 
 -- what `before` returns is what the scan has passed
 pub part : {text at : List ℕ} (q : Bool) (raw : List ℕ) → PassedValue text q at → text ≡ raw ++ at → IsPart q raw
@@ -117,7 +117,7 @@ pub ends_open_here : {text rest : List ℕ} (q : Bool) (at : List ℕ) → Passe
 ends_open_here true at passed off e none = cc
 ends_open_here {text = text} false at passed off e none =
     let whole : passed.raw ++ 92 ∷ [] ≡ text = sym (passed.joined ∙ ap (◌++◌ passed.raw) (e ∙ ap (◌∷◌ 92) none)) in
-    rw none (open_end (subst (λ x. SpellsValue x (kept passed.value passed.held) true) whole (passed.extends (92 ∷ []) _ true (ends_open refl))))
+    rw none (open_end (subst (λ x. SpellsValue x (kept passed.value passed.held) at_backslash) whole (passed.extends (92 ∷ []) _ at_backslash (ends_at_backslash refl))))
 
 some_from : (o : Option ℕ) → is_some o ≡ true → (c : ℕ) × (o ≡ Some c)
 some_from None h = cc

@@ -20,33 +20,39 @@ abbrev pub kept : List ℕ → ℕ → List ℕ
 kept [] held = []
 kept (b ∷ value) held = (b ∷ value) ++ replicate held space
 
+-- where the bytes of a value end: outside quotes, inside them, or at a backslash, which is so at the end of the file only
+pub data Ending : Type 0 where
+  outside : Ending
+  inside : Ending
+  at_backslash : Ending
+
 -- In quotes or not, after a value so far and blanks that are held back, these bytes spell the rest of the value.
--- The last argument says that they end in a backslash, as only the end of the file allows.
-pub data Spells : Bool → List ℕ → ℕ → List ℕ → List ℕ → Bool → Type 0 where
-  ends : {value : List ℕ} {held : ℕ} → Spells false value held [] value false
-  ends_open : {value : List ℕ} {held b : ℕ} → b ≡ backslash → Spells false value held (b ∷ []) (kept value held) true
-  quote : {quoted : Bool} {value : List ℕ} {held b : ℕ} {raw text : List ℕ} {open_end : Bool} → b ≡ double_quote
-      → Spells (not quoted) (kept value held) 0 raw text open_end → Spells quoted value held (b ∷ raw) text open_end
-  escaped : {quoted : Bool} {value : List ℕ} {held b e c : ℕ} {raw text : List ℕ} {open_end : Bool} → b ≡ backslash → escape e ≡ Some c
-      → Spells quoted (kept value held ++ c ∷ []) 0 raw text open_end → Spells quoted value held (b ∷ e ∷ raw) text open_end
-  continued : {quoted : Bool} {value : List ℕ} {held b e : ℕ} {raw text : List ℕ} {open_end : Bool} → b ≡ backslash → e ≡ line_feed
-      → Spells quoted (kept value held) 0 raw text open_end → Spells quoted value held (b ∷ e ∷ raw) text open_end
-  continued_after_return : {quoted : Bool} {value : List ℕ} {held b e f : ℕ} {raw text : List ℕ} {open_end : Bool}
+pub data Spells : Bool → List ℕ → ℕ → List ℕ → List ℕ → Ending → Type 0 where
+  ends_outside : {value : List ℕ} {held : ℕ} → Spells false value held [] value outside
+  ends_inside : {value : List ℕ} {held : ℕ} → Spells true value held [] value inside
+  ends_at_backslash : {value : List ℕ} {held b : ℕ} → b ≡ backslash → Spells false value held (b ∷ []) (kept value held) at_backslash
+  quote : {quoted : Bool} {value : List ℕ} {held b : ℕ} {raw text : List ℕ} {ending : Ending} → b ≡ double_quote
+      → Spells (not quoted) (kept value held) 0 raw text ending → Spells quoted value held (b ∷ raw) text ending
+  escaped : {quoted : Bool} {value : List ℕ} {held b e c : ℕ} {raw text : List ℕ} {ending : Ending} → b ≡ backslash → escape e ≡ Some c
+      → Spells quoted (kept value held ++ c ∷ []) 0 raw text ending → Spells quoted value held (b ∷ e ∷ raw) text ending
+  continued : {quoted : Bool} {value : List ℕ} {held b e : ℕ} {raw text : List ℕ} {ending : Ending} → b ≡ backslash → e ≡ line_feed
+      → Spells quoted (kept value held) 0 raw text ending → Spells quoted value held (b ∷ e ∷ raw) text ending
+  continued_after_return : {quoted : Bool} {value : List ℕ} {held b e f : ℕ} {raw text : List ℕ} {ending : Ending}
       → b ≡ backslash → e ≡ carriage_return → f ≡ line_feed
-      → Spells quoted (kept value held) 0 raw text open_end → Spells quoted value held (b ∷ e ∷ f ∷ raw) text open_end
-  blank : {value : List ℕ} {held b : ℕ} {raw text : List ℕ} {open_end : Bool} → is_blank b ≡ true
-      → Spells false value (held + 1) raw text open_end → Spells false value held (b ∷ raw) text open_end
-  plain : {quoted : Bool} {value : List ℕ} {held b : ℕ} {raw text : List ℕ} {open_end : Bool} → is_plain quoted b ≡ true
-      → Spells quoted (kept value held ++ b ∷ []) 0 raw text open_end → Spells quoted value held (b ∷ raw) text open_end
+      → Spells quoted (kept value held) 0 raw text ending → Spells quoted value held (b ∷ e ∷ f ∷ raw) text ending
+  blank : {value : List ℕ} {held b : ℕ} {raw text : List ℕ} {ending : Ending} → is_blank b ≡ true
+      → Spells false value (held + 1) raw text ending → Spells false value held (b ∷ raw) text ending
+  plain : {quoted : Bool} {value : List ℕ} {held b : ℕ} {raw text : List ℕ} {ending : Ending} → is_plain quoted b ≡ true
+      → Spells quoted (kept value held ++ b ∷ []) 0 raw text ending → Spells quoted value held (b ∷ raw) text ending
 
--- these bytes spell this value
-abbrev pub SpellsValue : List ℕ → List ℕ → Bool → Type 0
-SpellsValue raw text open_end = Spells false [] 0 raw text open_end
+-- these bytes spell this value, and end so
+abbrev pub SpellsValue : List ℕ → List ℕ → Ending → Type 0
+SpellsValue raw text ending = Spells false [] 0 raw text ending
 
--- A value may go on after these bytes, in quotes or not: they spell one, with the closing quote if it lacks.
+-- a value may go on after these bytes, in quotes or not
 abbrev pub IsPart : Bool → List ℕ → Type 0
-IsPart true raw = (text : List ℕ) × SpellsValue (raw ++ double_quote ∷ []) text false
-IsPart false raw = (text : List ℕ) × SpellsValue raw text false
+IsPart true raw = (text : List ℕ) × SpellsValue raw text inside
+IsPart false raw = (text : List ℕ) × SpellsValue raw text outside
 
 -- the rest is empty, or begins with LF or a comment sign
 abbrev pub EndsValue : List ℕ → Type 0
@@ -58,9 +64,9 @@ line_feeds text = count_by (λ b. b == line_feed) text
 
 -- after the `=`, the text begins with the bytes of a value, which continue over so many line ends, and the rest follows
 pub data TakesValue : List ℕ → List ℕ → ℕ → List ℕ → Type 0 where
-  closed : {raw value text rest : List ℕ} → text ≡ raw ++ rest → SpellsValue raw value false → EndsValue rest
+  closed : {raw value text rest : List ℕ} → text ≡ raw ++ rest → SpellsValue raw value outside → EndsValue rest
       → TakesValue text raw (line_feeds raw) rest
-  open_end : {raw value : List ℕ} → SpellsValue raw value true → TakesValue raw raw (line_feeds raw + 1) []
+  open_end : {raw value : List ℕ} → SpellsValue raw value at_backslash → TakesValue raw raw (line_feeds raw + 1) []
 
 -- the rest begins with a byte that no backslash goes before, and it is not a line end
 abbrev pub IsNoEscape : List ℕ → Type 0

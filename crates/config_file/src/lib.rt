@@ -4,6 +4,7 @@
 mod bytes;
 pub mod entry;
 pub mod errors;
+pub mod file;
 mod header;
 pub mod reader;
 pub mod section;

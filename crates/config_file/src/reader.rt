@@ -70,10 +70,55 @@ impl<'a> Entries<'a> {
         }
     }
 
-    /// The next entry, or the error at which the text is refused. After the last entry and after an error, `None`.
-    pub fn next_entry(&mut self) -> Option<Result<Entry<'a>, Error>>
-        ensures { GivesEntry self.old result self.new }
+    /// The entry that begins with the next byte, or why it is refused.
+    fn entry_here(&mut self) -> Result<Entry<'a>, Error>
+        requires { BeginsWithLetter self.old.rest.now }
+        ensures gives { GivesEntry self.old (Some result) self.new }
+        ensures shorter { length self.new.rest.now < length self.old.rest.now }
     {
+        match read_entry(self.rest) {
+            Ok(parts) => {
+                self.line += parts.lines;
+                self.rest = parts.rest;
+                Ok(Entry {
+                    section: self.section,
+                    key: parts.key,
+                    value: parts.value,
+                    line: self.line,
+                })
+            }
+            Err(stop) => Err(self.refused(stop)),
+        }
+    }
+
+    /// Ends the reading with an error.
+    fn refused(&mut self, stop: Stop) -> Error
+        requires { self.old.line + stop.lines < 2 ^ 64 }
+        ensures line { result.line ≡ self.old.line + stop.lines }
+        ensures fault { result.fault ≡ stop.fault }
+        ensures left { HasLeft self.new [] None }
+        ensures end { self.new.rest.now ≡ [] }
+    {
+        self.rest = &[];
+        Error {
+            line: self.line + stop.lines,
+            fault: stop.fault,
+        }
+    }
+}
+
+impl<'a> Iterator for Entries<'a> {
+    ghost use Rattle.std.specs.Iterator.{at_most};
+    ghost use Rattle.config_file.specs.Left.{GivesEntry};
+
+    type Item = Result<Entry<'a>, Error>;
+
+    ghost next_gives = { GivesEntry };
+
+    ghost remaining = { λ entries. at_most (length entries.rest.now) };
+
+    /// The next entry, or the error at which the text is refused. After the last entry and after an error, `None`.
+    fn next(&mut self) -> Option<Result<Entry<'a>, Error>> {
         'items: while let Some((byte, rest)) = split(self.rest) {
             if is_blank(byte) {
                 self.rest = rest;
@@ -98,39 +143,5 @@ impl<'a> Entries<'a> {
             }
         }
         None
-    }
-
-    /// The entry that begins with the next byte, or why it is refused.
-    fn entry_here(&mut self) -> Result<Entry<'a>, Error>
-        requires { BeginsWithLetter self.old.rest.now }
-        ensures { GivesEntry self.old (Some result) self.new }
-    {
-        match read_entry(self.rest) {
-            Ok(parts) => {
-                self.line += parts.lines;
-                self.rest = parts.rest;
-                Ok(Entry {
-                    section: self.section,
-                    key: parts.key,
-                    value: parts.value,
-                    line: self.line,
-                })
-            }
-            Err(stop) => Err(self.refused(stop)),
-        }
-    }
-
-    /// Ends the reading with an error.
-    fn refused(&mut self, stop: Stop) -> Error
-        requires { self.old.line + stop.lines < 2 ^ 64 }
-        ensures line { result.line ≡ self.old.line + stop.lines }
-        ensures fault { result.fault ≡ stop.fault }
-        ensures left { HasLeft self.new [] None }
-    {
-        self.rest = &[];
-        Error {
-            line: self.line + stop.lines,
-            fault: stop.fault,
-        }
     }
 }

@@ -1,7 +1,7 @@
 //! The value of an entry.
-ghost use Rattle.std.specs.Prelude.{◌≡◌, ◌≢◌, ℕ, List, [], ◌∷◌, ◌≤◌, length, Bool, IfOk, OnOk, MatchOption, MatchResult};
+ghost use Rattle.std.specs.Prelude.{◌≡◌, ◌≢◌, ℕ, List, [], ◌∷◌, ◌≤◌, length, IfOk, OnOk, MatchOption, MatchResult};
 ghost use Rattle.config_file.specs.Value as spec;
-ghost use Rattle.config_file.specs.Value.{TakesValue, ValueStops, IsNoEscape, SpellsValue, kept};
+ghost use Rattle.config_file.specs.Value.{TakesValue, ValueStops, IsNoEscape, SpellsValue, kept, Ending};
 ghost use Rattle.config_file.specs.Reading.Scans.{PassedValue, EndsScan, Escapes, goes_on, is_held_back, unescape};
 
 use crate::bytes::{
@@ -40,7 +40,7 @@ pub(crate) struct Taken<'a> {
 impl<'a> Value<'a> {
     /// The text that these bytes spell, as those of every entry that is read.
     pub fn to_vec(&self, alloc: Global) -> Result<Vec<u8>, AllocError>
-        ensures { (spelled : List ℕ) (open_end : Bool) → SpellsValue self.now.raw.now spelled open_end
+        ensures { (spelled : List ℕ) (ending : Ending) → SpellsValue self.now.raw.now spelled ending
             → IfOk result (λ text. text.items ≡ spelled) }
     {
         let mut text = Vec::new(alloc);

@@ -5,7 +5,7 @@ use Rattle.config_file.specs.declared.bytes.Class.{Class}
 use Rattle.config_file.specs.declared.bytes.Class.TheVariants.{Name, Key, Blank, Space, Comment}
 use Rattle.config_file.specs.Bytes.{line_feed, carriage_return, is_name_byte, is_key_byte, is_blank, is_space, is_comment_byte, is_comment_sign, is_text_byte}
 use Rattle.config_file.specs.Subsection.{SpellsSubsection, IsSubsection}
-use Rattle.config_file.specs.Value.{Spells, SpellsValue, escape}
+use Rattle.config_file.specs.Value.{Ending, Spells, SpellsValue, escape}
 
 -- the test of a class of bytes
 abbrev pub passes : Class → ℕ → Bool
@@ -27,7 +27,7 @@ pub record PassedValue (text : List ℕ) (quoted : Bool) (at : List ℕ) : Type 
   pub value : List ℕ
   pub held : ℕ
   pub joined : text ≡ raw ++ at
-  pub extends : (more spelled : List ℕ) (open_end : Bool) → Spells quoted value held more spelled open_end → SpellsValue (raw ++ more) spelled open_end
+  pub extends : (more spelled : List ℕ) (ending : Ending) → Spells quoted value held more spelled ending → SpellsValue (raw ++ more) spelled ending
 
 -- the scan of a value goes on after this byte
 abbrev pub goes_on : Bool → ℕ → Bool

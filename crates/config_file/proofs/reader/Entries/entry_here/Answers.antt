@@ -1,5 +1,5 @@
 use Rattle.std.proofs.Common.{arith, length, ◌+◌, ◌<◌, ◌^◌}
-use Rattle.config_file.proofs.Bounds.{entry_bound_at, entry_stops_bound}
+use Rattle.config_file.proofs.Bounds.{entry_bound_at, entry_shortens, entry_stops_bound}
 use Rattle.config_file.proofs.Readings.{at_entry, entry_refused}
 use Rattle.config_file.proofs.reader.Entries.entry_here.Goals as goal
 
@@ -23,12 +23,22 @@ refused-requires c =
     let fits : c.args.self.now.line + length c.args.self.now.rest.now < 2 ^ 63 + 2 = c.args.self.now.line_fits in
     omega arith
 
-pub returns-in-Ok : goal.returns-in-Ok
-returns-in-Ok c =
+pub returns-in-Ok-clause-gives : goal.returns-in-Ok-clause-gives
+returns-in-Ok-clause-gives c =
     let (b, rest, is, letter) = c.requires in
     λ left error h. at_entry left error _ is letter c.in-Ok.ensures h
 
-pub returns-in-Err : goal.returns-in-Err
-returns-in-Err c =
+pub returns-in-Err-clause-gives : goal.returns-in-Err-clause-gives
+returns-in-Err-clause-gives c =
     let (b, rest, is, letter) = c.requires in
     (entry_refused _ _ is letter c.in-Err.ensures c.refused.ensures.line c.refused.ensures.fault, c.refused.ensures.left)
+
+pub returns-in-Ok-clause-shorter : goal.returns-in-Ok-clause-shorter
+returns-in-Ok-clause-shorter c =
+    let (b, rest, is, letter) = c.requires in
+    entry_shortens c.args.self.now.rest.now is letter c.in-Ok.ensures
+
+pub returns-in-Err-clause-shorter : goal.returns-in-Err-clause-shorter
+returns-in-Err-clause-shorter c =
+    let (b, rest, is, letter) = c.requires in
+    rw c.refused.ensures.end (rw is (omega arith))

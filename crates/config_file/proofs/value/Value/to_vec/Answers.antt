@@ -1,5 +1,5 @@
 use Rattle.std.proofs.Common.{Some, None, length, ap, arith, rules, refl}
-use Rattle.config_file.proofs.Spelled.{quote_next, plain_next, backslash_next}
+use Rattle.config_file.proofs.Spelled.{held_next, quote_next, plain_next, backslash_next}
 use Rattle.config_file.proofs.value.Value.to_vec.Goals as goal
 
 pub pieces-preserved-then-byte-eq34 : goal.pieces-preserved-then-byte-eq34
@@ -7,8 +7,8 @@ pieces-preserved-then-byte-eq34 c =
     let shorter = ap length c.in-Some.ensures in
     record {
       fits = omega (arith, c.pieces.invariant.fits);
-      spells = λ spelled open_end h.
-          let (o, s) = c.pieces.invariant.spells spelled open_end h in
+      spells = λ spelled ending h.
+          let (o, s) = c.pieces.invariant.spells spelled ending h in
           quote_next c.pieces.at.now c.in-Some.ensures c.if-byte-eq34.true c.in_ok-push_held.ensures s;
     }
 
@@ -17,8 +17,8 @@ pieces-preserved-in_ok-push c =
     let shorter = ap length c.in-Some.ensures in
     record {
       fits = omega (arith, c.pieces.invariant.fits);
-      spells = λ spelled open_end h.
-          let (o, s) = c.pieces.invariant.spells spelled open_end h in
+      spells = λ spelled ending h.
+          let (o, s) = c.pieces.invariant.spells spelled ending h in
           backslash_next c.pieces.at.now c.in-Some.ensures (Some c.in-Some-escaped.escaped) c.if-byte-eq92.true c.in_ok-push_held.ensures
           (rw c.in-Some-escaped.is at c.unescape-escaped.ensures.unescaped) c.in_ok-push.ensures.items s;
     }
@@ -28,8 +28,8 @@ pieces-preserved-in_default-escaped c =
     let shorter = ap length c.in-Some.ensures in
     record {
       fits = omega (arith, c.pieces.invariant.fits);
-      spells = λ spelled open_end h.
-          let (o, s) = c.pieces.invariant.spells spelled open_end h in
+      spells = λ spelled ending h.
+          let (o, s) = c.pieces.invariant.spells spelled ending h in
           backslash_next c.pieces.at.now c.in-Some.ensures None c.if-byte-eq92.true c.in_ok-push_held.ensures
           (rw c.in_default-escaped.is at c.unescape-escaped.ensures.unescaped) refl s;
     }
@@ -39,7 +39,17 @@ pieces-preserved c =
     let shorter = ap length c.in-Some.ensures in
     record {
       fits = omega (arith, c.pieces.invariant.fits);
-      spells = λ spelled open_end h.
-          let (o, s) = c.pieces.invariant.spells spelled open_end h in
+      spells = λ spelled ending h.
+          let (o, s) = c.pieces.invariant.spells spelled ending h in
           plain_next c.pieces.at.now c.in-Some.ensures (search rules) c.if-byte-eq34.false c.if-byte-eq92.false c.in_ok-push_held.ensures c.in_ok-push-2.ensures.items s;
+    }
+
+pub pieces-preserved-then-is_held_back : goal.pieces-preserved-then-is_held_back
+pieces-preserved-then-is_held_back c =
+    let shorter = ap length c.in-Some.ensures in
+    record {
+      fits = omega (arith, c.pieces.invariant.fits);
+      spells = λ spelled ending h.
+          let (o, s) = c.pieces.invariant.spells spelled ending h in
+          held_next c.pieces.at.now c.in-Some.ensures (search rules) s;
     }

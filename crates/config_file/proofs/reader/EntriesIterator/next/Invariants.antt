@@ -1,0 +1,15 @@
+use Rattle.std.proofs.Common.{◌≤◌, length, List, Option}
+use Rattle.config_file.specs.declared.errors.Error.{Error}
+use Rattle.config_file.specs.File.{Entry}
+use Rattle.config_file.specs.Left.{HasLeft}
+use Rattle.config_file.proofs.reader.EntriesIterator.next.Given as goal
+
+abbrev pub invariant-items : goal.invariant-items
+invariant-items l =
+    record {
+      same : (left : List Entry) (error : Option Error) → HasLeft l.self left error → HasLeft l.fn.self left error;
+      shorter : length l.self.rest.now ≤ length l.fn.self.rest.now;
+    }
+
+abbrev pub decreases-items : goal.decreases-items
+decreases-items l = length l.self.rest.now
