@@ -6,3 +6,4 @@ pub mod Entries
 pub mod Bounds
 pub mod Readings
 pub mod Spelled
+pub mod Listed

@@ -4,6 +4,7 @@ pub mod Subsection
 pub mod Header
 pub mod Value
 pub mod File
+pub mod Listing
 pub mod Views
 pub mod Left
 pub mod Reading

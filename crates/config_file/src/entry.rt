@@ -1,7 +1,9 @@
 //! Entries, and the texts that their parts spell.
-ghost use Rattle.std.specs.Prelude.{◌≡◌, MatchResult};
+ghost use Rattle.std.specs.Prelude.{◌≡◌, ℕ, List, ◌++◌, IfOk, OnOk, MatchResult, map, option_map};
+ghost use Rattle.std.specs.Char.{to_ascii_lowercase};
+ghost use Rattle.config_file.specs.Listing.{IsListed, IsListedSection};
 ghost use Rattle.config_file.specs.File.{TakesEntry, EntryStops};
-ghost use Rattle.config_file.specs.Views.{value_of};
+ghost use Rattle.config_file.specs.Views.{section_of, value_of};
 
 use crate::bytes::{Class, after_byte, is_at_line_end, run};
 use crate::errors::{Stop, stop_at};
@@ -58,22 +60,40 @@ pub(crate) fn read_entry(text: &[u8]) -> Result<Parts<'_>, Stop>
 }
 
 impl<'a> Entry<'a> {
-    /// The key as Git lists it.
-    pub fn key_text(&self, alloc: Global) -> Result<Vec<u8>, AllocError> {
+    /// The key as `git config --list` shows it: the section and the key in lower case, and the subsection as it is.
+    pub fn key_text(&self, alloc: Global) -> Result<Vec<u8>, AllocError>
+        ensures { (listed : List ℕ) → IsListed (option_map section_of self.now.section) self.now.key.now listed
+            → IfOk result (λ text. text.items ≡ listed) }
+    {
         let mut text = Vec::new(alloc);
         if let Some(section) = &self.section {
-            for byte in section.name {
-                text.push(byte.to_ascii_lowercase())?;
-            }
-            text.push(b'.')?;
-            if let Some(subsection) = &section.subsection {
-                subsection.push_text(&mut text)?;
-                text.push(b'.')?;
-            }
+            push_section(&mut text, section)?;
         }
-        for byte in self.key {
-            text.push(byte.to_ascii_lowercase())?;
-        }
+        push_lower(&mut text, self.key)?;
         Ok(text)
     }
+}
+
+/// Appends a section with a dot after it, and its subsection with another.
+fn push_section(text: &mut Vec<u8>, section: &Section<'_>) -> Result<(), AllocError>
+    ensures { (listed : List ℕ) → IsListedSection (section_of section.now) listed
+        → OnOk result (text.new.items ≡ text.old.items ++ listed) }
+{
+    push_lower(text, section.name)?;
+    text.push(b'.')?;
+    if let Some(subsection) = &section.subsection {
+        subsection.push_text(text)?;
+        text.push(b'.')?;
+    }
+    Ok(())
+}
+
+/// Appends a name in lower case.
+fn push_lower(text: &mut Vec<u8>, name: &[u8]) -> Result<(), AllocError>
+    ensures { OnOk result (text.new.items ≡ text.old.items ++ map to_ascii_lowercase name.now) }
+{
+    'bytes: for byte in name {
+        text.push(byte.to_ascii_lowercase())?;
+    }
+    Ok(())
 }
