@@ -7,3 +7,10 @@ pub mod Bounds
 pub mod Readings
 pub mod Spelled
 pub mod Listed
+pub mod OneRun
+pub mod OneSubsection
+pub mod Pick
+pub mod OneValue
+pub mod OneHeader
+pub mod OneEntry
+pub mod OneReading

@@ -8,4 +8,3 @@ pub mod Listing
 pub mod Views
 pub mod Left
 pub mod Reading
-pub mod Laws

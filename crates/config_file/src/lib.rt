@@ -6,6 +6,7 @@ pub mod entry;
 pub mod errors;
 pub mod file;
 mod header;
+pub mod laws;
 pub mod reader;
 pub mod section;
 pub mod value;
