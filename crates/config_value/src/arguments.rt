@@ -1,0 +1,79 @@
+//! The command line.
+
+use clap::{Arg, ArgAction, ArgMatches, Command};
+use gix_config_value::canonical::Kind;
+use std::alloc::{AllocError, Global};
+
+/// What is asked of files.
+#[derive(Clone, Copy)]
+pub struct Request<'m, 'a> {
+    /// The files, of which a later one decides over an earlier one.
+    pub files: &'m [&'a str],
+    /// The key whose value is wanted. Without one the entries are listed.
+    pub key: Option<&'a str>,
+    /// The kind as which the value is read. Without one its text is printed as it is.
+    pub kind: Option<Kind>,
+    /// Whether a NUL follows each entry and each value.
+    pub null: bool,
+}
+
+impl<'m, 'a> Request<'m, 'a> {
+    /// What the arguments ask, or `None` if they name no file.
+    pub fn new(matches: &'m ArgMatches<'a>) -> Option<Request<'m, 'a>> {
+        Some(Request {
+            files: matches.get_strs("file")?,
+            key: matches.get_str("key"),
+            kind: matches.get_one("type"),
+            null: matches.get_flag("null"),
+        })
+    }
+}
+
+/// The names of the kinds.
+const KINDS: &[&str] = &[
+    "suffix",
+    "integer",
+    "amount",
+    "boolean",
+    "name",
+    "attribute",
+    "color",
+];
+
+/// The command line of the program.
+pub fn command<'a>(alloc: Global) -> Result<Command<'a>, AllocError> {
+    let file = Arg::new(alloc, "file")
+        .long("file")
+        .value_name("FILE")
+        .action(ArgAction::Append)
+        .help("A configuration file; it decides over the files before it");
+    let kind = Arg::new(alloc, "type")
+        .long("type")
+        .value_name("KIND")
+        .action(ArgAction::Set)
+        .value_parser(KINDS)
+        .help("Print the value in the one way in which its kind is written")
+        .requires_arg("key")?;
+    let null = Arg::new(alloc, "null")
+        .long("null")
+        .action(ArgAction::SetTrue)
+        .help("End each entry and each value with a NUL")
+        .requires_arg("file")?;
+    let key = Arg::new(alloc, "key")
+        .value_name("KEY")
+        .action(ArgAction::Set)
+        .help(
+            "The key whose last value is printed, as core.bare; without one the entries are listed",
+        )
+        .requires_arg("file")?;
+    Command::new(alloc, "config_value")
+        .version("0.1.0")
+        .about(
+            "Reads Git's configuration files; without a file, reads lines of standard input: \
+            a kind, a space and a text",
+        )
+        .arg(file)?
+        .arg(kind)?
+        .arg(null)?
+        .arg(key)
+}

@@ -1,0 +1,141 @@
+//! Lists the entries of files, or prints one value of them.
+
+use crate::arguments::Request;
+use bstr::BStr;
+use config_settings::settings::{AddError, Setting, Settings};
+use gix_config_value::canonical::{normalize, refusal};
+use std::fs;
+use std::io::{self, BufWriter, Write};
+
+/// Adds each file that can be read, up to its first invalid line. Reports each other one, and returns whether
+/// all of them are added whole.
+fn add_files<'a>(
+    rt: &HostRuntime,
+    files: &[&'a str],
+    settings: &mut Settings<'a>,
+) -> io::Result<bool> {
+    let mut are_whole = true;
+    for file in files {
+        let file = *file;
+        let text = match fs::read(rt, file) {
+            Ok(text) => text,
+            Err(error) => {
+                are_whole = false;
+                eprintln!(rt; "{file}: {error}")?;
+                continue;
+            }
+        };
+        match settings.add_file(rt.alloc(), file, &text) {
+            Ok(()) => {}
+            Err(AddError::Memory(error)) => return Err(io::Error::from(error)),
+            Err(error) => {
+                are_whole = false;
+                eprintln!(rt; "{error}")?;
+            }
+        }
+    }
+    Ok(are_whole)
+}
+
+/// Writes an entry. Before it are its file and its line.
+fn write_entry<W: Write>(writer: &mut W, setting: &Setting<'_>, null: bool) -> io::Result<()> {
+    let (place, equals, end) = if null {
+        ("\0", "\n", "\0")
+    } else {
+        (": ", "=", "\n")
+    };
+    write!(writer, "{}:{}{place}", setting.file, setting.line)?;
+    writer.write_all(setting.key.as_slice())?;
+    if let Some(text) = &setting.value {
+        writer.write_all(equals.as_bytes())?;
+        writer.write_all(text.as_slice())?;
+    }
+    writer.write_all(end.as_bytes())
+}
+
+/// Lists the entries.
+fn list<W: Write>(writer: &mut W, settings: &Settings<'_>, null: bool) -> io::Result<()> {
+    for setting in &settings.entries {
+        write_entry(writer, setting, null)?;
+    }
+    writer.flush()
+}
+
+/// The section, the subsection and the last part of a key such as `core.bare` or `branch.main.rebase`. What is
+/// between the first dot and the last one is the subsection. `None` if the key has no dot.
+fn split_key(key: &str) -> Option<(&str, Option<&str>, &str)> {
+    let (section, rest) = key.split_once('.')?;
+    match rest.rsplit_once('.') {
+        Some((subsection, name)) => Some((section, Some(subsection), name)),
+        None => Some((section, None, rest)),
+    }
+}
+
+/// The last entry of a key.
+fn find<'s, 'a>(settings: &'s Settings<'a>, key: &str) -> Option<&'s Setting<'a>> {
+    let (section, subsection, name) = split_key(key)?;
+    let subsection = match subsection {
+        Some(subsection) => Some(subsection.as_bytes()),
+        None => None,
+    };
+    settings.last(section.as_bytes(), subsection, name.as_bytes())
+}
+
+/// Prints the last value of a key: its text, or the canonical text of a kind. Reports a key that no entry has and
+/// a text that the kind refuses, and returns whether the value is printed.
+fn get<W: Write>(
+    rt: &HostRuntime,
+    writer: &mut W,
+    settings: &Settings<'_>,
+    key: &str,
+    request: &Request<'_, '_>,
+) -> io::Result<bool> {
+    let Some(setting) = find(settings, key) else {
+        eprintln!(rt; "{key}: no entry has this key")?;
+        return Ok(false);
+    };
+    let text = BStr::new(setting.text());
+    match request.kind {
+        None => writer.write_all(text.as_bytes())?,
+        Some(kind) => match normalize(kind, text) {
+            Some(canonical) => writer.write_all(canonical.as_str().as_bytes())?,
+            None => {
+                if let Some(refusal) = refusal(kind, text) {
+                    eprintln!(rt; "{}", setting.refused(refusal))?;
+                }
+                return Ok(false);
+            }
+        },
+    }
+    writer.write_all(if request.null { b"\0" } else { b"\n" })?;
+    writer.flush()?;
+    Ok(true)
+}
+
+/// Does what is asked of the files, and returns whether all of it succeeds. If a file is not read whole, no value is
+/// printed, since a later line could have another.
+fn answer(rt: &HostRuntime, request: &Request<'_, '_>) -> io::Result<bool> {
+    let mut settings = Settings::new(rt.alloc());
+    let are_whole = add_files(rt, request.files, &mut settings)?;
+    let mut writer = BufWriter::new(rt.alloc(), rt.stdout())?;
+    match request.key {
+        Some(key) => Ok(are_whole && get(rt, &mut writer, &settings, key, request)?),
+        None => {
+            list(&mut writer, &settings, request.null)?;
+            Ok(are_whole)
+        }
+    }
+}
+
+/// The status of what is asked of the files: 0 if all of it succeeds, 1 if something is refused, and 2 if the
+/// output cannot be written or memory runs out.
+pub fn run(rt: &HostRuntime, request: &Request<'_, '_>) -> u8 {
+    match answer(rt, request) {
+        Ok(true) => 0,
+        Ok(false) => 1,
+        Err(error) => {
+            let _ = eprintln!(rt; "config_value: {error}");
+            2
+        }
+    }
+}
