@@ -8,12 +8,18 @@ use Rattle.config_file.specs.Runs.{Run}
 use Rattle.config_file.specs.Header.{Section, Header, HeaderStops, fault_at, BeginsWithout}
 use Rattle.config_file.specs.Value.{TakesValue, ValueStops}
 
--- an entry: its section if a header precedes it, its key, the bytes of its value if it has an `=`, and its line
+-- an entry: its section if a header precedes it, its key, the bytes of its value if it has `=`, and its line
 pub record Entry : Type 0 where
   pub section : Option Section
   pub key : List ℕ
   pub value : Option (List ℕ)
   pub line : ℕ
+
+abbrev pub entry_at : Option Section → List ℕ → Option (List ℕ) → ℕ → Entry
+entry_at section key value line = record { section = section; key = key; value = value; line = line }
+
+abbrev pub error_at : ℕ → Fault → Error
+error_at line fault = record { line = line; fault = fault }
 
 -- the text begins with a key, spaces may follow it, and then this rest
 pub record TakesKey (text key rest : List ℕ) : Type 0 where
@@ -22,46 +28,63 @@ pub record TakesKey (text key rest : List ℕ) : Type 0 where
   pub key_run : Run is_key_byte text key spaced
   pub space_run : Run is_space spaced spaces rest
 
--- an entry is a key alone, or a key, `=` and a value, which continues over so many line ends; the rest is at its line end or comment
+-- an entry is a key alone, or a key, `=` and a value, which continues over so many line ends
 pub data TakesEntry : List ℕ → List ℕ → Option (List ℕ) → ℕ → List ℕ → Type 0 where
-  alone : {text key rest : List ℕ} → TakesKey text key rest → IsAtLineEnd rest → TakesEntry text key None 0 rest
-  valued : {b lines : ℕ} {text key after raw rest : List ℕ} → TakesKey text key (b ∷ after) → b ≡ equals_sign
-      → TakesValue after raw lines rest → TakesEntry text key (Some raw) lines rest
+  alone : {text key rest : List ℕ}
+      → TakesKey text key rest → IsAtLineEnd rest
+      → TakesEntry text key None 0 rest
+  valued : {b lines : ℕ} {text key after raw rest : List ℕ}
+      → TakesKey text key (b ∷ after) → b ≡ equals_sign → TakesValue after raw lines rest
+      → TakesEntry text key (Some raw) lines rest
 
 -- an entry that is refused, so many lines after its first one
 pub data EntryStops : List ℕ → ℕ → Fault → Type 0 where
-  key : {text key rest : List ℕ} → TakesKey text key rest → BeginsWithout equals_sign rest → ¬ (IsAtLineEnd rest)
+  key : {text key rest : List ℕ}
+      → TakesKey text key rest → BeginsWithout equals_sign rest → ¬ (IsAtLineEnd rest)
       → EntryStops text 0 (fault_at rest)
-  value : {b lines : ℕ} {fault : Fault} {text key after : List ℕ} → TakesKey text key (b ∷ after) → b ≡ equals_sign
-      → ValueStops after lines fault → EntryStops text lines fault
+  value : {b lines : ℕ} {fault : Fault} {text key after : List ℕ}
+      → TakesKey text key (b ∷ after) → b ≡ equals_sign → ValueStops after lines fault
+      → EntryStops text lines fault
 
 -- an item begins with this byte: a line end, a blank, a comment, a header or an entry
 abbrev pub begins_item : ℕ → Bool
-begins_item b = (b == line_feed || is_blank b) || (is_comment_sign b || (b == left_bracket || is_ascii_alphabetic b))
+begins_item b =
+    (b == line_feed || is_blank b) || (is_comment_sign b || (b == left_bracket || is_ascii_alphabetic b))
 
 -- In this section and on this line, the text has these entries, up to its end or to the line that is refused.
 pub data Reads : Option Section → ℕ → List ℕ → List Entry → Option Error → Type 0 where
   ends : {section : Option Section} {line : ℕ} → Reads section line [] [] None
-  blank : {section : Option Section} {line b : ℕ} {text : List ℕ} {entries : List Entry} {error : Option Error} → is_blank b ≡ true
-      → Reads section line text entries error → Reads section line (b ∷ text) entries error
-  line_end : {section : Option Section} {line b : ℕ} {text : List ℕ} {entries : List Entry} {error : Option Error} → b ≡ line_feed
-      → Reads section (line + 1) text entries error → Reads section line (b ∷ text) entries error
-  comment : {section : Option Section} {line b : ℕ} {text comment rest : List ℕ} {entries : List Entry} {error : Option Error}
+  blank : {section : Option Section} {line b : ℕ} {text : List ℕ}
+      {entries : List Entry} {error : Option Error}
+      → is_blank b ≡ true → Reads section line text entries error
+      → Reads section line (b ∷ text) entries error
+  line_end : {section : Option Section} {line b : ℕ} {text : List ℕ}
+      {entries : List Entry} {error : Option Error}
+      → b ≡ line_feed → Reads section (line + 1) text entries error
+      → Reads section line (b ∷ text) entries error
+  comment : {section : Option Section} {line b : ℕ} {text comment rest : List ℕ}
+      {entries : List Entry} {error : Option Error}
       → is_comment_sign b ≡ true → Run is_comment_byte text comment rest
-      → Reads section line rest entries error → Reads section line (b ∷ text) entries error
-  header : {section : Option Section} {next : Section} {line b : ℕ} {text rest : List ℕ} {entries : List Entry} {error : Option Error}
-      → b ≡ left_bracket → Header text next rest
-      → Reads (Some next) line rest entries error → Reads section line (b ∷ text) entries error
-  entry : {section : Option Section} {line lines b : ℕ} {text key rest : List ℕ} {value : Option (List ℕ)} {entries : List Entry} {error : Option Error}
+      → Reads section line rest entries error
+      → Reads section line (b ∷ text) entries error
+  header : {section : Option Section} {next : Section} {line b : ℕ} {text rest : List ℕ}
+      {entries : List Entry} {error : Option Error}
+      → b ≡ left_bracket → Header text next rest → Reads (Some next) line rest entries error
+      → Reads section line (b ∷ text) entries error
+  entry : {section : Option Section} {line lines b : ℕ} {text key rest : List ℕ} {value : Option (List ℕ)}
+      {entries : List Entry} {error : Option Error}
       → is_ascii_alphabetic b ≡ true → TakesEntry (b ∷ text) key value lines rest
       → Reads section (line + lines) rest entries error
-      → Reads section line (b ∷ text) (record { section = section; key = key; value = value; line = line + lines } ∷ entries) error
-  header_refused : {section : Option Section} {line lines b : ℕ} {fault : Fault} {text : List ℕ} → b ≡ left_bracket
-      → HeaderStops text lines fault → Reads section line (b ∷ text) [] (Some (record { line = line + lines; fault = fault }))
-  entry_refused : {section : Option Section} {line lines b : ℕ} {fault : Fault} {text : List ℕ} → is_ascii_alphabetic b ≡ true
-      → EntryStops (b ∷ text) lines fault → Reads section line (b ∷ text) [] (Some (record { line = line + lines; fault = fault }))
-  no_item : {section : Option Section} {line b : ℕ} {text : List ℕ} → begins_item b ≡ false
-      → Reads section line (b ∷ text) [] (Some (record { line = line; fault = fault_at (b ∷ text) }))
+      → Reads section line (b ∷ text) (entry_at section key value (line + lines) ∷ entries) error
+  header_refused : {section : Option Section} {line lines b : ℕ} {fault : Fault} {text : List ℕ}
+      → b ≡ left_bracket → HeaderStops text lines fault
+      → Reads section line (b ∷ text) [] (Some (error_at (line + lines) fault))
+  entry_refused : {section : Option Section} {line lines b : ℕ} {fault : Fault} {text : List ℕ}
+      → is_ascii_alphabetic b ≡ true → EntryStops (b ∷ text) lines fault
+      → Reads section line (b ∷ text) [] (Some (error_at (line + lines) fault))
+  no_item : {section : Option Section} {line b : ℕ} {text : List ℕ}
+      → begins_item b ≡ false
+      → Reads section line (b ∷ text) [] (Some (error_at line (fault_at (b ∷ text))))
 
 -- what follows the byte order mark
 abbrev pub after_mark : List ℕ → Option (List ℕ)
@@ -74,7 +97,7 @@ IsPartOfMark [] = ⊥
 IsPartOfMark (a ∷ []) = a ≡ 0xef
 IsPartOfMark (a ∷ b ∷ rest) = (a ≡ 0xef) × (IsAtLineEnd (b ∷ rest) ⊎ ((b ≡ 0xbb) × IsAtLineEnd rest))
 
--- The text after its mark, and the number of its first line. Git counts a line end in the mark before it tells the line.
+-- the number of the first line, and the text after its mark; Git counts a line end after a part of the mark
 pub data Begins : List ℕ → ℕ → List ℕ → Type 0 where
   marked : {text rest : List ℕ} → after_mark text ≡ Some rest → Begins text 1 rest
   part_of_mark : {text : List ℕ} → IsPartOfMark text → Begins text 2 text

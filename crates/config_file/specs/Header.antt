@@ -22,14 +22,19 @@ BeginsWithout byte (b ∷ rest) = b ≢ byte
 
 -- after the quote, the text begins with a subsection and `"]`
 pub data ClosesSubsection : List ℕ → List ℕ → List ℕ → Type 0 where
-  closes : {b : ℕ} {text raw rest : List ℕ} → TakesSubsection text raw (b ∷ rest) → b ≡ right_bracket → ClosesSubsection text raw rest
+  closes : {b : ℕ} {text raw rest : List ℕ}
+      → TakesSubsection text raw (b ∷ rest) → b ≡ right_bracket
+      → ClosesSubsection text raw rest
 
 -- A subsection that is refused. After the closing quote, Git counts a line end before it tells the line.
 pub data SubsectionStops : List ℕ → ℕ → Fault → Type 0 where
   within : {text rest : List ℕ} → StopsInSubsection text rest → SubsectionStops text 0 (fault_at rest)
-  closed : {text raw rest : List ℕ} → TakesSubsection text raw rest → BeginsWithout right_bracket rest → ¬ (IsAtLineEnd rest)
+  closed : {text raw rest : List ℕ}
+      → TakesSubsection text raw rest → BeginsWithout right_bracket rest → ¬ (IsAtLineEnd rest)
       → SubsectionStops text 0 (fault_at rest)
-  closed_at_line_end : {text raw rest : List ℕ} → TakesSubsection text raw rest → IsAtLineEnd rest → SubsectionStops text 1 BadLine
+  closed_at_line_end : {text raw rest : List ℕ}
+      → TakesSubsection text raw rest → IsAtLineEnd rest
+      → SubsectionStops text 1 BadLine
 
 -- the text begins with a name, blanks and a quote
 pub record OpensSubsection (text name inner : List ℕ) : Type 0 where
@@ -43,20 +48,30 @@ pub record OpensSubsection (text name inner : List ℕ) : Type 0 where
 
 -- a header: a name that is not empty and `]`, or a name, blanks, a subsection in quotes and `]`
 pub data Header : List ℕ → Section → List ℕ → Type 0 where
-  plain : {b : ℕ} {text name rest : List ℕ} → Run is_name_byte text name (b ∷ rest) → name ≢ [] → b ≡ right_bracket → Header text (name, None) rest
-  quoted : {text name inner raw rest : List ℕ} → OpensSubsection text name inner → ClosesSubsection inner raw rest → Header text (name, Some raw) rest
+  plain : {b : ℕ} {text name rest : List ℕ}
+      → Run is_name_byte text name (b ∷ rest) → name ≢ [] → b ≡ right_bracket
+      → Header text (name, None) rest
+  quoted : {text name inner raw rest : List ℕ}
+      → OpensSubsection text name inner → ClosesSubsection inner raw rest
+      → Header text (name, Some raw) rest
 
 -- a name that no blank and no `]` follows, or an empty one: at the end of the text, Git counts a line end
 pub data NameStops : List ℕ → List ℕ → ℕ → Fault → Type 0 where
   at_end : {name : List ℕ} → NameStops name [] 1 BadLine
   empty : {b : ℕ} {rest : List ℕ} → NameStops [] (b ∷ rest) 0 (fault_at (b ∷ rest))
-  not_closed : {b : ℕ} {name rest : List ℕ} → b ≢ right_bracket → NameStops name (b ∷ rest) 0 (fault_at (b ∷ rest))
+  not_closed : {b : ℕ} {name rest : List ℕ}
+      → b ≢ right_bracket
+      → NameStops name (b ∷ rest) 0 (fault_at (b ∷ rest))
 
 -- a header that is refused: so many lines after its first one, Git tells a line
 pub data HeaderStops : List ℕ → ℕ → Fault → Type 0 where
-  name : {lines : ℕ} {fault : Fault} {text name rest : List ℕ} → Run is_name_byte text name rest → StopsRun is_blank rest
-      → NameStops name rest lines fault → HeaderStops text lines fault
-  blanks : {text name blanked blanks rest : List ℕ} → Run is_name_byte text name blanked → Run is_blank blanked blanks rest
-      → blanks ≢ [] → BeginsWithout double_quote rest → HeaderStops text 0 (fault_at rest)
-  subsection : {lines : ℕ} {fault : Fault} {text name inner : List ℕ} → OpensSubsection text name inner
-      → SubsectionStops inner lines fault → HeaderStops text lines fault
+  name : {lines : ℕ} {fault : Fault} {text name rest : List ℕ}
+      → Run is_name_byte text name rest → StopsRun is_blank rest → NameStops name rest lines fault
+      → HeaderStops text lines fault
+  blanks : {text name blanked blanks rest : List ℕ}
+      → Run is_name_byte text name blanked → Run is_blank blanked blanks rest → blanks ≢ []
+      → BeginsWithout double_quote rest
+      → HeaderStops text 0 (fault_at rest)
+  subsection : {lines : ℕ} {fault : Fault} {text name inner : List ℕ}
+      → OpensSubsection text name inner → SubsectionStops inner lines fault
+      → HeaderStops text lines fault

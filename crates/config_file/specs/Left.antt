@@ -8,11 +8,13 @@ use Rattle.config_file.specs.Views.{section_of, entry_of}
 
 -- the reader has these entries left, up to the end of its text or to this error
 abbrev pub HasLeft : reader.Entries → List Entry → Option Error → Type 0
-HasLeft entries left error = Reads (option_map section_of entries.section) entries.line entries.rest.now left error
+HasLeft entries left error =
+    Reads (option_map section_of entries.section) entries.line entries.rest.now left error
 
--- The reader gives the next entry, and then has the others left. At the end of the text and after an error it has none.
+-- The reader gives the next entry and then has the others left; at the end and after an error it has none.
 abbrev pub GivesEntry : reader.Entries → Option (Result code.Entry Error) → reader.Entries → Type 0
 GivesEntry old None new = HasLeft old [] None × HasLeft new [] None
 GivesEntry old (Some (Ok entry)) new =
-    (left : List Entry) (error : Option Error) → HasLeft new left error → HasLeft old (entry_of entry ∷ left) error
+    (left : List Entry) (error : Option Error)
+    → HasLeft new left error → HasLeft old (entry_of entry ∷ left) error
 GivesEntry old (Some (Err error)) new = HasLeft old [] (Some error) × HasLeft new [] None

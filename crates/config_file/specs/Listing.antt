@@ -8,11 +8,13 @@ use Rattle.config_file.specs.Subsection.{SpellsSubsection}
 -- a section is listed in lower case with a dot after it, and its subsection as it is spelled with another
 pub data IsListedSection : Section → List ℕ → Type 0 where
   plain : {name : List ℕ} → IsListedSection (name, None) (map to_ascii_lowercase name ++ dot ∷ [])
-  quoted : {name raw spelled : List ℕ} → SpellsSubsection raw spelled
+  quoted : {name raw spelled : List ℕ}
+      → SpellsSubsection raw spelled
       → IsListedSection (name, Some raw) ((map to_ascii_lowercase name ++ dot ∷ []) ++ (spelled ++ dot ∷ []))
 
 -- a key is listed in lower case, after its section if a header precedes it
 pub data IsListed : Option Section → List ℕ → List ℕ → Type 0 where
   alone : {key : List ℕ} → IsListed None key (map to_ascii_lowercase key)
-  in_section : {section : Section} {key listed : List ℕ} → IsListedSection section listed
+  in_section : {section : Section} {key listed : List ℕ}
+      → IsListedSection section listed
       → IsListed (Some section) key (listed ++ map to_ascii_lowercase key)

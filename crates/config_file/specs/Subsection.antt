@@ -5,10 +5,12 @@ use Rattle.config_file.specs.Bytes.{double_quote, backslash, is_text_byte, is_pl
 -- these bytes spell this subsection: a backslash is dropped, and the byte after it is kept
 pub data SpellsSubsection : List ℕ → List ℕ → Type 0 where
   ends : SpellsSubsection [] []
-  escaped : {b e : ℕ} {raw text : List ℕ} → b ≡ backslash → is_text_byte e ≡ true
-      → SpellsSubsection raw text → SpellsSubsection (b ∷ e ∷ raw) (e ∷ text)
-  plain : {b : ℕ} {raw text : List ℕ} → is_plain_in_quotes b ≡ true
-      → SpellsSubsection raw text → SpellsSubsection (b ∷ raw) (b ∷ text)
+  escaped : {b e : ℕ} {raw text : List ℕ}
+      → b ≡ backslash → is_text_byte e ≡ true → SpellsSubsection raw text
+      → SpellsSubsection (b ∷ e ∷ raw) (e ∷ text)
+  plain : {b : ℕ} {raw text : List ℕ}
+      → is_plain_in_quotes b ≡ true → SpellsSubsection raw text
+      → SpellsSubsection (b ∷ raw) (b ∷ text)
 
 -- these bytes are what quotes may hold
 abbrev pub IsSubsection : List ℕ → Type 0
@@ -19,8 +21,11 @@ pub record TakesSubsection (text raw rest : List ℕ) : Type 0 where
   pub is_subsection : IsSubsection raw
   pub joined : text ≡ raw ++ double_quote ∷ rest
 
--- after the quote, the reading stops before this rest: at its end, at an LF or at a NUL, after a backslash or not
+-- after the quote, the reading stops before this rest: at its end, LF or NUL, after a backslash or not
 pub data StopsInSubsection : List ℕ → List ℕ → Type 0 where
-  stops : {text raw rest : List ℕ} → IsSubsection raw → text ≡ raw ++ rest → EndsText rest → StopsInSubsection text rest
-  stops_escaped : {b : ℕ} {text raw rest : List ℕ} → IsSubsection raw → text ≡ raw ++ b ∷ rest → b ≡ backslash
-      → EndsText rest → StopsInSubsection text rest
+  stops : {text raw rest : List ℕ}
+      → IsSubsection raw → text ≡ raw ++ rest → EndsText rest
+      → StopsInSubsection text rest
+  stops_escaped : {b : ℕ} {text raw rest : List ℕ}
+      → IsSubsection raw → text ≡ raw ++ b ∷ rest → b ≡ backslash → EndsText rest
+      → StopsInSubsection text rest

@@ -20,30 +20,39 @@ abbrev pub kept : List ℕ → ℕ → List ℕ
 kept [] held = []
 kept (b ∷ value) held = (b ∷ value) ++ replicate held space
 
--- where the bytes of a value end: outside quotes, inside them, or at a backslash, which is so at the end of the file only
+-- where the bytes of a value end: outside quotes, inside them, or at a backslash that ends the file
 pub data Ending : Type 0 where
   outside : Ending
   inside : Ending
   at_backslash : Ending
 
--- In quotes or not, after a value so far and blanks that are held back, these bytes spell the rest of the value.
+-- in quotes or not, after a value so far and blanks that are held back, these bytes spell the rest of it
 pub data Spells : Bool → List ℕ → ℕ → List ℕ → List ℕ → Ending → Type 0 where
   ends_outside : {value : List ℕ} {held : ℕ} → Spells false value held [] value outside
   ends_inside : {value : List ℕ} {held : ℕ} → Spells true value held [] value inside
-  ends_at_backslash : {value : List ℕ} {held b : ℕ} → b ≡ backslash → Spells false value held (b ∷ []) (kept value held) at_backslash
-  quote : {quoted : Bool} {value : List ℕ} {held b : ℕ} {raw text : List ℕ} {ending : Ending} → b ≡ double_quote
-      → Spells (not quoted) (kept value held) 0 raw text ending → Spells quoted value held (b ∷ raw) text ending
-  escaped : {quoted : Bool} {value : List ℕ} {held b e c : ℕ} {raw text : List ℕ} {ending : Ending} → b ≡ backslash → escape e ≡ Some c
-      → Spells quoted (kept value held ++ c ∷ []) 0 raw text ending → Spells quoted value held (b ∷ e ∷ raw) text ending
-  continued : {quoted : Bool} {value : List ℕ} {held b e : ℕ} {raw text : List ℕ} {ending : Ending} → b ≡ backslash → e ≡ line_feed
-      → Spells quoted (kept value held) 0 raw text ending → Spells quoted value held (b ∷ e ∷ raw) text ending
-  continued_after_return : {quoted : Bool} {value : List ℕ} {held b e f : ℕ} {raw text : List ℕ} {ending : Ending}
+  ends_at_backslash : {value : List ℕ} {held b : ℕ}
+      → b ≡ backslash
+      → Spells false value held (b ∷ []) (kept value held) at_backslash
+  quote : {quoted : Bool} {value : List ℕ} {held b : ℕ} {raw text : List ℕ} {ending : Ending}
+      → b ≡ double_quote → Spells (not quoted) (kept value held) 0 raw text ending
+      → Spells quoted value held (b ∷ raw) text ending
+  escaped : {quoted : Bool} {value : List ℕ} {held b e c : ℕ} {raw text : List ℕ} {ending : Ending}
+      → b ≡ backslash → escape e ≡ Some c → Spells quoted (kept value held ++ c ∷ []) 0 raw text ending
+      → Spells quoted value held (b ∷ e ∷ raw) text ending
+  continued : {quoted : Bool} {value : List ℕ} {held b e : ℕ} {raw text : List ℕ} {ending : Ending}
+      → b ≡ backslash → e ≡ line_feed → Spells quoted (kept value held) 0 raw text ending
+      → Spells quoted value held (b ∷ e ∷ raw) text ending
+  continued_after_return : {quoted : Bool} {value : List ℕ} {held b e f : ℕ} {raw text : List ℕ}
+      {ending : Ending}
       → b ≡ backslash → e ≡ carriage_return → f ≡ line_feed
-      → Spells quoted (kept value held) 0 raw text ending → Spells quoted value held (b ∷ e ∷ f ∷ raw) text ending
-  blank : {value : List ℕ} {held b : ℕ} {raw text : List ℕ} {ending : Ending} → is_blank b ≡ true
-      → Spells false value (held + 1) raw text ending → Spells false value held (b ∷ raw) text ending
-  plain : {quoted : Bool} {value : List ℕ} {held b : ℕ} {raw text : List ℕ} {ending : Ending} → is_plain quoted b ≡ true
-      → Spells quoted (kept value held ++ b ∷ []) 0 raw text ending → Spells quoted value held (b ∷ raw) text ending
+      → Spells quoted (kept value held) 0 raw text ending
+      → Spells quoted value held (b ∷ e ∷ f ∷ raw) text ending
+  blank : {value : List ℕ} {held b : ℕ} {raw text : List ℕ} {ending : Ending}
+      → is_blank b ≡ true → Spells false value (held + 1) raw text ending
+      → Spells false value held (b ∷ raw) text ending
+  plain : {quoted : Bool} {value : List ℕ} {held b : ℕ} {raw text : List ℕ} {ending : Ending}
+      → is_plain quoted b ≡ true → Spells quoted (kept value held ++ b ∷ []) 0 raw text ending
+      → Spells quoted value held (b ∷ raw) text ending
 
 -- these bytes spell this value, and end so
 abbrev pub SpellsValue : List ℕ → List ℕ → Ending → Type 0
@@ -59,14 +68,18 @@ abbrev pub EndsValue : List ℕ → Type 0
 EndsValue [] = ⊤
 EndsValue (b ∷ rest) = (b ≡ line_feed) ⊎ (is_comment_sign b ≡ true)
 
+-- how many LFs a text has
 abbrev pub line_feeds : List ℕ → ℕ
 line_feeds text = count_by (λ b. b == line_feed) text
 
--- after the `=`, the text begins with the bytes of a value, which continue over so many line ends, and the rest follows
+-- after the `=`, the text begins with a value, which continues over so many line ends, and the rest follows
 pub data TakesValue : List ℕ → List ℕ → ℕ → List ℕ → Type 0 where
-  closed : {raw value text rest : List ℕ} → text ≡ raw ++ rest → SpellsValue raw value outside → EndsValue rest
+  closed : {raw value text rest : List ℕ}
+      → text ≡ raw ++ rest → SpellsValue raw value outside → EndsValue rest
       → TakesValue text raw (line_feeds raw) rest
-  open_end : {raw value : List ℕ} → SpellsValue raw value at_backslash → TakesValue raw raw (line_feeds raw + 1) []
+  open_end : {raw value : List ℕ}
+      → SpellsValue raw value at_backslash
+      → TakesValue raw raw (line_feeds raw + 1) []
 
 -- the rest begins with a byte that no backslash goes before, and it is not a line end
 abbrev pub IsNoEscape : List ℕ → Type 0
@@ -76,11 +89,15 @@ IsNoEscape (e ∷ f ∷ rest) = (escape e ≡ None) × (e ≢ line_feed) × (e �
 
 -- a value that is refused: how many lines after its first one Git tells, and the fault
 pub data ValueStops : List ℕ → ℕ → Fault → Type 0 where
-  nul : {b : ℕ} {text : List ℕ} (raw rest : List ℕ) → text ≡ raw ++ b ∷ rest → IsPart false raw → b ≡ 0
+  nul : {b : ℕ} {text : List ℕ} (raw rest : List ℕ)
+      → text ≡ raw ++ b ∷ rest → IsPart false raw → b ≡ 0
       → ValueStops text (line_feeds raw) Nul
-  unclosed : {text : List ℕ} (raw rest : List ℕ) → text ≡ raw ++ rest → IsPart true raw → EndsText rest
+  unclosed : {text : List ℕ} (raw rest : List ℕ)
+      → text ≡ raw ++ rest → IsPart true raw → EndsText rest
       → ValueStops text (line_feeds raw) (fault_at rest)
-  unclosed_open_end : {b : ℕ} {text : List ℕ} (raw : List ℕ) → text ≡ raw ++ b ∷ [] → IsPart true raw → b ≡ backslash
+  unclosed_open_end : {b : ℕ} {text : List ℕ} (raw : List ℕ)
+      → text ≡ raw ++ b ∷ [] → IsPart true raw → b ≡ backslash
       → ValueStops text (line_feeds raw + 1) BadLine
-  no_escape : {b : ℕ} {text : List ℕ} (quoted : Bool) (raw rest : List ℕ) → text ≡ raw ++ b ∷ rest → IsPart quoted raw → b ≡ backslash
-      → IsNoEscape rest → ValueStops text (line_feeds raw) (fault_at rest)
+  no_escape : {b : ℕ} {text : List ℕ} (quoted : Bool) (raw rest : List ℕ)
+      → text ≡ raw ++ b ∷ rest → IsPart quoted raw → b ≡ backslash → IsNoEscape rest
+      → ValueStops text (line_feeds raw) (fault_at rest)

@@ -4,7 +4,7 @@ use Rattle.config_file.specs.declared.entry.Entry as code
 use Rattle.config_file.specs.declared.section.Section as section
 use Rattle.config_file.specs.declared.value.Value as value
 use Rattle.config_file.specs.Header.{Section}
-use Rattle.config_file.specs.File.{Entry}
+use Rattle.config_file.specs.File.{Entry, entry_at}
 
 -- a section by its bytes
 abbrev pub section_of : section.Section → Section
@@ -16,4 +16,4 @@ value_of v = option_map (λ value. value.raw.now) v
 
 -- an entry by its bytes
 abbrev pub entry_of : code.Entry → Entry
-entry_of e = record { section = option_map section_of e.section; key = e.key.now; value = value_of e.value; line = e.line }
+entry_of e = entry_at (option_map section_of e.section) e.key.now (value_of e.value) e.line

@@ -72,10 +72,11 @@ impl<'a> Entry<'a> {
         self.key.eq_ignore_ascii_case(key)
     }
 
-    /// The key as `git config --list` shows it: section and key in lower case, and the subsection as it is spelled.
-    /// It fails only if memory is refused.
+    /// The key as `git config --list` shows it: section and key in lower case, and the subsection as it is
+    /// spelled. It fails only if memory is refused.
     pub fn key_text(&self, alloc: Global) -> Result<Vec<u8>, AllocError>
-        ensures { (listed : List ℕ) → IsListed (option_map section_of self.now.section) self.now.key.now listed
+        ensures { (listed : List ℕ)
+            → IsListed (option_map section_of self.now.section) self.now.key.now listed
             → IfOk result (λ text. text.items ≡ listed) }
     {
         let mut text = Vec::new(alloc);

@@ -1,13 +1,14 @@
 //! Git's configuration files: the entries of a text, read as Git reads them (docs/FILES.md).
 //!
-//! [`reader::Entries`] lends the entries of a text one by one, in order, and takes no memory. Each has its section, its
-//! key, its value and its line. After the last one, or after the error at which the text is refused, it ends.
-//! [`file::read`] reads a whole text. An [`errors::Error`] has the line that Git tells, and the fault.
+//! [`reader::Entries`] lends the entries of a text one by one, in order, and takes no memory. After the last
+//! one, or after the error at which the text is refused, it ends. [`file::read`] reads a whole text. An
+//! [`errors::Error`] has the line that Git tells, and the fault.
 //!
-//! The parts of an [`entry::Entry`] are borrowed from the text. A [`value::Value`] gives the text that its bytes spell,
-//! and a [`section::Subsection`] appends it. [`entry::Entry::key_text`] is the key as `git config --list` shows it.
+//! The parts of an [`entry::Entry`] are borrowed from the text. A [`value::Value`] gives the text that its bytes
+//! spell, and a [`section::Subsection`] appends it. [`entry::Entry::key_text`] is the key as `git config --list`
+//! shows it.
 //!
-//! [`laws`] states that a text has one reading, so it is not both read and refused.
+//! [`laws`] states that a text has one reading, so none is both read and refused.
 #![tactic(auto)]
 
 mod bytes;

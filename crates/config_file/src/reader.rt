@@ -9,8 +9,8 @@ use crate::errors::{Error, Stop, fault_at};
 use crate::header::read_header;
 use crate::section::Section;
 
-/// The entries of a text that are left. It yields each entry, in order, and takes no memory. At an item that Git
-/// refuses it yields the error, and nothing after it. Texts of any length are read, in one pass.
+/// The entries of a text that are left. It yields each entry, in order, and takes no memory. At an item that
+/// Git refuses it yields the error, and nothing after it. Texts of any length are read, in linear time.
 ///
 /// ```rust
 /// use config_file::errors::Fault;
@@ -131,7 +131,8 @@ impl<'a> Iterator for Entries<'a> {
 
     ghost remaining = { λ entries. at_most (length entries.rest.now) };
 
-    /// The next entry, or the error at which the text is refused. After the last entry and after an error, `None`.
+    /// The next entry, or the error at which the text is refused. After the last entry and after an error it
+    /// returns `None`.
     fn next(&mut self) -> Option<Result<Entry<'a>, Error>> {
         'items: while let Some((byte, rest)) = split(self.rest) {
             if is_blank(byte) {

@@ -33,8 +33,8 @@ pub struct Subsection<'a> {
 }
 
 impl<'a> Subsection<'a> {
-    /// Appends the text that these bytes spell, where a backslash is dropped and the byte after it is kept. It fails only if
-    /// memory is refused.
+    /// Appends the text that these bytes spell, where a backslash is dropped and the byte after it is kept. It
+    /// fails only if memory is refused.
     pub fn push_text(&self, text: &mut Vec<u8>) -> Result<(), AllocError>
         ensures { (spelled : List ℕ) → SpellsSubsection self.now.raw.now spelled
             → OnOk result (text.new.items ≡ text.old.items ++ spelled) }
@@ -69,7 +69,8 @@ impl<'a> Subsection<'a> {
 
 /// The first byte of the text that these bytes spell, and the bytes that spell what follows it.
 fn spelled_byte(raw: &[u8]) -> Option<(u8, &[u8])>
-    ensures spelled { (spelled : List ℕ) → SpellsSubsection raw.now spelled → MatchOption result (spelled ≡ [])
+    ensures spelled { (spelled : List ℕ) → SpellsSubsection raw.now spelled
+        → MatchOption result (spelled ≡ [])
         (λ p. (more : List ℕ) × SpellsSubsection p.1.now more × (spelled ≡ p.0 ∷ more)) }
     ensures shorter { IfSome result (λ p. length p.1.now < length raw.now) }
 {

@@ -41,8 +41,8 @@ pub(crate) struct Taken<'a> {
 }
 
 impl<'a> Value<'a> {
-    /// The text that these bytes spell: docs/FILES.md, Values. It is borrowed, and takes no memory, if they have no quote and
-    /// no backslash, and each blank within the text is a space. It fails only if memory is refused.
+    /// The text that these bytes spell: docs/FILES.md, Values. It is borrowed, and takes no memory, if they have
+    /// no quote and no backslash, and each blank within the text is a space. It fails only if memory is refused.
     ///
     /// ```rust
     /// use config_file::reader::Entries;
@@ -233,7 +233,8 @@ fn end<'a>(text: &'a [u8], at: &'a [u8], quoted: bool) -> Result<Taken<'a>, Stop
     }
 }
 
-/// Ends a value at a backslash: the last byte of the text continues over its end, and any other stops the reading.
+/// Ends a value at a backslash: as the last byte of the text it continues over the end, and any other stops
+/// the reading.
 fn end_after_backslash<'a>(
     text: &'a [u8],
     at: &[u8],

@@ -28,7 +28,8 @@ pub record PassedValue (text : List ℕ) (quoted : Bool) (at : List ℕ) : Type 
   pub value : List ℕ
   pub held : ℕ
   pub joined : text ≡ raw ++ at
-  pub extends : (more spelled : List ℕ) (ending : Ending) → Spells quoted value held more spelled ending → SpellsValue (raw ++ more) spelled ending
+  pub extends : (more spelled : List ℕ) (ending : Ending)
+      → Spells quoted value held more spelled ending → SpellsValue (raw ++ more) spelled ending
 
 -- the scan of a value goes on after this byte
 abbrev pub goes_on : Bool → ℕ → Bool
@@ -44,7 +45,9 @@ EndsScan quoted (b ∷ rest) = goes_on quoted b ≡ false
 pub data Escapes : List ℕ → List ℕ → Type 0 where
   letter : {e c : ℕ} {text rest : List ℕ} → text ≡ e ∷ rest → escape e ≡ Some c → Escapes text rest
   line : {e : ℕ} {text rest : List ℕ} → text ≡ e ∷ rest → e ≡ line_feed → Escapes text rest
-  line_after_return : {e f : ℕ} {text rest : List ℕ} → text ≡ e ∷ f ∷ rest → e ≡ carriage_return → f ≡ line_feed → Escapes text rest
+  line_after_return : {e f : ℕ} {text rest : List ℕ}
+      → text ≡ e ∷ f ∷ rest → e ≡ carriage_return → f ≡ line_feed
+      → Escapes text rest
 
 -- the text begins with a letter
 abbrev pub BeginsWithLetter : List ℕ → Type 0
@@ -68,8 +71,8 @@ abbrev pub append_some : List ℕ → Option ℕ → List ℕ
 append_some value None = value
 append_some value (Some b) = value ++ b ∷ []
 
--- Of the bytes of a value after their first blanks, a front is the text so far, and a gap of blanks follows it, of spaces
--- unless it has another blank.
+-- of a value after its first blanks, a front is the text so far, and a gap of blanks follows it, of spaces
+-- unless it has another blank
 pub record PassedPlain (raw start at : List ℕ) (count : ℕ) (has_other_blank : Bool) : Type 0 where
   pub front : List ℕ
   pub gap : List ℕ
