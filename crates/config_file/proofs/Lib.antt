@@ -7,3 +7,8 @@ pub mod Bounds
 pub mod Readings
 pub mod Spelled
 pub mod Listed
+pub mod Spellings
+pub mod SpelledHeaders
+pub mod LineEnds
+pub mod Appended
+pub mod AddedEntries

@@ -8,4 +8,5 @@ pub mod file;
 mod header;
 pub mod reader;
 pub mod section;
+pub mod spelling;
 pub mod value;
