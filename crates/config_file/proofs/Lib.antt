@@ -15,3 +15,8 @@ pub mod OneHeader
 pub mod OneEntry
 pub mod OneReading
 pub mod Plain
+pub mod Spellings
+pub mod SpelledHeaders
+pub mod LineEnds
+pub mod Appended
+pub mod AddedEntries

@@ -44,10 +44,17 @@ pub(crate) fn is_comment_sign(byte: u8) -> bool
 }
 
 #[inline]
-fn is_key_byte(byte: u8) -> bool
+pub(crate) fn is_key_byte(byte: u8) -> bool
     ensures { result ≡ spec.is_key_byte byte }
 {
     byte.is_ascii_alphanumeric() || byte == b'-'
+}
+
+#[inline]
+pub(crate) fn is_name_byte(byte: u8) -> bool
+    ensures { result ≡ spec.is_name_byte byte }
+{
+    is_key_byte(byte) || byte == b'.'
 }
 
 /// Whether this byte is neither LF nor NUL.
@@ -84,7 +91,7 @@ fn is_in(class: Class, byte: u8) -> bool
     ensures { result ≡ passes class byte }
 {
     match class {
-        Class::Name => is_key_byte(byte) || byte == b'.',
+        Class::Name => is_name_byte(byte),
         Class::Key => is_key_byte(byte),
         Class::Blank => is_blank(byte),
         Class::Space => byte == b' ' || byte == b'\t',

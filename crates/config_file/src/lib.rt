@@ -19,4 +19,5 @@ mod header;
 pub mod laws;
 pub mod reader;
 pub mod section;
+pub mod spelling;
 pub mod value;

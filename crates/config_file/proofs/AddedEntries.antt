@@ -1,0 +1,212 @@
+-- An entry that is added to a configuration file.
+use Rattle.std.proofs.Common.{◌≡◌, ◌≢◌, ℕ, ◌+◌, Bool, true, false, List, [], ◌∷◌, ◌++◌, Option, Some, None, refl, sym, ap, ◌∙◌, subst, append_assoc, append-nil, arith, inl, inr, ◌⊎◌, ◌==◌, ◌&&◌, ◌||◌}
+use Rattle.std.specs.List.{list_all, flat_map}
+use Rattle.std.specs.Char.{is_ascii_alphabetic}
+use Rattle.std.proofs.lemmas.List.Folds.{list_all-append}
+use Rattle.std.proofs.lemmas.Bool.{cases_Bool, true≢false}
+use Rattle.std.proofs.lemmas.Bool.Decides.{nat_tests}
+use Rattle.config_file.specs.Bytes.{is_comment_byte, is_key_byte, is_blank, is_comment_sign}
+use Rattle.config_file.specs.Runs.{Run}
+use Rattle.config_file.specs.Header.{Section, Header}
+use Rattle.config_file.specs.Value.{TakesValue, closed, line_feeds}
+use Rattle.config_file.specs.File as file
+use Rattle.config_file.specs.File.{Entry, TakesKey, TakesEntry, alone, valued, Reads, Begins, marked, part_of_mark, unmarked, after_mark, IsPartOfMark, IsFile}
+use Rattle.config_file.specs.Spelling.{EndsLine, IsHeader, IsSpelling, SpellsOptional, IsEntry, AddsEntry, HasNoHeader, IsNoKey, LacksSpelling}
+use Rattle.config_file.specs.Reading.Spellings.{letter_of, spelled_byte, after_backslash, is_quoted, spelled_value, is_spellable, is_spellable_or_absent, is_key, spelled_line, is_section, spelled_section, is_writable}
+use Rattle.config_file.proofs.LineEnds.{line_feeds_after, line_feeds_none, ends_line_after}
+use Rattle.config_file.proofs.Spellings.{value_spelled, not_spelled}
+use Rattle.config_file.proofs.SpelledHeaders.{header_spelled, no_header, no_key}
+use Rattle.config_file.proofs.Appended.{reads_more, both_other}
+
+-- no LF is spelled
+letter_other : (q : Bool) (b l : ℕ) → letter_of q b ≡ Some l → is_comment_byte l ≡ true
+letter_other true b l e = grind (arith, nat_tests)
+letter_other false b l e = grind (arith, nat_tests)
+
+no_letter_other : (q : Bool) (b : ℕ) → letter_of q b ≡ None → is_comment_byte b ≡ true
+no_letter_other true b e = grind (arith, nat_tests)
+no_letter_other false b e = grind (arith, nat_tests)
+
+byte_other : (q : Bool) (b : ℕ) (o : Option ℕ) → letter_of q b ≡ o → list_all is_comment_byte (after_backslash b o) ≡ true
+byte_other q b (Some l) is = rw (letter_other q b l is)
+byte_other q b None is = rw (no_letter_other q b is)
+
+bytes_other : (q : Bool) (value : List ℕ) → list_all is_comment_byte (flat_map (spelled_byte q) value) ≡ true
+bytes_other q [] = refl
+bytes_other q (b ∷ value) = both_other (spelled_byte q b) (flat_map (spelled_byte q) value) (byte_other q b (letter_of q b) refl) (bytes_other q value)
+
+value_lines : (value : List ℕ) → line_feeds (spelled_value value) ≡ 0
+value_lines value =
+    elim (cases_Bool (is_quoted value)) [
+      | inl is ↦ rw is
+          (line_feeds_none (34 ∷ (flat_map (spelled_byte true) value ++ 34 ∷ [])) (both_other (flat_map (spelled_byte true) value) (34 ∷ []) (bytes_other true value) refl))
+      | inr other ↦ rw other (line_feeds_none (flat_map (spelled_byte false) value) (bytes_other false value))
+    ]
+
+-- a line with a key, and a value if there is one
+value_of : Option (List ℕ) → Option (List ℕ)
+value_of None = None
+value_of (Some value) = Some (spelled_value value)
+
+key_then : (k : ℕ) (key rest : List ℕ) (b : ℕ) → list_all is_key_byte (k ∷ key) ≡ true → is_key_byte b ≡ false → (b == 32 || b == 9) ≡ false
+    → TakesKey ((k ∷ key) ++ b ∷ rest) (k ∷ key) (b ∷ rest)
+key_then k key rest b all no_key no_space =
+    record {
+      spaced = b ∷ rest;
+      spaces = [];
+      key_run = record { joined = refl; pass = all; longest = no_key };
+      space_run = record { joined = refl; pass = refl; longest = no_space };
+    }
+
+line_taken : (k : ℕ) (key : List ℕ) (value : Option (List ℕ)) → is_key (k ∷ key) ≡ true → is_spellable_or_absent value ≡ true
+    → TakesEntry (spelled_line (k ∷ key) value) (k ∷ key) (value_of value) 0 (10 ∷ [])
+unfolding value_of
+line_taken k key None is spellable =
+    let all : list_all is_key_byte (k ∷ key) ≡ true = grind (arith, nat_tests) in
+    alone (key_then k key [] 10 all refl refl) refl
+line_taken k key (Some value) is spellable =
+    let all : list_all is_key_byte (k ∷ key) ≡ true = grind (arith, nat_tests) in
+    let raw = spelled_value value in
+    let after = raw ++ 10 ∷ [] in
+    let taken : TakesValue after raw (line_feeds raw) (10 ∷ []) = closed refl (value_spelled value spellable) (inl refl) in
+    let none = value_lines value in
+    valued (key_then k key after 61 all refl refl) refl (subst (λ l. TakesValue after raw l (10 ∷ [])) none taken)
+
+value_spells : (value : Option (List ℕ)) → is_spellable_or_absent value ≡ true → SpellsOptional IsSpelling (value_of value) value
+unfolding value_of
+value_spells None is = tt
+value_spells (Some value) is = value_spelled value is
+
+entry_on : Section → List ℕ → Option (List ℕ) → ℕ → Entry
+entry_on section key value line = record { section = Some section; key = key; value = value_of value; line = line }
+
+line_reads : (section : Section) (key : List ℕ) (value : Option (List ℕ)) (line : ℕ) → is_key key ≡ true → is_spellable_or_absent value ≡ true
+    → Reads (Some section) line (spelled_line key value) (entry_on section key value line ∷ []) None
+unfolding entry_on
+line_reads section [] value line is spellable = cc
+line_reads section (k ∷ key) None line is spellable =
+    let letter : is_ascii_alphabetic k ≡ true = grind (arith, nat_tests) in
+    let same : line + 0 ≡ line = omega arith in
+    let left : Reads (Some section) (line + 0) (10 ∷ []) [] None = file.line_end refl file.ends in
+    let read = file.entry {section = Some section} {line = line} letter (line_taken k key None is spellable) left in
+    rw same at read
+line_reads section (k ∷ key) (Some value) line is spellable =
+    let letter : is_ascii_alphabetic k ≡ true = grind (arith, nat_tests) in
+    let same : line + 0 ≡ line = omega arith in
+    let left : Reads (Some section) (line + 0) (10 ∷ []) [] None = file.line_end refl file.ends in
+    let read = file.entry {section = Some section} {line = line} letter (line_taken k key (Some value) is spellable) left in
+    rw same at read
+
+-- the beginning of a text, and of what it is continued by
+begins_no_mark : {section : Option Section} {line b : ℕ} {text : List ℕ} {entries : List Entry} → Reads section line (b ∷ text) entries None → b ≢ 0xef
+begins_no_mark (file.blank is h) e = grind (arith, nat_tests)
+begins_no_mark (file.line_end is h) e = omega arith
+begins_no_mark (file.comment is run h) e = grind (arith, nat_tests)
+begins_no_mark (file.header is header h) e = omega arith
+begins_no_mark (file.entry letter takes h) e = grind (arith, nat_tests)
+
+no_mark : (b : ℕ) (text : List ℕ) → b ≢ 0xef → after_mark (b ∷ text) ≡ None
+no_mark b [] other = refl
+no_mark b (c ∷ []) other = refl
+no_mark b (c ∷ d ∷ text) other = let no : (b == 0xef) ≡ false = grind (arith, nat_tests) in rw no
+
+no_part_of_mark : (b : ℕ) (text : List ℕ) → b ≢ 0xef → IsPartOfMark (b ∷ text) → ⊥
+no_part_of_mark b [] other part = other part
+no_part_of_mark b (c ∷ text) other part = other part.0
+
+begins_unmarked : (b : ℕ) (text : List ℕ) → b ≢ 0xef → Begins (b ∷ text) 1 (b ∷ text)
+begins_unmarked b text other = unmarked (no_mark b text other) (no_part_of_mark b text other)
+
+mark_is : (text rest : List ℕ) → after_mark text ≡ Some rest → text ≡ 0xef ∷ 0xbb ∷ 0xbf ∷ rest
+mark_is [] rest e = cc
+mark_is (a ∷ []) rest e = cc
+mark_is (a ∷ b ∷ []) rest e = cc
+mark_is (a ∷ b ∷ c ∷ text) rest e =
+    elim (cases_Bool ((a == 0xef && b == 0xbb) && c == 0xbf)) [
+      | inl is ↦
+          let some : Some text ≡ Some rest = rw is at e in
+          let same : text ≡ rest = cc in
+          let first : a ≡ 0xef = grind (arith, nat_tests) in
+          let second : b ≡ 0xbb = grind (arith, nat_tests) in
+          let third : c ≡ 0xbf = grind (arith, nat_tests) in
+          rw (same, first, second, third)
+      | inr other ↦ let none : None ≡ Some rest = rw other at e in cc
+    ]
+
+module _ (bytes : List ℕ) (last : List Entry) (end : ℕ) (reads : (section : Option Section) → Reads section end (91 ∷ bytes) last None) where
+  unmarked_more : (text : List ℕ) (entries : List Entry) → Reads None 1 text entries None → EndsLine text → 1 + line_feeds text ≡ end
+      → IsFile (text ++ 91 ∷ bytes) (entries ++ last) None
+  unmarked_more [] entries h ends e =
+      let bracket : 91 ≢ 0xef = omega arith in
+      record { line = 1; rest = 91 ∷ bytes; begins = begins_unmarked 91 bytes bracket; reads = reads_more (91 ∷ bytes) last end reads h ends e }
+  unmarked_more (b ∷ text) entries h ends e =
+      record {
+        line = 1;
+        rest = (b ∷ text) ++ 91 ∷ bytes;
+        begins = begins_unmarked b (text ++ 91 ∷ bytes) (begins_no_mark h);
+        reads = reads_more (91 ∷ bytes) last end reads h ends e;
+      }
+
+  begun_more : {text rest : List ℕ} {line : ℕ} {entries : List Entry} → Begins text line rest → Reads None line rest entries None → EndsLine text
+      → 1 + line_feeds text ≡ end → IsFile (text ++ 91 ∷ bytes) (entries ++ last) None
+  begun_more {entries = entries} (marked {text = text} {rest = rest} mark) h ends e =
+      let same = mark_is text rest mark in
+      let f = line_feeds_after (0xef ∷ 0xbb ∷ 0xbf ∷ []) rest same refl in
+      record {
+        line = 1;
+        rest = rest ++ 91 ∷ bytes;
+        begins = rw same (marked refl);
+        reads = reads_more (91 ∷ bytes) last end reads h (ends_line_after (0xef ∷ 0xbb ∷ 0xbf ∷ []) rest same ends) (omega arith);
+      }
+  begun_more (part_of_mark {text = []} part) h ends e = absurd part
+  begun_more (part_of_mark {text = b ∷ []} part) h ends e = absurd (begins_no_mark h part)
+  begun_more (part_of_mark {text = b ∷ c ∷ text} part) h ends e = absurd (begins_no_mark h part.0)
+  begun_more {entries = entries} (unmarked {text = text} none other) h ends e = unmarked_more text entries h ends e
+
+pub entry_added : (bytes name : List ℕ) (text : Option (List ℕ)) (key : List ℕ) (value : Option (List ℕ)) → IsHeader bytes name text
+    → is_key key ≡ true → is_spellable_or_absent value ≡ true → AddsEntry (bytes ++ spelled_line key value) name text key value
+unfolding entry_on
+entry_added bytes name text key value (inner, section, same, names, header) is spellable file_text entries is_file ends =
+    let end = 1 + line_feeds file_text in
+    let entry = entry_on section key value end in
+    let line = spelled_line key value in
+    let reads : (before : Option Section) → Reads before end (91 ∷ (inner ++ line)) (entry ∷ []) None =
+    λ before. file.header refl (header line) (line_reads section key value end is spellable) in
+    let is_entry : IsEntry name text key value end entry =
+    record { section = (section, refl, names); same_key = refl; spells = value_spells value spellable; same_line = refl } in
+    (entry, is_entry, rw same (begun_more (inner ++ line) (entry ∷ []) end reads is_file.begins is_file.reads ends refl))
+
+-- what an entry may not have
+lacks_spelling : (value : Option (List ℕ)) → is_spellable_or_absent value ≡ false → LacksSpelling value
+lacks_spelling None no_value = absurd (true≢false no_value)
+lacks_spelling (Some value) refused = not_spelled value refused
+
+pub not_writable : (name : List ℕ) (text : Option (List ℕ)) (key : List ℕ) (value : Option (List ℕ)) → is_writable name text key value ≡ false
+    → HasNoHeader name text ⊎ IsNoKey key ⊎ LacksSpelling value
+not_writable name text key value refused =
+    elim (cases_Bool (is_section name text)) [
+      | inr none ↦ inl (no_header name text none)
+      | inl section ↦ elim (cases_Bool (is_key key)) [
+        | inr none ↦ inr (inl (no_key key none))
+        | inl is ↦
+            let value_refused : is_spellable_or_absent value ≡ false = rw (section, is) at refused in
+            inr (inr (lacks_spelling value value_refused))
+      ]
+    ]
+
+and_left : (a b : Bool) → (a && b) ≡ true → a ≡ true
+and_left true b e = refl
+and_left false b e = e
+
+and_right : (a b : Bool) → (a && b) ≡ true → b ≡ true
+and_right true b e = e
+and_right false b e = absurd (true≢false (sym e))
+
+pub writable_added : (name : List ℕ) (text : Option (List ℕ)) (key : List ℕ) (value : Option (List ℕ)) → is_writable name text key value ≡ true
+    → AddsEntry ((91 ∷ spelled_section name text) ++ spelled_line key value) name text key value
+writable_added name text key value all =
+    let first = and_left _ (is_spellable_or_absent value) all in
+    let section : is_section name text ≡ true = and_left _ (is_key key) first in
+    let is : is_key key ≡ true = and_right (is_section name text) _ first in
+    let spellable : is_spellable_or_absent value ≡ true = and_right (is_section name text && is_key key) _ all in
+    entry_added (91 ∷ spelled_section name text) name text key value (header_spelled name text section) is spellable

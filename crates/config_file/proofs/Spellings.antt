@@ -1,0 +1,166 @@
+-- Spellings of values.
+use Rattle.std.proofs.Common.{◌≡◌, ◌≢◌, ℕ, zero, suc, ◌+◌, ◌-◌, ◌≤◌, Bool, true, false, not, ◌&&◌, ◌||◌, cond, List, [], ◌∷◌, ◌++◌, Option, Some, None, length, refl, sym, ap, ◌∙◌, subst, append_assoc, append-nil, arith, inl, inr, ◌⊎◌, ◌==◌, slice_index_or}
+use Rattle.std.specs.Prelude.{replicate, nat_eq}
+use Rattle.std.specs.List.{flat_map, list_all, list_any}
+use Rattle.std.proofs.lemmas.List.{replicate_more}
+use Rattle.std.proofs.lemmas.Grind.{common_steps}
+use Rattle.std.proofs.lemmas.List.Folds.{list_all-append}
+use Rattle.std.proofs.lemmas.Bool.{cases_Bool, true≢false}
+use Rattle.std.proofs.lemmas.Bool.Decides.{nat_tests}
+use Rattle.config_file.specs.Bytes.{is_plain, is_blank}
+use Rattle.config_file.specs.Value.{Ending, outside, Spells, ends_outside, ends_inside, ends_at_backslash, quote, escaped, continued, continued_after_return, blank, plain, kept, escape}
+use Rattle.config_file.specs.Spelling.{IsSpelling, HasNoSpelling}
+use Rattle.config_file.specs.Reading.Spellings.{letter_of, after_backslash, spelled_byte, is_lost, begins_with_space, ends_with_space, is_quoted, spelled_value, is_spellable}
+
+pub ends_with_space_at : (value : List ℕ) → 1 ≤ length value → nat_eq (slice_index_or value (length value - 1) 0) 32 ≡ ends_with_space value
+ends_with_space_at [] some = cc
+ends_with_space_at (b ∷ []) some = refl
+ends_with_space_at (b ∷ c ∷ rest) some =
+    let next : length (b ∷ c ∷ rest) - 1 ≡ suc (length (c ∷ rest) - 1) = omega arith in
+    let more = ends_with_space_at (c ∷ rest) (omega arith) in rw next more
+
+kept_none : (value : List ℕ) → kept value 0 ≡ value
+kept_none [] = refl
+kept_none (b ∷ value) = ap (◌∷◌ b) (append-nil value)
+
+letter_escapes : (q : Bool) (b l : ℕ) → letter_of q b ≡ Some l → escape l ≡ Some b
+letter_escapes true b l e = grind (arith, nat_tests)
+letter_escapes false b l e = grind (arith, nat_tests)
+
+plain_in_quotes : (b : ℕ) → letter_of true b ≡ None → b ≢ 0 → is_plain true b ≡ true
+plain_in_quotes b e some = grind (arith, nat_tests)
+
+plain_outside : (b : ℕ) → letter_of false b ≡ None → b ≢ 0 → is_lost b ≡ false → b ≢ 32 → is_plain false b ≡ true
+plain_outside b e some found other = grind (arith, nat_tests)
+
+-- a byte of a value, and how it is spelled
+spelled_next : {q : Bool} {value raw text : List ℕ} {held : ℕ} {e : Ending} (b : ℕ) (o : Option ℕ) → letter_of q b ≡ o
+    → (letter_of q b ≡ None → is_plain q b ≡ true)
+    → Spells q (kept value held ++ b ∷ []) 0 raw text e → Spells q value held (after_backslash b o ++ raw) text e
+spelled_next {q = q} b (Some l) is no_letter h = escaped refl (letter_escapes q b l is) h
+spelled_next b None is no_letter h = plain (no_letter is) h
+
+spelled_quoted : (value before : List ℕ) → is_spellable value ≡ true
+    → Spells true before 0 (flat_map (spelled_byte true) value ++ 34 ∷ []) (before ++ value) outside
+spelled_quoted [] before all = quote refl (rw (kept_none before, append-nil before) ends_outside)
+spelled_quoted (b ∷ rest) before all =
+    let some : b ≢ 0 = grind (arith, nat_tests) in
+    let others : is_spellable rest ≡ true = grind (arith, nat_tests) in
+    let more = spelled_quoted rest (before ++ b ∷ []) others in
+    let same : (before ++ b ∷ []) ++ rest ≡ before ++ b ∷ rest = append_assoc before (b ∷ []) rest in
+    rw (append_assoc (spelled_byte true b) (flat_map (spelled_byte true) rest) (34 ∷ [])) (spelled_next b (letter_of true b) refl (λ e. plain_in_quotes b e some) (rw (kept_none before) (rw same at more)))
+
+last_is_no_space : (b : ℕ) (rest : List ℕ) → ends_with_space (b ∷ rest) ≡ false → ends_with_space rest ≡ false
+last_is_no_space b [] e = refl
+last_is_no_space b (c ∷ rest) e = e
+
+last_alone_is_no_space : (b : ℕ) (rest : List ℕ) → ends_with_space (b ∷ rest) ≡ false → b ≡ 32 → rest ≡ [] → ⊥
+last_alone_is_no_space b [] last is none = grind (arith, nat_tests)
+last_alone_is_no_space b (c ∷ rest) last is none = cc
+
+pushed_before : (xs ys rest : List ℕ) (b : ℕ) → (xs ++ (ys ++ b ∷ [])) ++ rest ≡ (xs ++ ys) ++ b ∷ rest
+pushed_before xs ys rest b = ap (λ l. l ++ rest) (sym (append_assoc xs ys (b ∷ []))) ∙ append_assoc (xs ++ ys) (b ∷ []) rest
+
+blank_next : {raw : List ℕ} (before rest : List ℕ) (first held : ℕ)
+    → Spells false (first ∷ before) (held + 1) raw (kept (first ∷ before) (held + 1) ++ rest) outside
+    → Spells false (first ∷ before) held (32 ∷ raw) (kept (first ∷ before) held ++ 32 ∷ rest) outside
+blank_next before rest first held h =
+    let more : replicate (held + 1) 32 ≡ replicate held 32 ++ 32 ∷ [] = sym (replicate_more {X = ℕ} held 32) in
+    let same : kept (first ∷ before) (held + 1) ++ rest ≡ kept (first ∷ before) held ++ 32 ∷ rest =
+    rw more (pushed_before (first ∷ before) (replicate held 32) rest 32) in
+    blank refl (rw same at h)
+
+spelled_after : (value before : List ℕ) (first held : ℕ) → is_spellable value ≡ true → list_any is_lost value ≡ false → ends_with_space value ≡ false
+    → (value ≡ [] → held ≡ 0)
+    → Spells false (first ∷ before) held (flat_map (spelled_byte false) value) (kept (first ∷ before) held ++ value) outside
+spelled_after [] before first held all found last none =
+    let e = none refl in rw (e, append-nil before, append-nil (first ∷ before)) ends_outside
+spelled_after (b ∷ rest) before first held all found last none =
+    let some : b ≢ 0 = grind (arith, nat_tests) in
+    let others : is_spellable rest ≡ true = grind (arith, nat_tests) in
+    let not_lost : is_lost b ≡ false = grind (arith, nat_tests) in
+    let no_others : list_any is_lost rest ≡ false = grind (arith, nat_tests) in
+    let last_other = last_is_no_space b rest last in
+    elim (cases_Bool (b == 32)) [
+      | inl is ↦
+          let same : b ≡ 32 = grind (arith, nat_tests) in
+          let more = spelled_after rest before first (held + 1) others no_others last_other (λ e. absurd (last_alone_is_no_space b rest last same e)) in
+          rw same (blank_next before rest first held more)
+      | inr other ↦
+          let no_space : b ≢ 32 = grind (arith, nat_tests) in
+          let now = before ++ replicate held 32 ++ b ∷ [] in
+          let more = spelled_after rest now first 0 others no_others last_other (λ e. refl) in
+          let same : kept (first ∷ now) 0 ++ rest ≡ kept (first ∷ before) held ++ b ∷ rest =
+          rw (append-nil now) (ap (◌∷◌ first) (append_assoc (before ++ replicate held 32) (b ∷ []) rest)) in
+          spelled_next b (letter_of false b) refl (λ e. plain_outside b e some not_lost no_space) (rw same at more)
+    ]
+
+spelled_outside : (value : List ℕ) → is_spellable value ≡ true → list_any is_lost value ≡ false → begins_with_space value ≡ false → ends_with_space value ≡ false
+    → Spells false [] 0 (flat_map (spelled_byte false) value) value outside
+spelled_outside [] all found first last = ends_outside
+spelled_outside (b ∷ rest) all found first last =
+    let some : b ≢ 0 = grind (arith, nat_tests) in
+    let others : is_spellable rest ≡ true = grind (arith, nat_tests) in
+    let not_lost : is_lost b ≡ false = grind (arith, nat_tests) in
+    let no_others : list_any is_lost rest ≡ false = grind (arith, nat_tests) in
+    let no_space : b ≢ 32 = grind (arith, nat_tests) in
+    spelled_next b (letter_of false b) refl (λ e. plain_outside b e some not_lost no_space)
+    (spelled_after rest [] b 0 others no_others (last_is_no_space b rest last) (λ e. refl))
+
+or_left : (a b : Bool) → (a || b) ≡ false → a ≡ false
+or_left true b e = absurd (true≢false e)
+or_left false b e = refl
+
+or_right : (a b : Bool) → (a || b) ≡ false → b ≡ false
+or_right true b e = absurd (true≢false e)
+or_right false b e = e
+
+pub value_spelled : (value : List ℕ) → is_spellable value ≡ true → IsSpelling (spelled_value value) value
+value_spelled value all =
+    elim (cases_Bool (is_quoted value)) [
+      | inl is ↦ rw is (quote refl (spelled_quoted value [] all))
+      | inr other ↦
+          let without_tabs = or_left _ _ other in
+          let spaces = or_left _ _ without_tabs in
+          let found : list_any is_lost value ≡ false = or_right (begins_with_space value || ends_with_space value) _ without_tabs in
+          let first : begins_with_space value ≡ false = or_left _ (ends_with_space value) spaces in
+          let last : ends_with_space value ≡ false = or_right (begins_with_space value) _ spaces in
+          rw other (spelled_outside value all found first last)
+    ]
+
+-- no NUL is spelled
+spaces_spellable : (held : ℕ) → is_spellable (replicate held 32) ≡ true
+spaces_spellable zero = refl
+spaces_spellable (suc held) = spaces_spellable held
+
+kept_spellable : (value : List ℕ) (held : ℕ) → is_spellable value ≡ true → is_spellable (kept value held) ≡ true
+kept_spellable [] held all = refl
+kept_spellable (b ∷ value) held all =
+    let spaces = spaces_spellable held in rw (list_all-append (λ c. not (c == 0)) (b ∷ value) (replicate held 32), all, spaces)
+
+pushed_spellable : (value : List ℕ) (b : ℕ) → is_spellable value ≡ true → b ≢ 0 → is_spellable (value ++ b ∷ []) ≡ true
+pushed_spellable value b all some =
+    let this : not (b == 0) ≡ true = grind (arith, nat_tests) in rw (list_all-append (λ c. not (c == 0)) value (b ∷ []), all, this)
+
+escaped_is_some : (e c : ℕ) → escape e ≡ Some c → c ≢ 0
+escaped_is_some e c is none = grind (arith, nat_tests)
+
+plain_is_some : (q : Bool) (b : ℕ) → is_plain q b ≡ true → b ≢ 0
+plain_is_some true b is none = grind (arith, nat_tests)
+plain_is_some false b is none = grind (arith, nat_tests)
+
+spelled_spellable : {q : Bool} {value raw text : List ℕ} {held : ℕ} {e : Ending} → Spells q value held raw text e → is_spellable value ≡ true → is_spellable text ≡ true
+spelled_spellable ends_outside all = all
+spelled_spellable ends_inside all = all
+spelled_spellable (ends_at_backslash {value = value} {held = held} e) all = kept_spellable value held all
+spelled_spellable (quote {value = value} {held = held} e s) all = spelled_spellable s (kept_spellable value held all)
+spelled_spellable (escaped {value = value} {held = held} {e = e} {c = c} is l s) all =
+    spelled_spellable s (pushed_spellable (kept value held) c (kept_spellable value held all) (escaped_is_some e c l))
+spelled_spellable (continued {value = value} {held = held} e l s) all = spelled_spellable s (kept_spellable value held all)
+spelled_spellable (continued_after_return {value = value} {held = held} e l n s) all = spelled_spellable s (kept_spellable value held all)
+spelled_spellable (blank e s) all = spelled_spellable s all
+spelled_spellable (plain {quoted = q} {value = value} {held = held} {b = b} is s) all =
+    spelled_spellable s (pushed_spellable (kept value held) b (kept_spellable value held all) (plain_is_some q b is))
+
+pub not_spelled : (value : List ℕ) → is_spellable value ≡ false → HasNoSpelling value
+not_spelled value refused raw s = true≢false (sym (spelled_spellable s refl) ∙ refused)

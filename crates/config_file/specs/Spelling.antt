@@ -1,0 +1,72 @@
+-- Spellings: what bytes that are written read back to.
+use Rattle.std.specs.Prelude.{◌≡◌, ◌≢◌, ℕ, ◌+◌, true, List, [], ◌∷◌, ◌++◌, Option, Some, None, ⊤, ◌⊎◌}
+use Rattle.std.specs.Char.{is_ascii_alphabetic}
+use Rattle.config_file.specs.Bytes.{line_feed, carriage_return, backslash, left_bracket, is_key_byte}
+use Rattle.config_file.specs.Runs.{Run}
+use Rattle.config_file.specs.Subsection.{SpellsSubsection}
+use Rattle.config_file.specs.Header.{Section, Header}
+use Rattle.config_file.specs.Value.{outside, SpellsValue, line_feeds}
+use Rattle.config_file.specs.File.{Entry, IsFile}
+
+-- both are absent, or these bytes spell this text
+abbrev pub SpellsOptional : (List ℕ → List ℕ → Type 0) → Option (List ℕ) → Option (List ℕ) → Type 0
+SpellsOptional Spells None None = ⊤
+SpellsOptional Spells (Some raw) (Some text) = Spells raw text
+SpellsOptional Spells (Some raw) None = ⊥
+SpellsOptional Spells None (Some text) = ⊥
+
+-- the section of a header has this name, and its subsection spells this text
+abbrev pub Names : Section → List ℕ → Option (List ℕ) → Type 0
+Names section name subsection = (section.0 ≡ name) × SpellsOptional SpellsSubsection section.1 subsection
+
+-- these bytes are a header of this name and this subsection, whatever follows them
+abbrev pub IsHeader : List ℕ → List ℕ → Option (List ℕ) → Type 0
+IsHeader bytes name subsection =
+    (inner : List ℕ) × (section : Section) × (bytes ≡ left_bracket ∷ inner) × Names section name subsection
+    × ((rest : List ℕ) → Header (inner ++ rest) section rest)
+
+-- no header has this name and this subsection
+abbrev pub HasNoHeader : List ℕ → Option (List ℕ) → Type 0
+HasNoHeader name subsection =
+    (text rest : List ℕ) (section : Section) → Names section name subsection → ¬ (Header text section rest)
+
+-- no entry has this key, which begins with a letter and ends before a byte that is no letter, digit or `-`
+abbrev pub IsNoKey : List ℕ → Type 0
+IsNoKey key = (b : ℕ) (text rest : List ℕ) → is_ascii_alphabetic b ≡ true → ¬ (Run is_key_byte (b ∷ text) key rest)
+
+-- these bytes spell this value up to the end of its line
+abbrev pub IsSpelling : List ℕ → List ℕ → Type 0
+IsSpelling raw value = SpellsValue raw value outside
+
+-- no bytes spell this value
+abbrev pub HasNoSpelling : List ℕ → Type 0
+HasNoSpelling value = (raw : List ℕ) → ¬ (IsSpelling raw value)
+
+-- a value is given that no bytes spell
+abbrev pub LacksSpelling : Option (List ℕ) → Type 0
+LacksSpelling None = ⊥
+LacksSpelling (Some value) = HasNoSpelling value
+
+-- the text ends in a line end, which no backslash continues
+pub record HasLineEnd (text : List ℕ) : Type 0 where
+  pub line : List ℕ
+  pub joined : text ≡ line ++ line_feed ∷ []
+  pub not_continued : (front : List ℕ) → line ≢ front ++ backslash ∷ []
+  pub not_continued_after_return : (front : List ℕ) → line ≢ front ++ backslash ∷ carriage_return ∷ []
+
+-- a further line may follow the text: it is empty, or its last line has its end
+abbrev pub EndsLine : List ℕ → Type 0
+EndsLine text = (text ≡ []) ⊎ HasLineEnd text
+
+-- the entry has these parts, and this line
+pub record IsEntry (name : List ℕ) (subsection : Option (List ℕ)) (key : List ℕ) (value : Option (List ℕ)) (line : ℕ) (entry : Entry) : Type 0 where
+  pub section : (section : Section) × (entry.section ≡ Some section) × Names section name subsection
+  pub same_key : entry.key ≡ key
+  pub spells : SpellsOptional IsSpelling entry.value value
+  pub same_line : entry.line ≡ line
+
+-- After each configuration file that a further line may follow, these bytes are an entry more, on the line after the others.
+abbrev pub AddsEntry : List ℕ → List ℕ → Option (List ℕ) → List ℕ → Option (List ℕ) → Type 0
+AddsEntry bytes name subsection key value =
+    (text : List ℕ) (entries : List Entry) → IsFile text entries None → EndsLine text
+    → (entry : Entry) × IsEntry name subsection key value (1 + line_feeds text) entry × IsFile (text ++ bytes) (entries ++ entry ∷ []) None

@@ -1,0 +1,269 @@
+//! Spellings: the fewest bytes that read back to a value, a section header or an entry.
+ghost use Rattle.std.specs.Prelude.{◌≡◌, ◌++◌, ◌∷◌, [], ◌⊎◌, IfOk, OnOk, MatchOption, option_copied, count_by, ◌==◌};
+ghost use Rattle.std.specs.List.{flat_map, list_all, list_any};
+ghost use Rattle.config_file.specs.Bytes.{is_name_byte, is_text_byte, is_key_byte};
+ghost use Rattle.config_file.specs.Spelling.{IsSpelling, HasNoSpelling, LacksSpelling, IsHeader, HasNoHeader, IsNoKey, AddsEntry};
+ghost use Rattle.config_file.specs.Reading.Spellings as spec;
+ghost use Rattle.config_file.specs.Reading.Spellings.{spelled_byte, spelled_value, spelled_in_subsection, spelled_subsection, spelled_section, spelled_line};
+
+use crate::bytes;
+use std::alloc::{AllocError, Global};
+
+/// The fewest bytes that spell this value between an `=` and the end of its line, or `None` if it has a NUL.
+///
+/// ```
+/// let spelling = spell_value(alloc, b"a \"b\"")?;     // a \"b\"
+/// let spelling = spell_value(alloc, b"#a")?;          // "#a"
+/// ```
+pub fn spell_value(alloc: Global, value: &[u8]) -> Result<Option<Vec<u8>>, AllocError>
+    ensures { IfOk result (λ spelling. MatchOption spelling (HasNoSpelling value.now)
+        (λ raw. IsSpelling raw.items value.now)) }
+{
+    if !is_spellable(value) {
+        return Ok(None);
+    }
+    let mut spelling = Vec::new(alloc);
+    push_value(&mut spelling, value)?;
+    Ok(Some(spelling))
+}
+
+/// The fewest bytes that are the header of this section and subsection, or `None` if they have none: if the name has
+/// a byte that is no letter, digit, `-` or `.`, if it is empty and has no subsection, or if the subsection has an LF
+/// or a NUL.
+pub fn spell_header(
+    alloc: Global,
+    name: &[u8],
+    subsection: Option<&[u8]>,
+) -> Result<Option<Vec<u8>>, AllocError>
+    ensures { let text = option_copied subsection.entry in
+        IfOk result (λ spelling. MatchOption spelling (HasNoHeader name.now text)
+        (λ bytes. IsHeader bytes.items name.now text)) }
+{
+    if !is_section(name, subsection) {
+        return Ok(None);
+    }
+    let mut spelling = Vec::new(alloc);
+    push_header(&mut spelling, name, subsection)?;
+    Ok(Some(spelling))
+}
+
+/// The fewest bytes that are a line with a header and an entry, to go after any file whose last line has its line end.
+/// Without a value, the entry is its key alone. `None` if the section has no header, the value has a NUL, or the key
+/// is not a letter and then letters, digits and `-`.
+pub fn spell_entry(
+    alloc: Global,
+    name: &[u8],
+    subsection: Option<&[u8]>,
+    key: &[u8],
+    value: Option<&[u8]>,
+) -> Result<Option<Vec<u8>>, AllocError>
+    ensures { let text = option_copied subsection.entry in
+        let spelled = option_copied value.entry in
+        IfOk result (λ spelling. MatchOption spelling
+        (HasNoHeader name.now text ⊎ IsNoKey key.now ⊎ LacksSpelling spelled)
+        (λ bytes. AddsEntry bytes.items name.now text key.now spelled)) }
+{
+    if !is_writable(name, subsection, key, value) {
+        return Ok(None);
+    }
+    let mut spelling = Vec::new(alloc);
+    push_header(&mut spelling, name, subsection)?;
+    push_line(&mut spelling, key, value)?;
+    Ok(Some(spelling))
+}
+
+/// Whether a value has a spelling.
+fn is_spellable(value: &[u8]) -> bool
+    ensures { result ≡ spec.is_spellable value.now }
+{
+    value.iter().all(|byte| *byte != 0)
+}
+
+fn is_spellable_or_absent(value: Option<&[u8]>) -> bool
+    ensures { result ≡ spec.is_spellable_or_absent (option_copied value.entry) }
+{
+    match value {
+        Some(value) => is_spellable(value),
+        None => true,
+    }
+}
+
+fn are_name_bytes(name: &[u8]) -> bool
+    ensures { result ≡ list_all is_name_byte name.now }
+{
+    name.iter().all(|byte| bytes::is_name_byte(*byte))
+}
+
+fn are_text_bytes(text: &[u8]) -> bool
+    ensures { result ≡ list_all is_text_byte text.now }
+{
+    text.iter().all(|byte| bytes::is_text_byte(*byte))
+}
+
+fn are_key_bytes(key: &[u8]) -> bool
+    ensures { result ≡ list_all is_key_byte key.now }
+{
+    key.iter().all(|byte| bytes::is_key_byte(*byte))
+}
+
+/// Whether a section has a header.
+fn is_section(name: &[u8], subsection: Option<&[u8]>) -> bool
+    ensures { result ≡ spec.is_section name.now (option_copied subsection.entry) }
+{
+    match subsection {
+        Some(text) => are_name_bytes(name) && are_text_bytes(text),
+        None => !name.is_empty() && are_name_bytes(name),
+    }
+}
+
+/// Whether these bytes are a key.
+fn is_key(key: &[u8]) -> bool
+    ensures { result ≡ spec.is_key key.now }
+{
+    match key {
+        [first, ..] => first.is_ascii_alphabetic() && are_key_bytes(key),
+        [] => false,
+    }
+}
+
+/// Whether an entry has these parts.
+fn is_writable(name: &[u8], subsection: Option<&[u8]>, key: &[u8], value: Option<&[u8]>) -> bool
+    ensures { result ≡ spec.is_writable name.now (option_copied subsection.entry) key.now (option_copied value.entry) }
+{
+    is_section(name, subsection) && is_key(key) && is_spellable_or_absent(value)
+}
+
+/// The letter after a backslash that spells this byte of a value, if the byte cannot stand for itself.
+fn letter_of(quoted: bool, byte: u8) -> Option<u8>
+    ensures { result ≡ spec.letter_of quoted byte }
+{
+    match byte {
+        b'\n' => Some(b'n'),
+        b'"' | b'\\' => Some(byte),
+        b'\t' if !quoted => Some(b't'),
+        _ => None,
+    }
+}
+
+fn push_byte(spelling: &mut Vec<u8>, quoted: bool, byte: u8) -> Result<(), AllocError>
+    ensures { OnOk result (spelling.new.items ≡ spelling.old.items ++ spelled_byte quoted byte) }
+{
+    match letter_of(quoted, byte) {
+        Some(letter) => {
+            spelling.push(b'\\')?;
+            spelling.push(letter)?;
+        }
+        None => spelling.push(byte)?,
+    }
+    Ok(())
+}
+
+fn push_bytes(spelling: &mut Vec<u8>, quoted: bool, value: &[u8]) -> Result<(), AllocError>
+    ensures { OnOk result (spelling.new.items ≡ spelling.old.items ++ flat_map (spelled_byte quoted) value.now) }
+{
+    'bytes: for byte in value {
+        push_byte(spelling, quoted, *byte)?;
+    }
+    Ok(())
+}
+
+/// Whether a byte of a value is lost outside quotes.
+fn is_lost(byte: u8) -> bool
+    ensures { result ≡ spec.is_lost byte }
+{
+    byte == b'\r' || bytes::is_comment_sign(byte)
+}
+
+fn ends_with_space(value: &[u8]) -> bool
+    ensures { result ≡ spec.ends_with_space value.now }
+{
+    match value {
+        [.., last] => *last == b' ',
+        [] => false,
+    }
+}
+
+fn begins_with_space(value: &[u8]) -> bool
+    ensures { result ≡ spec.begins_with_space value.now }
+{
+    match value {
+        [first, ..] => *first == b' ',
+        [] => false,
+    }
+}
+
+fn has_lost(value: &[u8]) -> bool
+    ensures { result ≡ list_any spec.is_lost value.now }
+{
+    value.iter().any(|byte| is_lost(*byte))
+}
+
+fn tabs(value: &[u8]) -> usize
+    ensures { result ≡ count_by (λ b. b == 9) value.now }
+{
+    value.iter().filter(|byte| **byte == b'\t').count()
+}
+
+/// Whether quotes are needed, or cost less than the backslashes before TABs.
+fn is_quoted(value: &[u8]) -> bool
+    ensures { result ≡ spec.is_quoted value.now }
+{
+    begins_with_space(value) || ends_with_space(value) || has_lost(value) || 2 < tabs(value)
+}
+
+fn push_value(spelling: &mut Vec<u8>, value: &[u8]) -> Result<(), AllocError>
+    ensures { OnOk result (spelling.new.items ≡ spelling.old.items ++ spelled_value value.now) }
+{
+    let quoted = is_quoted(value);
+    if quoted {
+        spelling.push(b'"')?;
+        push_bytes(spelling, true, value)?;
+        spelling.push(b'"')?;
+        return Ok(());
+    }
+    push_bytes(spelling, false, value)
+}
+
+fn push_subsection(spelling: &mut Vec<u8>, subsection: &[u8]) -> Result<(), AllocError>
+    ensures { OnOk result (spelling.new.items ≡ spelling.old.items ++ spelled_subsection subsection.now) }
+{
+    'bytes: for byte in subsection {
+        if *byte == b'"' || *byte == b'\\' {
+            spelling.push(b'\\')?;
+        }
+        spelling.push(*byte)?;
+    }
+    Ok(())
+}
+
+fn push_header(
+    spelling: &mut Vec<u8>,
+    name: &[u8],
+    subsection: Option<&[u8]>,
+) -> Result<(), AllocError>
+    ensures { let text = option_copied subsection.entry in
+        OnOk result (spelling.new.items ≡ spelling.old.items ++ 91 ∷ spelled_section name.now text) }
+{
+    spelling.push(b'[')?;
+    spelling.extend_from_slice(name)?;
+    if let Some(subsection) = subsection {
+        spelling.extend_from_slice(b" \"")?;
+        push_subsection(spelling, subsection)?;
+        spelling.push(b'"')?;
+    }
+    spelling.push(b']')?;
+    Ok(())
+}
+
+fn push_line(spelling: &mut Vec<u8>, key: &[u8], value: Option<&[u8]>) -> Result<(), AllocError>
+    ensures { let text = option_copied value.entry in
+        OnOk result (spelling.new.items ≡ spelling.old.items ++ spelled_line key.now text) }
+{
+    spelling.extend_from_slice(key)?;
+    if let Some(value) = value {
+        spelling.push(b'=')?;
+        push_value(spelling, value)?;
+    }
+    spelling.push(b'\n')?;
+    Ok(())
+}
