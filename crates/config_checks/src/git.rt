@@ -27,19 +27,19 @@ core.autocrlf                       bool-or-word-any-case input
 core.symlinks                       bool
 core.ignoreStat                     bool
 core.bare                           bool
-core.worktree                       path
+core.worktree                       text
 core.logAllRefUpdates               bool-or-word-any-case always
 core.repositoryFormatVersion        int
 core.warnAmbiguousRefs              bool
 core.compression                    int
 core.looseCompression               int
-core.packedGitWindowSize            size
-core.packedGitLimit                 size
-core.deltaBaseCacheLimit            size
-core.bigFileThreshold               size
-core.excludesFile                   path
-core.attributesFile                 path
-core.hooksPath                      path
+core.packedGitWindowSize            int 0 9223372036854775807
+core.packedGitLimit                 int 0 9223372036854775807
+core.deltaBaseCacheLimit            int 0 9223372036854775807
+core.bigFileThreshold               int 0 9223372036854775807
+core.excludesFile                   text
+core.attributesFile                 text
+core.hooksPath                      text
 core.filesRefLockTimeout            int
 core.packedRefsTimeout              int
 core.fsyncMethod                    word fsync writeout-only batch
@@ -107,7 +107,7 @@ color.ui                            bool-or-word-any-case always never auto
 commit.cleanup                      word strip whitespace verbatim scissors default
 commit.gpgSign                      bool
 commit.status                       bool
-commit.template                     path
+commit.template                     text
 commit.verbose                      bool-or-int
 # commitGraph
 commitGraph.generationVersion       int
@@ -127,7 +127,7 @@ diff.context                        int
 diff.interHunkContext               int
 diff.ignoreSubmodules               word none untracked dirty all
 diff.relative                       bool
-diff.orderFile                      path
+diff.orderFile                      text
 diff.renameLimit                    int
 diff.renames                        bool-or-word-any-case copies copy
 diff.suppressBlankEmpty             bool
@@ -147,7 +147,7 @@ feature.experimental                bool
 # fetch
 fetch.recurseSubmodules             bool-or-word on-demand
 fetch.fsckObjects                   bool
-fetch.fsck.skipList                 path
+fetch.fsck.skipList                 text
 fetch.fsck.*                        word error warn ignore
 fetch.unpackLimit                   int
 fetch.prune                         bool
@@ -170,7 +170,7 @@ format.useAutoBase                  bool-or-word-any-case whenAble
 # filter
 filter.*.required                   bool
 # fsck
-fsck.skipList                       path
+fsck.skipList                       text
 fsck.*                              word error warn ignore
 # fsmonitor
 fsmonitor.allowRemote               bool
@@ -180,14 +180,14 @@ gc.aggressiveWindow                 int
 gc.auto                             int
 gc.autoPackLimit                    int
 gc.autoDetach                       bool
-gc.bigPackThreshold                 size
+gc.bigPackThreshold                 int 0 9223372036854775807
 gc.writeCommitGraph                 bool
 gc.packRefs                         bool-or-word notbare
 gc.cruftPacks                       bool
 # gitcvs
-gitcvs.logFile                      path
-gitcvs.ext.logFile                  path
-gitcvs.pserver.logFile              path
+gitcvs.logFile                      text
+gitcvs.ext.logFile                  text
+gitcvs.pserver.logFile              text
 gitcvs.usecrlfattr                  bool
 gitcvs.allBinary                    bool-or-word guess
 # gitweb
@@ -221,38 +221,38 @@ gui.blamehistoryctx                 int
 help.format                         word man info web html
 # http
 http.proxyAuthMethod                word anyauth basic digest negotiate ntlm
-http.proxySSLCert                   path
-http.proxySSLKey                    path
-http.proxySSLCAInfo                 path
+http.proxySSLCert                   text
+http.proxySSLKey                    text
+http.proxySSLCAInfo                 text
 http.delegation                     word none policy always
-http.cookieFile                     path
+http.cookieFile                     text
 http.version                        word HTTP/2 HTTP/1.1
 http.sslVersion                     word sslv2 sslv3 tlsv1 tlsv1.0 tlsv1.1 tlsv1.2 tlsv1.3
 http.sslVerify                      bool
-http.sslCAPath                      path
+http.sslCAPath                      text
 http.schannelCheckRevoke            bool
 http.sslTry                         bool
 http.maxRequests                    int
 http.minSessions                    int
-http.postBuffer                     size
+http.postBuffer                     int 0 9223372036854775807
 http.lowSpeedTime                   int
 http.noEPSV                         bool
 http.followRedirects                bool-or-word initial
 http.*.proxyAuthMethod              word anyauth basic digest negotiate ntlm
-http.*.proxySSLCert                 path
-http.*.proxySSLKey                  path
-http.*.proxySSLCAInfo               path
+http.*.proxySSLCert                 text
+http.*.proxySSLKey                  text
+http.*.proxySSLCAInfo               text
 http.*.delegation                   word none policy always
-http.*.cookieFile                   path
+http.*.cookieFile                   text
 http.*.version                      word HTTP/2 HTTP/1.1
 http.*.sslVersion                   word sslv2 sslv3 tlsv1 tlsv1.0 tlsv1.1 tlsv1.2 tlsv1.3
 http.*.sslVerify                    bool
-http.*.sslCAPath                    path
+http.*.sslCAPath                    text
 http.*.schannelCheckRevoke          bool
 http.*.sslTry                       bool
 http.*.maxRequests                  int
 http.*.minSessions                  int
-http.*.postBuffer                   size
+http.*.postBuffer                   int 0 9223372036854775807
 http.*.lowSpeedTime                 int
 http.*.noEPSV                       bool
 http.*.followRedirects              bool-or-word initial
@@ -261,8 +261,8 @@ imap.port                           int
 imap.sslverify                      bool
 imap.preformattedHTML               bool
 # include
-include.path                        path
-includeIf.*.path                    path
+include.path                        text
+includeIf.*.path                    text
 # index
 index.recordEndOfIndexEntries       bool
 index.recordOffsetTable             bool
@@ -323,14 +323,14 @@ notes.rewriteMode                   word overwrite concatenate cat_sort_uniq ign
 # pack
 pack.window                         int
 pack.depth                          int
-pack.windowMemory                   size
+pack.windowMemory                   int 0 9223372036854775807
 pack.compression                    int
 pack.allowPackReuse                 bool
-pack.deltaCacheSize                 size
+pack.deltaCacheSize                 int 0 9223372036854775807
 pack.deltaCacheLimit                int
 pack.threads                        int
 pack.indexVersion                   int
-pack.packSizeLimit                  size
+pack.packSizeLimit                  int 0 9223372036854775807
 pack.useBitmaps                     bool
 pack.useSparse                      bool
 pack.writeBitmaps                   bool
@@ -369,11 +369,11 @@ receive.advertisePushOptions        bool
 receive.autogc                      bool
 receive.certNonceSlop               int
 receive.fsckObjects                 bool
-receive.fsck.skipList               path
+receive.fsck.skipList               text
 receive.fsck.*                      word error warn ignore
 receive.keepAlive                   int
 receive.unpackLimit                 int
-receive.maxInputSize                size
+receive.maxInputSize                int 0 9223372036854775807
 receive.denyDeletes                 bool
 receive.denyDeleteCurrent           bool
 receive.denyCurrentBranch           bool-or-word-any-case refuse warn ignore updateInstead
@@ -396,7 +396,7 @@ repack.useDeltaIslands              bool
 repack.writeBitmaps                 bool
 repack.updateServerInfo             bool
 repack.cruftWindow                  int
-repack.cruftWindowMemory            size
+repack.cruftWindowMemory            int 0 9223372036854775807
 repack.cruftDepth                   int
 repack.cruftThreads                 int
 # rerere
