@@ -33,6 +33,8 @@ FAMILIES = {
     "gitcvs.ext.": "gitcvs.<access_method>.<varname>",
     "gitcvs.pserver.": "gitcvs.<access_method>.<varname>",
 }
+# what may stand before the kind of a row
+MARKS = ["alone", "needs-value", "warn"]
 ESCAPES = {r"\&": "", r"\-": "-", r"\(aq": "'", r"\(lq": '"', r"\(rq": '"'}
 
 
@@ -103,9 +105,10 @@ def check(group):
     known = sections(text)
     written = SOURCE.read_text(encoding="utf-8").split('"\\\n')[1].split('";')[0]
     for row in written.splitlines():
-        key, *words = row.split()
+        key, *rest = row.split()
         if key.startswith("#"):
             continue
+        kind, *words = [word.strip("*") for word in rest if word not in MARKS]
         if key in ELSEWHERE:
             term = key.replace("*", "<driver>")
             group.expect(key, True, term in page(ELSEWHERE[key]))
@@ -114,5 +117,5 @@ def check(group):
         if not group.expect(key, True, body is not None):
             continue
         said = "\n".join([body, named(body, known), option(key, body)])
-        for word in words[1:]:
+        for word in words if kind != "int" else []:
             group.expect((key, word), True, has_word(said, word))
