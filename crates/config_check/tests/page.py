@@ -11,6 +11,8 @@ import re
 SOURCE = pathlib.Path(__file__).resolve().parents[2] / "config_checks/src/git.rt"
 MANUAL = pathlib.Path("/usr/share/man")
 VERSION = "Git 2.39.5"
+# what precedes the rows of git.rt that the page does not have
+ELSEWHERE_READ = "# Keys that git-config(1) leaves to other pages"
 # keys that git-config(1) leaves to another page
 ELSEWHERE = {"filter.*.required": "gitattributes.5"}
 # settings whose words an option has, on another page that their section names
@@ -76,7 +78,11 @@ def section(key, text, known):
     for front, family in FAMILIES.items():
         if key not in known and key.startswith(front) and family in text:
             key = f"{front.split('.')[0]}.{key.removeprefix(front)}"
-    return known.get(key)
+    start, _, last = key.rpartition(".")
+    if key not in known and start == "advice":
+        return known.get(last)
+    slots = known.get(f"{start}.*", "") if start.startswith("color.") else ""
+    return known.get(key, slots if has_word(slots, last) else None)
 
 
 def named(body, known):
@@ -97,14 +103,19 @@ def has_word(text, word):
     return re.search(rf"(?<![\w-]){re.escape(word)}(?![\w-])", text, re.IGNORECASE) is not None
 
 
+def rows_of_the_page():
+    """The rows of git.rt that the page is to have, each as one line."""
+    written = SOURCE.read_text(encoding="utf-8").split('"\\\n')[1].split('";')[0]
+    return re.sub(r"\\\n *", "", written.split(ELSEWHERE_READ)[0]).splitlines()
+
+
 def check(group):
     text = page("git-config.1")
     if VERSION not in text:
         group.skip("the pages of Git", f"those of {VERSION} are not installed")
         return
     known = sections(text)
-    written = SOURCE.read_text(encoding="utf-8").split('"\\\n')[1].split('";')[0]
-    for row in written.splitlines():
+    for row in rows_of_the_page():
         key, *rest = row.split()
         if key.startswith("#"):
             continue
