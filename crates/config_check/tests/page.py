@@ -2,11 +2,16 @@
 
 Each key has to be one that git-config(1), or a page of ELSEWHERE, documents. Each word of a row has to stand in the
 section of its key, in that of another setting which it names, or in that of the option of another page which has the
-same words (OPTIONS). Of kinds no more is compared.
+same words (OPTIONS), or Git was seen to take it (compare/settings.tsv). Of kinds no more is compared.
 """
 import gzip
 import pathlib
 import re
+import sys
+
+sys.path.append(str(pathlib.Path(__file__).resolve().parents[3] / "compare"))
+
+import settings  # noqa: E402
 
 SOURCE = pathlib.Path(__file__).resolve().parents[2] / "config_checks/src/git.rt"
 MANUAL = pathlib.Path("/usr/share/man")
@@ -14,7 +19,7 @@ VERSION = "Git 2.39.5"
 # what precedes the rows of git.rt that the page does not have
 ELSEWHERE_READ = "# Keys that git-config(1) leaves to other pages"
 # keys that git-config(1) leaves to another page
-ELSEWHERE = {"filter.*.required": "gitattributes.5"}
+ELSEWHERE = {"filter.*.required": "gitattributes.5", "filter.*.process": "gitattributes.5"}
 # settings whose words an option has, on another page that their section names
 OPTIONS = {
     "apply.whitespace": ("apply", "--whitespace=*"),
@@ -35,6 +40,8 @@ FAMILIES = {
     "gitcvs.ext.": "gitcvs.<access_method>.<varname>",
     "gitcvs.pserver.": "gitcvs.<access_method>.<varname>",
 }
+# kinds with words of which a text is one
+SINGLE = ["word", "bool-or-word", "int-or-word"]
 # what may stand before the kind of a row
 MARKS = ["alone", "needs-value", "warn"]
 ESCAPES = {r"\&": "", r"\-": "-", r"\(aq": "'", r"\(lq": '"', r"\(rq": '"'}
@@ -115,6 +122,8 @@ def check(group):
         group.skip("the pages of Git", f"those of {VERSION} are not installed")
         return
     known = sections(text)
+    taken = {question.value.strip("%Y") for question, told in settings.read().items()
+             if question.value is not None and told == "takes"}
     for row in rows_of_the_page():
         key, *rest = row.split()
         if key.startswith("#"):
@@ -128,5 +137,5 @@ def check(group):
         if not group.expect(key, True, body is not None):
             continue
         said = "\n".join([body, named(body, known), option(key, body)])
-        for word in words if kind != "int" else []:
-            group.expect((key, word), True, has_word(said, word))
+        for word in words if kind.removesuffix("-any-case") in SINGLE else []:
+            group.expect((key, word), True, has_word(said, word) or word in taken)

@@ -77,7 +77,7 @@ core.fsyncMethod                    warn word fsync writeout-only batch
 core.fsyncObjectFiles               bool
 core.preloadIndex                   bool
 core.restrictinheritedhandles       bool-or-word auto
-core.createObject                   alone word link rename
+core.createObject                   word link rename
 core.commitGraph                    bool
 core.useReplaceRefs                 bool
 core.multiPackIndex                 bool
@@ -88,7 +88,7 @@ core.checkRoundtripEncoding         text
 core.preferSymlinkRefs              bool
 core.gitProxy                       text
 core.sshCommand                     text
-core.alternateRefsCommand           text
+core.alternateRefsCommand           alone text
 core.alternateRefsPrefixes          text
 core.sharedRepository               bool-or-word umask group all world everybody
 core.askPass                        text
@@ -100,10 +100,10 @@ core.whitespace                     warn words trailing-space -trailing-space bl
     blank-at-eof -blank-at-eof cr-at-eol -cr-at-eol tabwidth=*
 core.fsync                          warn words loose-object -loose-object pack -pack pack-metadata \
     -pack-metadata commit-graph -commit-graph index -index objects -objects reference -reference \
-    derived-metadata -derived-metadata committed -committed added -added all -all none default
+    derived-metadata -derived-metadata committed -committed added -added all -all none
 core.unsetenvvars                   text
 core.notesRef                       text
-core.abbrev                         int-or-word-any-case auto no off false
+core.abbrev                         words-any-case auto no off false 0* 1* 2* 3* 4* 5* 6* 7* 8* 9* +*
 # add
 add.ignoreErrors                    bool
 add.ignore-errors                   bool
@@ -116,7 +116,7 @@ apply.ignoreWhitespace              word change no none never false
 apply.whitespace                    word nowarn warn fix strip error error-all
 # blame
 blame.blankBoundary                 bool
-blame.coloring                      alone warn word repeatedLines highlightRecent none
+blame.coloring                      warn word repeatedLines highlightRecent none
 blame.showEmail                     bool
 blame.showRoot                      bool
 blame.date                          word relative relative-local local iso iso-local iso8601 \
@@ -139,7 +139,7 @@ branch.*.remote                     text
 branch.*.pushRemote                 text
 branch.*.merge                      text
 branch.*.mergeOptions               text
-branch.*.description                alone text
+branch.*.description                text
 # bundle
 bundle.version                      int
 bundle.mode                         word all any
@@ -155,14 +155,13 @@ clean.requireForce                  bool
 # color
 color.advice                        bool-or-word-any-case always never auto
 color.advice.hint                   color
-color.blame.repeatedLines           alone color
+color.blame.repeatedLines           warn color
 color.branch                        bool-or-word-any-case always never auto
 color.branch.current                color
 color.branch.local                  color
 color.branch.remote                 color
 color.branch.upstream               color
 color.branch.plain                  color
-color.branch.worktree               color
 color.diff                          bool-or-word-any-case always never auto
 color.diff.context                  color
 color.diff.plain                    color
@@ -213,10 +212,10 @@ color.pager                         bool
 color.push                          bool-or-word-any-case always never auto
 color.push.error                    color
 color.remote                        needs-value bool-or-word-any-case always never auto
-color.remote.hint                   color
-color.remote.warning                color
-color.remote.success                color
-color.remote.error                  color
+color.remote.hint                   warn color
+color.remote.warning                warn color
+color.remote.success                warn color
+color.remote.error                  warn color
 color.showBranch                    bool-or-word-any-case always never auto
 color.status                        bool-or-word-any-case always never auto
 color.status.header                 color
@@ -261,13 +260,13 @@ diff.autoRefreshIndex               bool
 diff.statGraphWidth                 int
 diff.context                        int 0 2147483647
 diff.interHunkContext               int 0 2147483647
-diff.ignoreSubmodules               alone word none untracked dirty all
+diff.ignoreSubmodules               word none untracked dirty all
 diff.relative                       bool
 diff.orderFile                      text
 diff.renameLimit                    int
 diff.renames                        bool-or-word-any-case copies copy
 diff.suppressBlankEmpty             bool
-diff.submodule                      alone warn word short log diff
+diff.submodule                      warn word short log diff
 diff.*.binary                       bool-or-word-any-case auto
 diff.*.cachetextconv                bool
 diff.indentHeuristic                bool
@@ -300,7 +299,7 @@ feature.manyFiles                   bool
 fetch.recurseSubmodules             bool-or-word on-demand
 fetch.fsckObjects                   bool
 fetch.fsck.skipList                 text
-fetch.fsck.*                        alone word error warn ignore
+fetch.fsck.*                        word error warn ignore
 fetch.unpackLimit                   int
 fetch.prune                         bool
 fetch.pruneTags                     bool
@@ -338,7 +337,7 @@ filter.*.smudge                     text
 filter.*.process                    text
 # fsck
 fsck.skipList                       text
-fsck.*                              alone word error warn ignore
+fsck.*                              word error warn ignore
 # fsmonitor
 fsmonitor.allowRemote               bool
 fsmonitor.socketDir                 alone text
@@ -409,7 +408,7 @@ gitweb.snapshot                     alone text
 # grep
 grep.lineNumber                     bool
 grep.column                         bool
-grep.patternType                    alone word basic extended fixed perl default
+grep.patternType                    word basic extended fixed perl default
 grep.extendedRegexp                 bool
 grep.threads                        int 0 2147483647
 grep.fullName                       bool
@@ -455,13 +454,13 @@ http.schannelCheckRevoke            bool
 http.sslTry                         bool
 http.maxRequests                    int
 http.minSessions                    int
-http.postBuffer                     int 0 9223372036854775807
+http.postBuffer                     int -9223372036854775808 9223372036854775807
 http.lowSpeedTime                   int
 http.noEPSV                         bool
 http.followRedirects                bool-or-word initial
 http.proxy                          text
 http.proxySSLCertPasswordProtected  bool
-http.emptyAuth                      bool-or-word-any-case auto
+http.emptyAuth                      bool-or-word auto
 http.extraHeader                    text
 http.saveCookies                    bool
 http.curloptResolve                 text
@@ -470,7 +469,7 @@ http.sslCert                        text
 http.sslKey                         text
 http.sslCertPasswordProtected       bool
 http.sslCAInfo                      text
-http.sslBackend                     text
+http.sslBackend                     alone text
 http.schannelUseSSLCAInfo           bool
 http.pinnedPubkey                   text
 http.lowSpeedLimit                  int
@@ -489,13 +488,13 @@ http.*.schannelCheckRevoke          bool
 http.*.sslTry                       bool
 http.*.maxRequests                  int
 http.*.minSessions                  int
-http.*.postBuffer                   int 0 9223372036854775807
+http.*.postBuffer                   int -9223372036854775808 9223372036854775807
 http.*.lowSpeedTime                 int
 http.*.noEPSV                       bool
 http.*.followRedirects              bool-or-word initial
 http.*.proxy                        text
 http.*.proxySSLCertPasswordProtected bool
-http.*.emptyAuth                    bool-or-word-any-case auto
+http.*.emptyAuth                    bool-or-word auto
 http.*.extraHeader                  text
 http.*.saveCookies                  bool
 http.*.curloptResolve               text
@@ -504,7 +503,7 @@ http.*.sslCert                      text
 http.*.sslKey                       text
 http.*.sslCertPasswordProtected     bool
 http.*.sslCAInfo                    text
-http.*.sslBackend                   text
+http.*.sslBackend                   alone text
 http.*.schannelUseSSLCAInfo         bool
 http.*.pinnedPubkey                 text
 http.*.lowSpeedLimit                int
@@ -536,12 +535,12 @@ instaweb.httpd                      alone text
 instaweb.modulePath                 alone text
 # interactive
 interactive.singleKey               bool
-interactive.diffFilter              alone text
+interactive.diffFilter              text
 # log
 log.abbrevCommit                    bool
-log.decorate                        bool-or-word short full auto
-log.diffMerges                      alone word off none on first-parent 1 separate m combined c \
-    dense-combined cc remerge r
+log.decorate                        warn bool-or-word short full auto
+log.diffMerges                      word off none on first-parent 1 separate m combined c dense-combined \
+    cc remerge r
 log.follow                          bool
 log.showRoot                        bool
 log.showSignature                   bool
@@ -551,7 +550,7 @@ log.date                            word relative relative-local local iso iso-l
     rfc2822-local short short-local default default-local human human-local raw raw-local unix unix-local \
     format:* format-local:* auto:*
 log.initialDecorationSet            warn word all
-log.excludeDecoration               alone text
+log.excludeDecoration               text
 log.graphColors                     text
 # lsrefs
 lsrefs.unborn                       word advertise allow ignore
@@ -568,7 +567,7 @@ maintenance.incremental-repack.auto int
 # merge
 merge.conflictStyle                 word merge diff3 zdiff3
 merge.defaultToUpstream             bool
-merge.ff                            bool-or-word only
+merge.ff                            warn bool-or-word only
 merge.verifySignatures              bool
 merge.branchdesc                    bool
 merge.log                           bool-or-int
@@ -650,7 +649,7 @@ rebase.stat                         bool
 rebase.autoSquash                   bool
 rebase.autoStash                    bool
 rebase.updateRefs                   bool
-rebase.missingCommitsCheck          alone warn word-any-case warn error ignore
+rebase.missingCommitsCheck          warn word-any-case warn error ignore
 rebase.abbreviateCommands           bool
 rebase.rescheduleFailedExec         bool
 rebase.forkPoint                    bool
@@ -662,10 +661,10 @@ receive.autogc                      bool
 receive.certNonceSlop               int 0 9223372036854775807
 receive.fsckObjects                 bool
 receive.fsck.skipList               text
-receive.fsck.*                      alone word error warn ignore
+receive.fsck.*                      word error warn ignore
 receive.keepAlive                   int
 receive.unpackLimit                 int
-receive.maxInputSize                int 0 9223372036854775807
+receive.maxInputSize                int -9223372036854775808 9223372036854775807
 receive.denyDeletes                 bool
 receive.denyDeleteCurrent           bool-or-word-any-case refuse warn ignore updateInstead
 receive.denyCurrentBranch           bool-or-word-any-case refuse warn ignore updateInstead
@@ -710,7 +709,7 @@ rerere.enabled                      bool
 # revert
 revert.reference                    bool
 # safe
-safe.bareRepository                 alone word all explicit
+safe.bareRepository                 word all explicit
 safe.directory                      alone text
 # sendemail
 sendemail.multiEdit                 bool
@@ -754,7 +753,7 @@ sendemail.forbidSendmailVariables   bool
 # sparse
 sparse.expectFilesOutsideOfPatterns bool
 # splitIndex
-splitIndex.maxPercentChange         int 0 100
+splitIndex.maxPercentChange         int
 splitIndex.sharedIndexExpire        date-any-case now never all false yesterday last noon midnight tea \
     am pm one two three four five six seven eight nine ten jan* feb* mar* apr* may* jun* jul* aug* sep* oct* \
     nov* dec*
@@ -879,7 +878,7 @@ guitool.*.prompt                    alone text
 i18n.commitEncoding                 text
 i18n.logOutputEncoding              text
 # init
-init.templateDir                    text
+init.templateDir                    alone text
 init.defaultBranch                  text
 # mailmap
 mailmap.file                        text
@@ -915,6 +914,7 @@ advice.pushNonFastForward           bool
 advice.resetQuiet                   bool
 advice.setUpstreamFailure           bool
 advice.statusAheadBehindWarning     bool
+color.branch.worktree               color
 diff.*.funcname                     text
 extensions.preciousObjects          bool
 extensions.partialClone             text
@@ -930,13 +930,15 @@ alias.*.*                           text
 tar.*.command                       text
 tar.*.remote                        bool
 trailer.separators                  text
-trailer.where                       text
-trailer.ifexists                    text
-trailer.ifmissing                   text
+trailer.where                       alone warn word-any-case after before end start
+trailer.ifexists                    alone warn word-any-case addIfDifferent addIfDifferentNeighbor add \
+    replace doNothing
+trailer.ifmissing                   warn word-any-case doNothing add
 trailer.*.key                       text
-trailer.*.where                     text
-trailer.*.ifexists                  text
-trailer.*.ifmissing                 text
+trailer.*.where                     alone warn word-any-case after before end start
+trailer.*.ifexists                  alone warn word-any-case addIfDifferent addIfDifferentNeighbor add \
+    replace doNothing
+trailer.*.ifmissing                 warn word-any-case doNothing add
 trailer.*.command                   text
 trailer.*.cmd                       text
 # since Git 2.40
