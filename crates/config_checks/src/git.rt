@@ -48,11 +48,11 @@ core.protectHFS                     bool
 core.protectNTFS                    bool
 core.fsmonitorHookVersion           int
 core.trustctime                     bool
-core.splitIndex                     bool
+core.splitIndex                     warn bool
 core.untrackedCache                 needs-value warn bool-or-word-any-case keep
 core.checkStat                      warn word-any-case default minimal
 core.quotePath                      bool
-core.eol                            word-any-case lf crlf native
+core.eol                            alone warn word-any-case lf crlf native
 core.safecrlf                       bool-or-word-any-case warn
 core.autocrlf                       bool-or-word-any-case input
 core.symlinks                       bool
@@ -141,8 +141,8 @@ branch.*.merge                      text
 branch.*.mergeOptions               text
 branch.*.description                text
 # bundle
-bundle.version                      int
-bundle.mode                         word all any
+bundle.version                      alone warn int
+bundle.mode                         alone warn word all any
 bundle.*.uri                        alone text
 bundle.*.*                          alone text
 # checkout
@@ -382,28 +382,28 @@ gc.rerereUnresolved                 warn date-any-case now never all false yeste
 gitcvs.logFile                      text
 gitcvs.ext.logFile                  text
 gitcvs.pserver.logFile              text
-gitcvs.usecrlfattr                  bool
-gitcvs.allBinary                    bool-or-word guess
+gitcvs.usecrlfattr                  warn bool
+gitcvs.allBinary                    warn bool-or-word guess
 gitcvs.commitMsgAnnotation          alone text
-gitcvs.enabled                      bool
+gitcvs.enabled                      warn bool
 gitcvs.dbName                       alone text
 gitcvs.dbDriver                     alone text
 gitcvs.dbUser                       alone text
 gitcvs.dbPass                       alone text
 gitcvs.dbTableNamePrefix            alone text
 # gitweb
-gitweb.blame                        bool
-gitweb.grep                         bool
-gitweb.highlight                    bool
-gitweb.patches                      int
-gitweb.pickaxe                      bool
-gitweb.showSizes                    bool
+gitweb.blame                        warn bool
+gitweb.grep                         warn bool
+gitweb.highlight                    warn bool
+gitweb.patches                      alone warn int
+gitweb.pickaxe                      warn bool
+gitweb.showSizes                    warn bool
 gitweb.category                     alone text
 gitweb.description                  alone text
 gitweb.owner                        alone text
 gitweb.url                          alone text
 gitweb.avatar                       alone text
-gitweb.remote_heads                 bool
+gitweb.remote_heads                 warn bool
 gitweb.snapshot                     alone text
 # grep
 grep.lineNumber                     bool
@@ -422,18 +422,18 @@ gpg.ssh.allowedSignersFile          text
 gpg.ssh.revocationFile              text
 gpg.*.program                       text
 # gui
-gui.commitMsgWidth                  int
-gui.diffContext                     int
-gui.displayUntracked                bool
-gui.matchTrackingBranch             bool
-gui.pruneDuringFetch                bool
-gui.fastCopyBlame                   bool
-gui.copyBlameThreshold              int
-gui.blamehistoryctx                 int
+gui.commitMsgWidth                  alone warn int
+gui.diffContext                     alone warn int
+gui.displayUntracked                warn bool
+gui.matchTrackingBranch             warn bool
+gui.pruneDuringFetch                warn bool
+gui.fastCopyBlame                   warn bool
+gui.copyBlameThreshold              alone warn int
+gui.blamehistoryctx                 alone warn int
 gui.encoding                        alone text
 gui.newBranchTemplate               alone text
 gui.spellingDictionary              alone text
-gui.trustmtime                      bool
+gui.trustmtime                      warn bool
 # help
 help.format                         word man info web html
 help.browser                        text
@@ -529,7 +529,7 @@ index.threads                       bool-or-int
 index.version                       int
 # instaweb
 instaweb.local                      bool
-instaweb.port                       int
+instaweb.port                       alone warn int
 instaweb.browser                    alone text
 instaweb.httpd                      alone text
 instaweb.modulePath                 alone text
@@ -587,8 +587,8 @@ merge.*.recursive                   text
 # mergetool
 mergetool.*.hideResolved            bool
 mergetool.*.trustExitCode           bool
-mergetool.meld.hasOutput            bool
-mergetool.meld.useAutoMerge         bool-or-word auto
+mergetool.meld.hasOutput            warn bool
+mergetool.meld.useAutoMerge         warn bool-or-word auto
 mergetool.hideResolved              bool
 mergetool.keepBackup                bool
 mergetool.keepTemporaries           bool
@@ -714,14 +714,14 @@ safe.directory                      alone text
 # sendemail
 sendemail.multiEdit                 bool
 sendemail.confirm                   word always never cc compose auto
-sendemail.aliasFileType             word mutt mailrc pine elm gnus sendmail
-sendemail.smtpBatchSize             int
-sendemail.smtpReloginDelay          int
+sendemail.aliasFileType             alone warn word mutt mailrc pine elm gnus sendmail
+sendemail.smtpBatchSize             alone warn int
+sendemail.smtpReloginDelay          alone warn int
 sendemail.*.multiEdit               bool
 sendemail.*.confirm                 word always never cc compose auto
-sendemail.*.aliasFileType           word mutt mailrc pine elm gnus sendmail
-sendemail.*.smtpBatchSize           int
-sendemail.*.smtpReloginDelay        int
+sendemail.*.aliasFileType           alone warn word mutt mailrc pine elm gnus sendmail
+sendemail.*.smtpBatchSize           alone warn int
+sendemail.*.smtpReloginDelay        alone warn int
 sendemail.identity                  alone text
 sendemail.smtpEncryption            alone text
 sendemail.smtpsslcertpath           alone text
@@ -865,13 +865,13 @@ difftool.trustExitCode              bool
 difftool.prompt                     bool
 # guitool
 guitool.*.cmd                       alone text
-guitool.*.needsFile                 bool
-guitool.*.noConsole                 bool
-guitool.*.noRescan                  bool
-guitool.*.confirm                   bool
+guitool.*.needsFile                 warn bool
+guitool.*.noConsole                 warn bool
+guitool.*.noRescan                  warn bool
+guitool.*.confirm                   warn bool
 guitool.*.argPrompt                 alone text
 guitool.*.revPrompt                 alone text
-guitool.*.revUnmerged               bool
+guitool.*.revUnmerged               warn bool
 guitool.*.title                     alone text
 guitool.*.prompt                    alone text
 # i18n
