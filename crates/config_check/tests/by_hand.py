@@ -55,7 +55,7 @@ def values(group, program):
     for key, spellings in rows.SPELLINGS:
         expect_values(group, program, how, key, spellings, None)
         expect_entries(group, program, canonical, [
-            (entry_of(key, value), key, value, b"should be " + text) for value, text in spellings.items()])
+            (entry_of(key, value), key, value, b"note: should be " + text) for value, text in spellings.items()])
     for key, accepted in rows.CANONICAL:
         expect_values(group, program, canonical, key, accepted, None)
 

@@ -18,16 +18,14 @@ import classes  # noqa: E402
 import texts  # noqa: E402
 from classes import Case, Question, amount  # noqa: E402
 from programs import Missing, Wrong  # noqa: E402
-from readers import NOT_SET, REFUSED, Git, c_library, escape_code, user_of, users  # noqa: E402
+from readers import NOT_SET, REFUSED, Git, c_library, escape_code, user_of  # noqa: E402
 
 TEXTS = 400
-HOMES = [classes.HOME, None]
-# the kind of a row, and the type that Git is asked for
-KINDS = [("bool", "bool"), ("int", "int"), ("size", "int"), ("bool-or-int", "bool-or-int"),
-         ("color", "color"), ("path", "path")]
-SHOULD_BE = b"should be "
+# the key of a row, and the type that Git is asked for
+KINDS = [("bool", "bool"), ("int", "int"), ("size", "int"), ("bool-or-int", "bool-or-int"), ("color", "color")]
+SHOULD_BE = b"note: should be "
 
-# the kind of the rows in which the class is expected, its rule over a case, and texts in which it is seen
+# the key of the rows in which the class is expected, its rule over a case, and texts in which it is seen
 Own = collections.namedtuple("Own", "name kind rule shown")
 
 
@@ -47,15 +45,9 @@ def below_zero(case):
     return number is not None and number < 0
 
 
-def not_looked_up(case):
-    text = case.question.text.removeprefix(b":(optional)")
-    return text.startswith(b"~") and case.ours is not None and case.git is None
-
-
 OWN_CLASSES = [
     Own("an int has 32 bits here, and 64 in Git", "int", beyond_an_int, [b"2147483648", b"-2147483649"]),
     Own("a size is not below zero here", "size", below_zero, [b"-1", b"-1k"]),
-    Own("no home and no user is looked up here", "path", not_looked_up, [b"~no-such-user/x", b"~/x"]),
 ]
 
 
@@ -63,25 +55,22 @@ def by_hand(kind):
     """The texts that the tables have for a kind, but for those that a file does not carry."""
     shown = [text for own in OWN_CLASSES if own.kind == kind for text in own.shown]
     known = shown + [value for value in made.VALUES_BY_KEY[b"test." + kind.encode()] if value is not None]
-    return [text for text in known if b"\0" not in text and (kind == "path" or b"\n" not in text)]
+    return [text for text in known if b"\0" not in text and b"\n" not in text]
 
 
 def questions(draw, kind, asked):
     """What Git is asked for a kind of rows: texts by hand, of the classes, and made by mutation."""
     known = [one.text for each in classes.CLASSES for one in each.shown if one.kind == asked]
-    if asked == "path":
-        known += texts.PATH_TEXTS + texts.of_users(users())
     made_of = asked if asked in texts.MADE else "number"
     found = list(dict.fromkeys(known + by_hand(kind)))
     found = texts.texts(draw, made_of, found, len(found) + TEXTS)
-    homes = HOMES if asked == "path" else [None]
-    return [Question(asked, text, home) for home in homes for text in found]
+    return [Question(asked, text, None) for text in found]
 
 
 def in_terms_of_git(asked, canonical):
     """The value of a canonical text, as Git prints it; None where the text was reported."""
-    if canonical is None or asked == "path":
-        return canonical
+    if canonical is None:
+        return None
     if asked == "color":
         return escape_code(canonical)
     return b"%d" % amount(canonical) if asked != "bool" and amount(canonical) is not None else canonical
@@ -116,20 +105,12 @@ def by_git(git, name, asked):
 def all_by_git(git, asked, ours):
     """The answers of Git: what the program accepts in one file, and each other text in one of its own."""
     parts = [[one] for one, text in zip(asked, ours) if text is None]
-    for home in HOMES:
-        accepted = [one for one, text in zip(asked, ours) if text is not None and one.home == home]
-        parts += [accepted] if accepted else []
+    accepted = [one for one, text in zip(asked, ours) if text is not None]
+    parts += [accepted] if accepted else []
     with concurrent.futures.ThreadPoolExecutor() as pool:
         answers = pool.map(by_git, [git] * len(parts), map(str, range(len(parts))), parts)
         given = {one: answer for part, found in zip(parts, answers) for one, answer in zip(part, found)}
     return [given[one] for one in asked]
-
-
-def differs(case):
-    """Paths are looked up by Git alone, so no more is compared of them than whether they are refused."""
-    if case.question.kind == "path":
-        return (case.ours is None) != (case.git is None)
-    return case.ours != case.git
 
 
 def classes_of(kind, case, running):
@@ -149,7 +130,7 @@ def compare(group, program, draw, git):
         ours = canonical_texts(program, how, b"test." + kind.encode(), [one.text for one in asked])
         for one, text, answer in zip(asked, ours, all_by_git(git, asked, ours)):
             case = Case(one, user_of(one.text)[1], install, in_terms_of_git(asked_type, text), answer)
-            found = classes_of(kind, case, running) if differs(case) else None
+            found = classes_of(kind, case, running) if case.ours != case.git else None
             group.expect((kind, case, found), True, found is None or len(found) == 1)
             for name in found or []:
                 seen[name].append((kind, case))

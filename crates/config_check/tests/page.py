@@ -2,17 +2,24 @@
 
 Each key has to be one that git-config(1), or a page of ELSEWHERE, documents. Each word of a row has to stand in the
 section of its key, in that of another setting which it names, or in that of the option of another page which has the
-same words (OPTIONS). Of kinds no more is compared.
+same words (OPTIONS), or Git was seen to take it (compare/settings.tsv). Of kinds no more is compared.
 """
 import gzip
 import pathlib
 import re
+import sys
+
+sys.path.append(str(pathlib.Path(__file__).resolve().parents[3] / "compare"))
+
+import settings  # noqa: E402
 
 SOURCE = pathlib.Path(__file__).resolve().parents[2] / "config_checks/src/git.rt"
 MANUAL = pathlib.Path("/usr/share/man")
 VERSION = "Git 2.39.5"
+# what precedes the rows of git.rt that the page does not have
+ELSEWHERE_READ = "# Keys that git-config(1) leaves to other pages"
 # keys that git-config(1) leaves to another page
-ELSEWHERE = {"filter.*.required": "gitattributes.5"}
+ELSEWHERE = {"filter.*.required": "gitattributes.5", "filter.*.process": "gitattributes.5"}
 # settings whose words an option has, on another page that their section names
 OPTIONS = {
     "apply.whitespace": ("apply", "--whitespace=*"),
@@ -33,6 +40,10 @@ FAMILIES = {
     "gitcvs.ext.": "gitcvs.<access_method>.<varname>",
     "gitcvs.pserver.": "gitcvs.<access_method>.<varname>",
 }
+# kinds with words of which a text is one
+SINGLE = ["word", "bool-or-word", "int-or-word"]
+# what may stand before the kind of a row
+MARKS = ["alone", "needs-value", "warn"]
 ESCAPES = {r"\&": "", r"\-": "-", r"\(aq": "'", r"\(lq": '"', r"\(rq": '"'}
 
 
@@ -74,7 +85,11 @@ def section(key, text, known):
     for front, family in FAMILIES.items():
         if key not in known and key.startswith(front) and family in text:
             key = f"{front.split('.')[0]}.{key.removeprefix(front)}"
-    return known.get(key)
+    start, _, last = key.rpartition(".")
+    if key not in known and start == "advice":
+        return known.get(last)
+    slots = known.get(f"{start}.*", "") if start.startswith("color.") else ""
+    return known.get(key, slots if has_word(slots, last) else None)
 
 
 def named(body, known):
@@ -95,17 +110,25 @@ def has_word(text, word):
     return re.search(rf"(?<![\w-]){re.escape(word)}(?![\w-])", text, re.IGNORECASE) is not None
 
 
+def rows_of_the_page():
+    """The rows of git.rt that the page is to have, each as one line."""
+    written = SOURCE.read_text(encoding="utf-8").split('"\\\n')[1].split('";')[0]
+    return re.sub(r"\\\n *", "", written.split(ELSEWHERE_READ)[0]).splitlines()
+
+
 def check(group):
     text = page("git-config.1")
     if VERSION not in text:
         group.skip("the pages of Git", f"those of {VERSION} are not installed")
         return
     known = sections(text)
-    written = SOURCE.read_text(encoding="utf-8").split('"\\\n')[1].split('";')[0]
-    for row in written.splitlines():
-        key, *words = row.split()
+    taken = {question.value.strip("%Y") for question, told in settings.read().items()
+             if question.value is not None and told == "takes"}
+    for row in rows_of_the_page():
+        key, *rest = row.split()
         if key.startswith("#"):
             continue
+        kind, *words = [word.strip("*") for word in rest if word not in MARKS]
         if key in ELSEWHERE:
             term = key.replace("*", "<driver>")
             group.expect(key, True, term in page(ELSEWHERE[key]))
@@ -114,5 +137,5 @@ def check(group):
         if not group.expect(key, True, body is not None):
             continue
         said = "\n".join([body, named(body, known), option(key, body)])
-        for word in words[1:]:
-            group.expect((key, word), True, has_word(said, word))
+        for word in words if kind.removesuffix("-any-case") in SINGLE else []:
+            group.expect((key, word), True, has_word(said, word) or word in taken)

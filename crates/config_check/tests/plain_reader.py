@@ -14,7 +14,7 @@ COLOR_FAULT = b"Colors are specific color values and their attributes, like 'bri
 
 # a key, cut at its first and at its last dot; where they are one dot, there is no middle
 Key = collections.namedtuple("Key", "first middle last")
-Row = collections.namedtuple("Row", "key kind words")
+Row = collections.namedtuple("Row", "key alone warns kind words")
 
 # a number has any count of digits
 sys.set_int_max_str_digits(0)
@@ -32,7 +32,6 @@ class BadRow(Exception):
 
 BITS_64 = range(-2 ** 63, 2 ** 63)
 BITS_32 = range(-2 ** 31, 2 ** 31)
-SIZES = range(0, 2 ** 63)
 INTEGER = re.compile(rb"([+-]?)(0[xX][0-9a-fA-F]+|0[bB][01]+|0[0-7]*|[1-9][0-9]*)([kKmMgG]?)")
 BASES = {b"0x": 16, b"0b": 2}
 FACTORS = {b"": 1, b"k": 2 ** 10, b"m": 2 ** 20, b"g": 2 ** 30}
@@ -131,35 +130,41 @@ def of_bool(_, text):
     return bool_shown(boolean(text))
 
 
-def in_range(found, numbers):
-    """The canonical text of an integer whose product is one of these numbers."""
-    if product(*found) not in numbers:
-        raise Refused(b"out of range: not from %d to %d" % (numbers[0], numbers[-1]))
+def in_range(found, low, high):
+    """The canonical text of an integer whose product lies from the one number to the other."""
+    if not low <= product(*found) <= high:
+        raise Refused(b"out of range: not from %d to %d" % (low, high))
     return integer_shown(*found)
 
 
-def of_integer(text, numbers):
+def bounds(words):
+    """The bounds of `int`: those of 32 bits, or two integer texts; None for any other words."""
+    if not words:
+        return BITS_32[0], BITS_32[-1]
+    found = [integer(word) for word in words]
+    is_right = len(found) == 2 and all(one is not None and product(*one) in BITS_64 for one in found)
+    return tuple(product(*one) for one in found) if is_right else None
+
+
+def of_int(words, text):
     found = integer(text)
     if found is None:
         raise Refused(INTEGER_FAULT)
     if product(*found) not in BITS_64:
         raise Refused(OVERFLOW_FAULT)
-    return in_range(found, numbers)
+    return in_range(found, *bounds(words))
 
 
-def of_int(_, text):
-    return of_integer(text, BITS_32)
-
-
-def of_size(_, text):
-    return of_integer(text, SIZES)
+def of_text(_, text):
+    """A text has no other spelling."""
+    return text
 
 
 def of_bool_or_int(words, text):
     found = integer(text)
     if found is None or product(*found) not in BITS_64:
         return of_bool(words, text)
-    return in_range(found, BITS_32)
+    return in_range(found, *bounds([]))
 
 
 def of_color(_, text):
@@ -168,72 +173,82 @@ def of_color(_, text):
     return color(text)
 
 
-def of_path(_, text):
-    """A path has no other spelling."""
-    if text.removeprefix(b":(optional)") == b"":
-        raise Refused(b"an empty path")
-    if not is_utf8(text):
-        raise Refused(b"a path of ill-formed UTF-8")
-    return text
+# words of a row, which may end in `*`
+
+SEPARATORS = re.compile(rb"[, \t\n\r]")
+NO_LETTERS = re.compile(rb"[^a-zA-Z]+")
+SORT_NAME = re.compile(rb"-?(?:version:)?(?:v:)?\*?(.*)", re.DOTALL)
 
 
-def is_utf8(text):
-    try:
-        text.decode()
-    except UnicodeDecodeError:
-        return False
-    return True
+def is_same(word, text, any_case):
+    return word.lower() == text.lower() if any_case else word == text
 
 
-def one_of(words, text):
-    """The first of the words that is this text, ASCII case aside; None if none is."""
-    return next((word for word in words if word.lower() == text.lower()), None)
+def matching(words, text, any_case):
+    """The first of the words that stands for this text; None if none does."""
+    for word in words:
+        front = word.removesuffix(b"*")
+        if is_same(front, text[:len(front)] if word.endswith(b"*") else text, any_case):
+            return word
+    return None
 
 
-def of_word(words, text):
-    if text not in words:
-        raise Refused(b"none of: " + b", ".join(words))
-    return text
+def is_int(text):
+    found = integer(text)
+    return found is not None and product(*found) in BITS_32
 
 
-def of_word_any_case(words, text):
-    if one_of(words, text) is None:
-        raise Refused(b"none of: " + b", ".join(words))
-    return one_of(words, text)
+def spelled_by_form(form, words, text, any_case):
+    """The canonical text of a text that is no word of the row; None where it is wrong."""
+    def has(piece):
+        return matching(words, piece, any_case) is not None
+
+    if form == b"bool-or-word":
+        return None if boolean(text) is None else bool_shown(boolean(text))
+    if form == b"int-or-word":
+        return integer_shown(*integer(text)) if is_int(text) else None
+    name = SORT_NAME.fullmatch(text)[1]
+    is_right = {b"word": lambda: False,
+                b"words": lambda: all(not piece or has(piece) for piece in SEPARATORS.split(text)),
+                b"date": lambda: re.search(rb"[0-9]", text) or any(map(has, NO_LETTERS.split(text))),
+                b"sort-key": lambda: any(name == word or name.startswith(word + b":") for word in words)}
+    return text if is_right[form]() else None
 
 
-def boolean_beside(words, text):
-    """The canonical text of a boolean that is none of the words."""
-    if boolean(text) is None:
-        raise Refused(b"no boolean, and none of: " + b", ".join(words))
-    return bool_shown(boolean(text))
+FORMS = {b"word": b"not one of: ", b"bool-or-word": b"not a boolean, nor one of: ",
+         b"int-or-word": b"not an integer, nor one of: ", b"words": b"not a list of: ",
+         b"date": b"not a date: it has no digit, nor one of: ", b"sort-key": b"not a key to sort by: "}
 
 
-def of_bool_or_word(words, text):
-    return text if text in words else boolean_beside(words, text)
+def of_words(kind, words, text):
+    """The canonical text: a word that differs in case alone is spelled as the row has it."""
+    form, any_case = kind.removesuffix(ANY_CASE), kind.endswith(ANY_CASE)
+    word = matching(words, text, any_case)
+    if word is not None:
+        return word if word.lower() == text.lower() else text
+    spelling = spelled_by_form(form, words, text, any_case)
+    if spelling is None:
+        raise Refused(FORMS[form] + b", ".join(map(shown, words)))
+    return spelling
 
 
-def of_bool_or_word_any_case(words, text):
-    word = one_of(words, text)
-    return boolean_beside(words, text) if word is None else word
-
-
-KINDS = {b"bool": of_bool, b"int": of_int, b"size": of_size, b"bool-or-int": of_bool_or_int,
-         b"color": of_color, b"path": of_path, b"word": of_word, b"word-any-case": of_word_any_case,
-         b"bool-or-word": of_bool_or_word, b"bool-or-word-any-case": of_bool_or_word_any_case}
-WITH_WORDS = [b"word", b"word-any-case", b"bool-or-word", b"bool-or-word-any-case"]
-RIGHT_WITHOUT_VALUE = [b"bool", b"bool-or-int", b"bool-or-word", b"bool-or-word-any-case"]
+ANY_CASE = b"-any-case"
+KINDS = {b"text": of_text, b"bool": of_bool, b"int": of_int, b"bool-or-int": of_bool_or_int, b"color": of_color}
+WITH_WORDS = [*FORMS, *(form + ANY_CASE for form in FORMS)]
+RIGHT_ALONE = [b"bool", b"bool-or-int", b"bool-or-word", b"bool-or-word" + ANY_CASE]
 
 
 def reason(row, value, canonical):
-    """Why a value is reported, or None; the value is None where the entry has none."""
+    """How bad a value is and why it is reported, or None; the value is None where the entry has none."""
     if value is None:
-        return None if row.kind in RIGHT_WITHOUT_VALUE else b"no value"
+        return None if row.alone else b"error: no value"
     try:
-        spelling = KINDS[row.kind](row.words, value)
+        spelling = of_words(row.kind, row.words, value) if row.kind in WITH_WORDS else KINDS[row.kind](row.words, value)
     except Refused as refused:
-        return refused.args[0]
-    return b"should be " + spelling if canonical and spelling != value else None
+        return (b"warning: " if row.warns else b"error: ") + refused.args[0]
+    if not canonical or spelling == value:
+        return None
+    return b"note: should be " + (shown(spelling) if row.kind in WITH_WORDS else spelling)
 
 
 # rows and keys
@@ -252,12 +267,18 @@ def fields_of(line):
 
 def row_of(fields):
     """The row that these fields are; None where they are none."""
-    if len(fields) < 2:
+    text, *rest = fields
+    alone = {b"alone": True, b"needs-value": False}.get(rest[0]) if rest else None
+    rest = rest if alone is None else rest[1:]
+    warns = rest[:1] == [b"warn"]
+    rest = rest[1:] if warns else rest
+    if not rest or key_of(text) is None:
         return None
-    text, kind, *words = fields
-    key = key_of(text)
-    is_row = key is not None and kind in KINDS and bool(words) == (kind in WITH_WORDS)
-    return Row(key, kind, words) if is_row else None
+    kind, *words = rest
+    if kind not in KINDS and kind not in WITH_WORDS:
+        return None
+    is_row = bounds(words) is not None if kind == b"int" else bool(words) == (kind in WITH_WORDS)
+    return Row(key_of(text), kind in RIGHT_ALONE if alone is None else alone, warns, kind, words) if is_row else None
 
 
 def rows_of(text):

@@ -40,9 +40,9 @@ LOCAL = b"""\
 \tbool-or-int = some
 \tcolor = red blue green
 \tcolor = "#fff"
-\tPath = ~/x
-\tpath = \xff
-\tpath = :(optional)
+\tText = ~/x
+\ttext = \xff
+\ttext = :(optional)
 \tword = one
 \tword = ONE
 \tword-any-case = ONE
@@ -57,24 +57,21 @@ COMMAND = ["-c", "test.color=no color", "-c", "test.word"]
 FINDINGS = [
     (2, "global", b"test.int", b"ten", rows.INTEGER_FAULT),
     (4, "local", b"core.bigfilethreshold", b"lots", rows.INTEGER_FAULT),
-    (5, "local", b"core.excludesfile", b"", b"an empty path"),
-    (6, "local", b"push.default", b"everything", b"none of: nothing, simple"),
+    (6, "local", b"push.default", b"everything", b"error: not one of: nothing, simple"),
     (7, "local", b"color.branch.local", b"purple", rows.COLOR_FAULT),
     (13, "local", b"test.bool", b"maybe", rows.BOOLEAN_FAULT),
     (14, "local", b"test.bool", rb"a\x09b\\c\x0ad", rows.BOOLEAN_FAULT),
-    (17, "local", b"test.int", b"", b"no value"),
-    (18, "local", b"test.int", b"3g", b"out of range: not from -2147483648 to 2147483647"),
+    (17, "local", b"test.int", b"", b"error: no value"),
+    (18, "local", b"test.int", b"3g", b"error: out of range: not from -2147483648 to 2147483647"),
     (19, "local", b"test.int", b"9223372036854775807k", rows.OVERFLOW_FAULT),
-    (20, "local", b"test.size", b"-1", b"out of range: not from 0 to 9223372036854775807"),
+    (20, "local", b"test.size", b"-1", b"error: out of range: not from 0 to 9223372036854775807"),
     (23, "local", b"test.bool-or-int", b"some", rows.BOOLEAN_FAULT),
     (24, "local", b"test.color", b"red blue green", rows.COLOR_FAULT),
-    (27, "local", b"test.path", rb"\xff", b"a path of ill-formed UTF-8"),
-    (28, "local", b"test.path", b":(optional)", b"an empty path"),
-    (30, "local", b"test.word", b"ONE", b"none of: one, Two, three-3"),
-    (32, "local", b"test.bool-or-word", b"sometimes", b"no boolean, and none of: always, never, auto"),
+    (30, "local", b"test.word", b"ONE", b"error: not one of: one, Two, three-3"),
+    (32, "local", b"test.bool-or-word", b"sometimes", b"error: not a boolean, nor one of: always, never, auto"),
     (33, "local", b"middle.Sub.\xc3\xa9.last", b"x", rows.INTEGER_FAULT),
     (35, "command", b"test.color", b"no color", rows.COLOR_FAULT),
-    (36, "command", b"test.word", b"", b"no value"),
+    (36, "command", b"test.word", b"", b"error: no value"),
 ]
 COUNTS = (36, 35, 1, len(FINDINGS))
 

@@ -2,21 +2,33 @@
 
 In the tables a value is None where the entry has none.
 """
-from plain_reader import BOOLEAN_FAULT, COLOR_FAULT, INTEGER_FAULT, OVERFLOW_FAULT
+import plain_reader
 
 SETTINGS = b"""\
 # a key for each kind
 test.bool bool
 test.int\tint
-test.size \t size
+test.size \t int 0 0x7fffffffffffffff
 test.bool-or-int bool-or-int
 test.color color
-test.path path
+test.text text
 test.word word one Two three-3
 test.alone word alone
 test.word-any-case word-any-case one Two kilo
 test.bool-or-word bool-or-word always never auto
 test.bool-or-word-any-case bool-or-word-any-case always Never kilo
+test.int-or-word int-or-word auto 0x80000000
+test.words words one Two -three tab=* l*
+test.words-any-case words-any-case one tab=*
+test.date date-any-case now ja* \\
+test.sort-key sort-key name date
+
+# marks
+mark.alone alone text
+mark.needs needs-value bool
+mark.warn warn int -1 0x10k
+mark.both alone warn word one
+mark.needs-warn needs-value warn bool-or-word one
 
 # words that are boolean texts too
 both.bytes bool-or-word yes 1 auto
@@ -39,22 +51,28 @@ t\xc3\xa9st.\xc3\x9f int
 # the first row wins
 first.twice int
 first.twice bool
-first.* path
+first.* text
 first.later int
 first.sub.x bool
 first.*.x int
 first.*.* color
 """
 
-NO_VALUE = b"no value"
-NO_INT = b"out of range: not from -2147483648 to 2147483647"
-NO_SIZE = b"out of range: not from 0 to 9223372036854775807"
-EMPTY_PATH = b"an empty path"
-ILL_FORMED_PATH = b"a path of ill-formed UTF-8"
-NO_WORD = b"none of: one, Two, three-3"
-NO_WORD_ANY_CASE = b"none of: one, Two, kilo"
-NO_BOOL_OR_WORD = b"no boolean, and none of: always, never, auto"
-NO_BOOL_OR_WORD_ANY_CASE = b"no boolean, and none of: always, Never, kilo"
+BOOLEAN_FAULT = b"error: " + plain_reader.BOOLEAN_FAULT
+INTEGER_FAULT = b"error: " + plain_reader.INTEGER_FAULT
+OVERFLOW_FAULT = b"error: " + plain_reader.OVERFLOW_FAULT
+COLOR_FAULT = b"error: " + plain_reader.COLOR_FAULT
+NO_VALUE = b"error: no value"
+NO_INT = b"error: out of range: not from -2147483648 to 2147483647"
+NO_SIZE = b"error: out of range: not from 0 to 9223372036854775807"
+NO_INT_OR_WORD = b"error: not an integer, nor one of: auto, 0x80000000"
+NOT_WORDS = b"error: not a list of: one, Two, -three, tab=*, l*"
+NO_DATE = b"error: not a date: it has no digit, nor one of: now, ja*, \\\\"
+NO_SORT_KEY = b"error: not a key to sort by: name, date"
+NO_WORD = b"error: not one of: one, Two, three-3"
+NO_WORD_ANY_CASE = b"error: not one of: one, Two, kilo"
+NO_BOOL_OR_WORD = b"error: not a boolean, nor one of: always, never, auto"
+NO_BOOL_OR_WORD_ANY_CASE = b"error: not a boolean, nor one of: always, Never, kilo"
 
 KELVIN = "\u212a".encode()  # its lower case is k
 LONG_S = "\u017f".encode()  # its upper case is S
@@ -99,7 +117,7 @@ NO_COLORS = [b"re", b"redd", b"bright", b"bright red", b"brightnormal", b"bright
              b"red,blue", b"red blue green", b"-1 -1 -1", b"1 2 3", b"normal default red",
              b"red bold blue ul green", b"red maybe", b"blac" + KELVIN, b"red\xe2\x80\x8bblue",
              b"red\xef\xbb\xbf", b"red\xe1\xa0\x8eblue"]
-PATHS = [b"/x", b"x", b"x/y", b" ", b"~", b"~/", b"~/x", b"~no-such-user/x", b"%(prefix)/", b"%(prefix)/x",
+TEXTS = [b"", b":(optional)", b"\xff", b"/x", b"x", b"x/y", b" ", b"~", b"~/", b"~/x", b"~no-such-user/x", b"%(prefix)/", b"%(prefix)/x",
          b"\xc3\xa9", b":(optional)x", b":(optional) ", b":(optional):(optional)", b":(Optional)",
          b":(optional", b"x:(optional)"]
 
@@ -112,7 +130,7 @@ ACCEPTED = [
                     ZEROS]),
     (b"test.bool-or-int", [None, *WORDS, *SMALL_NUMBERS]),
     (b"test.color", [*NAMES, *ATTRIBUTES, *COLORS]),
-    (b"test.path", PATHS),
+    (b"test.text", TEXTS),
     (b"test.word", [b"one", b"Two", b"three-3"]),
     (b"test.alone", [b"alone"]),
     (b"test.word-any-case", [b"one", b"ONE", b"oNe", b"two", b"Two", b"TWO", b"kilo", b"KILO"]),
@@ -121,6 +139,17 @@ ACCEPTED = [
                                      *SMALL_NUMBERS]),
     (b"both.bytes", [None, b"yes", b"YES", b"1", b"01", b"auto"]),
     (b"both.any-case", [None, b"yes", b"YES", b"0x10", b"16", b"AUTO"]),
+    (b"test.int-or-word", [b"auto", b"0x80000000", *SMALL_NUMBERS]),
+    (b"test.words", [b"", b" ", b",,", b"one", b"one,Two", b"Two one", b"-three\tone\nTwo\rone,", b"tab=", b"tab=8,one",
+                     b"l", b"lll"]),
+    (b"test.words-any-case", [b"", b"ONE,Tab=Ab", b"tAB="]),
+    (b"test.date", [b"now", b"NOW", b"x.now.y", b"7", b"x7y", b"January", b"in ja", b"\\", b"no-NOW"]),
+    (b"test.sort-key", [b"name", b"-name", b"version:name", b"-v:*name", b"*date", b"name:short", b"date:", b"version:v:date"]),
+    (b"mark.alone", [None, b"", b"x"]),
+    (b"mark.needs", [b"", b"yes"]),
+    (b"mark.warn", [b"-1", b"0", b"16k"]),
+    (b"mark.both", [None, b"one"]),
+    (b"mark.needs-warn", [b"one", b"yes", b""]),
 ]
 
 # key, the reason, and the values that have it
@@ -139,20 +168,37 @@ REPORTED = [
     (b"test.bool-or-int", NO_INT, MIDDLE_NUMBERS),
     (b"test.color", NO_VALUE, [None]),
     (b"test.color", COLOR_FAULT, NO_COLORS),
-    (b"test.path", NO_VALUE, [None]),
-    (b"test.path", EMPTY_PATH, [b"", b":(optional)"]),
+    (b"test.text", NO_VALUE, [None]),
     (b"test.word", NO_VALUE, [None]),
     (b"test.word", NO_WORD, [b"", b"ONE", b"two", b"on", b"onee", b"one ", b" one", b"one Two", b"one, Two",
                              b"yes", b"1"]),
-    (b"test.alone", b"none of: alone", [b"", b"Alone", b"al"]),
+    (b"test.alone", b"error: not one of: alone", [b"", b"Alone", b"al"]),
     (b"test.word-any-case", NO_VALUE, [None]),
     (b"test.word-any-case", NO_WORD_ANY_CASE, [b"", b"tw", b"twoo", b"two ", b"yes", b"1", KELVIN + b"ilo"]),
     (b"test.bool-or-word", NO_BOOL_OR_WORD,
      [b"Always", b"NEVER", b"alway", b"alwayss", b" auto", *NO_BOOLEANS, *NO_NUMBERS, *LARGE_PRODUCTS]),
     (b"test.bool-or-word-any-case", NO_BOOL_OR_WORD_ANY_CASE,
      [b"alway", b"never ", KELVIN + b"ilo", *NO_BOOLEANS, *NO_NUMBERS, *LARGE_PRODUCTS]),
-    (b"both.bytes", b"no boolean, and none of: yes, 1, auto", [b"Auto", b"maybe"]),
-    (b"both.any-case", b"no boolean, and none of: Yes, 0X10, auto", [b"aut", b"maybe"]),
+    (b"both.bytes", b"error: not a boolean, nor one of: yes, 1, auto", [b"Auto", b"maybe"]),
+    (b"both.any-case", b"error: not a boolean, nor one of: Yes, 0X10, auto", [b"aut", b"maybe"]),
+    (b"test.int-or-word", NO_VALUE, [None]),
+    (b"test.int-or-word", NO_INT_OR_WORD, [b"", b"Auto", b"autoo", b"yes", b"2147483648", b"0X80000000", *NO_NUMBERS]),
+    (b"test.words", NO_VALUE, [None]),
+    (b"test.words", NOT_WORDS, [b"One", b"one;Two", b"three", b"--three", b"one,two", b"tab", b"TAB=1", b"L", b"xl"]),
+    (b"test.words-any-case", b"error: not a list of: one, tab=*", [b"on", b"one-tab="]),
+    (b"test.date", NO_VALUE, [None]),
+    (b"test.date", NO_DATE, [b"", b"j", b"nowadays", b"snow", b"xja", b" ", b"\xc3\xa9"]),
+    (b"test.sort-key", NO_VALUE, [None]),
+    (b"test.sort-key", NO_SORT_KEY, [b"", b"-", b"nam", b"namee", b"Name", b"--name", b"*-name", b"-:name", b" name",
+                                     b"v:version:name", b"name,date", b"versionname"]),
+    (b"mark.needs", NO_VALUE, [None]),
+    (b"mark.needs", BOOLEAN_FAULT, [b"x"]),
+    (b"mark.warn", NO_VALUE, [None]),
+    (b"mark.warn", b"warning: out of range: not from -1 to 16384", [b"-2", b"17k"]),
+    (b"mark.warn", b"warning: " + plain_reader.INTEGER_FAULT, [b"", b"x"]),
+    (b"mark.both", b"warning: not one of: one", [b"", b"One"]),
+    (b"mark.needs-warn", NO_VALUE, [None]),
+    (b"mark.needs-warn", b"warning: not a boolean, nor one of: one", [b"One"]),
 ]
 
 # key, and accepted values with their canonical texts
@@ -179,6 +225,11 @@ SPELLINGS = [
                                      b"0": b"false", b"FALSE": b"false"}),
     (b"both.bytes", {b"YES": b"true", b"on": b"true", b"01": b"true", b"0": b"false"}),
     (b"both.any-case", {b"yes": b"Yes", b"YES": b"Yes", b"0x10": b"0X10", b"16": b"true", b"AUTO": b"auto"}),
+    (b"test.int-or-word", {b"+1": b"1", b"0x10K": b"16k"}),
+    (b"test.words-any-case", {b"ONE": b"one", b"TAB=*": b"tab=*"}),
+    (b"test.date", {b"NOW": b"now"}),
+    (b"mark.warn", {b"0x10K": b"16k"}),
+    (b"mark.needs-warn", {b"no": b"false"}),
 ]
 
 # key, and the accepted values whose spelling is canonical, or that have no other
@@ -192,13 +243,18 @@ CANONICAL = [
                      b"normal", b"0", b"255", b"#ffbb11", b"strike reset nostrike",
                      b"default normal bold dim italic ul blink reverse strike reset "
                      b"nodim nobold noitalic noul noblink noreverse nostrike"]),
-    (b"test.path", [b"x", b"//x", b"~/x", b":(optional)x", b"x/../y"]),
+    (b"test.text", [b"x", b"//x", b"~/x", b":(optional)x", b"x/../y"]),
     (b"test.word", [b"one", b"Two"]),
     (b"test.word-any-case", [b"one", b"Two", b"kilo"]),
     (b"test.bool-or-word", [None, b"always", b"true", b"false"]),
     (b"test.bool-or-word-any-case", [None, b"always", b"Never", b"true", b"false"]),
     (b"both.bytes", [None, b"yes", b"1", b"auto", b"true", b"false"]),
     (b"both.any-case", [None, b"Yes", b"0X10", b"auto", b"true", b"false"]),
+    (b"test.int-or-word", [b"auto", b"0x80000000", b"16k"]),
+    (b"test.words", [b"", b",one", b"one,Two", b"tab=*", b"l*"]),
+    (b"test.words-any-case", [b"ONE,one", b"TAB=8"]),
+    (b"test.date", [b"x.NOW", b"01", b"JA"]),
+    (b"test.sort-key", [b"-v:name"]),
 ]
 
 # a value of the first kind of words, which is none of them, and how it is shown
@@ -234,18 +290,13 @@ SHOWN_OF_KINDS = [
     (b"test.color", b"red\xc2blue", rb"red\xc2blue", COLOR_FAULT),
     (b"test.color", b"red\xe2\x80", rb"red\xe2\x80", COLOR_FAULT),
     (b"test.color", b"red\xa0blue", rb"red\xa0blue", COLOR_FAULT),
-    (b"test.path", b"\xff", rb"\xff", ILL_FORMED_PATH),
-    (b"test.path", b"x/\xe2\x82", rb"x/\xe2\x82", ILL_FORMED_PATH),
-    (b"test.path", b"~/\xed\xa0\x80", rb"~/\xed\xa0\x80", ILL_FORMED_PATH),
-    (b"test.path", b":(optional)\xff", rb":(optional)\xff", ILL_FORMED_PATH),
-    (b"test.path", b"%(prefix)/\xc0\x80\\", rb"%(prefix)/\xc0\x80\\", ILL_FORMED_PATH),
 ]
 
 # values that are accepted though they are shown otherwise than they are
 UNSHOWN_ACCEPTED = [
     (b"test.color", b"red\nblue"), (b"test.color", b"\n"), (b"test.color", b"\t\v\f\r \n"),
-    (b"test.color", b"red\xc2\x85bold"), (b"test.color", b"red\tblue"), (b"test.path", b"\n"),
-    (b"test.path", b"a\nb\tc\\"), (b"test.path", b"\x7f\xc2\x80"),
+    (b"test.color", b"red\xc2\x85bold"), (b"test.color", b"red\tblue"), (b"test.text", b"\n"),
+    (b"test.text", b"a\nb\tc\\"), (b"test.text", b"\x7f\xc2\x80"),
 ]
 
 # keys of rows of integers, and how they are shown; keys that no row matches
@@ -274,7 +325,7 @@ UNKNOWN_KEYS = [
 # which row decides: key, value, and the reason
 FIRST_ROWS = [
     (b"first.twice", b"yes", INTEGER_FAULT), (b"first.twice", b"1", None), (b"first.later", b"yes", None),
-    (b"first.later", b"", EMPTY_PATH), (b"first.sub.x", b"red", BOOLEAN_FAULT),
+    (b"first.later", b"", None), (b"first.sub.x", b"red", BOOLEAN_FAULT),
     (b"first.sub.x", b"yes", None), (b"first.Sub.x", b"yes", INTEGER_FAULT),
     (b"first.sub.y", b"yes", COLOR_FAULT), (b"first.sub.y", b"red", None),
 ]
@@ -284,18 +335,18 @@ BUILT_IN = [
     (b"core.bare", b"maybe", BOOLEAN_FAULT), (b"core.bare", b"true", None), (b"core.bare", None, None),
     (b"CORE.Bare", b"2x", BOOLEAN_FAULT), (b"core.bigfilethreshold", b"lots", INTEGER_FAULT),
     (b"core.bigFileThreshold", b"512m", None), (b"core.bigFileThreshold", None, NO_VALUE),
-    (b"core.bigFileThreshold", b"-1", b"out of range: not from 0 to "),
-    (b"push.default", b"everything", b"none of: "), (b"push.default", b"simple", None),
+    (b"core.bigFileThreshold", b"-1", b"error: out of range: not from 0 to "),
+    (b"push.default", b"everything", b"error: not one of: "), (b"push.default", b"simple", None),
     (b"push.default", b"nothing", None), (b"push.default", None, NO_VALUE),
     (b"color.branch.local", b"purple", COLOR_FAULT), (b"color.branch.local", b"bold red", None),
-    (b"branch.x.rebase", b"maybe", b"no boolean, and none of: "), (b"branch.x.rebase", b"true", None),
+    (b"branch.x.rebase", b"maybe", b"error: not a boolean, nor one of: "), (b"branch.x.rebase", b"true", None),
     (b"branch.a.b.rebase", b"interactive", None), (b"branch.x.rebase", None, None),
-    (b"core.excludesFile", b"", EMPTY_PATH), (b"core.excludesfile", b"~/x", None),
+    (b"core.excludesFile", b"", None), (b"core.excludesfile", b"~/x", None),
     (b"core.excludesfile", None, NO_VALUE),
 ]
 
 # rows that win over those of the program, and what they say: key, value, and the reason
-OWN_SETTINGS = b"core.bare int\npush.default color\nbranch.*.rebase size\n"
+OWN_SETTINGS = b"core.bare int\npush.default color\nbranch.*.rebase int 0 0x7fffffffffffffff\n"
 OWN_ROWS = [
     (b"core.bare", b"true", INTEGER_FAULT), (b"core.bare", b"1", None),
     (b"push.default", b"simple", COLOR_FAULT), (b"push.default", b"bold", None),
@@ -304,16 +355,19 @@ OWN_ROWS = [
 ]
 
 # what is said of a line that is no row
-NO_DOT, NO_KIND, NO_SUCH_KIND, NO_WORDS, WORDS = (
+NO_DOT, NO_KIND, NO_SUCH_KIND, NO_WORDS, WORDS, BOUNDS = (
     b"no dot stands in the key", b"no kind stands behind the key", b"no such kind", b"no words stand behind the kind",
-    b"words stand behind a kind that takes none")
+    b"words stand behind a kind that takes none", b"the bounds are not two integers")
 # texts of settings with such a line, its number, and what is said of it
 BAD_ROWS = [
-    (b"nodot bool\n", 1, NO_DOT), (b"test.x\n", 1, NO_KIND), (b"test.x \n", 1, NO_KIND), (b"nodot\n", 1, NO_KIND),
+    (b"nodot bool\n", 1, NO_DOT), (b"test.x\n", 1, NO_KIND), (b"test.x \n", 1, NO_KIND), (b"nodot\n", 1, NO_DOT),
     (b"test.x,bool\n", 1, NO_KIND), (b"nodot boolean\n", 1, NO_DOT), (b"test.x\x0bbool\n", 1, NO_KIND),
     (b"test.x boolean\n", 1, NO_SUCH_KIND), (b"test.x BOOL\n", 1, NO_SUCH_KIND), (b"test.x bool-or\n", 1, NO_SUCH_KIND),
-    (b"test.x int,\n", 1, NO_SUCH_KIND), (b"test.x bool yes\n", 1, WORDS), (b"test.x int 1 2\n", 1, WORDS),
-    (b"test.x path path\n", 1, WORDS), (b"test.x # bool\n", 1, NO_SUCH_KIND), (b"test.x word\n", 1, NO_WORDS),
+    (b"test.x int,\n", 1, NO_SUCH_KIND), (b"test.x bool yes\n", 1, WORDS), (b"test.x int 1\n", 1, BOUNDS),
+    (b"test.x int 1 2 3\n", 1, BOUNDS), (b"test.x int 1 two\n", 1, BOUNDS), (b"test.x int one 2\n", 1, BOUNDS),
+    (b"test.x text text\n", 1, WORDS), (b"test.x alone\n", 1, NO_KIND), (b"test.x needs-value warn\n", 1, NO_KIND),
+    (b"test.x warn alone bool\n", 1, NO_SUCH_KIND), (b"test.x alone needs-value bool\n", 1, NO_SUCH_KIND),
+    (b"test.x size\n", 1, NO_SUCH_KIND), (b"test.x sort-key\n", 1, NO_WORDS), (b"test.x text-any-case\n", 1, NO_SUCH_KIND), (b"test.x # bool\n", 1, NO_SUCH_KIND), (b"test.x word\n", 1, NO_WORDS),
     (b"test.x word-any-case\n", 1, NO_WORDS), (b"test.x bool-or-word \n", 1, NO_WORDS),
     (b"test.x bool-or-word-any-case\n", 1, NO_WORDS), (b"test.x bool\nnodot bool", 2, NO_DOT),
     (b"# first\n\ntest.x bool\n\ntest.y bool\ttrue\ntest.z none\n", 5, WORDS),
@@ -321,7 +375,7 @@ BAD_ROWS = [
 
 # other texts of settings that are in order
 GOOD_ROWS = [b"", b"\n", b"\n\n", b"#\n", b"# nodot bool", b"#nodot bool\n\n", b"test.x bool",
-             b"test.x\t \tword  a\t\tb\n", b" \t \n\r\n", b"  # a comment\n", b"  test.x bool\r\n"]
+             b"test.x\t \tword  a\t\tb\n", b"test.x alone\twarn int -1 0x10k\n", b"test.x int 2 1", b" \t \n\r\n", b"  # a comment\n", b"  test.x bool\r\n"]
 
 # inputs with a scope, an origin, both or none before each entry: the arguments, the input, the output, and
 # the numbers of entries, judged ones, unknown keys and findings
@@ -330,37 +384,37 @@ FIELDS = [
     ([], b"\0", b"", (1, 0, 1, 0)),
     ([], b"\0\0test.bool\0", b"", (3, 1, 2, 0)),
     ([], b"test.int\0other.int\0test.int\n\0",
-     b"1\ttest.int\t\tno value\n3\ttest.int\t\t" + INTEGER_FAULT + b"\n", (3, 2, 1, 2)),
-    (["--show-scope"], b"local\0test.int\0global\0test.int\n1\0", b"1\tlocal\ttest.int\t\tno value\n",
+     b"1\ttest.int\t\terror: no value\n3\ttest.int\t\t" + INTEGER_FAULT + b"\n", (3, 2, 1, 2)),
+    (["--show-scope"], b"local\0test.int\0global\0test.int\n1\0", b"1\tlocal\ttest.int\t\terror: no value\n",
      (2, 2, 0, 1)),
-    (["--show-origin"], b"file:a\0test.int\0", b"1\tfile:a\ttest.int\t\tno value\n", (1, 1, 0, 1)),
+    (["--show-origin"], b"file:a\0test.int\0", b"1\tfile:a\ttest.int\t\terror: no value\n", (1, 1, 0, 1)),
     (["--show-scope", "--show-origin"], b"local\0file:a\0test.int\0command\0command line:\0test.int\nx\0",
-     b"1\tlocal\tfile:a\ttest.int\t\tno value\n"
+     b"1\tlocal\tfile:a\ttest.int\t\terror: no value\n"
      b"2\tcommand\tcommand line:\ttest.int\tx\t" + INTEGER_FAULT + b"\n", (2, 2, 0, 2)),
     (["--show-origin", "--show-scope"], b"local\0file:a\0test.int\0",
-     b"1\tlocal\tfile:a\ttest.int\t\tno value\n", (1, 1, 0, 1)),
-    (["--show-scope", "--show-origin"], b"\0\0test.int\0", b"1\t\t\ttest.int\t\tno value\n", (1, 1, 0, 1)),
+     b"1\tlocal\tfile:a\ttest.int\t\terror: no value\n", (1, 1, 0, 1)),
+    (["--show-scope", "--show-origin"], b"\0\0test.int\0", b"1\t\t\ttest.int\t\terror: no value\n", (1, 1, 0, 1)),
     (["--show-scope", "--show-origin"], b"a\tb\n\0file:\\\xff\xc2\x85\xc3\xa9\0test.int\0",
-     b"1\ta\\x09b\\x0a\tfile:\\\\\\xff\\xc2\\x85\xc3\xa9\ttest.int\t\tno value\n", (1, 1, 0, 1)),
-    (["--show-scope"], b"test.int\0test.int\0", b"1\ttest.int\ttest.int\t\tno value\n", (1, 1, 0, 1)),
+     b"1\ta\\x09b\\x0a\tfile:\\\\\\xff\\xc2\\x85\xc3\xa9\ttest.int\t\terror: no value\n", (1, 1, 0, 1)),
+    (["--show-scope"], b"test.int\0test.int\0", b"1\ttest.int\ttest.int\t\terror: no value\n", (1, 1, 0, 1)),
     (["--show-scope"], b"test.int\0other.int\0", b"", (1, 0, 1, 0)),
 ]
 
 # inputs that are cut off, as above
 CUT_OFF = [
-    ([], b"test.int", b"1\ttest.int\t\tno value\n", (1, 1, 0, 1)),
+    ([], b"test.int", b"1\ttest.int\t\terror: no value\n", (1, 1, 0, 1)),
     ([], b"test.int\n1", b"", (1, 1, 0, 0)),
     ([], b"test.int\n", b"1\ttest.int\t\t" + INTEGER_FAULT + b"\n", (1, 1, 0, 1)),
     ([], b"\0x", b"", (2, 0, 2, 0)),
     (["--show-scope"], b"local", b"", (0, 0, 0, 0)),
     (["--show-scope"], b"local\0", b"", (0, 0, 0, 0)),
     (["--show-scope"], b"\0", b"", (0, 0, 0, 0)),
-    (["--show-scope"], b"local\0test.int", b"1\tlocal\ttest.int\t\tno value\n", (1, 1, 0, 1)),
-    (["--show-scope"], b"test.int\0test.int\0test.int", b"1\ttest.int\ttest.int\t\tno value\n",
+    (["--show-scope"], b"local\0test.int", b"1\tlocal\ttest.int\t\terror: no value\n", (1, 1, 0, 1)),
+    (["--show-scope"], b"test.int\0test.int\0test.int", b"1\ttest.int\ttest.int\t\terror: no value\n",
      (1, 1, 0, 1)),
     (["--show-scope", "--show-origin"], b"local\0file:a\0", b"", (0, 0, 0, 0)),
     (["--show-scope", "--show-origin"], b"local\0file:a", b"", (0, 0, 0, 0)),
-    (["--show-scope", "--show-origin"], b"a\0b\0test.int\0test.int\0", b"1\ta\tb\ttest.int\t\tno value\n",
+    (["--show-scope", "--show-origin"], b"a\0b\0test.int\0test.int\0", b"1\ta\tb\ttest.int\t\terror: no value\n",
      (1, 1, 0, 1)),
 ]
 

@@ -1,5 +1,5 @@
 -- A setting has one reason, and one finding.
-use Rattle.std.proofs.Common.{◌≡◌, ℕ, ℤ, inl, inr, ◌<◌, List, Bool, true, false}
+use Rattle.std.proofs.Common.{◌≡◌, ℕ, inl, inr, ◌<◌, List, Bool, true, false}
 use Rattle.std.proofs.Common.{Option, None, Some, refl, sym, ap, subst, ◌∙◌, arith}
 use Rattle.std.proofs.Common.{get_or, Bor}
 use Rattle.std.proofs.lemmas.List.{get_or-take, get_or_default, length-take}
@@ -11,20 +11,24 @@ use Rattle.gix_config_value.specs.Boolean.{BooleanText, CanonicalBoolean}
 use Rattle.gix_config_value.specs.Integer.{IntegerText, CanonicalInteger}
 use Rattle.gix_config_value.specs.Amount.{AmountFault}
 use Rattle.gix_config_value.specs.Color.{ColorText, CanonicalColor}
-use Rattle.gix_config_value.specs.Path.{Marked}
+use Rattle.config_integer.specs.declared.amount.Amount.{Amount}
 use Rattle.config_integer.specs.contracts.amount.AmountValue.TheImpl.Laws.{one_value-law as amount_one_value}
 use Rattle.config_integer.specs.contracts.amount.AmountValue.TheImpl.Laws.{decided-law as amount_decided}
 use Rattle.gix_config_value.proofs.OneAnswer.{text_once}
+use Rattle.config_checks.specs.declared.kind.Form.{Form}
+use Rattle.config_checks.specs.declared.kind.Form.TheVariants as forms
 use Rattle.config_checks.specs.declared.kind.WordList.{WordList}
 use Rattle.config_checks.specs.declared.kind.SettingKind.{SettingKind}
 use Rattle.config_checks.specs.declared.kind.SettingKind.TheVariants as kinds
+use Rattle.config_checks.specs.declared.row.Row.{Row}
 use Rattle.config_checks.specs.declared.reason.Reason.{Reason}
-use Rattle.config_checks.specs.declared.reason.Reason.TheVariants.{Refused, OutOfRange, EmptyPath}
-use Rattle.config_checks.specs.declared.reason.Reason.TheVariants.{IllFormedPath, NoWord, NotCanonical}
+use Rattle.config_checks.specs.declared.reason.Reason.TheVariants.{NoValue, Refused, OutOfRange, NoWord, NotCanonical}
 use Rattle.config_checks.specs.declared.reason.Reason.TheVariants.{OtherCase}
-use Rattle.config_checks.specs.Reasons.{IsJudged, IsWithin, IsJudgedWithin, IsJudgedUnmarked, IsJudgedByWords}
-use Rattle.config_checks.specs.Reasons.{IsWord, IsFirstWord, HasReason}
-use Rattle.config_checks.specs.Reasons.{IsRespelled, IsRespelledAs, IsRespelledByWords, HasSpelling, IsFoundBehind}
+use Rattle.config_checks.specs.Kinds.{IsWord, IsFirstWord}
+use Rattle.config_checks.specs.Reasons.{IsJudged, IsWithin, IsJudgedWithin, IsJudgedBoolOrInt, IsJudgedByWords}
+use Rattle.config_checks.specs.Reasons.{IsJudgedText, HasReason}
+use Rattle.config_checks.specs.Reasons.{IsRespelled, IsRespelledAs, IsRespelledByForm, IsRespelledByWords}
+use Rattle.config_checks.specs.Reasons.{HasSpelling, IsFoundBehind}
 use Rattle.config_checks.specs.Reasons.{HasFinding, IsSameFinding}
 use Rattle.config_checks.proofs.WordLemmas.{no_first}
 
@@ -66,88 +70,73 @@ refusal_once t faults.Overflow _ p q = absurd q
 refusal_once t faults.OutOfRange g p q = absurd p.2
 refusal_once t _ g p q = absurd p
 
-module _ (low high : ℤ) (t : List ℕ) where
+module _ (low high : Amount) (t : List ℕ) where
   same_number : (a b : Option Reason) → IsJudgedWithin low high t a → IsJudgedWithin low high t b → a ≡ b
   same_number None None p q = refl
-  same_number None (Some OutOfRange) p q =
-      absurd (q.2 (subst (λ n. IsWithin low high n.0) (amount_one_value t p.0 q.0 p.1 q.1) p.2))
+  same_number None (Some (OutOfRange l h)) p q =
+      absurd (q.2.2 (subst (IsWithin low high) (amount_one_value t p.0 q.2.0 p.1 q.2.1) p.2))
   same_number None (Some (Refused g)) p q = absurd (q.1 p.0 p.1)
   same_number None (Some _) p q = absurd q
-  same_number (Some OutOfRange) None p q =
-      absurd (p.2 (subst (λ n. IsWithin low high n.0) (amount_one_value t q.0 p.0 q.1 p.1) q.2))
-  same_number (Some OutOfRange) (Some OutOfRange) p q = refl
-  same_number (Some OutOfRange) (Some (Refused g)) p q = absurd (q.1 p.0 p.1)
-  same_number (Some OutOfRange) (Some _) p q = absurd q
+  same_number (Some (OutOfRange l h)) None p q =
+      absurd (p.2.2 (subst (IsWithin low high) (amount_one_value t q.0 p.2.0 q.1 p.2.1) q.2))
+  same_number (Some (OutOfRange l h)) (Some (OutOfRange m k)) p q =
+      ap (λ z. Some (OutOfRange z h)) (p.0 ∙ sym q.0) ∙ ap (λ z. Some (OutOfRange m z)) (p.1 ∙ sym q.1)
+  same_number (Some (OutOfRange l h)) (Some (Refused g)) p q = absurd (q.1 p.2.0 p.2.1)
+  same_number (Some (OutOfRange l h)) (Some _) p q = absurd q
   same_number (Some (Refused f)) None p q = absurd (p.1 q.0 q.1)
-  same_number (Some (Refused f)) (Some OutOfRange) p q = absurd (p.1 q.0 q.1)
+  same_number (Some (Refused f)) (Some (OutOfRange l h)) p q = absurd (p.1 q.2.0 q.2.1)
   same_number (Some (Refused f)) (Some (Refused g)) p q =
       ap (λ h. Some (Refused h)) (refusal_once t f g p.0 q.0)
   same_number (Some (Refused f)) (Some _) p q = absurd q
   same_number (Some _) b p q = absurd p
 
--- ---- paths
-
-mark_once : (t : List ℕ) (a b : Bool) (k m : List ℕ) → Marked t a k → Marked t b m → k ≡ m
-mark_once t true true k m p q = cc
-mark_once t true false k m p q = absurd (q.1 k p)
-mark_once t false true k m p q = absurd (p.1 m q)
-mark_once t false false k m p q = p.0 ∙ sym q.0
-
-unmarked_once : (path : List ℕ) (a b : Option Reason) → IsJudgedUnmarked path a → IsJudgedUnmarked path b
-    → a ≡ b
-unmarked_once path None None p q = refl
-unmarked_once path None (Some EmptyPath) p q = absurd (p.0 q)
-unmarked_once path None (Some IllFormedPath) p q = absurd (q.1 p.1)
-unmarked_once path None (Some _) p q = absurd q
-unmarked_once path (Some EmptyPath) None p q = absurd (q.0 p)
-unmarked_once path (Some EmptyPath) (Some EmptyPath) p q = refl
-unmarked_once path (Some EmptyPath) (Some IllFormedPath) p q = absurd (q.0 p)
-unmarked_once path (Some EmptyPath) (Some _) p q = absurd q
-unmarked_once path (Some IllFormedPath) None p q = absurd (p.1 q.1)
-unmarked_once path (Some IllFormedPath) (Some EmptyPath) p q = absurd (p.0 q)
-unmarked_once path (Some IllFormedPath) (Some IllFormedPath) p q = refl
-unmarked_once path (Some IllFormedPath) (Some _) p q = absurd q
-unmarked_once path (Some _) b p q = absurd p
-
--- ---- words
-
-words_once : (list : WordList) (t : List ℕ) (a b : Option Reason) → IsJudgedByWords list t a
-    → IsJudgedByWords list t b → a ≡ b
-words_once list t None None p q = refl
-words_once list t None (Some NoWord) p q = absurd (q p)
-words_once list t None (Some _) p q = absurd q
-words_once list t (Some NoWord) None p q = absurd (p q)
-words_once list t (Some NoWord) (Some NoWord) p q = refl
-words_once list t (Some NoWord) (Some _) p q = absurd q
-words_once list t (Some _) b p q = absurd p
-
--- ---- the reason
-
-pub reason_once : (kind : SettingKind) (value : Option (List ℕ)) (a b : Option Reason) → HasReason kind value a
-    → HasReason kind value b → a ≡ b
-reason_once kind None a b p q = p ∙ sym q
-reason_once kinds.Bool (Some t) a b p q =
-    judged_once BooleanText (OnlyFault faults.Boolean) t (always_once faults.Boolean t) a b p q
-reason_once kinds.Int (Some t) a b p q = same_number _ _ t a b p q
-reason_once kinds.Size (Some t) a b p q = same_number _ _ t a b p q
-reason_once kinds.BoolOrInt (Some t) a b p q = elim (amount_decided t) [
-  | inl number ↦ same_number _ _ t a b (p.number number) (q.number number)
-  | inr none ↦ judged_once BooleanText (OnlyFault faults.Boolean) t (always_once faults.Boolean t) a b (p.other none) (q.other none)
-]
-reason_once kinds.Color (Some t) a b p q =
-    judged_once ColorText (OnlyFault faults.Color) t (always_once faults.Color t) a b p q
-reason_once kinds.Path (Some t) a b p q =
-    unmarked_once p.1 a b p.3 (subst (λ path. IsJudgedUnmarked path b) (mark_once t q.0 p.0 q.1 p.1 q.2 p.2) q.3)
-reason_once (kinds.Word list) (Some t) a b p q = words_once list t a b p q
-
--- ---- how an accepted text is spelled
+-- ---- findings that are the same
 
 same_finding : (a : Option Reason) → IsSameFinding a a
 same_finding (Some (NotCanonical c)) = refl
+same_finding (Some (NoWord l)) = refl
 same_finding a = refl
 
 as_same : (a b : Option Reason) → a ≡ b → IsSameFinding a b
 as_same a b same = subst (IsSameFinding a) same (same_finding a)
+
+-- ---- words
+
+words_once : (list : WordList) (t : List ℕ) (a b : Option Reason) → IsJudgedByWords list t a
+    → IsJudgedByWords list t b → IsSameFinding a b
+words_once list t None None p q = refl
+words_once list t None (Some (NoWord m)) p q = absurd (q.1 p)
+words_once list t None (Some _) p q = absurd q
+words_once list t (Some (NoWord l)) None p q = absurd (p.1 q)
+words_once list t (Some (NoWord l)) (Some (NoWord m)) p q = p.0 ∙ sym q.0
+words_once list t (Some (NoWord l)) (Some _) p q = absurd q
+words_once list t (Some _) b p q = absurd p
+
+-- ---- the reason
+
+int_once : (t : List ℕ) (a b : Option Reason) → IsJudgedBoolOrInt t a → IsJudgedBoolOrInt t b → a ≡ b
+int_once t a b p q = elim (amount_decided t) [
+  | inl number ↦ same_number _ _ t a b (p.number number) (q.number number)
+  | inr none ↦ judged_once BooleanText (OnlyFault faults.Boolean) t (always_once faults.Boolean t) a b (p.other none) (q.other none)
+]
+
+text_judged_once : (kind : SettingKind) (t : List ℕ) (a b : Option Reason) → IsJudgedText kind t a
+    → IsJudgedText kind t b → IsSameFinding a b
+text_judged_once kinds.Text t a b p q = as_same a b (p ∙ sym q)
+text_judged_once kinds.Bool t a b p q =
+    as_same a b (judged_once BooleanText (OnlyFault faults.Boolean) t (always_once faults.Boolean t) a b p q)
+text_judged_once (kinds.Int low high) t a b p q = as_same a b (same_number low high t a b p q)
+text_judged_once kinds.BoolOrInt t a b p q = as_same a b (int_once t a b p q)
+text_judged_once kinds.Color t a b p q =
+    as_same a b (judged_once ColorText (OnlyFault faults.Color) t (always_once faults.Color t) a b p q)
+text_judged_once (kinds.Word list) t a b p q = words_once list t a b p q
+
+pub reason_once : (row : Row) (value : Option (List ℕ)) (a b : Option Reason) → HasReason row value a
+    → HasReason row value b → IsSameFinding a b
+reason_once row None a b p q = as_same a b (p ∙ sym q)
+reason_once row (Some t) a b p q = text_judged_once row.kind t a b p q
+
+-- ---- how an accepted text is spelled
 
 module _ {V : Type 0} (grammar : List ℕ → V → Type 0) (canonical : List ℕ → Type 0) (t : List ℕ) where
   respelled_once : (a b : Option Reason) → IsRespelled grammar canonical t a → IsRespelled grammar canonical t b
@@ -174,7 +163,7 @@ module _ (list : WordList) (t : List ℕ) where
   first_before : (v w : Bor (List ℕ)) (a : IsFirstWord list t v) (b : IsFirstWord list t w) → ¬ (a.place < b.place)
   first_before v w a b before =
       b.first a.place v (omega (arith, length-take {A = Bor (List ℕ)}, before, b.inside))
-      (subst (IsWord list t) (sym (get_or-take b.place list.words.items a.place v before ∙ a.stands)) a.is_word)
+      (subst (λ w. IsWord list t w.now) (sym (get_or-take b.place list.words.items a.place v before ∙ a.stands)) a.is_word)
 
   word_once : (v w : Bor (List ℕ)) → IsFirstWord list t v → IsFirstWord list t w → v ≡ w
   word_once v w a b =
@@ -185,46 +174,72 @@ module _ (list : WordList) (t : List ℕ) where
   as_word_once : (word : Bor (List ℕ)) (a b : Option Reason) → IsRespelledAs t word a → IsRespelledAs t word b
       → a ≡ b
   as_word_once word None None p q = refl
-  as_word_once word None (Some (OtherCase w)) p q = absurd (q.1 p)
+  as_word_once word None (Some (OtherCase w)) p q = elim p [
+    | inl same ↦ absurd (q.1 same)
+    | inr other ↦ absurd (other q.2)
+  ]
   as_word_once word None (Some _) p q = absurd q
-  as_word_once word (Some (OtherCase v)) None p q = absurd (p.1 q)
+  as_word_once word (Some (OtherCase v)) None p q = elim q [
+    | inl same ↦ absurd (p.1 same)
+    | inr other ↦ absurd (other p.2)
+  ]
   as_word_once word (Some (OtherCase v)) (Some (OtherCase w)) p q =
       ap (λ x. Some (OtherCase x)) (p.0 ∙ sym q.0)
   as_word_once word (Some (OtherCase v)) (Some _) p q = absurd q
   as_word_once word (Some _) b p q = absurd p
 
-  respelled_words_once : (a b : Option Reason) → IsRespelledByWords list t a → IsRespelledByWords list t b
-      → IsSameFinding a b
-  respelled_words_once a b (inl p) (inl q) =
-      as_same a b (as_word_once p.0 a b p.2 (subst (λ w. IsRespelledAs t w b) (word_once q.0 p.0 q.1 p.1) q.2))
-  respelled_words_once a b (inl p) (inr q) = absurd (no_first list t q.0 p.0 p.1)
-  respelled_words_once a b (inr p) (inl q) = absurd (no_first list t p.0 q.0 q.1)
-  respelled_words_once a b (inr p) (inr q) = boolean_once t a b p.1 q.1
+form_once : (form : Form) (t : List ℕ) (a b : Option Reason) → IsRespelledByForm form t a → IsRespelledByForm form t b
+    → IsSameFinding a b
+form_once forms.BoolOrWord t a b p q = boolean_once t a b p q
+form_once forms.IntOrWord t a b p q = integer_once t a b p q
+form_once forms.Word t a b p q = as_same a b (p ∙ sym q)
+form_once forms.Words t a b p q = as_same a b (p ∙ sym q)
+form_once forms.Date t a b p q = as_same a b (p ∙ sym q)
+form_once forms.SortKey t a b p q = as_same a b (p ∙ sym q)
+
+respelled_words_once : (list : WordList) (t : List ℕ) (a b : Option Reason) → IsRespelledByWords list t a
+    → IsRespelledByWords list t b → IsSameFinding a b
+respelled_words_once list t a b (inl p) (inl q) = as_same a b
+    (as_word_once list t p.0 a b p.2 (subst (λ w. IsRespelledAs t w b) (word_once list t q.0 p.0 q.1 p.1) q.2))
+respelled_words_once list t a b (inl p) (inr q) = absurd (no_first list t q.0 p.0 p.1)
+respelled_words_once list t a b (inr p) (inl q) = absurd (no_first list t p.0 q.0 q.1)
+respelled_words_once list t a b (inr p) (inr q) = form_once list.form t a b p.1 q.1
 
 spelling_once : (kind : SettingKind) (value : Option (List ℕ)) (a b : Option Reason) → HasSpelling kind value a
     → HasSpelling kind value b → IsSameFinding a b
 spelling_once kind None a b p q = as_same a b (p ∙ sym q)
+spelling_once kinds.Text (Some t) a b p q = as_same a b (p ∙ sym q)
 spelling_once kinds.Bool (Some t) a b p q = boolean_once t a b p q
-spelling_once kinds.Int (Some t) a b p q = integer_once t a b p q
-spelling_once kinds.Size (Some t) a b p q = integer_once t a b p q
+spelling_once (kinds.Int low high) (Some t) a b p q = integer_once t a b p q
 spelling_once kinds.BoolOrInt (Some t) a b p q = elim (amount_decided t) [
   | inl number ↦ integer_once t a b (p.number number) (q.number number)
   | inr none ↦ boolean_once t a b (p.other none) (q.other none)
 ]
 spelling_once kinds.Color (Some t) a b p q =
     respelled_once ColorText CanonicalColor t a b p q
-spelling_once kinds.Path (Some t) a b p q = as_same a b (p ∙ sym q)
 spelling_once (kinds.Word list) (Some t) a b p q = respelled_words_once list t a b p q
 
 -- ---- the finding
 
-found_once : (wants : Bool) (kind : SettingKind) (value : Option (List ℕ)) (reason a b : Option Reason)
-    → IsFoundBehind wants kind value reason a → IsFoundBehind wants kind value reason b → IsSameFinding a b
-found_once wants kind value (Some reason) a b p q = as_same a b (p ∙ sym q)
-found_once true kind value None a b p q = spelling_once kind value a b p q
-found_once false kind value None a b p q = as_same a b (p ∙ sym q)
+-- two that are the same are both there, or neither is
+none_with : (a : Reason) → ¬ (IsSameFinding (Some a) None)
+none_with NoValue same = absurd (cc)
+none_with (Refused f) same = absurd (cc)
+none_with (OutOfRange l h) same = absurd (cc)
+none_with (NoWord l) same = absurd (cc)
+none_with (NotCanonical c) same = absurd (cc)
+none_with (OtherCase w) same = absurd (cc)
 
-pub finding_once : (wants : Bool) (kind : SettingKind) (value : Option (List ℕ)) (a b : Option Reason)
-    → HasFinding wants kind value a → HasFinding wants kind value b → IsSameFinding a b
-finding_once wants kind value a b p q = found_once wants kind value p.reason a b p.found
-    (subst (λ r. IsFoundBehind wants kind value r b) (reason_once kind value q.reason p.reason q.judged p.judged) q.found)
+found_once : (wants : Bool) (kind : SettingKind) (value : Option (List ℕ)) (r s a b : Option Reason) → IsSameFinding r s
+    → IsFoundBehind wants kind value r a → IsFoundBehind wants kind value s b → IsSameFinding a b
+found_once wants kind value (Some r) (Some s) a b same p q =
+    subst (λ x. IsSameFinding x b) (sym p) (subst (IsSameFinding (Some r)) (sym q) same)
+found_once wants kind value (Some r) None a b same p q = absurd (none_with r same)
+found_once wants kind value None (Some s) a b same p q = absurd (cc)
+found_once true kind value None None a b same p q = spelling_once kind value a b p q
+found_once false kind value None None a b same p q = as_same a b (p ∙ sym q)
+
+pub finding_once : (wants : Bool) (row : Row) (value : Option (List ℕ)) (a b : Option Reason)
+    → HasFinding wants row value a → HasFinding wants row value b → IsSameFinding a b
+finding_once wants row value a b p q = found_once wants row.kind value p.reason q.reason a b
+    (reason_once row value p.reason q.reason p.judged q.judged) p.found q.found

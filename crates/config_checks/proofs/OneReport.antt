@@ -1,24 +1,24 @@
 -- An input has one list of entries, and one report.
 use Rattle.std.proofs.Common.{◌≡◌, ◌≢◌, ℕ, suc, inl, inr, ◌+◌, ◌<◌, List, [], ◌∷◌, ◌++◌, Bool, true, false}
 use Rattle.std.proofs.Common.{Option, None, Some, refl, sym, ap, subst, ◌∙◌, arith, flat_map, append_assoc}
-use Rattle.std.proofs.Common.{append-nil, get_or, Bor, codes}
+use Rattle.std.proofs.Common.{append-nil, get_or, Bor, codes, if◌then◌else◌}
 use Rattle.std.specs.List.{All, AllByRecursion}
 use Rattle.std.proofs.lemmas.List.{get_or-take, get_or_default, length-take}
 use Rattle.config_text.specs.SameWord.{SameWord}
 use Rattle.config_checks.specs.declared.options.Options.{Options}
 use Rattle.config_checks.specs.declared.row.Row.{Row}
 use Rattle.config_checks.specs.declared.key.Key.{Key}
-use Rattle.config_checks.specs.declared.kind.SettingKind.{SettingKind}
 use Rattle.config_checks.specs.declared.reason.Reason.{Reason}
-use Rattle.config_checks.specs.declared.reason.Reason.TheVariants.{NotCanonical}
+use Rattle.config_checks.specs.declared.reason.Reason.TheVariants.{NotCanonical, NoWord}
+use Rattle.config_checks.specs.declared.reason.Severity.TheVariants.{Error, Warning}
 use Rattle.config_checks.specs.declared.check.Counts.{Counts}
 use Rattle.config_checks.specs.declared.check.Summary.{Summary}
 use Rattle.config_checks.specs.declared.check.CheckError.{CheckError}
 use Rattle.config_checks.specs.declared.check.CheckError.TheVariants.{Read, Write, Memory}
 use Rattle.config_checks.specs.Keys.{IsWithout, IsKey, Covers, CoversBetween, between_text, dot}
 use Rattle.config_checks.specs.Rows.{Decides, IsUnknown}
-use Rattle.config_checks.specs.Reasons.{HasFinding, IsSameFinding}
-use Rattle.config_checks.specs.Findings.{reason_text, painted}
+use Rattle.config_checks.specs.Reasons.{HasFinding, IsSameFinding, severity_of}
+use Rattle.config_checks.specs.Findings.{severity_text, reason_text, no_word_text, painted}
 use Rattle.config_checks.specs.Entries.{Entry, IsField, IsEntry, IsCut, IsCutOff, IsCutBefore, IsInput, whole}
 use Rattle.config_checks.specs.Entries.{cut_off, cut_before, IsSetting, nul, line_feed, shown_field, head}
 use Rattle.config_checks.specs.Entries.{entry_bytes}
@@ -298,10 +298,15 @@ module _ (rows : List Row) (t : List ℕ) where
 no_finding : (reason : Reason) → ¬ (IsSameFinding None (Some reason))
 no_finding reason same = absurd (cc)
 
-same_text : (kind : SettingKind) (a b : Reason) → IsSameFinding (Some a) (Some b)
-    → reason_text kind a ≡ reason_text kind b
-same_text kind (NotCanonical c) (NotCanonical d) same = ap (λ l. codes "should be " ++ l) same
-same_text kind a b same = let is : a ≡ b = cc in ap (reason_text kind) is
+-- how a finding is shown, by whether Git goes on
+abbrev judgment : (goes_on : Bool) → Reason → List ℕ
+judgment goes_on reason = severity_text (severity_of goes_on reason) ++ reason_text reason
+
+same_text : (goes_on : Bool) (a b : Reason) → IsSameFinding (Some a) (Some b) → judgment goes_on a ≡ judgment goes_on b
+same_text goes_on (NotCanonical c) (NotCanonical d) same = ap (λ l. codes "note: " ++ (codes "should be " ++ l)) same
+same_text goes_on (NoWord l) (NoWord m) same =
+    ap (λ list. severity_text (if goes_on then Warning else Error) ++ no_word_text list) same
+same_text goes_on a b same = let is : a ≡ b = cc in ap (judgment goes_on) is
 
 module _ (rows : List Row) (options : Options) where
   entry_once : (entry : Entry) (key : List ℕ) (value : Option (List ℕ)) (s : Counts) (line line' : List ℕ)
@@ -319,19 +324,19 @@ module _ (rows : List Row) (options : Options) where
       (none ∙ sym none', is ∙ sym is')
   entry_once entry key value s line line' t t' (right row decides good none is) (found row' reason decides' bad shown is') =
       let same = row_once rows key row' row decides' decides in
-      absurd (no_finding reason (finding_once options.canonical row.kind value None (Some reason) good
-      (subst (λ r. HasFinding options.canonical r.kind value (Some reason)) same bad)))
+      absurd (no_finding reason (finding_once options.canonical row value None (Some reason) good
+      (subst (λ r. HasFinding options.canonical r value (Some reason)) same bad)))
   entry_once entry key value s line line' t t' (found row reason decides bad shown is) (unknown u none is') =
       absurd (known_once rows key row decides u)
   entry_once entry key value s line line' t t' (found row reason decides bad shown is) (right row' decides' good none is') =
       let same = row_once rows key row row' decides decides' in
-      absurd (no_finding reason (finding_once options.canonical row'.kind value None (Some reason) good
-      (subst (λ r. HasFinding options.canonical r.kind value (Some reason)) same bad)))
+      absurd (no_finding reason (finding_once options.canonical row' value None (Some reason) good
+      (subst (λ r. HasFinding options.canonical r value (Some reason)) same bad)))
   entry_once entry key value s line line' t t' (found row reason decides bad shown is) (found row' reason' decides' bad' shown' is') =
       let same = row_once rows key row' row decides' decides in
-      let text = same_text row.kind reason reason' (finding_once options.canonical row.kind value (Some reason) (Some reason') bad
-      (subst (λ r. HasFinding options.canonical r.kind value (Some reason')) same bad')) in
-      let written = subst (λ r. line' ≡ finding_line options (s.entries + 1) entry key value r.kind reason') same shown' in (
+      let text = same_text row.goes_on reason reason' (finding_once options.canonical row value (Some reason) (Some reason') bad
+      (subst (λ r. HasFinding options.canonical r value (Some reason')) same bad')) in
+      let written = subst (λ r. line' ≡ finding_line options (s.entries + 1) entry key value (severity_of r.goes_on reason') reason') same shown' in (
         shown ∙ ap (λ l. front_shown options (s.entries + 1) entry ++ setting_shown key value ++ painted options.color l ++ line_feed ∷ []) text
             ∙ sym written,
         is ∙ sym is',

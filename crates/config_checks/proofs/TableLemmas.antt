@@ -12,9 +12,15 @@ use Rattle.std.specs.Slice.Iter.{split_steps, split_rest, split_done, split_call
 use Rattle.std.proofs.lemmas.Iterator.{YieldsList}
 use Rattle.std.proofs.lemmas.Iterator.Splits.{YieldsList-from_slice_split}
 use Rattle.std.proofs.lemmas.Iterator.Consumers.{YieldsList-at}
+use Rattle.std.proofs.Common.{Option, arith}
+use Rattle.config_checks.specs.declared.key.Key.{Key}
 use Rattle.config_checks.specs.declared.row.Row.{Row}
+use Rattle.config_checks.specs.declared.table.RowFault.{RowFault}
+use Rattle.config_checks.specs.declared.table.RowFault.TheVariants.{NoKind, NoKey, UnknownKind, NoWords, Words, Bounds}
+use Rattle.config_checks.specs.declared.table.RowFault.TheVariants.{Memory}
+use Rattle.config_checks.specs.Keys.{IsKey}
 use Rattle.config_checks.specs.declared.table.BadRow.{BadRow}
-use Rattle.config_checks.specs.Rows.{lines_of, fields_of, IsBadRow, IsBadLine, AddsRow, AddsRows}
+use Rattle.config_checks.specs.Rows.{lines_of, fields_of, IsNoRow, HasMarks, IsBadKind, IsBadRow, IsBadLine, AddsRow, AddsRows}
 
 -- the parts of a text, of which a `for` has taken some
 pub parts_of : {F : Type 0} {g : Mut F (Bor ℕ × Unit {0}) Bool} {f : F} (s u t : _) (taken : List (Bor (List ℕ)))
@@ -64,3 +70,29 @@ bad_line text lines line bad rows rows' before here numbered added fault =
       added = added;
       fault = fault;
     }
+
+-- fields with a key and marks, after which no kind stands
+pub bad_kind : (fields marked : List (List ℕ)) (key name : List ℕ) (words : List (List ℕ)) (k : Key) (alone : Option Bool)
+    (goes_on : Bool) (fault : RowFault) → ¬ (IsNoRow fields) → fields ≡ key ∷ marked → IsKey key k
+    → HasMarks marked alone goes_on (name ∷ words) → IsBadKind name words fault → IsBadRow fields fault
+bad_kind fields marked key name words k alone goes_on NoKind row parts is marks bad = absurd bad
+bad_kind fields marked key name words k alone goes_on NoKey row parts is marks bad = absurd bad
+bad_kind fields marked key name words k alone goes_on UnknownKind row parts is marks bad =
+    (row, (key, marked, parts, (k, is), alone, goes_on, name, words, marks, bad))
+bad_kind fields marked key name words k alone goes_on NoWords row parts is marks bad =
+    (row, (key, marked, parts, (k, is), alone, goes_on, name, words, marks, bad))
+bad_kind fields marked key name words k alone goes_on Words row parts is marks bad =
+    (row, (key, marked, parts, (k, is), alone, goes_on, name, words, marks, bad))
+bad_kind fields marked key name words k alone goes_on Bounds row parts is marks bad =
+    (row, (key, marked, parts, (k, is), alone, goes_on, name, words, marks, bad))
+bad_kind fields marked key name words k alone goes_on (Memory e) row parts is marks bad = tt
+
+no_words : (words : List (Bor (List ℕ))) → length words ≡ 0 → words ≡ []
+no_words [] none = refl
+no_words (word ∷ words) none = absurd (omega (arith, none))
+
+-- a first word, a second one, and nothing more
+pub two_words : (words rest more : List (Bor (List ℕ))) (a b : Bor (List ℕ)) → words ≡ a ∷ rest → rest ≡ b ∷ more
+    → length more ≡ 0 → now words ≡ a.now ∷ b.now ∷ []
+two_words words rest more a b first second none =
+    ap now (first ∙ ap (λ l. a ∷ l) (second ∙ ap (λ l. b ∷ l) (no_words more none)))

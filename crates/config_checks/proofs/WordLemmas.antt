@@ -1,10 +1,37 @@
 -- Words of a list.
-use Rattle.std.proofs.Common.{ℕ, List, subst, sym, Bor}
+use Rattle.std.proofs.Common.{◌≡◌, ◌∙◌, ◌<◌, ℕ, List, [], ◌∷◌, ◌++◌, length, take, map, subst, sym, codes, Bor, All, get_or, ◌+◌}
+use Rattle.std.proofs.lemmas.List.{append_cancel_right, take_more}
+use Rattle.std.proofs.lemmas.List.Elements.{All-push}
+use mathlib.Core.List.{map-append}
 use Rattle.config_checks.specs.declared.kind.WordList.{WordList}
-use Rattle.config_checks.specs.Reasons.{IsWord, IsNoWord, IsFirstWord}
+use Rattle.config_checks.specs.Kinds.{IsSame, IsPattern, IsWord, begins, itself, IsNoWord, IsFirstWord}
 
 -- a text that is no word of the list has no first one
 pub no_first : (list : WordList) (t : List ℕ) → IsNoWord list t list.words.items → (word : Bor (List ℕ))
     → ¬ (IsFirstWord list t word)
 no_first list t none word first =
-    none first.place word first.inside (subst (IsWord list t) (sym first.stands) first.is_word)
+    none first.place word first.inside (subst (λ w. IsWord list t w.now) (sym first.stands) first.is_word)
+
+-- a text that a word with a `*` stands for
+pub word_begins : (list : WordList) (t word front piece : List ℕ) → IsPattern word front → piece ≡ take (length front) t
+    → IsWord list t word → IsSame list.ignores_case front piece
+word_begins list t word front piece pattern part (begins f other same) =
+    let equal : f ≡ front = append_cancel_right f front (codes "*") (sym other ∙ pattern) in
+    subst (IsSame list.ignores_case front) (sym part)
+    (subst (λ x. IsSame list.ignores_case x (take (length x) t)) equal same)
+word_begins list t word front piece pattern part (itself none same) = absurd (none front pattern)
+
+-- one more piece
+pub more_pieces : (P : List ℕ → Type 0) (pieces : List (Bor (List ℕ))) (piece : Bor (List ℕ))
+    → All P (map (λ p. p.now) pieces) → P piece.now → All P (map (λ p. p.now) (pieces ++ piece ∷ []))
+more_pieces P pieces piece all has = subst (All P) (sym (map-append (λ p. p.now) pieces (piece ∷ [])))
+    (All-push P (map (λ p. p.now) pieces) piece.now all has)
+
+-- nor does one more word stand for the text
+pub no_more : (list : WordList) (t : List ℕ) (place : ℕ) → IsNoWord list t (take place list.words.items)
+    → place < length list.words.items → ((d : Bor (List ℕ)) → ¬ (IsWord list t (get_or list.words.items place d).now))
+    → IsNoWord list t (take (place + 1) list.words.items)
+no_more list t place none inside here = λ k d within.
+    subst (IsNoWord list t) (sym (take_more list.words.items place d inside))
+    (All-push (λ w. ¬ (IsWord list t w.now)) (take place list.words.items) (get_or list.words.items place d) none (here d))
+    k d within

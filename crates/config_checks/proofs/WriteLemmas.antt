@@ -81,3 +81,12 @@ part_in_list f xs i d u v w below so_far part =
     part_more u v w (flat_map f xs) (flat_map f (drop i xs)) (f (get_or xs i d)) (flat_map f (drop (suc i) xs))
     (ap (flat_map f) (drop-cons xs i d below))
     (record { written = flat_map f (take i xs); appended = so_far; parts = list_cut f xs i }) part
+
+-- and the same before more of a text
+pub part_before : (u w : Option (List ℕ)) (front back : List ℕ) → AppendsPart u w front → AppendsPart u w (front ++ back)
+part_before u w front back part = record {
+  written = part.written;
+  missing = part.missing ++ back;
+  appended = part.appended;
+  parts = ap (λ l. l ++ back) part.parts ∙ append_assoc part.written part.missing back;
+}

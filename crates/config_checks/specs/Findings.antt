@@ -1,18 +1,22 @@
 -- The line of a finding.
 use Rattle.std.specs.Prelude.{◌≡◌, ℕ, zero, suc, ◌-◌, ◌/◌, ◌%◌, ◌==◌, ◌&&◌, ◌||◌, nat_lt, List, [], ◌∷◌, ◌++◌}
 use Rattle.std.specs.Prelude.{take, flat_map}
+use Rattle.std.specs.Fmt.{signed_decimal}
 use Rattle.std.specs.Prelude.{codes, Bool, true, false, Option, None, Some, if◌then◌else◌}
 use Rattle.std.specs.Char.{digit_char}
 use Rattle.std.specs.Io.KnownBytes.{Appends}
 use denote.Ref.{Bor}
 use Rattle.bstr.specs.Utf8.{decoded}
 use Rattle.config_text.specs.Faults.{fault_text}
-use Rattle.config_checks.specs.declared.kind.SettingKind.{SettingKind}
-use Rattle.config_checks.specs.declared.kind.SettingKind.TheVariants as kinds
+use Rattle.config_integer.specs.declared.amount.Amount.{Amount}
+use Rattle.config_checks.specs.declared.kind.Form.{Form}
+use Rattle.config_checks.specs.declared.kind.Form.TheVariants as forms
+use Rattle.config_checks.specs.declared.kind.WordList.{WordList}
 use Rattle.config_checks.specs.declared.reason.Reason.{Reason}
-use Rattle.config_checks.specs.declared.reason.Reason.TheVariants.{NoValue, Refused, OutOfRange, EmptyPath}
-use Rattle.config_checks.specs.declared.reason.Reason.TheVariants.{IllFormedPath, NoWord, NotCanonical}
-use Rattle.config_checks.specs.declared.reason.Reason.TheVariants.{OtherCase}
+use Rattle.config_checks.specs.declared.reason.Reason.TheVariants.{NoValue, Refused, OutOfRange, NoWord}
+use Rattle.config_checks.specs.declared.reason.Reason.TheVariants.{NotCanonical, OtherCase}
+use Rattle.config_checks.specs.declared.reason.Severity.{Severity}
+use Rattle.config_checks.specs.declared.reason.Severity.TheVariants.{Error, Warning, Note}
 
 -- ---- what is left of a text after an error
 
@@ -58,9 +62,9 @@ shown = shown_past 0
 
 -- ---- the text of a reason
 
-abbrev pub range_text : SettingKind → List ℕ
-range_text kinds.Size = codes "out of range: not from 0 to 9223372036854775807"
-range_text _ = codes "out of range: not from -2147483648 to 2147483647"
+abbrev pub range_text : Amount → Amount → List ℕ
+range_text low high =
+    (codes "out of range: not from " ++ signed_decimal low.0) ++ (codes " to " ++ signed_decimal high.0)
 
 -- words with `, ` before each
 abbrev pub listed : List (Bor (List ℕ)) → List ℕ
@@ -72,23 +76,29 @@ words_text [] = []
 words_text (word ∷ words) = shown word.now ++ listed words
 
 -- what stands before the words of a list
-abbrev pub no_word_front : (or_bool : Bool) → List ℕ
-no_word_front true = codes "no boolean, and none of: "
-no_word_front false = codes "none of: "
+abbrev pub no_word_front : Form → List ℕ
+no_word_front forms.Word = codes "not one of: "
+no_word_front forms.BoolOrWord = codes "not a boolean, nor one of: "
+no_word_front forms.IntOrWord = codes "not an integer, nor one of: "
+no_word_front forms.Words = codes "not a list of: "
+no_word_front forms.Date = codes "not a date: it has no digit, nor one of: "
+no_word_front forms.SortKey = codes "not a key to sort by: "
 
-abbrev pub no_word_text : SettingKind → List ℕ
-no_word_text (kinds.Word list) = no_word_front list.or_bool ++ words_text list.words.items
-no_word_text _ = []
+abbrev pub no_word_text : WordList → List ℕ
+no_word_text list = no_word_front list.form ++ words_text list.words.items
 
-abbrev pub reason_text : SettingKind → Reason → List ℕ
-reason_text kind NoValue = codes "no value"
-reason_text kind (Refused fault) = fault_text fault
-reason_text kind OutOfRange = range_text kind
-reason_text kind EmptyPath = codes "an empty path"
-reason_text kind IllFormedPath = codes "a path of ill-formed UTF-8"
-reason_text kind NoWord = no_word_text kind
-reason_text kind (NotCanonical canonical) = codes "should be " ++ canonical.bytes
-reason_text kind (OtherCase word) = codes "should be " ++ shown word.now
+abbrev pub reason_text : Reason → List ℕ
+reason_text NoValue = codes "no value"
+reason_text (Refused fault) = fault_text fault
+reason_text (OutOfRange low high) = range_text low high
+reason_text (NoWord list) = no_word_text list.now
+reason_text (NotCanonical canonical) = codes "should be " ++ canonical.bytes
+reason_text (OtherCase word) = codes "should be " ++ shown word.now
+
+abbrev pub severity_text : Severity → List ℕ
+severity_text Error = codes "error: "
+severity_text Warning = codes "warning: "
+severity_text Note = codes "note: "
 
 -- ---- the line
 

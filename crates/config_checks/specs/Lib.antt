@@ -1,4 +1,5 @@
 pub mod Keys
+pub mod Kinds
 pub mod Reasons
 pub mod Rows
 pub mod Findings

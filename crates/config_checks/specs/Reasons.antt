@@ -1,8 +1,6 @@
--- What is wrong with a setting: by the kind of its row, over no value or a text, by the grammars of the
--- values.
-use Rattle.std.specs.Prelude.{◌≡◌, ◌≢◌, ◌⊎◌, ℕ, ℤ, pos, negsuc, ◌≤ℤ◌, ◌<◌, List, [], length, take}
-use Rattle.std.specs.Prelude.{slice_index_or, Bool, true, false, IsTrue, Option, None, Some, IsUtf8}
-use Rattle.std.specs.Prelude.{if◌then◌else◌, All}
+-- What is wrong with a setting: by its row, over no value or a text, by the grammars of the values.
+use Rattle.std.specs.Prelude.{◌≡◌, ◌≢◌, ◌⊎◌, ℕ, pos, negsuc, ◌≤ℤ◌, List, Bool, true, false, IsTrue}
+use Rattle.std.specs.Prelude.{Option, None, Some, if◌then◌else◌}
 use denote.Ref.{Bor}
 use Rattle.config_text.specs.declared.errors.Fault.{Fault}
 use Rattle.config_text.specs.declared.errors.Fault.TheVariants as faults
@@ -13,24 +11,19 @@ use Rattle.gix_config_value.specs.Boolean.{BooleanText, CanonicalBoolean}
 use Rattle.gix_config_value.specs.Integer.{IntegerText, CanonicalInteger}
 use Rattle.gix_config_value.specs.Amount.{AmountText, AmountFault}
 use Rattle.gix_config_value.specs.Color.{ColorText, CanonicalColor}
-use Rattle.gix_config_value.specs.Path.{Marked}
 use Rattle.config_integer.specs.declared.amount.Amount.{Amount}
+use Rattle.config_checks.specs.declared.kind.Form.{Form}
+use Rattle.config_checks.specs.declared.kind.Form.TheVariants as forms
 use Rattle.config_checks.specs.declared.kind.WordList.{WordList}
 use Rattle.config_checks.specs.declared.kind.SettingKind.{SettingKind}
 use Rattle.config_checks.specs.declared.kind.SettingKind.TheVariants as kinds
+use Rattle.config_checks.specs.declared.row.Row.{Row}
 use Rattle.config_checks.specs.declared.reason.Reason.{Reason}
-use Rattle.config_checks.specs.declared.reason.Reason.TheVariants.{NoValue, Refused, OutOfRange, EmptyPath}
-use Rattle.config_checks.specs.declared.reason.Reason.TheVariants.{IllFormedPath, NoWord, NotCanonical}
-use Rattle.config_checks.specs.declared.reason.Reason.TheVariants.{OtherCase}
-
--- ---- no value
-
--- a setting with no value is true, which the kinds with booleans take
-abbrev pub takes_true : SettingKind → Bool
-takes_true kinds.Bool = true
-takes_true kinds.BoolOrInt = true
-takes_true (kinds.Word list) = list.or_bool
-takes_true _ = false
+use Rattle.config_checks.specs.declared.reason.Reason.TheVariants.{NoValue, Refused, OutOfRange, NoWord}
+use Rattle.config_checks.specs.declared.reason.Reason.TheVariants.{NotCanonical, OtherCase}
+use Rattle.config_checks.specs.declared.reason.Severity.{Severity}
+use Rattle.config_checks.specs.declared.reason.Severity.TheVariants.{Error, Warning, Note}
+use Rattle.config_checks.specs.Kinds.{HasWord, IsNoWord, IsFirstWord, AreWords, HasDate, IsSortKey}
 
 -- ---- texts
 
@@ -43,86 +36,78 @@ IsJudged grammar refusal t (Some (Refused fault)) = refusal t fault × IsRefused
 IsJudged grammar refusal t (Some _) = ⊥
 
 -- from the one number to the other, both among them
-pub record IsWithin (low high z : ℤ) : Type 0 where
-  pub above : low ≤ℤ z
-  pub below : z ≤ℤ high
+pub record IsWithin (low high n : Amount) : Type 0 where
+  pub above : low.0 ≤ℤ n.0
+  pub below : n.0 ≤ℤ high.0
+
+-- an integer text whose number lies in the range
+abbrev pub IsNumber : Amount → Amount → List ℕ → Type 0
+IsNumber low high t = (n : Amount) × AmountText t n × IsWithin low high n
 
 -- the same of a number, which has to lie in a range too
-abbrev pub IsJudgedWithin : ℤ → ℤ → List ℕ → Option Reason → Type 0
-IsJudgedWithin low high t None = (n : Amount) × AmountText t n × IsWithin low high n.0
-IsJudgedWithin low high t (Some OutOfRange) = (n : Amount) × AmountText t n × ¬ (IsWithin low high n.0)
+abbrev pub IsJudgedWithin : Amount → Amount → List ℕ → Option Reason → Type 0
+IsJudgedWithin low high t None = IsNumber low high t
+IsJudgedWithin low high t (Some (OutOfRange l h)) =
+    (l ≡ low) × (h ≡ high) × ((n : Amount) × AmountText t n × ¬ (IsWithin low high n))
 IsJudgedWithin low high t (Some (Refused fault)) = AmountFault t fault × IsRefused AmountText t
 IsJudgedWithin low high t (Some _) = ⊥
 
 -- 32 bits
-abbrev pub IsJudgedInt : List ℕ → Option Reason → Type 0
-IsJudgedInt = IsJudgedWithin (negsuc 2147483647) (pos 2147483647)
+abbrev pub least_int : Amount
+least_int = record { 0 = negsuc 2147483647 }
 
--- no sign, and 63 bits
-abbrev pub IsJudgedSize : List ℕ → Option Reason → Type 0
-IsJudgedSize = IsJudgedWithin (pos 0) (pos 9223372036854775807)
+abbrev pub greatest_int : Amount
+greatest_int = record { 0 = pos 2147483647 }
+
+abbrev pub IsInt : List ℕ → Type 0
+IsInt = IsNumber least_int greatest_int
 
 abbrev pub IsJudgedBool : List ℕ → Option Reason → Type 0
 IsJudgedBool = IsJudged BooleanText (OnlyFault faults.Boolean)
 
 -- a number is judged as one, and any other text as a boolean
 pub record IsJudgedBoolOrInt (t : List ℕ) (r : Option Reason) : Type 0 where
-  pub number : IsAccepted AmountText t → IsJudgedInt t r
+  pub number : IsAccepted AmountText t → IsJudgedWithin least_int greatest_int t r
   pub other : IsRefused AmountText t → IsJudgedBool t r
 
--- a path behind its mark: something has to stand there, and it has to be UTF-8
-abbrev pub IsJudgedUnmarked : List ℕ → Option Reason → Type 0
-IsJudgedUnmarked path None = (path ≢ []) × IsUtf8 path
-IsJudgedUnmarked path (Some EmptyPath) = path ≡ []
-IsJudgedUnmarked path (Some IllFormedPath) = (path ≢ []) × ¬ (IsUtf8 path)
-IsJudgedUnmarked path (Some _) = ⊥
+-- how a text is right that is not one word of the list
+abbrev pub IsTakenByForm : WordList → List ℕ → Form → Type 0
+IsTakenByForm list t forms.Word = ⊥
+IsTakenByForm list t forms.BoolOrWord = IsAccepted BooleanText t
+IsTakenByForm list t forms.IntOrWord = IsInt t
+IsTakenByForm list t forms.Words = AreWords list t
+IsTakenByForm list t forms.Date = HasDate list t
+IsTakenByForm list t forms.SortKey = IsSortKey list t
 
-abbrev pub IsJudgedPath : List ℕ → Option Reason → Type 0
-IsJudgedPath t r =
-    (is_optional : Bool) × (path : List ℕ) × Marked t is_optional path × IsJudgedUnmarked path r
-
--- the same text, ignoring ASCII case or not
-abbrev pub IsSame : (ignores_case : Bool) → List ℕ → List ℕ → Type 0
-IsSame true word t = SameWord word t
-IsSame false word t = word ≡ t
-
--- the text is this word of the list
-abbrev pub IsWord : WordList → List ℕ → Bor (List ℕ) → Type 0
-IsWord list t word = IsSame list.ignores_case word.now t
-
--- the text is none of these words
-abbrev pub IsNoWord : WordList → List ℕ → List (Bor (List ℕ)) → Type 0
-IsNoWord list t words = All (λ word. ¬ (IsWord list t word)) words
-
--- the first word of the list that the text is
-pub record IsFirstWord (list : WordList) (t : List ℕ) (word : Bor (List ℕ)) : Type 0 where
-  pub place : ℕ
-  pub inside : place < length list.words.items
-  pub stands : slice_index_or list.words.items place word ≡ word
-  pub is_word : IsWord list t word
-  pub first : IsNoWord list t (take place list.words.items)
-
--- a word of the list, or a boolean text where the list takes booleans too
+-- a word of the list, or what else the form of the list takes
 abbrev pub IsTaken : WordList → List ℕ → Type 0
-IsTaken list t =
-    ((word : Bor (List ℕ)) × IsFirstWord list t word) ⊎ (IsTrue list.or_bool × IsAccepted BooleanText t)
+IsTaken list t = HasWord list t ⊎ IsTakenByForm list t list.form
 
 abbrev pub IsJudgedByWords : WordList → List ℕ → Option Reason → Type 0
 IsJudgedByWords list t None = IsTaken list t
-IsJudgedByWords list t (Some NoWord) = ¬ (IsTaken list t)
+IsJudgedByWords list t (Some (NoWord l)) = (l.now ≡ list) × ¬ (IsTaken list t)
 IsJudgedByWords list t (Some _) = ⊥
 
--- ---- the reason that a setting of this kind has, if it has one
+-- ---- the reason that a setting has by its row, if it has one
 
-abbrev pub HasReason : SettingKind → Option (List ℕ) → Option Reason → Type 0
-HasReason kind None r = r ≡ (if takes_true kind then None else Some NoValue)
-HasReason kinds.Bool (Some t) r = IsJudgedBool t r
-HasReason kinds.Int (Some t) r = IsJudgedInt t r
-HasReason kinds.Size (Some t) r = IsJudgedSize t r
-HasReason kinds.BoolOrInt (Some t) r = IsJudgedBoolOrInt t r
-HasReason kinds.Color (Some t) r = IsJudged ColorText (OnlyFault faults.Color) t r
-HasReason kinds.Path (Some t) r = IsJudgedPath t r
-HasReason (kinds.Word list) (Some t) r = IsJudgedByWords list t r
+abbrev pub IsJudgedText : SettingKind → List ℕ → Option Reason → Type 0
+IsJudgedText kinds.Text t r = r ≡ None
+IsJudgedText kinds.Bool t r = IsJudgedBool t r
+IsJudgedText (kinds.Int low high) t r = IsJudgedWithin low high t r
+IsJudgedText kinds.BoolOrInt t r = IsJudgedBoolOrInt t r
+IsJudgedText kinds.Color t r = IsJudged ColorText (OnlyFault faults.Color) t r
+IsJudgedText (kinds.Word list) t r = IsJudgedByWords list t r
+
+abbrev pub HasReason : Row → Option (List ℕ) → Option Reason → Type 0
+HasReason row None r = r ≡ (if row.takes_no_value then None else Some NoValue)
+HasReason row (Some t) r = IsJudgedText row.kind t r
+
+-- how bad it is: Git does not go on without a value that is needed, nor at a wrong one, but where the row says so
+abbrev pub severity_of : (goes_on : Bool) → Reason → Severity
+severity_of goes_on NoValue = Error
+severity_of goes_on (NotCanonical canonical) = Note
+severity_of goes_on (OtherCase word) = Note
+severity_of goes_on _ = if goes_on then Warning else Error
 
 -- ---- the canonical text that an accepted text should be
 
@@ -138,25 +123,30 @@ pub record IsRespelledBoolOrInt (t : List ℕ) (r : Option Reason) : Type 0 wher
   pub number : IsAccepted AmountText t → IsRespelled IntegerText CanonicalInteger t r
   pub other : IsRefused AmountText t → IsRespelled BooleanText CanonicalBoolean t r
 
--- nothing where the text is the word byte for byte, and else the word
+-- the word where it is the text in other case, and else nothing
 abbrev pub IsRespelledAs : List ℕ → Bor (List ℕ) → Option Reason → Type 0
-IsRespelledAs t word None = word.now ≡ t
-IsRespelledAs t word (Some (OtherCase w)) = (w ≡ word) × (word.now ≢ t)
+IsRespelledAs t word None = (word.now ≡ t) ⊎ ¬ (SameWord word.now t)
+IsRespelledAs t word (Some (OtherCase w)) = (w ≡ word) × (word.now ≢ t) × SameWord word.now t
 IsRespelledAs t word (Some _) = ⊥
+
+-- booleans and numbers have a canonical text, and nothing else
+abbrev pub IsRespelledByForm : Form → List ℕ → Option Reason → Type 0
+IsRespelledByForm forms.BoolOrWord t r = IsRespelled BooleanText CanonicalBoolean t r
+IsRespelledByForm forms.IntOrWord t r = IsRespelled IntegerText CanonicalInteger t r
+IsRespelledByForm _ t r = r ≡ None
 
 abbrev pub IsRespelledByWords : WordList → List ℕ → Option Reason → Type 0
 IsRespelledByWords list t r = ((word : Bor (List ℕ)) × IsFirstWord list t word × IsRespelledAs t word r)
-    ⊎ (IsNoWord list t list.words.items × IsRespelled BooleanText CanonicalBoolean t r)
+    ⊎ (IsNoWord list t list.words.items × IsRespelledByForm list.form t r)
 
 -- what an accepted setting should be, if it should be another text
 abbrev pub HasSpelling : SettingKind → Option (List ℕ) → Option Reason → Type 0
 HasSpelling kind None r = r ≡ None
+HasSpelling kinds.Text (Some t) r = r ≡ None
 HasSpelling kinds.Bool (Some t) r = IsRespelled BooleanText CanonicalBoolean t r
-HasSpelling kinds.Int (Some t) r = IsRespelled IntegerText CanonicalInteger t r
-HasSpelling kinds.Size (Some t) r = IsRespelled IntegerText CanonicalInteger t r
+HasSpelling (kinds.Int low high) (Some t) r = IsRespelled IntegerText CanonicalInteger t r
 HasSpelling kinds.BoolOrInt (Some t) r = IsRespelledBoolOrInt t r
 HasSpelling kinds.Color (Some t) r = IsRespelled ColorText CanonicalColor t r
-HasSpelling kinds.Path (Some t) r = r ≡ None
 HasSpelling (kinds.Word list) (Some t) r = IsRespelledByWords list t r
 
 -- what is found behind a reason: the reason, if there is one, and else, where canonical texts are wanted,
@@ -168,12 +158,13 @@ IsFoundBehind true kind value None r = HasSpelling kind value r
 IsFoundBehind false kind value None r = r ≡ None
 
 -- what is found of a setting
-pub record HasFinding (wants_canonical : Bool) (kind : SettingKind) (value : Option (List ℕ)) (r : Option Reason) : Type 0 where
+pub record HasFinding (wants_canonical : Bool) (row : Row) (value : Option (List ℕ)) (r : Option Reason) : Type 0 where
   pub reason : Option Reason
-  pub judged : HasReason kind value reason
-  pub found : IsFoundBehind wants_canonical kind value reason r
+  pub judged : HasReason row value reason
+  pub found : IsFoundBehind wants_canonical row.kind value reason r
 
--- the same finding: two that give canonical texts give the same bytes
+-- the same finding: two that give canonical texts give the same bytes, and two that borrow a list the same list
 abbrev pub IsSameFinding : Option Reason → Option Reason → Type 0
 IsSameFinding (Some (NotCanonical c)) (Some (NotCanonical d)) = c.bytes ≡ d.bytes
+IsSameFinding (Some (NoWord l)) (Some (NoWord m)) = l.now ≡ m.now
 IsSameFinding a b = a ≡ b

@@ -6,15 +6,15 @@ use Rattle.std.specs.Io.KnownBytes.{Consumes, Appends}
 use Rattle.gix_config_value.specs.Answers.{OneBegins}
 use Rattle.config_checks.specs.declared.options.Options.{Options}
 use Rattle.config_checks.specs.declared.row.Row.{Row}
-use Rattle.config_checks.specs.declared.kind.SettingKind.{SettingKind}
 use Rattle.config_checks.specs.declared.reason.Reason.{Reason}
+use Rattle.config_checks.specs.declared.reason.Severity.{Severity}
 use Rattle.config_checks.specs.declared.check.Counts.{Counts}
 use Rattle.config_checks.specs.declared.check.Summary.{Summary}
 use Rattle.config_checks.specs.declared.check.CheckError.{CheckError}
 use Rattle.config_checks.specs.declared.check.CheckError.TheVariants.{Read, Write, Memory}
 use Rattle.config_checks.specs.Rows.{Decides, IsUnknown}
-use Rattle.config_checks.specs.Reasons.{HasFinding}
-use Rattle.config_checks.specs.Findings.{tab, shown, value_shown, painted, reason_text}
+use Rattle.config_checks.specs.Reasons.{HasFinding, severity_of}
+use Rattle.config_checks.specs.Findings.{tab, shown, value_shown, painted, severity_text, reason_text}
 use Rattle.config_checks.specs.Entries.{Entry, IsCut, IsBegun, IsInput, IsSetting, EndsKnown, line_feed}
 
 -- ---- a line
@@ -31,10 +31,10 @@ front_shown options number entry =
 abbrev pub setting_shown : List ℕ → Option (List ℕ) → List ℕ
 setting_shown key value = (shown key ++ tab ∷ []) ++ value_shown value ++ tab ∷ []
 
-abbrev pub finding_line : Options → ℕ → Entry → List ℕ → Option (List ℕ) → SettingKind → Reason → List ℕ
-finding_line options number entry key value kind reason =
+abbrev pub finding_line : Options → ℕ → Entry → List ℕ → Option (List ℕ) → Severity → Reason → List ℕ
+finding_line options number entry key value severity reason =
     front_shown options number entry ++ setting_shown key value
-    ++ painted options.color (reason_text kind reason) ++ line_feed ∷ []
+    ++ painted options.color (severity_text severity ++ reason_text reason) ++ line_feed ∷ []
 
 -- ---- the report
 
@@ -45,11 +45,11 @@ pub data ReportsEntry (rows : List Row) (options : Options) (entry : Entry) (key
   unknown : IsUnknown rows key → line ≡ []
       → s' ≡ record s { entries = s.entries + 1; unknown = s.unknown + 1 }
       → ReportsEntry rows options entry key value s line s'
-  right : (row : Row) → Decides rows key row → HasFinding options.canonical row.kind value None → line ≡ []
+  right : (row : Row) → Decides rows key row → HasFinding options.canonical row value None → line ≡ []
       → s' ≡ record s { entries = s.entries + 1 } → ReportsEntry rows options entry key value s line s'
   found : (row : Row) (reason : Reason) → Decides rows key row
-      → HasFinding options.canonical row.kind value (Some reason)
-      → line ≡ finding_line options (s.entries + 1) entry key value row.kind reason
+      → HasFinding options.canonical row value (Some reason)
+      → line ≡ finding_line options (s.entries + 1) entry key value (severity_of row.goes_on reason) reason
       → s' ≡ record s { entries = s.entries + 1; findings = s.findings + 1 }
       → ReportsEntry rows options entry key value s line s'
 

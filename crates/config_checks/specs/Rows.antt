@@ -2,15 +2,21 @@
 use Rattle.std.specs.Prelude.{◌≡◌, ◌≢◌, ◌⊎◌, ℕ, ◌+◌, ◌<◌, ◌==◌, ◌||◌, Bool, true, false, List, [], ◌∷◌, ◌++◌}
 use Rattle.std.specs.Prelude.{length, take, map, flat_map, codes, Option, None, Some, slice_index_or, All}
 use Rattle.std.specs.List.{slice_split}
+use Rattle.gix_config_value.specs.Amount.{AmountText}
+use Rattle.config_integer.specs.declared.amount.Amount.{Amount}
+use Rattle.config_checks.specs.declared.kind.Form.{Form}
+use Rattle.config_checks.specs.declared.kind.Form.TheVariants as forms
 use Rattle.config_checks.specs.declared.key.Key.{Key}
 use Rattle.config_checks.specs.declared.row.Row.{Row}
 use Rattle.config_checks.specs.declared.kind.SettingKind.{SettingKind}
 use Rattle.config_checks.specs.declared.kind.SettingKind.TheVariants as kinds
 use Rattle.config_checks.specs.declared.table.RowFault.{RowFault}
 use Rattle.config_checks.specs.declared.table.BadRow.{BadRow}
-use Rattle.config_checks.specs.declared.table.RowFault.TheVariants.{NoKind, NoKey, UnknownKind, NoWords}
+use Rattle.config_checks.specs.declared.table.RowFault.TheVariants.{NoKind, NoKey, UnknownKind, NoWords, Bounds}
 use Rattle.config_checks.specs.declared.table.RowFault.TheVariants.{Words, Memory}
 use Rattle.config_checks.specs.Keys.{IsKey, Covers}
+use Rattle.config_checks.specs.Kinds.{takes_true}
+use Rattle.config_checks.specs.Reasons.{least_int, greatest_int}
 
 -- no row covers the key
 abbrev pub CoversNone : List Row → Key → Type 0
@@ -50,63 +56,107 @@ abbrev pub IsNoRow : List (List ℕ) → Type 0
 IsNoRow [] = Unit {0}
 IsNoRow (field ∷ fields) = (rest : List ℕ) × (field ≡ codes "#" ++ rest)
 
--- the name of a kind without words
+-- whether a key alone is right, where the row says so: its mark
+abbrev pub alone_mark : Bool → List ℕ
+alone_mark true = codes "alone"
+alone_mark false = codes "needs-value"
+
+-- the fields after this mark, if they begin with one
+abbrev pub CutsAlone : List (List ℕ) → Option Bool → List (List ℕ) → Type 0
+CutsAlone fields (Some alone) rest = fields ≡ alone_mark alone ∷ rest
+CutsAlone fields None rest =
+    (rest ≡ fields) × ((alone : Bool) (more : List (List ℕ)) → fields ≢ alone_mark alone ∷ more)
+
+-- the mark of a row at whose wrong values Git goes on, and the fields after it
+abbrev pub CutsWarn : List (List ℕ) → Bool → List (List ℕ) → Type 0
+CutsWarn fields true rest = fields ≡ codes "warn" ∷ rest
+CutsWarn fields false rest = (rest ≡ fields) × ((more : List (List ℕ)) → fields ≢ codes "warn" ∷ more)
+
+-- the marks of a row, and the fields after them
+pub record HasMarks (fields : List (List ℕ)) (alone : Option Bool) (goes_on : Bool) (rest : List (List ℕ)) : Type 0 where
+  pub between : List (List ℕ)
+  pub first : CutsAlone fields alone between
+  pub second : CutsWarn between goes_on rest
+
+-- the name of a kind with nothing after it
 abbrev pub plain_name : SettingKind → Option (List ℕ)
+plain_name kinds.Text = Some (codes "text")
 plain_name kinds.Bool = Some (codes "bool")
-plain_name kinds.Int = Some (codes "int")
-plain_name kinds.Size = Some (codes "size")
 plain_name kinds.BoolOrInt = Some (codes "bool-or-int")
 plain_name kinds.Color = Some (codes "color")
-plain_name kinds.Path = Some (codes "path")
-plain_name (kinds.Word list) = None
+plain_name _ = None
+
+-- the name of a form
+abbrev pub form_name : Form → List ℕ
+form_name forms.Word = codes "word"
+form_name forms.BoolOrWord = codes "bool-or-word"
+form_name forms.IntOrWord = codes "int-or-word"
+form_name forms.Words = codes "words"
+form_name forms.Date = codes "date"
+form_name forms.SortKey = codes "sort-key"
 
 -- the name of a kind of words
-abbrev pub words_name : (ignores_case or_bool : Bool) → List ℕ
-words_name false false = codes "word"
-words_name true false = codes "word-any-case"
-words_name false true = codes "bool-or-word"
-words_name true true = codes "bool-or-word-any-case"
+abbrev pub words_name : (ignores_case : Bool) → Form → List ℕ
+words_name true form = form_name form ++ codes "-any-case"
+words_name false form = form_name form
+
+-- the bounds of `int`: those of 32 bits, or two integer texts
+pub data IsBounds (words : List (List ℕ)) (low high : Amount) : Type 0 where
+  of_32_bits : words ≡ [] → low ≡ least_int → high ≡ greatest_int → IsBounds words low high
+  these : (l h : List ℕ) → words ≡ l ∷ h ∷ [] → AmountText l low → AmountText h high → IsBounds words low high
 
 -- the kind of this name and these words
 abbrev pub IsKind : List ℕ → List (List ℕ) → SettingKind → Type 0
 IsKind name words (kinds.Word list) =
-    (words_name list.ignores_case list.or_bool ≡ name) × (words ≢ [])
+    (words_name list.ignores_case list.form ≡ name) × (words ≢ [])
     × (map (λ word. word.now) list.words.items ≡ words)
+IsKind name words (kinds.Int low high) = (name ≡ codes "int") × IsBounds words low high
 IsKind name words kind = (plain_name kind ≡ Some name) × (words ≡ [])
 
 -- no kind has this name
 pub record IsNoKind (name : List ℕ) : Type 0 where
   pub plain : (kind : SettingKind) → plain_name kind ≢ Some name
-  pub of_words : (ignores_case or_bool : Bool) → words_name ignores_case or_bool ≢ name
+  pub number : name ≢ codes "int"
+  pub of_words : (ignores_case : Bool) (form : Form) → words_name ignores_case form ≢ name
 
--- a key, the name of a kind, and words
+-- whether a key alone is right: as the mark says, and else where the kind takes it for true
+abbrev pub is_right_alone : Option Bool → SettingKind → Bool
+is_right_alone (Some alone) kind = alone
+is_right_alone None kind = takes_true kind
+
+-- a key, marks, the name of a kind, and words
 pub record IsRow (fields : List (List ℕ)) (row : Row) : Type 0 where
   pub is_row : ¬ (IsNoRow fields)
   pub key : List ℕ
+  pub marked : List (List ℕ)
+  pub alone : Option Bool
   pub name : List ℕ
   pub words : List (List ℕ)
-  pub parts : fields ≡ key ∷ name ∷ words
+  pub parts : fields ≡ key ∷ marked
+  pub marks : HasMarks marked alone row.goes_on (name ∷ words)
   pub is_key : IsKey key row.key
   pub is_kind : IsKind name words row.kind
+  pub takes_no_value : row.takes_no_value ≡ is_right_alone alone row.kind
 
 -- why there is no kind of this name and these words
 abbrev pub IsBadKind : List ℕ → List (List ℕ) → RowFault → Type 0
 IsBadKind name words UnknownKind = IsNoKind name
 IsBadKind name words NoWords =
-    (words ≡ []) × ((ignores_case or_bool : Bool) × (words_name ignores_case or_bool ≡ name))
+    (words ≡ []) × (ignores_case : Bool) × (form : Form) × (words_name ignores_case form ≡ name)
 IsBadKind name words Words = (words ≢ []) × ((kind : SettingKind) × (plain_name kind ≡ Some name))
+IsBadKind name words Bounds = (name ≡ codes "int") × ((low high : Amount) → ¬ (IsBounds words low high))
 IsBadKind name words (Memory e) = Unit {0}
 IsBadKind name words _ = ⊥
 
 -- the first thing that is wrong with these fields: there is no kind, the key is none, or there is no such
 -- kind
 abbrev pub HasRowFault : List (List ℕ) → RowFault → Type 0
-HasRowFault fields NoKind = (key : List ℕ) × (fields ≡ key ∷ [])
-HasRowFault fields NoKey =
-    (key name : List ℕ) × (words : List (List ℕ)) × (fields ≡ key ∷ name ∷ words)
-    × ((k : Key) → ¬ (IsKey key k))
-HasRowFault fields fault = (key name : List ℕ) × (words : List (List ℕ)) × (fields ≡ key ∷ name ∷ words)
-    × ((k : Key) × IsKey key k) × IsBadKind name words fault
+HasRowFault fields NoKey = (key : List ℕ) × (marked : List (List ℕ)) × (fields ≡ key ∷ marked) × ((k : Key) → ¬ (IsKey key k))
+HasRowFault fields NoKind = (key : List ℕ) × (marked : List (List ℕ)) × (fields ≡ key ∷ marked)
+    × ((k : Key) × IsKey key k) × ((alone : Option Bool) × (goes_on : Bool) × HasMarks marked alone goes_on [])
+HasRowFault fields fault = (key : List ℕ) × (marked : List (List ℕ)) × (fields ≡ key ∷ marked)
+    × ((k : Key) × IsKey key k) × (alone : Option Bool) × (goes_on : Bool) × (name : List ℕ) × (words : List (List ℕ))
+    × HasMarks marked alone goes_on (name ∷ words) × IsBadKind name words fault
 
 -- why these fields are no row, and no comment
 abbrev pub IsBadRow : List (List ℕ) → RowFault → Type 0

@@ -109,7 +109,7 @@ impl Progress {
             self.counts.unknown += 1;
             return Ok(());
         };
-        let Some(reason) = find(&row.kind, value, options.canonical) else {
+        let Some(reason) = find(row, value, options.canonical) else {
             return Ok(());
         };
         self.counts.findings += 1;
@@ -118,7 +118,7 @@ impl Progress {
             entry,
             key,
             value,
-            kind: &row.kind,
+            severity: reason.severity(row.goes_on),
             reason,
         };
         self.line.clear();
@@ -205,7 +205,7 @@ pub fn check<R: BufRead, W: Write>(
 /// let mut out = Vec::new(alloc);
 /// let summary = check_over(alloc, &rows, &options, b"push.default\nmaybe\0", &mut out)?;
 /// assert_eq!(rt; summary.counts.findings, 1);
-/// assert_eq!(rt; out.as_slice(), b"1\tpush.default\tmaybe\tnone of: nothing, current\n".as_slice());
+/// assert_eq!(rt; out.as_slice(), b"1\tpush.default\tmaybe\terror: not one of: nothing, current\n".as_slice());
 /// ```
 pub fn check_over(
     alloc: Global,

@@ -2,17 +2,20 @@
 ghost use Rattle.std.specs.Prelude.{◌≡◌, ◌<◌, ◌++◌, [], length, flat_map, option_copied};
 ghost use Rattle.std.specs.Prelude.{OnOk, OnErr, MatchOption, IfSome, Some};
 ghost use Rattle.std.specs.Char.{digit_char};
+ghost use Rattle.std.specs.Fmt.{signed_decimal};
 ghost use Rattle.config_checks.specs.Findings.{hex, is_control, piece_shown, shown, value_shown};
-ghost use Rattle.config_checks.specs.Findings.{range_text, words_text, no_word_text, reason_text, painted};
+ghost use Rattle.config_checks.specs.Findings.{range_text, words_text, no_word_front, no_word_text};
+ghost use Rattle.config_checks.specs.Findings.{reason_text, severity_text, painted};
 ghost use Rattle.config_checks.specs.Findings.{AppendsPart};
 ghost use Rattle.config_checks.specs.Reading.Fields.{entry_of};
 ghost use Rattle.config_checks.specs.Report.{field_shown, front_shown, setting_shown, finding_line};
 
 use crate::entry::Buffers;
-use crate::kind::SettingKind;
+use crate::kind::{Form, WordList};
 use crate::options::Options;
-use crate::reason::Reason;
+use crate::reason::{Reason, Severity};
 use bstr::decode_utf8;
+use gix_config_value::integer::Amount;
 use itoa::Buffer;
 use std::alloc::AllocError;
 
@@ -91,14 +94,24 @@ pub fn push_shown(out: &mut Vec<u8>, text: &[u8]) -> Result<(), AllocError>
     Ok(())
 }
 
-/// The range that a number of a kind is out of.
-fn range_text(kind: &SettingKind<'_>) -> &'static str
-    ensures { result.now ≡ range_text kind.now }
+/// Appends a text, and a number.
+fn push_number(out: &mut Vec<u8>, front: &str, number: Amount) -> Result<(), AllocError>
+    ensures ok { OnOk result (out.new.items ≡ out.old.items ++ (front.now ++ signed_decimal number.0)) }
+    ensures err { OnErr result
+        (AppendsPart (Some out.old.items) (Some out.new.items) (front.now ++ signed_decimal number.0)) }
 {
-    match kind {
-        SettingKind::Size => "out of range: not from 0 to 9223372036854775807",
-        _ => "out of range: not from -2147483648 to 2147483647",
-    }
+    out.extend_from_slice(front.as_bytes())?;
+    out.extend_from_slice(Buffer::new().format(number.0).as_bytes())
+}
+
+/// Appends that a number does not lie in a range.
+fn push_range(out: &mut Vec<u8>, low: Amount, high: Amount) -> Result<(), AllocError>
+    ensures ok { OnOk result (out.new.items ≡ out.old.items ++ range_text low high) }
+    ensures err { OnErr result
+        (AppendsPart (Some out.old.items) (Some out.new.items) (range_text low high)) }
+{
+    push_number(out, "out of range: not from ", low)?;
+    push_number(out, " to ", high)
 }
 
 /// Appends words, with `, ` between them.
@@ -118,41 +131,42 @@ fn push_words(out: &mut Vec<u8>, words: &[&[u8]]) -> Result<(), AllocError>
     Ok(())
 }
 
-/// Appends that a text is no word of a kind.
-fn push_no_word(out: &mut Vec<u8>, kind: &SettingKind<'_>) -> Result<(), AllocError>
-    ensures ok { OnOk result (out.new.items ≡ out.old.items ++ no_word_text kind.now) }
-    ensures err { OnErr result
-        (AppendsPart (Some out.old.items) (Some out.new.items) (no_word_text kind.now)) }
+/// What stands before the words that a text does not have.
+fn no_word_front(form: Form) -> &'static str
+    ensures { result.now ≡ no_word_front form }
 {
-    let SettingKind::Word(list) = kind else {
-        return Ok(());
-    };
-    if list.or_bool {
-        out.extend_from_slice(b"no boolean, and none of: ")?;
-    } else {
-        out.extend_from_slice(b"none of: ")?;
+    match form {
+        Form::Word => "not one of: ",
+        Form::BoolOrWord => "not a boolean, nor one of: ",
+        Form::IntOrWord => "not an integer, nor one of: ",
+        Form::Words => "not a list of: ",
+        Form::Date => "not a date: it has no digit, nor one of: ",
+        Form::SortKey => "not a key to sort by: ",
     }
+}
+
+/// Appends that a text does not have the words of a list.
+fn push_no_word(out: &mut Vec<u8>, list: &WordList<'_>) -> Result<(), AllocError>
+    ensures ok { OnOk result (out.new.items ≡ out.old.items ++ no_word_text list.now) }
+    ensures err { OnErr result
+        (AppendsPart (Some out.old.items) (Some out.new.items) (no_word_text list.now)) }
+{
+    out.extend_from_slice(no_word_front(list.form).as_bytes())?;
     push_words(out, &list.words)
 }
 
 /// Appends the text of a reason. If there is no memory for all of it, `out` keeps what it had, and some first
 /// bytes of the text may follow.
-pub fn push_reason(
-    out: &mut Vec<u8>,
-    kind: &SettingKind<'_>,
-    reason: &Reason<'_>,
-) -> Result<(), AllocError>
-    ensures ok { OnOk result (out.new.items ≡ out.old.items ++ reason_text kind.now reason.now) }
+pub fn push_reason(out: &mut Vec<u8>, reason: &Reason<'_, '_>) -> Result<(), AllocError>
+    ensures ok { OnOk result (out.new.items ≡ out.old.items ++ reason_text reason.now) }
     ensures err { OnErr result
-        (AppendsPart (Some out.old.items) (Some out.new.items) (reason_text kind.now reason.now)) }
+        (AppendsPart (Some out.old.items) (Some out.new.items) (reason_text reason.now)) }
 {
     match reason {
         Reason::NoValue => out.extend_from_slice(b"no value"),
         Reason::Refused(fault) => out.extend_from_slice(fault.text().as_bytes()),
-        Reason::OutOfRange => out.extend_from_slice(range_text(kind).as_bytes()),
-        Reason::EmptyPath => out.extend_from_slice(b"an empty path"),
-        Reason::IllFormedPath => out.extend_from_slice(b"a path of ill-formed UTF-8"),
-        Reason::NoWord => push_no_word(out, kind),
+        Reason::OutOfRange { low, high } => push_range(out, *low, *high),
+        Reason::NoWord(list) => push_no_word(out, list),
         Reason::NotCanonical(canonical) => {
             out.extend_from_slice(b"should be ")?;
             out.extend_from_slice(canonical.as_str().as_bytes())
@@ -162,6 +176,29 @@ pub fn push_reason(
             push_shown(out, word)
         }
     }
+}
+
+/// How a severity is shown before a reason.
+fn severity_text(severity: Severity) -> &'static str
+    ensures { result.now ≡ severity_text severity }
+{
+    match severity {
+        Severity::Error => "error: ",
+        Severity::Warning => "warning: ",
+        Severity::Note => "note: ",
+    }
+}
+
+/// Appends how bad a finding is, and its reason.
+fn push_judgment(
+    out: &mut Vec<u8>,
+    severity: Severity,
+    reason: &Reason<'_, '_>,
+) -> Result<(), AllocError>
+    ensures { OnOk result (out.new.items ≡ out.old.items ++ severity_text severity ++ reason_text reason.now) }
+{
+    out.extend_from_slice(severity_text(severity).as_bytes())?;
+    push_reason(out, reason)
 }
 
 /// Appends a field and a tab, if the field is shown.
@@ -192,8 +229,8 @@ pub(crate) struct Finding<'e, 't> {
     pub entry: &'e Buffers,
     pub key: &'e [u8],
     pub value: Option<&'e [u8]>,
-    pub kind: &'e SettingKind<'t>,
-    pub reason: Reason<'t>,
+    pub severity: Severity,
+    pub reason: Reason<'e, 't>,
 }
 
 impl Finding<'_, '_> {
@@ -219,16 +256,16 @@ impl Finding<'_, '_> {
         line.extend_from_slice(b"\t")
     }
 
-    /// Appends the reason, in red if colors are wanted.
-    fn push_painted_reason(&self, line: &mut Vec<u8>, color: bool) -> Result<(), AllocError>
+    /// Appends how bad it is and the reason, in red if colors are wanted.
+    fn push_painted_judgment(&self, line: &mut Vec<u8>, color: bool) -> Result<(), AllocError>
         ensures { OnOk result (line.new.items ≡ line.old.items
-            ++ painted color (reason_text self.now.kind.now self.now.reason)) }
+            ++ painted color (severity_text self.now.severity ++ reason_text self.now.reason)) }
     {
         if !color {
-            return push_reason(line, self.kind, &self.reason);
+            return push_judgment(line, self.severity, &self.reason);
         }
         line.extend_from_slice(b"\x1b[31m")?;
-        push_reason(line, self.kind, &self.reason)?;
+        push_judgment(line, self.severity, &self.reason)?;
         line.extend_from_slice(b"\x1b[m")
     }
 
@@ -236,11 +273,11 @@ impl Finding<'_, '_> {
     pub(crate) fn push_to(&self, line: &mut Vec<u8>, options: &Options) -> Result<(), AllocError>
         ensures { OnOk result (line.new.items ≡ line.old.items
             ++ finding_line options.now self.now.number (entry_of self.now.entry.now) self.now.key.now
-            (option_copied self.now.value) self.now.kind.now self.now.reason) }
+            (option_copied self.now.value) self.now.severity self.now.reason) }
     {
         self.push_front(line, options)?;
         self.push_setting(line)?;
-        self.push_painted_reason(line, options.color)?;
+        self.push_painted_judgment(line, options.color)?;
         line.extend_from_slice(b"\n")
     }
 }

@@ -1,13 +1,44 @@
-//! Rows for the settings that Git documents, where its page settles their values. docs/CHECKING.md says how a
-//! row is written.
+//! Rows for the settings that Git documents. docs/CHECKING.md says how a row is written.
 
 /// The rows of Git's settings.
 pub const SETTINGS: &str = "\
 # Settings of Git 2.39.5 as git-config(1), with the pages that it names, documents them: those of Debian's
-# package git-man 1:2.39.5-0+deb12u3. A setting whose values they do not settle has no row. They say nothing
-# of case in words: it counts here, but where Git 2.39.5 was seen to ignore it.
+# package git-man 1:2.39.5-0+deb12u3. What the pages leave open is as Git 2.39.5 was seen to read it, by
+# compare/settings.tsv: case, ranges, keys alone, and whether it goes on at a wrong value.
 # advice
-advice.*                            bool
+advice.addEmbeddedRepo              bool
+advice.addEmptyPathspec             bool
+advice.addIgnoredFile               bool
+advice.ambiguousFetchRefspec        bool
+advice.amWorkDir                    bool
+advice.checkoutAmbiguousRemoteBranchName bool
+advice.commitBeforeMerge            bool
+advice.detachedHead                 bool
+advice.fetchShowForcedUpdates       bool
+advice.ignoredHook                  bool
+advice.implicitIdentity             bool
+advice.nestedTag                    bool
+advice.pushAlreadyExists            bool
+advice.pushFetchFirst               bool
+advice.pushNeedsForce               bool
+advice.pushNonFFCurrent             bool
+advice.pushNonFFMatching            bool
+advice.pushRefNeedsUpdate           bool
+advice.pushUnqualifiedRefName       bool
+advice.pushUpdateRejected           bool
+advice.resetNoRefresh               bool
+advice.resolveConflict              bool
+advice.rmHints                      bool
+advice.sequencerInUse               bool
+advice.skippedCherryPicks           bool
+advice.statusAheadBehind            bool
+advice.statusHints                  bool
+advice.statusUoption                bool
+advice.submoduleAlternateErrorStrategyDie bool
+advice.submodulesNotUpdated         bool
+advice.suggestDetachingHead         bool
+advice.updateSparsePath             bool
+advice.waitingForEditor             bool
 # core
 core.fileMode                       bool
 core.hideDotFiles                   bool-or-word dotGitOnly
@@ -17,32 +48,32 @@ core.protectHFS                     bool
 core.protectNTFS                    bool
 core.fsmonitorHookVersion           int
 core.trustctime                     bool
-core.splitIndex                     bool
-core.untrackedCache                 bool-or-word keep
-core.checkStat                      word default minimal
+core.splitIndex                     warn bool
+core.untrackedCache                 needs-value warn bool-or-word-any-case keep
+core.checkStat                      warn word-any-case default minimal
 core.quotePath                      bool
-core.eol                            word-any-case lf crlf native
+core.eol                            alone warn word-any-case lf crlf native
 core.safecrlf                       bool-or-word-any-case warn
 core.autocrlf                       bool-or-word-any-case input
 core.symlinks                       bool
 core.ignoreStat                     bool
 core.bare                           bool
-core.worktree                       path
+core.worktree                       text
 core.logAllRefUpdates               bool-or-word-any-case always
 core.repositoryFormatVersion        int
 core.warnAmbiguousRefs              bool
-core.compression                    int
-core.looseCompression               int
-core.packedGitWindowSize            size
-core.packedGitLimit                 size
-core.deltaBaseCacheLimit            size
-core.bigFileThreshold               size
-core.excludesFile                   path
-core.attributesFile                 path
-core.hooksPath                      path
+core.compression                    int -1 9
+core.looseCompression               int -1 9
+core.packedGitWindowSize            int 0 9223372036854775807
+core.packedGitLimit                 int 0 9223372036854775807
+core.deltaBaseCacheLimit            int 0 9223372036854775807
+core.bigFileThreshold               int 0 9223372036854775807
+core.excludesFile                   text
+core.attributesFile                 text
+core.hooksPath                      text
 core.filesRefLockTimeout            int
 core.packedRefsTimeout              int
-core.fsyncMethod                    word fsync writeout-only batch
+core.fsyncMethod                    warn word fsync writeout-only batch
 core.fsyncObjectFiles               bool
 core.preloadIndex                   bool
 core.restrictinheritedhandles       bool-or-word auto
@@ -52,6 +83,27 @@ core.useReplaceRefs                 bool
 core.multiPackIndex                 bool
 core.sparseCheckout                 bool
 core.sparseCheckoutCone             bool
+core.fsmonitor                      alone text
+core.checkRoundtripEncoding         text
+core.preferSymlinkRefs              bool
+core.gitProxy                       text
+core.sshCommand                     text
+core.alternateRefsCommand           alone text
+core.alternateRefsPrefixes          text
+core.sharedRepository               bool-or-word umask group all world everybody
+core.askPass                        text
+core.editor                         text
+core.commentChar                    text
+core.pager                          text
+core.whitespace                     warn words trailing-space -trailing-space blank-at-eol -blank-at-eol \
+    space-before-tab -space-before-tab indent-with-non-tab -indent-with-non-tab tab-in-indent -tab-in-indent \
+    blank-at-eof -blank-at-eof cr-at-eol -cr-at-eol tabwidth=*
+core.fsync                          warn words loose-object -loose-object pack -pack pack-metadata \
+    -pack-metadata commit-graph -commit-graph index -index objects -objects reference -reference \
+    derived-metadata -derived-metadata committed -committed added -added all -all none
+core.unsetenvvars                   text
+core.notesRef                       text
+core.abbrev                         words-any-case auto no off false 0* 1* 2* 3* 4* 5* 6* 7* 8* 9* +*
 # add
 add.ignoreErrors                    bool
 add.ignore-errors                   bool
@@ -64,79 +116,177 @@ apply.ignoreWhitespace              word change no none never false
 apply.whitespace                    word nowarn warn fix strip error error-all
 # blame
 blame.blankBoundary                 bool
-blame.coloring                      word repeatedLines highlightRecent none
+blame.coloring                      warn word repeatedLines highlightRecent none
 blame.showEmail                     bool
 blame.showRoot                      bool
+blame.date                          word relative relative-local local iso iso-local iso8601 \
+    iso8601-local iso-strict iso-strict-local iso8601-strict iso8601-strict-local rfc rfc-local rfc2822 \
+    rfc2822-local short short-local default default-local human human-local raw raw-local unix unix-local \
+    format:* format-local:* auto:*
+blame.ignoreRevsFile                text
+blame.markUnblamableLines           bool
+blame.markIgnoredLines              bool
 # branch
 branch.autoSetupMerge               bool-or-word always inherit simple
 branch.autoSetupRebase              word never local remote always
 branch.*.rebase                     bool-or-word merges m interactive i
+branch.sort                         sort-key refname objecttype objectsize objectname deltabase tree \
+    parent numparent object type tag author authorname authoremail authordate committer committername \
+    committeremail committerdate tagger taggername taggeremail taggerdate creator creatordate subject body \
+    trailers contents upstream push symref flag HEAD color worktreepath ahead-behind is-base describe \
+    signature
+branch.*.remote                     text
+branch.*.pushRemote                 text
+branch.*.merge                      text
+branch.*.mergeOptions               text
+branch.*.description                text
 # bundle
-bundle.version                      int
-bundle.mode                         word all any
+bundle.version                      alone warn int
+bundle.mode                         alone warn word all any
+bundle.*.uri                        alone text
+bundle.*.*                          alone text
 # checkout
 checkout.workers                    int
 checkout.thresholdForParallelism    int
+checkout.defaultRemote              text
+checkout.guess                      bool
 # clean
 clean.requireForce                  bool
 # color
 color.advice                        bool-or-word-any-case always never auto
 color.advice.hint                   color
-color.blame.repeatedLines           color
+color.blame.repeatedLines           warn color
 color.branch                        bool-or-word-any-case always never auto
-color.branch.*                      color
+color.branch.current                color
+color.branch.local                  color
+color.branch.remote                 color
+color.branch.upstream               color
+color.branch.plain                  color
 color.diff                          bool-or-word-any-case always never auto
-color.diff.*                        color
-color.decorate.*                    color
+color.diff.context                  color
+color.diff.plain                    color
+color.diff.meta                     color
+color.diff.frag                     color
+color.diff.func                     color
+color.diff.old                      color
+color.diff.new                      color
+color.diff.commit                   color
+color.diff.whitespace               color
+color.diff.oldMoved                 color
+color.diff.newMoved                 color
+color.diff.oldMovedDimmed           color
+color.diff.oldMovedAlternative      color
+color.diff.oldMovedAlternativeDimmed color
+color.diff.newMovedDimmed           color
+color.diff.newMovedAlternative      color
+color.diff.newMovedAlternativeDimmed color
+color.diff.contextDimmed            color
+color.diff.oldDimmed                color
+color.diff.newDimmed                color
+color.diff.contextBold              color
+color.diff.oldBold                  color
+color.diff.newBold                  color
+color.decorate.branch               color
+color.decorate.remoteBranch         color
+color.decorate.tag                  color
+color.decorate.stash                color
+color.decorate.HEAD                 color
+color.decorate.grafted              color
 color.grep                          bool-or-word-any-case always never auto
-color.grep.*                        color
+color.grep.context                  color
+color.grep.filename                 color
+color.grep.function                 color
+color.grep.lineNumber               color
+color.grep.column                   color
+color.grep.match                    color
+color.grep.matchContext             color
+color.grep.matchSelected            color
+color.grep.selected                 color
+color.grep.separator                color
 color.interactive                   bool-or-word-any-case always never auto
-color.interactive.*                 color
+color.interactive.prompt            color
+color.interactive.header            color
+color.interactive.help              color
+color.interactive.error             color
 color.pager                         bool
 color.push                          bool-or-word-any-case always never auto
 color.push.error                    color
-color.remote                        bool-or-word-any-case always never auto
-color.remote.*                      color
+color.remote                        needs-value bool-or-word-any-case always never auto
+color.remote.hint                   warn color
+color.remote.warning                warn color
+color.remote.success                warn color
+color.remote.error                  warn color
 color.showBranch                    bool-or-word-any-case always never auto
 color.status                        bool-or-word-any-case always never auto
-color.status.*                      color
-color.transport                     bool-or-word-any-case always never auto
+color.status.header                 color
+color.status.added                  color
+color.status.updated                color
+color.status.changed                color
+color.status.untracked              color
+color.status.branch                 color
+color.status.nobranch               color
+color.status.localBranch            color
+color.status.remoteBranch           color
+color.status.unmerged               color
+color.transport                     needs-value bool-or-word-any-case always never auto
 color.transport.rejected            color
 color.ui                            bool-or-word-any-case always never auto
+color.blame.highlightRecent         text
 # commit
 commit.cleanup                      word strip whitespace verbatim scissors default
 commit.gpgSign                      bool
 commit.status                       bool
-commit.template                     path
+commit.template                     text
 commit.verbose                      bool-or-int
 # commitGraph
 commitGraph.generationVersion       int
 commitGraph.maxNewFilters           int
 commitGraph.readChangedPaths        bool
 # credential
-credential.useHttpPath              bool
-credential.sanitizePrompt           bool
-credential.*.useHttpPath            bool
-credential.*.sanitizePrompt         bool
+credential.useHttpPath              needs-value bool
+credential.sanitizePrompt           needs-value bool
+credential.*.useHttpPath            needs-value bool
+credential.*.sanitizePrompt         needs-value bool
+credential.helper                   text
+credential.username                 text
+credential.protectProtocol          needs-value bool
+credential.*.helper                 text
+credential.*.username               text
+credential.*.protectProtocol        needs-value bool
 # credentialStore
 credentialStore.lockTimeoutMS       int
 # diff
 diff.autoRefreshIndex               bool
 diff.statGraphWidth                 int
-diff.context                        int
-diff.interHunkContext               int
+diff.context                        int 0 2147483647
+diff.interHunkContext               int 0 2147483647
 diff.ignoreSubmodules               word none untracked dirty all
 diff.relative                       bool
-diff.orderFile                      path
+diff.orderFile                      text
 diff.renameLimit                    int
 diff.renames                        bool-or-word-any-case copies copy
 diff.suppressBlankEmpty             bool
-diff.submodule                      word short log diff
-diff.*.binary                       bool
+diff.submodule                      warn word short log diff
+diff.*.binary                       bool-or-word-any-case auto
 diff.*.cachetextconv                bool
 diff.indentHeuristic                bool
 diff.algorithm                      word-any-case default myers minimal patience histogram
 diff.colorMoved                     bool-or-word default plain blocks zebra dimmed-zebra dimmed_zebra
+diff.dirstat                        warn words changes lines files cumulative noncumulative 0* 1* 2* 3* \
+    4* 5* 6* 7* 8* 9*
+diff.external                       text
+diff.mnemonicPrefix                 bool
+diff.noprefix                       bool
+diff.wordRegex                      text
+diff.*.command                      text
+diff.*.xfuncname                    text
+diff.*.textconv                     text
+diff.*.wordRegex                    text
+diff.tool                           alone text
+diff.guitool                        alone text
+diff.wsErrorHighlight               words old new context default all none
+diff.colorMovedWS                   words no ignore-space-change ignore-space-at-eol ignore-all-space \
+    allow-indentation-change
 # extensions
 extensions.objectFormat             word sha1 sha256
 extensions.worktreeConfig           bool
@@ -144,10 +294,11 @@ extensions.worktreeConfig           bool
 fastimport.unpackLimit              int
 # feature
 feature.experimental                bool
+feature.manyFiles                   bool
 # fetch
 fetch.recurseSubmodules             bool-or-word on-demand
 fetch.fsckObjects                   bool
-fetch.fsck.skipList                 path
+fetch.fsck.skipList                 text
 fetch.fsck.*                        word error warn ignore
 fetch.unpackLimit                   int
 fetch.prune                         bool
@@ -155,114 +306,221 @@ fetch.pruneTags                     bool
 fetch.output                        word-any-case full compact
 fetch.negotiationAlgorithm          word-any-case consecutive skipping noop default
 fetch.showForcedUpdates             bool
-fetch.parallel                      int
+fetch.parallel                      int 0 2147483647
 fetch.writeCommitGraph              bool
 # format
 format.forceInBodyFrom              bool
 format.numbered                     bool-or-word-any-case auto
-format.coverFromDescription         word message default subject auto none
+format.coverFromDescription         alone word message default subject auto none
 format.encodeEmailHeaders           bool
 format.thread                       bool-or-word-any-case shallow deep
 format.signOff                      bool
 format.coverLetter                  bool-or-word-any-case auto
 format.filenameMaxLength            int
 format.useAutoBase                  bool-or-word-any-case whenAble
+format.attach                       alone text
+format.from                         alone text
+format.headers                      text
+format.to                           text
+format.cc                           text
+format.subjectPrefix                text
+format.signature                    text
+format.signatureFile                text
+format.suffix                       text
+format.pretty                       text
+format.outputDirectory              text
+format.notes                        alone text
 # filter
 filter.*.required                   bool
+filter.*.clean                      text
+filter.*.smudge                     text
+filter.*.process                    text
 # fsck
-fsck.skipList                       path
+fsck.skipList                       text
 fsck.*                              word error warn ignore
 # fsmonitor
 fsmonitor.allowRemote               bool
+fsmonitor.socketDir                 alone text
 # gc
 gc.aggressiveDepth                  int
 gc.aggressiveWindow                 int
 gc.auto                             int
 gc.autoPackLimit                    int
 gc.autoDetach                       bool
-gc.bigPackThreshold                 size
+gc.bigPackThreshold                 int 0 9223372036854775807
 gc.writeCommitGraph                 bool
 gc.packRefs                         bool-or-word notbare
 gc.cruftPacks                       bool
+gc.logExpiry                        date-any-case now never all false yesterday last noon midnight tea \
+    am pm one two three four five six seven eight nine ten jan* feb* mar* apr* may* jun* jul* aug* sep* oct* \
+    nov* dec*
+gc.pruneExpire                      date-any-case now never all false yesterday last noon midnight tea \
+    am pm one two three four five six seven eight nine ten jan* feb* mar* apr* may* jun* jul* aug* sep* oct* \
+    nov* dec*
+gc.worktreePruneExpire              date-any-case now never all false yesterday last noon midnight tea \
+    am pm one two three four five six seven eight nine ten jan* feb* mar* apr* may* jun* jul* aug* sep* oct* \
+    nov* dec*
+gc.reflogExpire                     date-any-case now never all false yesterday last noon midnight tea \
+    am pm one two three four five six seven eight nine ten jan* feb* mar* apr* may* jun* jul* aug* sep* oct* \
+    nov* dec*
+gc.*.reflogExpire                   date-any-case now never all false yesterday last noon midnight tea \
+    am pm one two three four five six seven eight nine ten jan* feb* mar* apr* may* jun* jul* aug* sep* oct* \
+    nov* dec*
+gc.reflogExpireUnreachable          date-any-case now never all false yesterday last noon midnight tea \
+    am pm one two three four five six seven eight nine ten jan* feb* mar* apr* may* jun* jul* aug* sep* oct* \
+    nov* dec*
+gc.*.reflogExpireUnreachable        date-any-case now never all false yesterday last noon midnight tea \
+    am pm one two three four five six seven eight nine ten jan* feb* mar* apr* may* jun* jul* aug* sep* oct* \
+    nov* dec*
+gc.rerereResolved                   warn date-any-case now never all false yesterday last noon midnight \
+    tea am pm one two three four five six seven eight nine ten jan* feb* mar* apr* may* jun* jul* aug* sep* \
+    oct* nov* dec*
+gc.rerereUnresolved                 warn date-any-case now never all false yesterday last noon midnight \
+    tea am pm one two three four five six seven eight nine ten jan* feb* mar* apr* may* jun* jul* aug* sep* \
+    oct* nov* dec*
 # gitcvs
-gitcvs.logFile                      path
-gitcvs.ext.logFile                  path
-gitcvs.pserver.logFile              path
-gitcvs.usecrlfattr                  bool
-gitcvs.allBinary                    bool-or-word guess
+gitcvs.logFile                      text
+gitcvs.ext.logFile                  text
+gitcvs.pserver.logFile              text
+gitcvs.usecrlfattr                  warn bool
+gitcvs.allBinary                    warn bool-or-word guess
+gitcvs.commitMsgAnnotation          alone text
+gitcvs.enabled                      warn bool
+gitcvs.dbName                       alone text
+gitcvs.dbDriver                     alone text
+gitcvs.dbUser                       alone text
+gitcvs.dbPass                       alone text
+gitcvs.dbTableNamePrefix            alone text
 # gitweb
-gitweb.blame                        bool
-gitweb.grep                         bool
-gitweb.highlight                    bool
-gitweb.patches                      int
-gitweb.pickaxe                      bool
-gitweb.showSizes                    bool
+gitweb.blame                        warn bool
+gitweb.grep                         warn bool
+gitweb.highlight                    warn bool
+gitweb.patches                      alone warn int
+gitweb.pickaxe                      warn bool
+gitweb.showSizes                    warn bool
+gitweb.category                     alone text
+gitweb.description                  alone text
+gitweb.owner                        alone text
+gitweb.url                          alone text
+gitweb.avatar                       alone text
+gitweb.remote_heads                 warn bool
+gitweb.snapshot                     alone text
 # grep
 grep.lineNumber                     bool
 grep.column                         bool
 grep.patternType                    word basic extended fixed perl default
 grep.extendedRegexp                 bool
-grep.threads                        int
+grep.threads                        int 0 2147483647
 grep.fullName                       bool
 grep.fallbackToNoIndex              bool
 # gpg
 gpg.format                          word openpgp x509 ssh
 gpg.minTrustLevel                   word-any-case undefined never marginal fully ultimate
+gpg.program                         text
+gpg.ssh.defaultKeyCommand           text
+gpg.ssh.allowedSignersFile          text
+gpg.ssh.revocationFile              text
+gpg.*.program                       text
 # gui
-gui.commitMsgWidth                  int
-gui.diffContext                     int
-gui.displayUntracked                bool
-gui.matchTrackingBranch             bool
-gui.pruneDuringFetch                bool
-gui.fastCopyBlame                   bool
-gui.copyBlameThreshold              int
-gui.blamehistoryctx                 int
+gui.commitMsgWidth                  alone warn int
+gui.diffContext                     alone warn int
+gui.displayUntracked                warn bool
+gui.matchTrackingBranch             warn bool
+gui.pruneDuringFetch                warn bool
+gui.fastCopyBlame                   warn bool
+gui.copyBlameThreshold              alone warn int
+gui.blamehistoryctx                 alone warn int
+gui.encoding                        alone text
+gui.newBranchTemplate               alone text
+gui.spellingDictionary              alone text
+gui.trustmtime                      warn bool
 # help
 help.format                         word man info web html
+help.browser                        text
+help.htmlPath                       text
+help.autoCorrect                    int-or-word never immediate prompt
 # http
-http.proxyAuthMethod                word anyauth basic digest negotiate ntlm
-http.proxySSLCert                   path
-http.proxySSLKey                    path
-http.proxySSLCAInfo                 path
-http.delegation                     word none policy always
-http.cookieFile                     path
-http.version                        word HTTP/2 HTTP/1.1
-http.sslVersion                     word sslv2 sslv3 tlsv1 tlsv1.0 tlsv1.1 tlsv1.2 tlsv1.3
+http.proxyAuthMethod                warn word anyauth basic digest negotiate ntlm
+http.proxySSLCert                   text
+http.proxySSLKey                    text
+http.proxySSLCAInfo                 text
+http.delegation                     warn word none policy always
+http.cookieFile                     text
+http.version                        warn word HTTP/2 HTTP/1.1
+http.sslVersion                     warn words sslv2 sslv3 tlsv1 tlsv1.0 tlsv1.1 tlsv1.2 tlsv1.3
 http.sslVerify                      bool
-http.sslCAPath                      path
+http.sslCAPath                      text
 http.schannelCheckRevoke            bool
 http.sslTry                         bool
 http.maxRequests                    int
 http.minSessions                    int
-http.postBuffer                     size
+http.postBuffer                     int -9223372036854775808 9223372036854775807
 http.lowSpeedTime                   int
 http.noEPSV                         bool
 http.followRedirects                bool-or-word initial
-http.*.proxyAuthMethod              word anyauth basic digest negotiate ntlm
-http.*.proxySSLCert                 path
-http.*.proxySSLKey                  path
-http.*.proxySSLCAInfo               path
-http.*.delegation                   word none policy always
-http.*.cookieFile                   path
-http.*.version                      word HTTP/2 HTTP/1.1
-http.*.sslVersion                   word sslv2 sslv3 tlsv1 tlsv1.0 tlsv1.1 tlsv1.2 tlsv1.3
+http.proxy                          text
+http.proxySSLCertPasswordProtected  bool
+http.emptyAuth                      bool-or-word auto
+http.extraHeader                    text
+http.saveCookies                    bool
+http.curloptResolve                 text
+http.sslCipherList                  text
+http.sslCert                        text
+http.sslKey                         text
+http.sslCertPasswordProtected       bool
+http.sslCAInfo                      text
+http.sslBackend                     alone text
+http.schannelUseSSLCAInfo           bool
+http.pinnedPubkey                   text
+http.lowSpeedLimit                  int
+http.userAgent                      text
+http.*.proxyAuthMethod              warn word anyauth basic digest negotiate ntlm
+http.*.proxySSLCert                 text
+http.*.proxySSLKey                  text
+http.*.proxySSLCAInfo               text
+http.*.delegation                   warn word none policy always
+http.*.cookieFile                   text
+http.*.version                      warn word HTTP/2 HTTP/1.1
+http.*.sslVersion                   warn words sslv2 sslv3 tlsv1 tlsv1.0 tlsv1.1 tlsv1.2 tlsv1.3
 http.*.sslVerify                    bool
-http.*.sslCAPath                    path
+http.*.sslCAPath                    text
 http.*.schannelCheckRevoke          bool
 http.*.sslTry                       bool
 http.*.maxRequests                  int
 http.*.minSessions                  int
-http.*.postBuffer                   size
+http.*.postBuffer                   int -9223372036854775808 9223372036854775807
 http.*.lowSpeedTime                 int
 http.*.noEPSV                       bool
 http.*.followRedirects              bool-or-word initial
+http.*.proxy                        text
+http.*.proxySSLCertPasswordProtected bool
+http.*.emptyAuth                    bool-or-word auto
+http.*.extraHeader                  text
+http.*.saveCookies                  bool
+http.*.curloptResolve               text
+http.*.sslCipherList                text
+http.*.sslCert                      text
+http.*.sslKey                       text
+http.*.sslCertPasswordProtected     bool
+http.*.sslCAInfo                    text
+http.*.sslBackend                   alone text
+http.*.schannelUseSSLCAInfo         bool
+http.*.pinnedPubkey                 text
+http.*.lowSpeedLimit                int
+http.*.userAgent                    text
 # imap
 imap.port                           int
 imap.sslverify                      bool
 imap.preformattedHTML               bool
+imap.folder                         text
+imap.tunnel                         text
+imap.host                           text
+imap.user                           text
+imap.pass                           text
+imap.authMethod                     text
 # include
-include.path                        path
-includeIf.*.path                    path
+include.path                        text
+includeIf.*.path                    text
 # index
 index.recordEndOfIndexEntries       bool
 index.recordOffsetTable             bool
@@ -271,72 +529,101 @@ index.threads                       bool-or-int
 index.version                       int
 # instaweb
 instaweb.local                      bool
-instaweb.port                       int
+instaweb.port                       alone warn int
+instaweb.browser                    alone text
+instaweb.httpd                      alone text
+instaweb.modulePath                 alone text
 # interactive
 interactive.singleKey               bool
+interactive.diffFilter              text
 # log
 log.abbrevCommit                    bool
-log.decorate                        bool-or-word short full auto
-log.diffMerges word off none on first-parent 1 separate m combined c dense-combined cc remerge r
+log.decorate                        warn bool-or-word short full auto
+log.diffMerges                      word off none on first-parent 1 separate m combined c dense-combined \
+    cc remerge r
 log.follow                          bool
 log.showRoot                        bool
 log.showSignature                   bool
 log.mailmap                         bool
+log.date                            word relative relative-local local iso iso-local iso8601 \
+    iso8601-local iso-strict iso-strict-local iso8601-strict iso8601-strict-local rfc rfc-local rfc2822 \
+    rfc2822-local short short-local default default-local human human-local raw raw-local unix unix-local \
+    format:* format-local:* auto:*
+log.initialDecorationSet            warn word all
+log.excludeDecoration               text
+log.graphColors                     text
 # lsrefs
 lsrefs.unborn                       word advertise allow ignore
 # mailinfo
 mailinfo.scissors                   bool
 # maintenance
 maintenance.auto                    bool
-maintenance.strategy                word none incremental
+maintenance.strategy                warn word-any-case none incremental
 maintenance.*.enabled               bool
-maintenance.*.schedule              word hourly daily weekly
+maintenance.*.schedule              warn word-any-case hourly daily weekly
 maintenance.commit-graph.auto       int
 maintenance.loose-objects.auto      int
 maintenance.incremental-repack.auto int
 # merge
 merge.conflictStyle                 word merge diff3 zdiff3
 merge.defaultToUpstream             bool
-merge.ff                            bool-or-word only
+merge.ff                            warn bool-or-word only
 merge.verifySignatures              bool
 merge.branchdesc                    bool
 merge.log                           bool-or-int
 merge.renameLimit                   int
-merge.directoryRenames              bool-or-word conflict
+merge.directoryRenames              needs-value warn bool-or-word-any-case conflict
 merge.stat                          bool
 merge.autoStash                     bool
 merge.verbosity                     int
+merge.suppressDest                  text
+merge.renames                       needs-value bool-or-word-any-case copies copy
+merge.renormalize                   bool
+merge.tool                          alone text
+merge.guitool                       alone text
+merge.*.name                        text
+merge.*.driver                      text
+merge.*.recursive                   text
 # mergetool
 mergetool.*.hideResolved            bool
 mergetool.*.trustExitCode           bool
-mergetool.meld.hasOutput            bool
-mergetool.meld.useAutoMerge         bool-or-word auto
+mergetool.meld.hasOutput            warn bool
+mergetool.meld.useAutoMerge         warn bool-or-word auto
 mergetool.hideResolved              bool
 mergetool.keepBackup                bool
 mergetool.keepTemporaries           bool
 mergetool.writeToTemp               bool
+mergetool.*.path                    alone text
+mergetool.*.cmd                     alone text
+mergetool.vimdiff.layout            alone text
+mergetool.prompt                    bool
 # notes
 notes.mergeStrategy                 word manual ours theirs union cat_sort_uniq
 notes.*.mergeStrategy               word manual ours theirs union cat_sort_uniq
 notes.rewrite.*                     bool
-notes.rewriteMode                   word overwrite concatenate cat_sort_uniq ignore
+notes.rewriteMode                   warn word-any-case overwrite concatenate cat_sort_uniq ignore
+notes.displayRef                    text
+notes.rewriteRef                    text
 # pack
 pack.window                         int
 pack.depth                          int
-pack.windowMemory                   size
-pack.compression                    int
+pack.windowMemory                   int 0 9223372036854775807
+pack.compression                    int -1 9
 pack.allowPackReuse                 bool
-pack.deltaCacheSize                 size
+pack.deltaCacheSize                 int
 pack.deltaCacheLimit                int
-pack.threads                        int
-pack.indexVersion                   int
-pack.packSizeLimit                  size
+pack.threads                        int 0 2147483647
+pack.indexVersion                   int 0 2
+pack.packSizeLimit                  int 0 9223372036854775807
 pack.useBitmaps                     bool
 pack.useSparse                      bool
 pack.writeBitmaps                   bool
 pack.writeBitmapHashCache           bool
 pack.writeBitmapLookupTable         bool
 pack.writeReverseIndex              bool
+pack.island                         text
+pack.islandCore                     text
+pack.preferBitmapTips               text
 # protocol
 protocol.allow                      word-any-case always never user
 protocol.*.allow                    word-any-case always never user
@@ -344,51 +631,68 @@ protocol.version                    word 0 1 2
 # pull
 pull.ff                             bool-or-word only
 pull.rebase                         bool-or-word merges m interactive i
+pull.octopus                        text
+pull.twohead                        text
 # push
 push.autoSetupRemote                bool
 push.default                        word nothing current upstream tracking simple matching
 push.followTags                     bool
 push.gpgSign                        bool-or-word-any-case if-asked
-push.recurseSubmodules              word check on-demand only no
+push.recurseSubmodules              needs-value bool-or-word check on-demand only
 push.useForceIfIncludes             bool
 push.negotiate                      bool
 push.useBitmaps                     bool
+push.pushOption                     text
 # rebase
 rebase.backend                      word apply merge
 rebase.stat                         bool
 rebase.autoSquash                   bool
 rebase.autoStash                    bool
 rebase.updateRefs                   bool
-rebase.missingCommitsCheck          word warn error ignore
+rebase.missingCommitsCheck          warn word-any-case warn error ignore
 rebase.abbreviateCommands           bool
 rebase.rescheduleFailedExec         bool
 rebase.forkPoint                    bool
+rebase.instructionFormat            text
 # receive
 receive.advertiseAtomic             bool
 receive.advertisePushOptions        bool
 receive.autogc                      bool
-receive.certNonceSlop               int
+receive.certNonceSlop               int 0 9223372036854775807
 receive.fsckObjects                 bool
-receive.fsck.skipList               path
+receive.fsck.skipList               text
 receive.fsck.*                      word error warn ignore
 receive.keepAlive                   int
 receive.unpackLimit                 int
-receive.maxInputSize                size
+receive.maxInputSize                int -9223372036854775808 9223372036854775807
 receive.denyDeletes                 bool
-receive.denyDeleteCurrent           bool
+receive.denyDeleteCurrent           bool-or-word-any-case refuse warn ignore updateInstead
 receive.denyCurrentBranch           bool-or-word-any-case refuse warn ignore updateInstead
 receive.denyNonFastForwards         bool
 receive.updateServerInfo            bool
 receive.shallowUpdate               bool
+receive.certNonceSeed               text
+receive.hideRefs                    text
+receive.procReceiveRefs             text
 # remote
-remote.*.proxyAuthMethod            word anyauth basic digest negotiate ntlm
+remote.*.proxyAuthMethod            warn word anyauth basic digest negotiate ntlm
 remote.*.mirror                     bool
 remote.*.skipDefaultUpdate          bool
 remote.*.skipFetchAll               bool
-remote.*.tagOpt                     word --no-tags --tags
+remote.*.tagOpt                     warn word --no-tags --tags
 remote.*.prune                      bool
 remote.*.pruneTags                  bool
 remote.*.promisor                   bool
+remote.pushDefault                  text
+remote.*.url                        text
+remote.*.pushurl                    text
+remote.*.proxy                      text
+remote.*.fetch                      text
+remote.*.push                       text
+remote.*.receivepack                text
+remote.*.uploadpack                 text
+remote.*.vcs                        text
+remote.*.partialclonefilter         text
 # repack
 repack.useDeltaBaseOffset           bool
 repack.packKeptObjects              bool
@@ -396,30 +700,63 @@ repack.useDeltaIslands              bool
 repack.writeBitmaps                 bool
 repack.updateServerInfo             bool
 repack.cruftWindow                  int
-repack.cruftWindowMemory            size
+repack.cruftWindowMemory            int 0 9223372036854775807
 repack.cruftDepth                   int
 repack.cruftThreads                 int
 # rerere
 rerere.autoUpdate                   bool
+rerere.enabled                      bool
 # revert
 revert.reference                    bool
 # safe
 safe.bareRepository                 word all explicit
+safe.directory                      alone text
 # sendemail
 sendemail.multiEdit                 bool
 sendemail.confirm                   word always never cc compose auto
-sendemail.aliasFileType             word mutt mailrc pine elm gnus sendmail
-sendemail.smtpBatchSize             int
-sendemail.smtpReloginDelay          int
+sendemail.aliasFileType             alone warn word mutt mailrc pine elm gnus sendmail
+sendemail.smtpBatchSize             alone warn int
+sendemail.smtpReloginDelay          alone warn int
 sendemail.*.multiEdit               bool
 sendemail.*.confirm                 word always never cc compose auto
-sendemail.*.aliasFileType           word mutt mailrc pine elm gnus sendmail
-sendemail.*.smtpBatchSize           int
-sendemail.*.smtpReloginDelay        int
+sendemail.*.aliasFileType           alone warn word mutt mailrc pine elm gnus sendmail
+sendemail.*.smtpBatchSize           alone warn int
+sendemail.*.smtpReloginDelay        alone warn int
+sendemail.identity                  alone text
+sendemail.smtpEncryption            alone text
+sendemail.smtpsslcertpath           alone text
+sendemail.aliasesFile               alone text
+sendemail.annotate                  bool
+sendemail.bcc                       alone text
+sendemail.cc                        alone text
+sendemail.ccCmd                     alone text
+sendemail.chainReplyTo              bool
+sendemail.envelopeSender            alone text
+sendemail.from                      alone text
+sendemail.signedOffByCc             bool
+sendemail.signedOffCc               bool
+sendemail.smtpPass                  alone text
+sendemail.suppressCc                alone text
+sendemail.suppressFrom              bool
+sendemail.to                        alone text
+sendemail.toCmd                     alone text
+sendemail.smtpDomain                alone text
+sendemail.smtpServer                alone text
+sendemail.smtpServerPort            alone text
+sendemail.smtpServerOption          alone text
+sendemail.smtpUser                  alone text
+sendemail.thread                    bool
+sendemail.transferEncoding          alone text
+sendemail.validate                  bool
+sendemail.xmailer                   bool
+sendemail.forbidSendmailVariables   bool
 # sparse
 sparse.expectFilesOutsideOfPatterns bool
 # splitIndex
 splitIndex.maxPercentChange         int
+splitIndex.sharedIndexExpire        date-any-case now never all false yesterday last noon midnight tea \
+    am pm one two three four five six seven eight nine ten jan* feb* mar* apr* may* jun* jul* aug* sep* oct* \
+    nov* dec*
 # status
 status.relativePaths                bool
 status.short                        bool
@@ -440,24 +777,40 @@ submodule.*.ignore                  word all dirty untracked none
 submodule.*.active                  bool
 submodule.recurse                   bool
 submodule.propagateBranches         bool
-submodule.fetchJobs                 int
+submodule.fetchJobs                 int 0 2147483647
 submodule.alternateLocation         word no superproject
 submodule.alternateErrorStrategy    word ignore info die
+submodule.*.url                     text
+submodule.*.update                  text
+submodule.*.branch                  text
+submodule.*.fetchRecurseSubmodules  needs-value bool-or-word on-demand
+submodule.active                    text
 # tag
 tag.forceSignAnnotated              bool
 tag.gpgSign                         bool
+tag.sort                            sort-key refname objecttype objectsize objectname deltabase tree \
+    parent numparent object type tag author authorname authoremail authordate committer committername \
+    committeremail committerdate tagger taggername taggeremail taggerdate creator creatordate subject body \
+    trailers contents upstream push symref flag HEAD color worktreepath ahead-behind is-base describe \
+    signature
 # trace2
-trace2.normalBrief                  bool
-trace2.perfBrief                    bool
-trace2.eventBrief                   bool
-trace2.eventNesting                 int
-trace2.destinationDebug             bool
-trace2.maxFiles                     int
+trace2.normalBrief                  needs-value warn bool
+trace2.perfBrief                    needs-value warn bool
+trace2.eventBrief                   needs-value warn bool
+trace2.eventNesting                 warn int
+trace2.destinationDebug             needs-value warn bool
+trace2.maxFiles                     warn int
+trace2.normalTarget                 text
+trace2.perfTarget                   text
+trace2.eventTarget                  text
+trace2.configParams                 text
+trace2.envVars                      text
 # transfer
 transfer.credentialsInUrl           word allow warn die
 transfer.fsckObjects                bool
 transfer.unpackLimit                int
 transfer.advertiseSID               bool
+transfer.hideRefs                   text
 # uploadarchive
 uploadarchive.allowUnreachable      bool
 # uploadpack
@@ -465,12 +818,163 @@ uploadpack.allowTipSHA1InWant       bool
 uploadpack.allowReachableSHA1InWant bool
 uploadpack.allowAnySHA1InWant       bool
 uploadpack.keepAlive                int
+uploadpack.hideRefs                 text
+uploadpack.allowFilter              bool
+uploadpack.allowRefInWant           bool
+uploadpack.packObjectsHook          text
 # uploadpackfilter
 uploadpackfilter.allow              bool
 uploadpackfilter.*.allow            bool
-uploadpackfilter.tree.maxDepth      int
+uploadpackfilter.tree.maxDepth      int 0 9223372036854775807
 # user
 user.useConfigOnly                  bool
+user.name                           text
+user.email                          text
+user.signingKey                     text
 # worktree
 worktree.guessRemote                bool
+# alias
+alias.*                             text
+# author
+author.name                         text
+author.email                        text
+# committer
+committer.name                      text
+committer.email                     text
+# browser
+browser.*.cmd                       alone text
+browser.*.path                      alone text
+# clone
+clone.defaultRemoteName             text
+clone.rejectShallow                 bool
+clone.filterSubmodules              bool
+# column
+column.ui                           words always never auto column row plain dense nodense
+column.branch                       words always never auto column row plain dense nodense
+column.clean                        words always never auto column row plain dense nodense
+column.status                       words always never auto column row plain dense nodense
+column.tag                          words always never auto column row plain dense nodense
+# completion
+completion.commands                 alone text
+# credentialCache
+credentialCache.ignoreSIGHUP        bool
+# difftool
+difftool.*.cmd                      alone text
+difftool.*.path                     alone text
+difftool.trustExitCode              bool
+difftool.prompt                     bool
+# guitool
+guitool.*.cmd                       alone text
+guitool.*.needsFile                 warn bool
+guitool.*.noConsole                 warn bool
+guitool.*.noRescan                  warn bool
+guitool.*.confirm                   warn bool
+guitool.*.argPrompt                 alone text
+guitool.*.revPrompt                 alone text
+guitool.*.revUnmerged               warn bool
+guitool.*.title                     alone text
+guitool.*.prompt                    alone text
+# i18n
+i18n.commitEncoding                 text
+i18n.logOutputEncoding              text
+# init
+init.templateDir                    alone text
+init.defaultBranch                  text
+# mailmap
+mailmap.file                        text
+mailmap.blob                        text
+# man
+man.viewer                          text
+man.*.cmd                           text
+man.*.path                          text
+# pager
+pager.*                             alone text
+# pretty
+pretty.*                            text
+# remotes
+remotes.*                           text
+# sequence
+sequence.editor                     text
+# showBranch
+showBranch.default                  text
+# ssh
+ssh.variant                         alone warn word auto ssh plink putty tortoiseplink simple
+# tar
+tar.umask                           int-or-word user
+# url
+url.*.insteadOf                     text
+url.*.pushInsteadOf                 text
+# versionsort
+versionsort.prereleaseSuffix        text
+versionsort.suffix                  text
+# web
+web.browser                         text
+# Keys that git-config(1) leaves to other pages, or reads without a word of them
+advice.pushNonFastForward           bool
+advice.resetQuiet                   bool
+advice.setUpstreamFailure           bool
+advice.statusAheadBehindWarning     bool
+color.branch.worktree               color
+diff.*.funcname                     text
+extensions.preciousObjects          bool
+extensions.partialClone             text
+gitcvs.ext.*                        alone text
+gitcvs.pserver.*                    alone text
+sendemail.smtpAuth                  alone text
+sendemail.sendmailCmd               alone text
+sendemail.composeEncoding           alone text
+sendemail.assume8bitEncoding        alone text
+submodule.*.path                    text
+submodule.*.shallow                 bool
+alias.*.*                           text
+tar.*.command                       text
+tar.*.remote                        bool
+trailer.separators                  text
+trailer.where                       alone warn word-any-case after before end start
+trailer.ifexists                    alone warn word-any-case addIfDifferent addIfDifferentNeighbor add \
+    replace doNothing
+trailer.ifmissing                   warn word-any-case doNothing add
+trailer.*.key                       text
+trailer.*.where                     alone warn word-any-case after before end start
+trailer.*.ifexists                  alone warn word-any-case addIfDifferent addIfDifferentNeighbor add \
+    replace doNothing
+trailer.*.ifmissing                 warn word-any-case doNothing add
+trailer.*.command                   text
+trailer.*.cmd                       text
+# since Git 2.40
+bundle.heuristic                    alone text
+fetch.bundleCreationToken           text
+fetch.bundleURI                     text
+index.skipHash                      bool
+transfer.bundleURI                  bool
+uploadpack.advertiseBundleURIs      bool
+# since Git 2.41
+difftool.guiDefault                 bool-or-word-any-case auto
+mergetool.guiDefault                bool-or-word-any-case auto
+pack.readReverseIndex               bool
+rebase.rebaseMerges                 bool-or-word rebase-cousins no-rebase-cousins
+# since Git 2.42
+gc.recentObjectsHook                text
+# since Git 2.43
+attr.tree                           text
+core.maxTreeDepth                   int
+diff.statNameWidth                  int
+gc.maxCruftSize                     int 0 9223372036854775807
+gc.repackFilter                     text
+gc.repackFilterTo                   text
+# since Git 2.44
+fetch.all                           bool
+# since Git 2.45
+core.commentString                  text
+diff.dstPrefix                      text
+diff.srcPrefix                      text
+extensions.compatObjectFormat       text
+extensions.refStorage               text
+# since Git 2.46
+http.proactiveAuth                  text
+http.*.proactiveAuth                text
+# since Git 2.48
+extensions.relativeWorktrees        bool
+remote.*.followRemoteHEAD           text
+worktree.useRelativePaths           bool
 ";

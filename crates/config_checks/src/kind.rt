@@ -1,43 +1,153 @@
-//! What a row demands of a setting.
-ghost use Rattle.std.specs.Prelude.{◌≡◌, ◌↔◌, IsTrue, MatchOption};
-ghost use Rattle.config_checks.specs.Reasons.{IsWord, IsNoWord, IsFirstWord, takes_true};
+//! What a row demands of the value of a setting.
+ghost use Rattle.std.specs.Prelude.{◌≡◌, ◌≢◌, ◌↔◌, ◌++◌, ℕ, List, IsTrue, MatchOption, take};
+ghost use Rattle.std.specs.List.{slice_split, Any};
+ghost use Rattle.config_checks.specs.Kinds.{IsSame, IsPattern, IsWord, IsNoWord, IsFirstWord, HasWord};
+ghost use Rattle.config_checks.specs.Kinds.{is_separator, IsPiece, AreWords, is_no_letter, HasDigit, HasDate};
+ghost use Rattle.config_checks.specs.Kinds.{without_front, sort_name, EndsName, Names, IsSortKey};
+ghost use Rattle.config_checks.specs.Kinds.{takes_booleans, takes_true};
 
 use crate::key::is_same_word;
+use gix_config_value::integer::Amount;
 
-/// The words that a setting may be.
+/// How a text has to have the words of a list.
+#[derive(Clone, Copy)]
+pub enum Form {
+    /// It is one of the words.
+    Word,
+    /// It is one of the words, or a boolean text.
+    BoolOrWord,
+    /// It is one of the words, or an integer text whose product lies within 32 bits.
+    IntOrWord,
+    /// It is a list of the words, with commas, spaces, tabs, LFs or CRs between them.
+    Words,
+    /// It is a date: it has a digit, or one of the words between bytes that are not letters.
+    Date,
+    /// It is a key to sort by, as `-version:refname`: a word follows `-`, `version:` or `v:`, and `*`, if they are
+    /// there, and is followed by nothing or by a colon.
+    SortKey,
+}
+
+/// The words of a row. A word that ends in `*` stands for each text with the beginning before its `*`.
 #[derive(Drop)]
 pub struct WordList<'t> {
     /// The words.
     pub words: Vec<&'t [u8]>,
     /// Whether ASCII case makes no difference.
     pub ignores_case: bool,
-    /// Whether boolean texts are taken too.
-    pub or_bool: bool,
+    /// How a text has to have them.
+    pub form: Form,
 }
 
-/// What a row demands of a setting.
+/// What a row demands of the value of a setting.
 #[derive(Drop)]
 pub enum SettingKind<'t> {
-    /// A boolean text, or no value, which Git reads as true.
+    /// Any text.
+    Text,
+    /// A boolean text.
     Bool,
-    /// An integer text whose product lies within 32 bits.
-    Int,
-    /// An integer text whose product lies from 0 to 2^63-1.
-    Size,
-    /// An integer text whose product lies within 32 bits, a boolean word, or no value.
+    /// An integer text whose product lies from `low` to `high`.
+    Int { low: Amount, high: Amount },
+    /// An integer text whose product lies within 32 bits, or a boolean word.
     BoolOrInt,
     /// A color text.
     Color,
-    /// A path of valid UTF-8 that is not empty, after its mark `:(optional)` if it has one.
-    Path,
-    /// A word of the list, or a boolean text if the list takes these too.
+    /// A text with words of a list.
     Word(WordList<'t>),
 }
 
+/// Whether a byte stands between the words of a list.
+fn is_separator(byte: u8) -> bool
+    ensures { result ≡ is_separator byte }
+{
+    byte == b',' || byte == b' ' || byte == b'\t' || byte == b'\n' || byte == b'\r'
+}
+
+/// Whether a text has a digit.
+fn has_digit(text: &[u8]) -> bool
+    ensures { IsTrue result ↔ HasDigit text.now }
+{
+    text.iter().any(|byte| byte.is_ascii_digit())
+}
+
+/// A text without this beginning, or all of it if it begins otherwise.
+fn without_front<'a>(text: &'a [u8], front: &[u8]) -> &'a [u8]
+    ensures { result.now ≡ without_front front.now text.now }
+{
+    if text.starts_with(front) {
+        &text[front.len()..]
+    } else {
+        text
+    }
+}
+
+/// The part of a key to sort by that begins with a name.
+fn sort_name(text: &[u8]) -> &[u8]
+    ensures { result.now ≡ sort_name text.now }
+{
+    let ascending = without_front(text, b"-");
+    let plain = without_front(without_front(ascending, b"version:"), b"v:");
+    without_front(plain, b"*")
+}
+
+/// What follows the name, or `None` if the text does not begin with it.
+fn after_name<'a>(text: &'a [u8], name: &[u8]) -> Option<&'a [u8]>
+    ensures { MatchOption result ((rest : List ℕ) → text.now ≢ name.now ++ rest)
+        (λ rest. text.now ≡ name.now ++ rest.now) }
+{
+    text.strip_prefix(name)
+}
+
+/// Whether a name may end before this text.
+fn ends_name(rest: &[u8]) -> bool
+    ensures { IsTrue result ↔ EndsName rest.now }
+{
+    match rest.split_first() {
+        Some((byte, _)) => *byte == b':',
+        None => true,
+    }
+}
+
+/// Whether a text is this name, or this name and a colon with something after it.
+fn names(text: &[u8], name: &[u8]) -> bool
+    ensures { IsTrue result ↔ Names text.now name.now }
+{
+    match after_name(text, name) {
+        Some(rest) => ends_name(rest),
+        None => false,
+    }
+}
+
+/// So many first bytes of a text, or all if it has less.
+fn first_bytes(text: &[u8], count: usize) -> &[u8]
+    ensures { result.now ≡ take count text.now }
+{
+    if count < text.len() {
+        &text[..count]
+    } else {
+        text
+    }
+}
+
+/// What a word of a list has before the `*` at its end, or `None` if it does not end in one.
+fn pattern_front(word: &[u8]) -> Option<&[u8]>
+    ensures { MatchOption result ((front : List ℕ) → ¬ (IsPattern word.now front)) (λ front. IsPattern word.now front.now) }
+{
+    word.strip_suffix(b"*")
+}
+
+impl Form {
+    /// Whether it takes boolean texts.
+    pub fn takes_booleans(&self) -> bool
+        ensures { result ≡ takes_booleans self.now }
+    {
+        matches!(self, Form::BoolOrWord)
+    }
+}
+
 impl<'t> WordList<'t> {
-    /// Whether a text equals this word of the list.
-    fn is_word(&self, word: &[u8], text: &[u8]) -> bool
-        ensures { IsTrue result ↔ IsWord self.now text.now word.entry }
+    /// Whether a text is another one, in the case that this list asks for.
+    fn is_same(&self, word: &[u8], text: &[u8]) -> bool
+        ensures { IsTrue result ↔ IsSame self.now.ignores_case word.now text.now }
     {
         if self.ignores_case {
             is_same_word(word, text)
@@ -46,26 +156,95 @@ impl<'t> WordList<'t> {
         }
     }
 
-    /// The first word of the list that equals a text.
+    /// Whether this word of the list stands for a text.
+    fn is_word(&self, word: &[u8], text: &[u8]) -> bool
+        ensures { IsTrue result ↔ IsWord self.now text.now word.now }
+    {
+        match pattern_front(word) {
+            Some(front) => self.is_same(front, first_bytes(text, front.len())),
+            None => self.is_same(word, text),
+        }
+    }
+
+    /// The first word of the list that stands for a text.
     pub fn find(&self, text: &[u8]) -> Option<&'t [u8]>
         ensures { MatchOption result (IsNoWord self.now text.now self.now.words.items)
             (IsFirstWord self.now text.now) }
     {
-        self.words
-            .iter()
-            .find(|word| self.is_word(word, text))
-            .copied()
+        let words: &[&'t [u8]] = &self.words;
+        for word in words {
+            if self.is_word(word, text) {
+                return Some(word);
+            }
+        }
+        None
+    }
+
+    /// Whether a word of the list stands for a text.
+    pub(crate) fn has(&self, text: &[u8]) -> bool
+        ensures { IsTrue result ↔ HasWord self.now text.now }
+    {
+        match self.find(text) {
+            Some(_) => true,
+            None => false,
+        }
+    }
+
+    /// Whether a piece of a list is empty, or a word of this list stands for it.
+    fn takes_piece(&self, piece: &[u8]) -> bool
+        ensures { IsTrue result ↔ IsPiece self.now piece.now }
+    {
+        piece.is_empty() || self.has(piece)
+    }
+
+    /// Whether a text is a list of the words.
+    pub(crate) fn has_each(&self, text: &[u8]) -> bool
+        ensures { IsTrue result ↔ AreWords self.now text.now }
+    {
+        for piece in text.split(|byte| is_separator(*byte)) {
+            if !self.takes_piece(piece) {
+                return false;
+            }
+        }
+        true
+    }
+
+    /// Whether one of the words stands in a text, between bytes that are no letters.
+    fn has_one(&self, text: &[u8]) -> bool
+        ensures { IsTrue result ↔ Any (HasWord self.now) (slice_split is_no_letter text.now) }
+    {
+        for piece in text.split(|byte| !byte.is_ascii_alphabetic()) {
+            if self.has(piece) {
+                return true;
+            }
+        }
+        false
+    }
+
+    /// Whether a text is a date.
+    pub(crate) fn has_date(&self, text: &[u8]) -> bool
+        ensures { IsTrue result ↔ HasDate self.now text.now }
+    {
+        has_digit(text) || self.has_one(text)
+    }
+
+    /// Whether a text is a key to sort by whose name is one of the words.
+    pub(crate) fn has_sort_key(&self, text: &[u8]) -> bool
+        ensures { IsTrue result ↔ IsSortKey self.now text.now }
+    {
+        let name = sort_name(text);
+        self.words.iter().any(|word| names(name, word))
     }
 }
 
 impl SettingKind<'_> {
-    /// Whether a setting with no value is right: Git reads it as true.
+    /// Whether a key alone is right if its row does not say so: Git reads it as true.
     pub fn takes_true(&self) -> bool
         ensures { result ≡ takes_true self.now }
     {
         match self {
             SettingKind::Bool | SettingKind::BoolOrInt => true,
-            SettingKind::Word(list) => list.or_bool,
+            SettingKind::Word(list) => list.form.takes_booleans(),
             _ => false,
         }
     }

@@ -1,7 +1,6 @@
 //! Laws over the definitions, each the contract of a function that does nothing: a setting has one finding,
 //! and an input one report.
 ghost use Rattle.std.specs.Prelude.{◌≡◌, ℕ, List, Bool, Option};
-ghost use Rattle.config_checks.specs.declared.kind.SettingKind.{SettingKind};
 ghost use Rattle.config_checks.specs.declared.reason.Reason.{Reason};
 ghost use Rattle.config_checks.specs.declared.options.Options.{Options};
 ghost use Rattle.config_checks.specs.declared.row.Row.{Row};
@@ -11,16 +10,16 @@ ghost use Rattle.config_checks.specs.Entries.{Entry};
 ghost use Rattle.config_checks.specs.Reasons.{HasReason, HasFinding, IsSameFinding};
 ghost use Rattle.config_checks.specs.Report.{IsReport, WritesAfter, AgreeAfter};
 
-/// A value of a kind has one reason why it is wrong, or it has no reason.
+/// A value of a setting has one reason why it is wrong, or it has no reason.
 pub fn one_reason()
-    ensures { (kind : SettingKind) (value : Option (List ℕ)) (a b : Option Reason)
-        → HasReason kind value a → HasReason kind value b → a ≡ b }
+    ensures { (row : Row) (value : Option (List ℕ)) (a b : Option Reason)
+        → HasReason row value a → HasReason row value b → IsSameFinding a b }
 {}
 
-/// A value of a kind has one finding, or it has no finding.
+/// A value of a setting has one finding, or it has no finding.
 pub fn one_finding()
-    ensures { (wants_canonical : Bool) (kind : SettingKind) (value : Option (List ℕ)) (a b : Option Reason)
-        → HasFinding wants_canonical kind value a → HasFinding wants_canonical kind value b
+    ensures { (wants_canonical : Bool) (row : Row) (value : Option (List ℕ)) (a b : Option Reason)
+        → HasFinding wants_canonical row value a → HasFinding wants_canonical row value b
         → IsSameFinding a b }
 {}
 

@@ -1,43 +1,67 @@
 //! Why a setting is wrong.
-ghost use Rattle.std.specs.Prelude.{◌↔◌, IsTrue, option_copied, None, Some};
+ghost use Rattle.std.specs.Prelude.{◌≡◌, ◌↔◌, IsTrue, option_copied, None, Some};
 ghost use Rattle.config_text.specs.declared.errors.Fault.TheVariants as faults;
 ghost use Rattle.gix_config_value.specs.Kinds.{KindGrammar, KindCanonical};
 ghost use Rattle.config_text.specs.Value.{IsAccepted};
-ghost use Rattle.config_checks.specs.Reasons.{IsWithin, IsJudged, IsJudgedWithin, IsJudgedBoolOrInt};
-ghost use Rattle.config_checks.specs.Reasons.{IsJudgedPath, IsJudgedUnmarked, IsJudgedByWords, IsTaken};
-ghost use Rattle.config_checks.specs.Reasons.{HasReason, HasSpelling, HasFinding};
-ghost use Rattle.config_checks.specs.Reasons.{IsRespelled, IsRespelledBoolOrInt, IsRespelledByWords};
+ghost use Rattle.gix_config_value.specs.Boolean.{BooleanText};
+ghost use Rattle.config_checks.specs.Reasons.{IsWithin, IsJudged, IsJudgedWithin, IsJudgedBoolOrInt, IsInt};
+ghost use Rattle.config_checks.specs.Reasons.{IsJudgedByWords, IsTakenByForm, IsTaken, IsJudgedText};
+ghost use Rattle.config_checks.specs.Reasons.{HasReason, HasSpelling, HasFinding, severity_of};
+ghost use Rattle.config_checks.specs.Reasons.{IsRespelled, IsRespelledBoolOrInt, IsRespelledAs};
+ghost use Rattle.config_checks.specs.Reasons.{IsRespelledByForm, IsRespelledByWords};
 
-use crate::kind::{SettingKind, WordList};
+use crate::key::is_same_word;
+use crate::kind::{Form, SettingKind, WordList};
+use crate::row::Row;
 use bstr::BStr;
 use gix_config_value::canonical::{CanonicalText, Kind, TryRead, Value, normalize};
 use gix_config_value::integer::Amount;
-use gix_config_value::path::cut_mark;
 use gix_config_value::{Boolean, Color, Fault};
 
 /// Why a setting is wrong, or how it should be spelled.
 #[derive(Clone, Copy)]
-pub enum Reason<'t> {
-    /// It has no value, and its kind needs one.
+pub enum Reason<'r, 't> {
+    /// It has no value, and needs one.
     NoValue,
     /// The reader of its kind refuses its text.
     Refused(Fault),
-    /// It is a number outside the range of its kind.
-    OutOfRange,
-    /// It is a path, and empty after its mark.
-    EmptyPath,
-    /// It is a path, and not valid UTF-8.
-    IllFormedPath,
-    /// It is not in the list of its kind, nor a boolean if the list takes these.
-    NoWord,
+    /// It is a number, but not from `low` to `high`.
+    OutOfRange { low: Amount, high: Amount },
+    /// It does not have the words of this list as the list asks for.
+    NoWord(&'r WordList<'t>),
     /// It is valid, and this is its canonical text.
     NotCanonical(CanonicalText),
     /// It is valid, and its list spells the word like this.
     OtherCase(&'t [u8]),
 }
 
+/// How bad a finding is.
+#[derive(Clone, Copy)]
+pub enum Severity {
+    /// A command of Git ends at it.
+    Error,
+    /// Git warns of it, or ignores it.
+    Warning,
+    /// Git reads it as any other spelling of the same value.
+    Note,
+}
+
+impl Reason<'_, '_> {
+    /// How bad it is at a setting of a row, by whether Git goes on at a wrong value.
+    pub fn severity(&self, goes_on: bool) -> Severity
+        ensures { result ≡ severity_of goes_on self.now }
+    {
+        match self {
+            Reason::NoValue => Severity::Error,
+            Reason::NotCanonical(_) | Reason::OtherCase(_) => Severity::Note,
+            _ if goes_on => Severity::Warning,
+            _ => Severity::Error,
+        }
+    }
+}
+
 /// Why a reader refuses a text.
-fn refusal_by<V: TryRead>(text: &[u8]) -> Option<Reason<'static>>
+fn refusal_by<'r, 't, V: TryRead>(text: &[u8]) -> Option<Reason<'r, 't>>
     ensures { IsJudged V.grammar V.refusal text.now result }
 {
     match V::try_read(text) {
@@ -46,107 +70,115 @@ fn refusal_by<V: TryRead>(text: &[u8]) -> Option<Reason<'static>>
     }
 }
 
-/// The least and the greatest number of 32 bits.
-const INT: (i64, i64) = (-2147483648, 2147483647);
+/// The least number of 32 bits.
+pub(crate) const LEAST_INT: Amount = Amount(-2147483648);
 
-/// The least and the greatest size.
-const SIZE: (i64, i64) = (0, i64::MAX);
+/// The greatest number of 32 bits.
+pub(crate) const GREATEST_INT: Amount = Amount(2147483647);
 
 /// Whether a number lies in a range, both ends included.
-fn is_within(amount: Amount, range: (i64, i64)) -> bool
-    ensures { IsTrue result ↔ IsWithin range.0 range.1 amount.0 }
+fn is_within(amount: Amount, low: Amount, high: Amount) -> bool
+    ensures { IsTrue result ↔ IsWithin low high amount }
 {
-    range.0 <= amount.0 && amount.0 <= range.1
+    low.0 <= amount.0 && amount.0 <= high.0
 }
 
 /// Why a number is wrong that has to lie in a range.
-fn number_reason(text: &[u8], range: (i64, i64)) -> Option<Reason<'static>>
-    ensures { IsJudgedWithin range.0 range.1 text.now result }
+fn number_reason<'r, 't>(text: &[u8], low: Amount, high: Amount) -> Option<Reason<'r, 't>>
+    ensures { IsJudgedWithin low high text.now result }
 {
     match Amount::try_read(text) {
-        Ok(amount) if is_within(amount, range) => None,
-        Ok(_) => Some(Reason::OutOfRange),
+        Ok(amount) if is_within(amount, low, high) => None,
+        Ok(_) => Some(Reason::OutOfRange { low, high }),
         Err(fault) => Some(Reason::Refused(fault)),
     }
 }
 
+/// Whether a text is an integer text of 32 bits.
+fn is_int(text: &[u8]) -> bool
+    ensures { IsTrue result ↔ IsInt text.now }
+{
+    match Amount::try_read(text) {
+        Ok(amount) => is_within(amount, LEAST_INT, GREATEST_INT),
+        Err(_) => false,
+    }
+}
+
 /// Why a text that has to be a boolean or a number is wrong.
-fn boolean_or_number_reason(text: &[u8]) -> Option<Reason<'static>>
+fn boolean_or_number_reason<'r, 't>(text: &[u8]) -> Option<Reason<'r, 't>>
     ensures { IsJudgedBoolOrInt text.now result }
 {
     match Amount::try_read(text) {
-        Ok(amount) if is_within(amount, INT) => None,
-        Ok(_) => Some(Reason::OutOfRange),
+        Ok(amount) if is_within(amount, LEAST_INT, GREATEST_INT) => None,
+        Ok(_) => Some(Reason::OutOfRange {
+            low: LEAST_INT,
+            high: GREATEST_INT,
+        }),
         Err(_) => refusal_by::<Boolean>(text),
     }
 }
 
-/// Why a path is wrong, without its mark.
-fn unmarked_reason(path: &[u8]) -> Option<Reason<'static>>
-    ensures { IsJudgedUnmarked path.now result }
+/// Whether a text is a boolean text.
+fn is_boolean(text: &[u8]) -> bool
+    ensures { IsTrue result ↔ IsAccepted BooleanText text.now }
 {
-    if path.is_empty() {
-        return Some(Reason::EmptyPath);
-    }
-    match str::from_utf8(path) {
-        Ok(_) => None,
-        Err(_) => Some(Reason::IllFormedPath),
+    match Boolean::try_read(text) {
+        Ok(_) => true,
+        Err(_) => false,
     }
 }
 
-/// Why a path is wrong.
-fn path_reason(text: &[u8]) -> Option<Reason<'static>>
-    ensures { IsJudgedPath text.now result }
+/// Whether a text is right that is not one word of a list.
+fn is_taken_by_form(list: &WordList<'_>, text: &[u8]) -> bool
+    ensures { IsTrue result ↔ IsTakenByForm list.now text.now list.now.form }
 {
-    let (_, path) = cut_mark(text);
-    unmarked_reason(path)
+    match list.form {
+        Form::Word => false,
+        Form::BoolOrWord => is_boolean(text),
+        Form::IntOrWord => is_int(text),
+        Form::Words => list.has_each(text),
+        Form::Date => list.has_date(text),
+        Form::SortKey => list.has_sort_key(text),
+    }
 }
 
-/// Why a text is wrong that has to be a word of a list.
-fn word_reason(list: &WordList<'_>, text: &[u8]) -> Option<Reason<'static>>
+/// Why a text is wrong that has to have the words of a list.
+fn word_reason<'r, 't>(list: &'r WordList<'t>, text: &[u8]) -> Option<Reason<'r, 't>>
     ensures { IsJudgedByWords list.now text.now result }
 {
-    let None = list.find(text) else {
+    if list.has(text) || is_taken_by_form(list, text) {
         return None;
-    };
-    if !list.or_bool {
-        return Some(Reason::NoWord);
     }
-    match Boolean::try_read(text) {
-        Ok(_) => None,
-        Err(_) => Some(Reason::NoWord),
-    }
+    Some(Reason::NoWord(list))
 }
 
 /// Why a text is wrong as the value of a setting of a kind.
-fn text_reason(kind: &SettingKind<'_>, text: &[u8]) -> Option<Reason<'static>>
-    ensures { HasReason kind.now (Some text.now) result }
+fn text_reason<'r, 't>(kind: &'r SettingKind<'t>, text: &[u8]) -> Option<Reason<'r, 't>>
+    ensures { IsJudgedText kind.now text.now result }
 {
     match kind {
+        SettingKind::Text => None,
         SettingKind::Bool => refusal_by::<Boolean>(text),
-        SettingKind::Int => number_reason(text, INT),
-        SettingKind::Size => number_reason(text, SIZE),
+        SettingKind::Int { low, high } => number_reason(text, *low, *high),
         SettingKind::BoolOrInt => boolean_or_number_reason(text),
         SettingKind::Color => refusal_by::<Color>(text),
-        SettingKind::Path => path_reason(text),
-        SettingKind::Word(list) => word_reason(list, text),
+        SettingKind::Word(list) => return word_reason(list, text),
     }
 }
 
-/// Why the value of a setting of a kind is wrong, or `None` if it is valid. `value` is `None` for a key
-/// alone.
-pub fn judge(kind: &SettingKind<'_>, value: Option<&[u8]>) -> Option<Reason<'static>>
-    ensures { HasReason kind.now (option_copied value.entry) result }
+/// Why the value of a setting is wrong by its row, or `None` if it is valid. `value` is `None` for a key alone.
+pub fn judge<'r, 't>(row: &'r Row<'t>, value: Option<&[u8]>) -> Option<Reason<'r, 't>>
+    ensures { HasReason row.now (option_copied value.entry) result }
 {
     match value {
-        Some(text) => text_reason(kind, text),
-        None if kind.takes_true() => None,
+        Some(text) => text_reason(&row.kind, text),
+        None if row.takes_no_value => None,
         None => Some(Reason::NoValue),
     }
 }
 
 /// The canonical text of a text, or `None` if the text is canonical.
-fn respelled_by(kind: Kind, text: &[u8]) -> Option<Reason<'static>>
+fn respelled_by<'r, 't>(kind: Kind, text: &[u8]) -> Option<Reason<'r, 't>>
     requires { IsAccepted (KindGrammar kind) text.now }
     ensures { IsRespelled (KindGrammar kind) (KindCanonical kind) text.now result }
 {
@@ -158,7 +190,7 @@ fn respelled_by(kind: Kind, text: &[u8]) -> Option<Reason<'static>>
 }
 
 /// The canonical text of a boolean or a number, or `None` if the text is canonical.
-fn respelled_boolean_or_number(text: &[u8]) -> Option<Reason<'static>>
+fn respelled_boolean_or_number<'r, 't>(text: &[u8]) -> Option<Reason<'r, 't>>
     requires { IsJudgedBoolOrInt text.now None }
     ensures { IsRespelledBoolOrInt text.now result }
 {
@@ -168,48 +200,66 @@ fn respelled_boolean_or_number(text: &[u8]) -> Option<Reason<'static>>
     }
 }
 
-/// The canonical text of a word or a boolean, or `None` if the text is canonical.
-fn respelled_word<'t>(list: &WordList<'t>, text: &[u8]) -> Option<Reason<'t>>
-    requires { IsTaken list.now text.now }
-    ensures { IsRespelledByWords list.now text.now result }
+/// The word of a list in its own case, or `None` if the text has it so, or is another text that it stands for.
+fn respelled_as<'r, 't>(word: &'t [u8], text: &[u8]) -> Option<Reason<'r, 't>>
+    ensures { IsRespelledAs text.now word.entry result }
 {
-    let Some(word) = list.find(text) else {
-        return respelled_by(Kind::Boolean, text);
-    };
-    if word == text {
+    if word == text || !is_same_word(word, text) {
         return None;
     }
     Some(Reason::OtherCase(word))
 }
 
+/// The canonical text of a text that is not one word of a list, or `None` if it has no other.
+fn respelled_by_form<'r, 't>(list: &WordList<'_>, text: &[u8]) -> Option<Reason<'r, 't>>
+    requires { IsTakenByForm list.now text.now list.now.form }
+    ensures { IsRespelledByForm list.now.form text.now result }
+{
+    match list.form {
+        Form::BoolOrWord => respelled_by(Kind::Boolean, text),
+        Form::IntOrWord => respelled_by(Kind::Integer, text),
+        _ => None,
+    }
+}
+
+/// The canonical text of a text with words of a list, or `None` if the text is canonical.
+fn respelled_word<'r, 't>(list: &WordList<'t>, text: &[u8]) -> Option<Reason<'r, 't>>
+    requires { IsTaken list.now text.now }
+    ensures { IsRespelledByWords list.now text.now result }
+{
+    match list.find(text) {
+        Some(word) => respelled_as(word, text),
+        None => respelled_by_form(list, text),
+    }
+}
+
 /// The canonical text of a valid value, or `None` if the value is canonical.
-fn respelled<'t>(kind: &SettingKind<'t>, text: &[u8]) -> Option<Reason<'t>>
-    requires { HasReason kind.now (Some text.now) None }
+fn respelled<'r, 't>(kind: &SettingKind<'t>, text: &[u8]) -> Option<Reason<'r, 't>>
+    requires { IsJudgedText kind.now text.now None }
     ensures { HasSpelling kind.now (Some text.now) result }
 {
     match kind {
+        SettingKind::Text => None,
         SettingKind::Bool => respelled_by(Kind::Boolean, text),
-        SettingKind::Int => respelled_by(Kind::Integer, text),
-        SettingKind::Size => respelled_by(Kind::Integer, text),
+        SettingKind::Int { .. } => respelled_by(Kind::Integer, text),
         SettingKind::BoolOrInt => respelled_boolean_or_number(text),
         SettingKind::Color => respelled_by(Kind::Color, text),
-        SettingKind::Path => None,
         SettingKind::Word(list) => respelled_word(list, text),
     }
 }
 
-/// Why the value of a setting is wrong or, if it is valid and canonical texts are wanted, how it should be
+/// Why the value of a setting is wrong by its row or, if it is valid and canonical texts are wanted, how it should be
 /// spelled. `None` if nothing is wrong.
-pub fn find<'t>(
-    kind: &SettingKind<'t>,
+pub fn find<'r, 't>(
+    row: &'r Row<'t>,
     value: Option<&[u8]>,
     wants_canonical: bool,
-) -> Option<Reason<'t>>
-    ensures { HasFinding wants_canonical kind.now (option_copied value.entry) result }
+) -> Option<Reason<'r, 't>>
+    ensures { HasFinding wants_canonical row.now (option_copied value.entry) result }
 {
-    let reason = judge(kind, value);
+    let reason = judge(row, value);
     if reason.is_some() || !wants_canonical {
         return reason;
     }
-    respelled(kind, value?)
+    respelled(&row.kind, value?)
 }

@@ -1,16 +1,20 @@
-//! Rows: a key, and the kind of value that it demands.
-ghost use Rattle.std.specs.Prelude.{MatchOption};
+//! Rows: a key, and what the values of the settings that it covers have to be.
+ghost use Rattle.std.specs.Prelude.{◌≡◌, MatchOption};
 ghost use Rattle.config_checks.specs.Rows.{Decides, IsUnknown};
 
 use crate::key::Key;
 use crate::kind::SettingKind;
 
-/// A key, and the kind of all settings whose keys it covers.
+/// A key, and what the values of all settings whose keys it covers have to be.
 #[derive(Drop)]
 pub struct Row<'t> {
     /// The key, which may have `*` between its dots and as its last part.
     pub key: Key<'t>,
-    /// The kind of these settings.
+    /// Whether a key alone is right.
+    pub takes_no_value: bool,
+    /// Whether Git goes on at a wrong value: it warns of it, or ignores it.
+    pub goes_on: bool,
+    /// The kind of their values.
     pub kind: SettingKind<'t>,
 }
 

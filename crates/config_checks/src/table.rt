@@ -1,26 +1,32 @@
 //! Rows in their text form, one a line.
 ghost use Rattle.std.specs.Prelude.{◌≡◌, ◌≢◌, Bool, Some, [], map, IfOk, IfErr, OnOk, OnErr, MatchOption};
 ghost use Rattle.config_checks.specs.declared.kind.SettingKind as kinds;
-ghost use Rattle.config_checks.specs.Rows.{fields_of, is_blank, plain_name, words_name, lines_of};
+ghost use Rattle.config_checks.specs.declared.kind.Form as forms;
+ghost use Rattle.config_checks.specs.Rows.{fields_of, is_blank, plain_name, form_name, words_name, lines_of};
+ghost use Rattle.config_checks.specs.Rows.{CutsAlone, CutsWarn, HasMarks, IsBounds};
+ghost use Rattle.config_integer.specs.declared.amount.Amount.{Amount};
 ghost use Rattle.config_checks.specs.Rows.{IsNoRow, IsRow, IsKind, IsBadKind, IsBadRow};
 ghost use Rattle.config_checks.specs.Rows.{AddsRow, AddsRows, IsBadLine};
 
 use crate::key::Key;
-use crate::kind::{SettingKind, WordList};
+use crate::kind::{Form, SettingKind, WordList};
+use crate::reason::{GREATEST_INT, LEAST_INT};
 use crate::row::Row;
+use gix_config_value::canonical::TryRead;
+use gix_config_value::integer::Amount;
 use std::alloc::{AllocError, Global};
 use thiserror::Error;
 
 /// Why a line is not a row.
 #[derive(Clone, Copy, Debug, Error)]
 pub enum RowFault {
-    /// It has only a key.
+    /// It has no kind after its key and its marks.
     #[error("no kind stands behind the key")]
     NoKind,
     /// Its key has no dot.
     #[error("no dot stands in the key")]
     NoKey,
-    /// No kind has the name after its key.
+    /// No kind has the name after its key and its marks.
     #[error("no such kind")]
     UnknownKind,
     /// Its kind needs words, and there are none.
@@ -29,6 +35,9 @@ pub enum RowFault {
     /// It has words after a kind that takes none.
     #[error("words stand behind a kind that takes none")]
     Words,
+    /// After `int` it has something else than two integer texts.
+    #[error("the bounds are not two integers")]
+    Bounds,
     /// There was no memory to hold the row.
     #[error("no memory")]
     Memory(AllocError),
@@ -63,43 +72,96 @@ fn fields_of<'t>(alloc: Global, line: &'t [u8]) -> Result<Vec<&'t [u8]>, AllocEr
     Ok(fields)
 }
 
-/// The kind with this name, of those without words.
+/// Whether a row says that a key alone is right, or that it is wrong, and the fields after this mark.
+fn cut_alone<'f, 't>(fields: &'f [&'t [u8]]) -> (Option<bool>, &'f [&'t [u8]])
+    ensures { CutsAlone (map (λ field. field.now) fields.now) result.0 (map (λ field. field.now) result.1.now) }
+{
+    match fields.split_first() {
+        Some((field, rest)) if *field == b"alone".as_slice() => (Some(true), rest),
+        Some((field, rest)) if *field == b"needs-value".as_slice() => (Some(false), rest),
+        _ => (None, fields),
+    }
+}
+
+/// Whether a row says that Git goes on at wrong values, and the fields after this mark.
+fn cut_warn<'f, 't>(fields: &'f [&'t [u8]]) -> (bool, &'f [&'t [u8]])
+    ensures { CutsWarn (map (λ field. field.now) fields.now) result.0 (map (λ field. field.now) result.1.now) }
+{
+    match fields.split_first() {
+        Some((field, rest)) if *field == b"warn".as_slice() => (true, rest),
+        _ => (false, fields),
+    }
+}
+
+/// The kind with this name, of those with nothing after it.
 fn plain_kind(name: &[u8]) -> Option<SettingKind<'static>>
     ensures { MatchOption result ((k : kinds.SettingKind) → plain_name k ≢ Some name.now)
         (λ k. (plain_name k ≡ Some name.now) × IsKind name.now [] k) }
 {
-    if name == b"bool".as_slice() {
+    if name == b"text".as_slice() {
+        Some(SettingKind::Text)
+    } else if name == b"bool".as_slice() {
         Some(SettingKind::Bool)
-    } else if name == b"int".as_slice() {
-        Some(SettingKind::Int)
-    } else if name == b"size".as_slice() {
-        Some(SettingKind::Size)
     } else if name == b"bool-or-int".as_slice() {
         Some(SettingKind::BoolOrInt)
     } else if name == b"color".as_slice() {
         Some(SettingKind::Color)
-    } else if name == b"path".as_slice() {
-        Some(SettingKind::Path)
     } else {
         None
     }
 }
 
-/// Whether the kind of words with this name ignores case, and whether it takes booleans too.
-fn words_kind(name: &[u8]) -> Option<(bool, bool)>
-    ensures { MatchOption result ((a b : Bool) → words_name a b ≢ name.now)
-        (λ p. words_name p.0 p.1 ≡ name.now) }
+/// The form with this name.
+fn form_of(name: &[u8]) -> Option<Form>
+    ensures { MatchOption result ((form : forms.Form) → form_name form ≢ name.now)
+        (λ form. form_name form ≡ name.now) }
 {
     if name == b"word".as_slice() {
-        Some((false, false))
-    } else if name == b"word-any-case".as_slice() {
-        Some((true, false))
+        Some(Form::Word)
     } else if name == b"bool-or-word".as_slice() {
-        Some((false, true))
-    } else if name == b"bool-or-word-any-case".as_slice() {
-        Some((true, true))
+        Some(Form::BoolOrWord)
+    } else if name == b"int-or-word".as_slice() {
+        Some(Form::IntOrWord)
+    } else if name == b"words".as_slice() {
+        Some(Form::Words)
+    } else if name == b"date".as_slice() {
+        Some(Form::Date)
+    } else if name == b"sort-key".as_slice() {
+        Some(Form::SortKey)
     } else {
         None
+    }
+}
+
+/// Whether the kind of words with this name ignores case, and its form.
+fn words_kind(name: &[u8]) -> Option<(bool, Form)>
+    ensures { MatchOption result ((ignores : Bool) (form : forms.Form) → words_name ignores form ≢ name.now)
+        (λ p. words_name p.0 p.1 ≡ name.now) }
+{
+    match name.strip_suffix(b"-any-case") {
+        Some(name) => Some((true, form_of(name)?)),
+        None => Some((false, form_of(name)?)),
+    }
+}
+
+/// The bounds of `int` with these words after it.
+fn bounds_of(words: &[&[u8]]) -> Option<(Amount, Amount)>
+    ensures { MatchOption result
+        ((low high : Amount) → ¬ (IsBounds (map (λ word. word.now) words.now) low high))
+        (λ bounds. IsBounds (map (λ word. word.now) words.now) bounds.0 bounds.1) }
+{
+    let Some((low, rest)) = words.split_first() else {
+        return Some((LEAST_INT, GREATEST_INT));
+    };
+    let Some((high, rest)) = rest.split_first() else {
+        return None;
+    };
+    let None = rest.split_first() else {
+        return None;
+    };
+    match (Amount::try_read(low), Amount::try_read(high)) {
+        (Ok(low), Ok(high)) => Some((low, high)),
+        _ => None,
     }
 }
 
@@ -114,7 +176,13 @@ fn kind_of<'t>(alloc: Global, name: &[u8], words: &[&'t [u8]]) -> Result<Setting
         }
         return Ok(kind);
     }
-    let Some((ignores_case, or_bool)) = words_kind(name) else {
+    if name == b"int".as_slice() {
+        let Some((low, high)) = bounds_of(words) else {
+            return Err(RowFault::Bounds);
+        };
+        return Ok(SettingKind::Int { low, high });
+    }
+    let Some((ignores_case, form)) = words_kind(name) else {
         return Err(RowFault::UnknownKind);
     };
     if words.is_empty() {
@@ -123,7 +191,7 @@ fn kind_of<'t>(alloc: Global, name: &[u8], words: &[&'t [u8]]) -> Result<Setting
     Ok(SettingKind::Word(WordList {
         words: Vec::from_slice(alloc, words).map_err(RowFault::Memory)?,
         ignores_case,
-        or_bool,
+        form,
     }))
 }
 
@@ -134,20 +202,27 @@ pub fn read_row<'t>(alloc: Global, line: &'t [u8]) -> Result<Option<Row<'t>>, Ro
     ensures refused { IfErr result (IsBadRow (fields_of line.now)) }
 {
     let fields = fields_of(alloc, line).map_err(RowFault::Memory)?;
-    let Some((key, rest)) = fields.split_first() else {
+    let Some((key, marked)) = fields.split_first() else {
         return Ok(None);
     };
     if key.starts_with(b"#") {
         return Ok(None);
     }
-    let Some((name, words)) = rest.split_first() else {
-        return Err(RowFault::NoKind);
-    };
     let Some(key) = Key::parse(key) else {
         return Err(RowFault::NoKey);
     };
+    let (alone, rest) = cut_alone(marked);
+    let (goes_on, rest) = cut_warn(rest);
+    let Some((name, words)) = rest.split_first() else {
+        return Err(RowFault::NoKind);
+    };
     let kind = kind_of(alloc, name, words)?;
-    Ok(Some(Row { key, kind }))
+    Ok(Some(Row {
+        key,
+        takes_no_value: alone.unwrap_or(kind.takes_true()),
+        goes_on,
+        kind,
+    }))
 }
 
 /// Appends the row of a line, if the line has one.

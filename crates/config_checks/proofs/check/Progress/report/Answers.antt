@@ -3,6 +3,7 @@ use Rattle.std.proofs.KnownBytes.{Appends-nil}
 use Rattle.config_checks.specs.Reading.Fields.{entry_of}
 use Rattle.config_checks.specs.Reading.Steps.{ReportsPart, IsWrite}
 use Rattle.config_checks.specs.Entries.{line_feed}
+use Rattle.config_checks.specs.Reasons.{severity_of}
 use Rattle.config_checks.specs.Report.{finding_line, unknown, right, found}
 use Rattle.config_checks.proofs.CheckLemmas.{ok_mapped, err_mapped, any_err, err_with, IsMemory, nothing_at_memory}
 use Rattle.config_checks.proofs.CheckLemmas.{any_at_write}
@@ -36,7 +37,7 @@ returns-in_err-map_err-clause-err g c =
       key = c.setting.result.0.now;
       value = option_copied c.setting.result.1;
       line = finding_line c.args.options.now (c.args.self.now.counts.entries + 1) (entry_of c.args.entry.now)
-          c.setting.result.0.now (option_copied c.setting.result.1) c.in-Some.row.now.kind c.in-Some-find.reason;
+          c.setting.result.0.now (option_copied c.setting.result.1) (severity_of c.in-Some.row.now.goes_on c.in-Some-find.reason) c.in-Some-find.reason;
       after = _;
       setting = c.setting.ensures;
       adds = found c.in-Some.row.now c.in-Some-find.reason c.in-Some.ensures c.in-Some-find.ensures refl refl;
