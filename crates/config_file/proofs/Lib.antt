@@ -14,3 +14,4 @@ pub mod OneValue
 pub mod OneHeader
 pub mod OneEntry
 pub mod OneReading
+pub mod Pieces

@@ -5,6 +5,7 @@ pub mod Header
 pub mod Value
 pub mod File
 pub mod Listing
+pub mod Spelling
 pub mod Views
 pub mod Left
 pub mod Reading

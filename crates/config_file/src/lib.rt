@@ -9,4 +9,5 @@ mod header;
 pub mod laws;
 pub mod reader;
 pub mod section;
+pub mod spelling;
 pub mod value;
