@@ -1,15 +1,20 @@
-"""Compares the reader of configuration files with the installed Git.
+"""Compares how configuration files are read, by the built program and by the installed Git.
 
-python3 config_file.py PROGRAM [--length N] [--files N] [--seed N] [--git COMMAND]
+python3 config_file.py PROGRAM [--seed N] [--files N] [--short] [--git COMMAND]
 
-PROGRAM is config_entries. Git lists each text as `git config --file FILE --list -z`, and the entries, with the line of
-the error, are compared. The line of an entry is compared where Git tells it: that of the first entry that is no color.
-The texts are the rows of crates/config_entries/stdin, every text of up to N telling bytes, alone and after the beginning
-of a value, a key and a subsection, and files that are made and mutated by chance, the same for the same seed.
+PROGRAM is config_value, which lists many files in one call; Git lists one in a call. Both have to give the same
+entries in the same order, and to refuse a file at the same line after the same entries. Git tells the line of an entry
+where its value is no color; the program has to give an entry this line.
 
-A text with a NUL outside a comment is refused here, and only there. Prints last 'N passed, M failed', counted in texts.
+The files are those of config_files.txt, as many changed ones by chance as --files says, and as many of the short texts,
+which are all texts of up to 4 bytes of LETTERS; with --short it is all of these.
+
+The one class of differences is a NUL outside a comment: Git ends a value or a key there, and the program refuses the
+file. The run is the same for the same seed and number of files. The last line is 'N passed, M failed'. Without such a
+Git it says `skipped` and why, and nothing has passed.
 """
 import argparse
+import collections
 import concurrent.futures
 import itertools
 import os
@@ -21,119 +26,215 @@ import subprocess
 import sys
 import tempfile
 
-from programs import ROOT, Missing, Wrong, answers, counted
+from programs import Missing, Wrong, counted
 
+ROWS = pathlib.Path(__file__).with_name("config_files.txt")
+LETTERS = [bytes([byte]) for byte in b'[]"\\=#;\n\r \ta1.-']
+LONGEST = 4
+PIECES = [*LETTERS, b"\r\n", b"\\\n", b"\\\r\n", b'\\"', b"\\\\", b"\\n", b"\\t", b"\\b", b"\\x", b"\0", b"\v", b"\f",
+          b"\xef\xbb\xbf", b"\xff", "ü".encode(), b"A", b"b", b"_", b"[a]", b'[a "b"]', b"[a.b]\n", b"k = v\n", b"k\n",
+          b'"x y"', b" # c\n", b" ; c\n", b'"#"', b"= ", b"\n\n", b"  ", b"red", b"true"]
+LONG = rb'''# one of each
+[core]
+	repositoryformatversion = 0
+	bare = false ; not bare
+	editor = "vim -c \"set tw=72\"" # quoted
+[remote "Origin/\"x\\y"]
+	url = https://example.com/a.git
+	fetch = +refs/heads/*:refs/remotes/origin/*
+[Branch.Main]	rebase
+	description = a \
+   b\tc
+[alias] st = status -sb
+	lg = "!f() { git log; }; f" # c
+'''
+BATCH = 500
 SHOWN = 20
-TELLING = b'[]"\\=#;\n\r \ta1.-n'
-BEGINNINGS = [b"", b"[a]a=", b"[a]a", b'[a "']
-PARTS = [b"[core]", b"[a.b]", b'[a "b"]', b'[remote "o\\"r"]', b"\n", b"\r\n", b" ", b"\t", b"bare = true", b"k", b"=",
-         b'"x y"', b"\\n", b"\\\n", b"\\\r\n", b"#c", b";", b"\\", b'"', b"]", b"\xef\xbb\xbf", b"\xef", b"\r", b"\x0b"]
+REFUSED = 128
+REFUSAL = re.compile(rb"fatal: bad config line (\d+) in file ")
+NUL = "a NUL outside a comment"
+
+# what a reader gives: keys and values, the latter None for a key alone, and the line of the refusal, or None
+Answer = collections.namedtuple("Answer", "entries refused")
+# what the program gives: besides, the lines of the entries, and the reason of the refusal
+Listed = collections.namedtuple("Listed", "answer lines reason")
 
 
-def of_program(answer):
-    """The entries, the lines of the entries, and the fault and the line of the error or None."""
-    words = answer.decode().split()
-    error = (words[-2], int(words[-1])) if words and ":" not in words[-1] else None
-    entries = [word.split(":") for word in words if ":" in word]
-    texts = [(bytes.fromhex(key), None if value == "-" else bytes.fromhex(value)) for key, value, _ in entries]
-    return texts, [int(line) for _, _, line in entries], error
+def entry(data):
+    key, found, value = data.partition(b"\n")
+    return key, value if found else None
+
+
+class Program:
+    """The program, asked for a batch of files in one call."""
+
+    def __init__(self, path, folder):
+        self.path, self.folder = os.path.abspath(path), folder
+
+    def listed(self, names):
+        """What the program gives for each of these files, by its name."""
+        words = [word for name in names for word in ("--file", name)]
+        run = subprocess.run([self.path, "--null", *words], cwd=self.folder, capture_output=True, check=False)
+        *parts, rest = run.stdout.split(b"\0")
+        refusals = dict(map(refusal, run.stderr.splitlines()))
+        if rest or len(parts) % 2 or run.returncode != bool(refusals):
+            raise Wrong(f"{self.path} ended with status {run.returncode} and {run.stderr[:300]!r}")
+        entries = {name: [] for name in names}
+        for place, data in zip(parts[::2], parts[1::2]):
+            name, line = place.decode().rsplit(":", 1)
+            entries[name].append((entry(data), int(line)))
+        for name, found in entries.items():
+            line, reason = refusals.pop(name, (None, None))
+            yield Listed(Answer([one for one, _ in found], line), [line for _, line in found], reason)
+        if refusals:
+            raise Wrong(f"{self.path} refuses {refusals}")
+
+
+def refusal(line):
+    match = re.fullmatch(r"(.+?):(\d+): (.*)", line.decode())
+    if match is None:
+        raise Wrong(f"no refusal: {line!r}")
+    return match[1], (int(match[2]), match[3])
 
 
 class Git:
-    """The installed Git, over files in a folder of its own."""
+    """The installed Git, asked for one file in a call."""
 
     def __init__(self, command, folder):
         found = shutil.which(command)
         if found is None:
             raise Missing(f"no {command} is installed")
-        self.command = os.path.abspath(found)
-        self.folder = pathlib.Path(folder)
+        self.command, self.folder = os.path.abspath(found), folder
         self.said = subprocess.check_output([self.command, "--version"]).decode().strip()
         self.known = {"PATH": os.environ["PATH"], "LC_ALL": "C", "GIT_CONFIG_NOSYSTEM": "1"}
 
-    def config(self, name, *arguments):
-        command = [self.command, "config", "--file", name, *arguments]
+    def run(self, name, *words):
+        command = [self.command, "config", "--file", name, *words]
         return subprocess.run(command, env=self.known, cwd=self.folder, capture_output=True, check=False)
 
-    def told(self, run, name):
-        """The line of the error that Git tells."""
-        found = re.search(b"bad config line ([0-9]+) in file " + name.encode(), run.stderr)
-        return int(found.group(1)) if found else None
+    def answer(self, name):
+        run = self.run(name, "--list", "--null")
+        *parts, rest = run.stdout.split(b"\0")
+        match = REFUSAL.match(run.stderr)
+        if rest or run.returncode != (REFUSED if match else 0):
+            raise Wrong(f"git ended with status {run.returncode}: {run.stderr!r}")
+        return Answer(list(map(entry, parts)), int(match[1]) if match else None)
 
-    def listed(self, name, text):
-        """The entries, the line of the first entry that is no color, and the line of the error."""
-        (self.folder / name).write_bytes(text)
-        run = self.config(name, "--list", "-z")
-        *parts, last = run.stdout.split(b"\0")
-        error = self.told(run, name)
-        if last or run.returncode not in (0, 128) or (run.returncode == 128) != (error is not None):
-            raise Wrong(f"git ended with status {run.returncode} at {text!r}: {run.stderr!r}")
-        entries = [(key, value if lf else None) for key, lf, value in (part.partition(b"\n") for part in parts)]
-        line = None
-        if entries and error is None:
-            line = self.told(self.config(name, "--type=color", "--get-regexp", "."), name)
-        return entries, line, error
+    def answers(self, names):
+        with concurrent.futures.ThreadPoolExecutor() as pool:
+            return list(pool.map(self.answer, names))
+
+    def line(self, name):
+        """The line of the first entry that is no color, if there is one."""
+        match = re.search(rb"fatal: bad config line (\d+)", self.run(name, "--type=color", "--get-regexp", ".").stderr)
+        return int(match[1]) if match else None
+
+    def lines(self, names):
+        with concurrent.futures.ThreadPoolExecutor() as pool:
+            return list(pool.map(self.line, names))
 
 
-def differs(git, name, text, answer):
-    """What Git says otherwise, or None."""
-    entries, lines, error = of_program(answer)
-    if error is not None and error[0] == "nul":
-        return None if b"\0" in text else "a NUL, in a text without one"
-    listed, line, told = git.listed(name, text)
-    if entries != listed or (error and error[1]) != told:
-        return f"Git has {listed!r}, and the error on line {told}"
-    if line is not None and line not in lines:
-        return f"Git has an entry on line {line}"
-    return None
+def is_cut(listed, git):
+    """The program refuses a NUL, and Git has the entries before it, or refuses the file at another line."""
+    entries = listed.answer.entries
+    return listed.reason == "a NUL byte outside a comment" and git.entries[:len(entries)] == entries
 
 
 def rows():
-    return [bytes.fromhex(line) for line in (ROOT / "crates/config_entries/stdin").read_text().splitlines()]
+    """The files of config_files.txt, each a line with the escapes of Python."""
+    lines = ROWS.read_text("ascii").split("\n")[:-1]
+    return [line.encode().decode("unicode_escape").encode("latin-1") for line in lines]
 
 
-def short_texts(length):
-    for beginning in BEGINNINGS:
-        for count in range(length + 1 if not beginning else length):
-            for more in itertools.product(TELLING, repeat=count):
-                yield beginning + bytes(more)
+def short_texts():
+    return [b"".join(chosen) for length in range(LONGEST + 1) for chosen in itertools.product(LETTERS, repeat=length)]
 
 
-def mutated(chance, text):
-    at = chance.randrange(len(text) + 1)
-    return text[:at] + bytes([chance.choice(TELLING)]) * chance.randrange(2) + text[at + chance.randrange(2):]
+def changed(draw, texts):
+    """A text made from one of these by a few changes."""
+    text = bytearray(draw.choice(texts))
+    for _ in range(draw.choice((1, 1, 2, 3, 5))):
+        at, way = draw.randrange(len(text) + 1), draw.randrange(6)
+        if way < 2:
+            text[at:at + way] = draw.choice(PIECES)
+        elif way == 2:
+            del text[at:at + draw.choice((1, 1, 2, 8))]
+        elif way == 3:
+            other = draw.choice(texts)
+            text[at:] = other[draw.randrange(len(other) + 1):]
+        elif way == 4:
+            text[at:at + 1] = bytes([draw.randrange(256)])
+        else:
+            text = bytearray(bytes(text).replace(b"\n", b"\r\n"))
+    return bytes(text)
 
 
-def files(chance, count):
-    for _ in range(count):
-        text = b"".join(chance.choice(PARTS) for _ in range(chance.randrange(1, 12)))
-        yield mutated(chance, text) if chance.randrange(2) else text
+def files(arguments):
+    draw, known = random.Random(arguments.seed), rows()
+    short = short_texts()
+    if not arguments.short:
+        short = draw.sample(short, arguments.files)
+    texts = [*known, LONG, LONG.replace(b"\n", b"\r\n")]
+    return [*texts, *short, *(changed(draw, [*known, LONG]) for _ in range(arguments.files))]
+
+
+class Comparison:
+    """What was compared, and what came of it."""
+
+    def __init__(self, program, git, folder):
+        self.program, self.git, self.folder = program, git, folder
+        self.counts = collections.Counter()
+        self.faults = []
+
+    def judge(self, text, listed, git):
+        if listed.answer == git:
+            self.counts["accepted" if git.refused is None else "refused"] += 1
+        elif is_cut(listed, git):
+            self.counts[NUL] += 1
+        else:
+            self.faults.append((text, listed, git))
+
+    def ask(self, texts):
+        """Compares a batch of files."""
+        names = [str(number) for number in range(len(texts))]
+        for name, text in zip(names, texts):
+            (self.folder / name).write_bytes(text)
+        given = list(self.program.listed(names))
+        for text, listed, git in zip(texts, given, self.git.answers(names)):
+            self.judge(text, listed, git)
+        told = [(name, text, one) for name, text, one in zip(names, texts, given)
+                if one.answer.entries and one.answer.refused is None]
+        for (_, text, listed), line in zip(told, self.git.lines([name for name, _, _ in told])):
+            self.counts["lines of entries"] += line is not None
+            if line is not None and line not in listed.lines:
+                self.faults.append((text, listed, line))
 
 
 def compare(arguments, folder):
     git = Git(arguments.git, folder)
     print(f"{git.said}, seed {arguments.seed}")
-    texts = [*rows(), *short_texts(arguments.length), *files(random.Random(arguments.seed), arguments.files)]
-    given = answers([arguments.program], [text.hex().encode() for text in texts])
-    with concurrent.futures.ThreadPoolExecutor() as pool:
-        names = (f"f{number}" for number in range(len(texts)))
-        found = list(pool.map(lambda name, text, answer: differs(git, name, text, answer), names, texts, given))
-    wrong = [(text, answer, what) for text, answer, what in zip(texts, given, found) if what]
-    for text, answer, what in wrong[:SHOWN]:
-        print(f"{text!r}: {of_program(answer)} here. {what}")
-    return len(texts) - len(wrong), len(wrong)
+    comparison = Comparison(Program(arguments.program, folder), git, folder)
+    texts = files(arguments)
+    for at in range(0, len(texts), BATCH):
+        comparison.ask(texts[at:at + BATCH])
+    for name, count in comparison.counts.items():
+        print(f"{count:>7,} {name}")
+    for text, listed, other in comparison.faults[:SHOWN]:
+        print(f"{text!r}: {listed} here, {other} in Git")
+    failed = len(comparison.faults) + (comparison.counts[NUL] == 0)
+    return comparison.counts.total() - (comparison.counts[NUL] == 0), failed
 
 
 def main():
     arguments = argparse.ArgumentParser()
     arguments.add_argument("program")
-    arguments.add_argument("--length", type=int, default=3)
-    arguments.add_argument("--files", type=int, default=2000)
     arguments.add_argument("--seed", type=int, default=1)
+    arguments.add_argument("--files", type=int, default=1500)
+    arguments.add_argument("--short", action="store_true")
     arguments.add_argument("--git", default="git")
     arguments = arguments.parse_args()
     with tempfile.TemporaryDirectory() as folder:
-        return counted(lambda: compare(arguments, folder))
+        return counted(lambda: compare(arguments, pathlib.Path(folder)))
 
 
 if __name__ == "__main__":

@@ -24,6 +24,9 @@ pub struct Entry<'a> {
     pub line: usize,
 }
 
+/// The room that most keys need.
+const USUAL_LENGTH: usize = 32;
+
 /// What an entry is made of, without its section.
 #[derive(Clone, Copy)]
 pub(crate) struct Parts<'a> {
@@ -79,7 +82,7 @@ impl<'a> Entry<'a> {
             → IsListed (option_map section_of self.now.section) self.now.key.now listed
             → IfOk result (λ text. text.items ≡ listed) }
     {
-        let mut text = Vec::new(alloc);
+        let mut text = Vec::with_capacity(alloc, USUAL_LENGTH)?;
         if let Some(section) = &self.section {
             push_section(&mut text, section)?;
         }

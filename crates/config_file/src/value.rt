@@ -66,7 +66,7 @@ impl<'a> Value<'a> {
         ensures { (spelled : List ℕ) (ending : Ending) → SpellsValue self.now.raw.now spelled ending
             → IfOk result (λ text. text.items ≡ spelled) }
     {
-        let mut text = Vec::new(alloc);
+        let mut text = Vec::with_capacity(alloc, self.raw.len())?;
         let mut at = self.raw;
         let mut quoted = false;
         let mut held = 0usize;

@@ -2,10 +2,16 @@
 
 use crate::arguments::Request;
 use bstr::BStr;
+use config_file::entry::Entry;
+use config_file::reader::Entries;
 use config_settings::settings::{AddError, Setting, Settings};
 use gix_config_value::canonical::{normalize, refusal};
+use std::alloc::Global;
 use std::fs;
 use std::io::{self, BufWriter, Write};
+
+/// The bytes that wait before they are written.
+const ROOM: usize = 65536;
 
 /// Adds each file that can be read, up to its first invalid line. Reports each other one, and returns whether
 /// all of them are added whole.
@@ -16,16 +22,11 @@ fn add_files<'a>(
 ) -> io::Result<bool> {
     let mut are_whole = true;
     for file in files {
-        let file = *file;
-        let text = match fs::read(rt, file) {
-            Ok(text) => text,
-            Err(error) => {
-                are_whole = false;
-                eprintln!(rt; "{file}: {error}")?;
-                continue;
-            }
+        let Some(text) = read_file(rt, *file)? else {
+            are_whole = false;
+            continue;
         };
-        match settings.add_file(rt.alloc(), file, &text) {
+        match settings.add_file(rt.alloc(), *file, &text) {
             Ok(()) => {}
             Err(AddError::Memory(error)) => return Err(io::Error::from(error)),
             Err(error) => {
@@ -37,28 +38,74 @@ fn add_files<'a>(
     Ok(are_whole)
 }
 
+/// The bytes of a file. Reports a file that cannot be read.
+fn read_file(rt: &HostRuntime, file: &str) -> io::Result<Option<Vec<u8>>> {
+    match fs::read(rt, file) {
+        Ok(text) => Ok(Some(text)),
+        Err(error) => {
+            eprintln!(rt; "{file}: {error}")?;
+            Ok(None)
+        }
+    }
+}
+
 /// Writes an entry. Before it are its file and its line.
-fn write_entry<W: Write>(writer: &mut W, setting: &Setting<'_>, null: bool) -> io::Result<()> {
+fn write_entry<W: Write>(
+    alloc: Global,
+    writer: &mut W,
+    file: &str,
+    entry: &Entry<'_>,
+    null: bool,
+) -> io::Result<()> {
     let (place, equals, end) = if null {
         ("\0", "\n", "\0")
     } else {
         (": ", "=", "\n")
     };
-    write!(writer, "{}:{}{place}", setting.file, setting.line)?;
-    writer.write_all(setting.key.as_slice())?;
-    if let Some(text) = &setting.value {
+    write!(writer, "{file}:{}{place}", entry.line)?;
+    writer.write_all(entry.key_text(alloc)?.as_slice())?;
+    if let Some(value) = &entry.value {
         writer.write_all(equals.as_bytes())?;
-        writer.write_all(text.as_slice())?;
+        writer.write_all(value.to_vec(alloc)?.as_slice())?;
     }
     writer.write_all(end.as_bytes())
 }
 
-/// Lists the entries.
-fn list<W: Write>(writer: &mut W, settings: &Settings<'_>, null: bool) -> io::Result<()> {
-    for setting in &settings.entries {
-        write_entry(writer, setting, null)?;
+/// Lists the entries of a file up to its first invalid line, which it reports. Returns whether it has none.
+fn list_file<W: Write>(
+    rt: &HostRuntime,
+    writer: &mut W,
+    file: &str,
+    null: bool,
+) -> io::Result<bool> {
+    let Some(text) = read_file(rt, file)? else {
+        return Ok(false);
+    };
+    for entry in Entries::new(&text) {
+        match entry {
+            Ok(entry) => write_entry(rt.alloc(), writer, file, &entry, null)?,
+            Err(error) => {
+                eprintln!(rt; "{file}:{}: {}", error.line, error.fault)?;
+                return Ok(false);
+            }
+        }
     }
-    writer.flush()
+    Ok(true)
+}
+
+/// Lists the entries of the files in order. Returns whether all of them are read whole.
+fn list<W: Write>(
+    rt: &HostRuntime,
+    writer: &mut W,
+    files: &[&str],
+    null: bool,
+) -> io::Result<bool> {
+    let mut are_whole = true;
+    for file in files {
+        are_whole &= list_file(rt, writer, *file, null)?;
+    }
+    writer.flush()?;
+    Ok(are_whole)
 }
 
 /// The section, the subsection and the last part of a key such as `core.bare` or `branch.main.rebase`. What is
@@ -115,16 +162,13 @@ fn get<W: Write>(
 /// Does what is asked of the files, and returns whether all of it succeeds. If a file is not read whole, no value is
 /// printed, since a later line could have another.
 fn answer(rt: &HostRuntime, request: &Request<'_, '_>) -> io::Result<bool> {
+    let mut writer = BufWriter::with_capacity(rt.alloc(), ROOM, rt.stdout())?;
+    let Some(key) = request.key else {
+        return list(rt, &mut writer, request.files, request.null);
+    };
     let mut settings = Settings::new(rt.alloc());
     let are_whole = add_files(rt, request.files, &mut settings)?;
-    let mut writer = BufWriter::new(rt.alloc(), rt.stdout())?;
-    match request.key {
-        Some(key) => Ok(are_whole && get(rt, &mut writer, &settings, key, request)?),
-        None => {
-            list(&mut writer, &settings, request.null)?;
-            Ok(are_whole)
-        }
-    }
+    Ok(are_whole && get(rt, &mut writer, &settings, key, request)?)
 }
 
 /// The status of what is asked of the files: 0 if all of it succeeds, 1 if something is refused, and 2 if the
