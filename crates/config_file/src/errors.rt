@@ -2,19 +2,23 @@
 ghost use Rattle.std.specs.Prelude.{◌≡◌};
 ghost use Rattle.config_file.specs.Header.{fault_at};
 
+use thiserror::Error as ThisError;
+
 /// Why the reading stops.
-#[derive(Clone, Copy, PartialEq, Eq, Debug)]
+#[derive(Clone, Copy, PartialEq, Eq, Debug, ThisError)]
 pub enum Fault {
     /// A byte with which nothing goes on there, or the end of the text. Git tells `bad config line`.
+    #[error("bad config line")]
     BadLine,
     /// A NUL outside a comment. Git reads on only in a value and in a subsection, which it cuts there.
+    #[error("a NUL byte outside a comment")]
     Nul,
 }
 
 /// Why a text is no configuration file.
 #[derive(Clone, Copy, PartialEq, Eq, Debug)]
 pub struct Error {
-    /// The line that Git tells, from 1: docs/FILES.md, Lines.
+    /// The line that Git tells, from 1.
     pub line: usize,
     /// Why the reading stops on that line.
     pub fault: Fault,

@@ -1,4 +1,4 @@
-//! Git's configuration files: the entries of a text, read as Git reads them (docs/FILES.md).
+//! Git's configuration files: the entries of a text, read as Git reads them (docs/GRAMMAR.md).
 //!
 //! [`reader::Entries`] lends the entries of a text one by one, in order, and takes no memory. After the last
 //! one, or after the error at which the text is refused, it ends. [`file::read`] reads a whole text. An

@@ -41,7 +41,7 @@ pub(crate) struct Taken<'a> {
 }
 
 impl<'a> Value<'a> {
-    /// The text that these bytes spell: docs/FILES.md, Values. It is borrowed, and takes no memory, if they have
+    /// The text that these bytes spell: docs/GRAMMAR.md. It is borrowed, and takes no memory, if they have
     /// no quote and no backslash, and each blank within the text is a space. It fails only if memory is refused.
     ///
     /// ```rust
