@@ -15,3 +15,5 @@ pub mod OneHeader
 pub mod OneEntry
 pub mod OneReading
 pub mod Plain
+pub mod EachValue
+pub mod EachReading
