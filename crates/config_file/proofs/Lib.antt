@@ -20,3 +20,5 @@ pub mod SpelledHeaders
 pub mod LineEnds
 pub mod Appended
 pub mod AddedEntries
+pub mod EachValue
+pub mod EachReading

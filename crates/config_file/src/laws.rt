@@ -9,3 +9,8 @@ pub fn one_reading()
     ensures { (text : List ℕ) (a b : List Entry) (e f : Option Error) → IsFile text a e → IsFile text b f
         → (a ≡ b) × (e ≡ f) }
 {}
+
+/// Each text has a reading: it is a configuration file, or it is refused on a line.
+pub fn each_is_read()
+    ensures { (text : List ℕ) → (entries : List Entry) × (error : Option Error) × IsFile text entries error }
+{}

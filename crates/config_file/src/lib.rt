@@ -8,7 +8,7 @@
 //! spell, and a [`section::Subsection`] appends it. [`entry::Entry::key_text`] is the key as `git config --list`
 //! shows it.
 //!
-//! [`laws`] states that a text has one reading, so none is both read and refused.
+//! [`laws`] states that each text has a reading, and one: it is a configuration file, or it is refused on a line.
 #![tactic(auto)]
 
 mod bytes;

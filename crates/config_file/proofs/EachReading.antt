@@ -1,0 +1,210 @@
+-- Each text has a reading.
+use Rattle.std.proofs.Common.{◌≡◌, ℕ, zero, suc, ◌+◌, ◌≤◌, true, ◌==◌, List, [], ◌∷◌, Option, Some, None, Result, Ok, Err, length, take, drop, refl, arith, eqb-true, inl, inr, ◌⊎◌}
+use Rattle.std.proofs.lemmas.Bool.{cases_Bool}
+use Rattle.std.specs.List.{prefix_len}
+use Rattle.std.specs.Char.{is_ascii_alphabetic}
+use Rattle.config_file.proofs.Runs.{run_split}
+use Rattle.config_file.proofs.Headers.{no_blanks}
+use Rattle.config_file.proofs.Readings.{begins_none}
+use Rattle.config_file.proofs.Bounds.{header_shortens, entry_shortens, run_shortens}
+use Rattle.config_file.proofs.EachValue.{each_value, each_subsection, test_not}
+use Rattle.config_file.proofs.OneSubsection.{SubsectionHas}
+use Rattle.config_file.proofs.OneValue as one_value
+use Rattle.config_file.proofs.OneValue.{ValueHas}
+use Rattle.config_file.proofs.OneHeader as one_header
+use Rattle.config_file.proofs.OneHeader.{HeaderHas}
+use Rattle.config_file.proofs.OneEntry as one_entry
+use Rattle.config_file.proofs.OneEntry.{EntryHas}
+use Rattle.config_file.specs.declared.errors.Error.{Error}
+use Rattle.config_file.specs.declared.errors.Fault.{Fault}
+use Rattle.config_file.specs.declared.errors.Fault.TheVariants.{BadLine}
+use Rattle.config_file.specs.Bytes.{is_name_byte, is_key_byte, is_blank, is_space, is_comment_sign, is_comment_byte, IsAtLineEnd}
+use Rattle.config_file.specs.Runs.{Run, StopsRun}
+use Rattle.config_file.specs.Header as header
+use Rattle.config_file.specs.Header.{Section, ClosesSubsection, SubsectionStops, fault_at}
+use Rattle.config_file.specs.File as file
+use Rattle.config_file.specs.File.{Entry, TakesKey, Reads, IsFile, Begins, after_mark, IsPartOfMark}
+
+line_end_decided : (rest : List ℕ) → IsAtLineEnd rest ⊎ (IsAtLineEnd rest → ⊥)
+line_end_decided [] = inl tt
+line_end_decided (a ∷ []) = elim (cases_Bool (a == 10)) [ inl is ↦ inl (eqb-true a 10 is) | inr off ↦ inr (test_not a 10 off) ]
+line_end_decided (a ∷ b ∷ rest) =
+    elim (cases_Bool (a == 10)) [
+      | inl is ↦ inl (inl (eqb-true a 10 is))
+      | inr off ↦ elim (cases_Bool (a == 13)) [
+        | inl return ↦ elim (cases_Bool (b == 10)) [
+          | inl next ↦ inl (inr (eqb-true a 13 return, eqb-true b 10 next))
+          | inr no_line ↦ inr (λ h. elim h [ inl is ↦ test_not a 10 off is | inr both ↦ test_not b 10 no_line both.1 ])
+        ]
+        | inr no_return ↦ inr (λ h. elim h [ inl is ↦ test_not a 10 off is | inr both ↦ test_not a 13 no_return both.0 ])
+      ]
+    ]
+
+abbrev ClosingIs : List ℕ → Result (List ℕ × List ℕ) (ℕ × Fault) → Type 0
+ClosingIs text (Ok p) = ClosesSubsection text p.0 p.1
+ClosingIs text (Err stop) = SubsectionStops text stop.0 stop.1
+
+closing_of : (text : List ℕ) (o : Result (List ℕ × List ℕ) (List ℕ)) → SubsectionHas text o → (c : Result (List ℕ × List ℕ) (ℕ × Fault)) × ClosingIs text c
+closing_of text (Err rest) place = (Err (0, fault_at rest), header.within place)
+closing_of text (Ok (raw, [])) takes = (Err (1, BadLine), header.closed_at_line_end takes tt)
+closing_of text (Ok (raw, b ∷ rest)) takes =
+    elim (cases_Bool (b == 93)) [
+      | inl is ↦ (Ok (raw, rest), header.closes takes (eqb-true b 93 is))
+      | inr other ↦ elim (line_end_decided (b ∷ rest)) [
+        | inl end ↦ (Err (1, BadLine), header.closed_at_line_end takes end)
+        | inr not_end ↦ (Err (0, fault_at (b ∷ rest)), header.closed takes (test_not b 93 other) not_end)
+      ]
+    ]
+
+abbrev HasHeader : List ℕ → Type 0
+HasHeader text = (o : one_header.Outcome) × HeaderHas text o
+
+named : {text : List ℕ} (name after : List ℕ) → Run is_name_byte text name after → StopsRun is_blank after → HasHeader text
+named name [] run none = (Err (1, BadLine), header.name run none header.at_end)
+named [] (b ∷ rest) run none = (Err (0, fault_at (b ∷ rest)), header.name run none header.empty)
+named (n ∷ name) (b ∷ rest) run none =
+    elim (cases_Bool (b == 93)) [
+      | inl is ↦ (Ok ((n ∷ name, None), rest), header.plain run (λ e. cc) (eqb-true b 93 is))
+      | inr other ↦ (Err (0, fault_at (b ∷ rest)), header.name run none (header.not_closed (test_not b 93 other)))
+    ]
+
+with_subsection : {text inner : List ℕ} (name : List ℕ) → header.OpensSubsection text name inner → (c : Result (List ℕ × List ℕ) (ℕ × Fault)) → ClosingIs inner c → HasHeader text
+with_subsection name opens (Ok (raw, rest)) closed = (Ok ((name, Some raw), rest), header.quoted opens closed)
+with_subsection name opens (Err (lines, fault)) stopped = (Err (lines, fault), header.subsection opens stopped)
+
+blanked : {text : List ℕ} (name after blanks more : List ℕ) → Run is_name_byte text name after → Run is_blank after blanks more → HasHeader text
+blanked name after [] more run blank_run = named name after run (no_blanks [] blank_run refl)
+blanked name after (x ∷ blanks) [] run blank_run = (Err (0, BadLine), header.blanks run blank_run (λ e. cc) tt)
+blanked name after (x ∷ blanks) (b ∷ inner) run blank_run =
+    elim (cases_Bool (b == 34)) [
+      | inl is ↦
+          let (o, has) = each_subsection inner in
+          let (c, closing) = closing_of inner o has in
+          with_subsection name (record { blanks = x ∷ blanks; blanked = after; quote = b; name_run = run; blank_run = blank_run; some_blank = (λ e. cc); is_quote = eqb-true b 34 is }) c closing
+      | inr other ↦ (Err (0, fault_at (b ∷ inner)), header.blanks run blank_run (λ e. cc) (test_not b 34 other))
+    ]
+
+each_header : (text : List ℕ) → HasHeader text
+each_header text =
+    let n = prefix_len is_name_byte text in
+    let after = drop n text in
+    let m = prefix_len is_blank after in
+    blanked (take n text) after (take m after) (drop m after) (run_split is_name_byte text) (run_split is_blank after)
+
+abbrev HasEntry : List ℕ → Type 0
+HasEntry text = (o : one_entry.Outcome) × EntryHas text o
+
+with_value : {text : List ℕ} (key : List ℕ) (b : ℕ) (after : List ℕ) → TakesKey text key (b ∷ after) → b ≡ 61 → (o : one_value.Outcome) → ValueHas after o → HasEntry text
+with_value key b after takes is (Ok (raw, lines, rest)) taken = (Ok (key, Some raw, lines, rest), file.valued takes is taken)
+with_value key b after takes is (Err (lines, fault)) stopped = (Err (lines, fault), file.value takes is stopped)
+
+after_key : {text : List ℕ} (key rest : List ℕ) → TakesKey text key rest → IsAtLineEnd rest ⊎ (IsAtLineEnd rest → ⊥) → HasEntry text
+after_key key rest takes (inl end) = (Ok (key, None, 0, rest), file.alone takes end)
+after_key key [] takes (inr not_end) = absurd (not_end tt)
+after_key key (b ∷ after) takes (inr not_end) =
+    elim (cases_Bool (b == 61)) [
+      | inl is ↦ let (o, has) = each_value after in with_value key b after takes (eqb-true b 61 is) o has
+      | inr other ↦ (Err (0, fault_at (b ∷ after)), file.key takes (test_not b 61 other) not_end)
+    ]
+
+each_entry : (text : List ℕ) → HasEntry text
+each_entry text =
+    let n = prefix_len is_key_byte text in
+    let spaced = drop n text in
+    let m = prefix_len is_space spaced in
+    let rest = drop m spaced in
+    after_key (take n text) rest (record { spaced = spaced; spaces = take m spaced; key_run = run_split is_key_byte text; space_run = run_split is_space spaced }) (line_end_decided rest)
+
+abbrev HasReading : Option Section → ℕ → List ℕ → Type 0
+HasReading section line text = (entries : List Entry) × (error : Option Error) × Reads section line text entries error
+
+-- texts that are no longer have a reading
+abbrev AreRead : ℕ → Type 0
+AreRead n = (section : Option Section) (line : ℕ) (text : List ℕ) → length text ≤ n → HasReading section line text
+
+after_header : (n : ℕ) → AreRead n → (section : Option Section) (line b : ℕ) (text : List ℕ) → length text ≤ n → b ≡ 91 → (o : one_header.Outcome) → HeaderHas text o
+    → HasReading section line (b ∷ text)
+after_header n more section line b text room is (Ok (next, rest)) has =
+    let shorter = header_shortens has in
+    let (entries, error, reads) = more (Some next) line rest (omega arith) in
+    (entries, error, file.header is has reads)
+after_header n more section line b text room is (Err (lines, fault)) has = ([], Some (file.error_at (line + lines) fault), file.header_refused is has)
+
+after_entry : (n : ℕ) → AreRead n → (section : Option Section) (line b : ℕ) (text : List ℕ) → length text ≤ n → is_ascii_alphabetic b ≡ true → (o : one_entry.Outcome)
+    → EntryHas (b ∷ text) o → HasReading section line (b ∷ text)
+after_entry n more section line b text room is (Ok (key, v, lines, rest)) has =
+    let shorter = entry_shortens (b ∷ text) refl is has in
+    let (entries, error, reads) = more section (line + lines) rest (omega arith) in
+    (file.entry_at section key v (line + lines) ∷ entries, error, file.entry is has reads)
+after_entry n more section line b text room is (Err (lines, fault)) has = ([], Some (file.error_at (line + lines) fault), file.entry_refused is has)
+
+after_byte : (n : ℕ) → AreRead n → (section : Option Section) (line b : ℕ) (text : List ℕ) → length text ≤ n → HasReading section line (b ∷ text)
+after_byte n more section line b text room =
+    elim (cases_Bool (is_blank b)) [
+      | inl is ↦ let (entries, error, reads) = more section line text room in (entries, error, file.blank is reads)
+      | inr not_blank ↦ elim (cases_Bool (b == 10)) [
+        | inl is ↦ let (entries, error, reads) = more section (line + 1) text room in (entries, error, file.line_end (eqb-true b 10 is) reads)
+        | inr not_line ↦ elim (cases_Bool (is_comment_sign b)) [
+          | inl is ↦
+              let run = run_split is_comment_byte text in
+              let shorter = run_shortens run in
+              let (entries, error, reads) = more section line (drop (prefix_len is_comment_byte text) text) (omega arith) in
+              (entries, error, file.comment is run reads)
+          | inr not_sign ↦ elim (cases_Bool (b == 91)) [
+            | inl is ↦ let (o, has) = each_header text in after_header n more section line b text room (eqb-true b 91 is) o has
+            | inr not_bracket ↦ elim (cases_Bool (is_ascii_alphabetic b)) [
+              | inl is ↦ let (o, has) = each_entry (b ∷ text) in after_entry n more section line b text room is o has
+              | inr not_letter ↦
+                  let none = begins_none b not_blank (test_not b 10 not_line) not_sign (test_not b 91 not_bracket) not_letter in
+                  ([], Some (file.error_at line (fault_at (b ∷ text))), file.no_item none)
+            ]
+          ]
+        ]
+      ]
+    ]
+
+are_read : (n : ℕ) → AreRead n
+are_read n section line [] room = ([], None, file.ends)
+are_read zero section line (b ∷ text) room = absurd (omega arith)
+are_read (suc n) section line (b ∷ text) room = after_byte n (are_read n) section line b text (omega arith)
+
+part_decided : (text : List ℕ) → IsPartOfMark text ⊎ (IsPartOfMark text → ⊥)
+part_decided [] = inr (λ h. h)
+part_decided (a ∷ []) = elim (cases_Bool (a == 0xef)) [ inl is ↦ inl (eqb-true a 0xef is) | inr off ↦ inr (test_not a 0xef off) ]
+part_decided (a ∷ b ∷ rest) =
+    elim (cases_Bool (a == 0xef)) [
+      | inr off ↦ inr (λ h. test_not a 0xef off h.0)
+      | inl is ↦ elim (line_end_decided (b ∷ rest)) [
+        | inl end ↦ inl (eqb-true a 0xef is, inl end)
+        | inr not_end ↦ elim (cases_Bool (b == 0xbb)) [
+          | inr other ↦ inr (λ h. elim h.1 [ inl end ↦ not_end end | inr both ↦ test_not b 0xbb other both.0 ])
+          | inl next ↦ elim (line_end_decided rest) [
+            | inl end ↦ inl (eqb-true a 0xef is, inr (eqb-true b 0xbb next, end))
+            | inr no_end ↦ inr (λ h. elim h.1 [ inl end ↦ not_end end | inr both ↦ no_end both.1 ])
+          ]
+        ]
+      ]
+    ]
+
+abbrev HasBeginning : List ℕ → Type 0
+HasBeginning text = (line : ℕ) × (rest : List ℕ) × Begins text line rest
+
+mark_cases : (o : Option (List ℕ)) → ((rest : List ℕ) × (o ≡ Some rest)) ⊎ (o ≡ None)
+mark_cases None = inr refl
+mark_cases (Some rest) = inl (rest, refl)
+
+each_beginning : (text : List ℕ) → HasBeginning text
+each_beginning text =
+    elim (mark_cases (after_mark text)) [
+      | inl marked ↦ (1, marked.0, file.marked marked.1)
+      | inr none ↦ elim (part_decided text) [
+        | inl part ↦ (2, text, file.part_of_mark part)
+        | inr no_part ↦ (1, text, file.unmarked none no_part)
+      ]
+    ]
+
+pub each_is_read : (text : List ℕ) → (entries : List Entry) × (error : Option Error) × IsFile text entries error
+each_is_read text =
+    let (line, rest, begins) = each_beginning text in
+    let (entries, error, reads) = are_read (length rest) None line rest (omega arith) in
+    (entries, error, record { line = line; rest = rest; begins = begins; reads = reads })
