@@ -12,7 +12,7 @@ MEMBERS = {
     "FromStr": ("from_str_gives", r"\b(?:ReadsFault|ReadsOr|NamesKind)\b"),
     "From": ("from_gives", r"≡|\bIsPathOf\b"),
     "Default": ("is_default", r"≡"),
-    "Display": ("output", r"\bSome \("),
+    "Display": ("output", r"\b(?:Some|option_map)\b"),
 }
 # `impl`, type parameters, the path of the trait, its parameters, and the type; and the same by its first line alone
 IMPL = re.compile(r"^impl(?:<[^>\n]*>)? (?:\w+::)*(\w+)(?:<[^\n]*>)? for ([^\n]*?)(?: \{|\nwhere\b)(.*?)^\}",

@@ -1,6 +1,9 @@
 -- Settings: entries of files in order, each with its key as Git lists it and the text that a reader takes.
 use Rattle.std.specs.Prelude.{◌≡◌, ℕ, List, ◌∷◌, [], ◌++◌, Option, Some, None, map, codes, option_map, Result, Ok, Err}
 use Rattle.std.specs.List.{slice_get, filter, AllZip}
+use Rattle.std.specs.Fmt.{decimal}
+use Rattle.std.specs.Prelude.{encode_utf8_all}
+use Rattle.bstr.specs.Utf8.{lossy_chars}
 use Rattle.std.specs.Str.{bytes_eq}
 use Rattle.std.specs.Option.{option_map_or}
 use Rattle.std.specs.Str.{str_to_ascii_lowercase}
@@ -30,6 +33,11 @@ stem section (Some subsection) = section_stem section ++ subsection ++ dot ∷ [
 -- a key as Git lists it
 abbrev pub listed : List ℕ → Option (List ℕ) → List ℕ → List ℕ
 listed section subsection key = stem section subsection ++ str_to_ascii_lowercase key
+
+-- how the place of a refusal is shown: `FILE:LINE: KEY: `, the key with U+FFFD for what is no UTF-8
+abbrev pub place_shown : (file : List ℕ) (line : ℕ) (key : List ℕ) → List ℕ
+place_shown file line key =
+    file ++ codes ":" ++ decimal line ++ codes ": " ++ encode_utf8_all (lossy_chars key) ++ codes ": "
 
 -- the text for a reader: a key alone is true
 abbrev pub text_of : Setting → List ℕ

@@ -1,7 +1,9 @@
 //! The settings of several files, in order: of the entries of a key the last one decides.
-ghost use Rattle.std.specs.Prelude.{◌≡◌, ◌≢◌, ◌++◌, ◌↔◌, ℕ, List, [], IsTrue, MatchOption, MatchResult, IfOk, map, option_copied};
+ghost use Rattle.std.specs.Prelude.{◌≡◌, ◌≢◌, ◌++◌, ◌↔◌, ℕ, List, [], IsTrue, MatchOption, MatchResult};
+ghost use Rattle.std.specs.Prelude.{IfOk, map, option_copied, option_map};
 ghost use Rattle.std.specs.Str.{str_to_ascii_lowercase};
 ghost use Rattle.config_text.specs.Settings.{IsAbsent};
+ghost use Rattle.config_settings.specs.Settings.{place_shown};
 ghost use Rattle.config_settings.specs.Settings.{section_stem, stem, listed, text_of, texts, IsLast, Tells};
 ghost use Rattle.config_settings.specs.Settings.{ReadsSetting, Gets, all_named, IsSettingOf, AddsFile};
 ghost use Rattle.config_file.specs.Views.{entry_of};
@@ -52,6 +54,9 @@ pub struct Refused<'s, F> {
 }
 
 impl<F: fmt::Display> fmt::Display for Refused<'_, F> {
+    ghost output = { λ refused. option_map
+        (λ reason. place_shown refused.file.now refused.line refused.key.now ++ reason) (F.output refused.fault) };
+
     fn fmt<W: fmt::Write>(&self, f: &mut fmt::Formatter<W>) -> fmt::Result {
         let key = BStr::new(self.key);
         write!(f, "{}:{}: {key}: {}", self.file, self.line, self.fault)
