@@ -1,0 +1,60 @@
+-- Settings: entries of files in order, each with its key as Git lists it and the text that a reader takes.
+use Rattle.std.specs.Prelude.{◌≡◌, ℕ, List, ◌∷◌, [], ◌++◌, Option, Some, None, map, codes, option_map, Result, Ok, Err}
+use Rattle.std.specs.List.{slice_get}
+use Rattle.std.specs.Option.{option_map_or}
+use Rattle.std.specs.Str.{str_to_ascii_lowercase}
+use Rattle.config_text.specs.Settings.{Decides, IsAbsent}
+use Rattle.config_text.specs.Refusals.{ReadsOr}
+use Rattle.config_text.specs.declared.errors.Fault.{Fault}
+use Rattle.config_settings.specs.declared.settings.Setting.{Setting}
+use Rattle.config_settings.specs.declared.settings.Refused.{Refused}
+
+abbrev pub dot : ℕ
+dot = 46
+
+-- what Git lists before a subsection: the section in lower case, and a dot
+abbrev pub section_stem : List ℕ → List ℕ
+section_stem section = str_to_ascii_lowercase section ++ dot ∷ []
+
+-- what Git lists before the last part of a key: a subsection is listed as it is
+abbrev pub stem : List ℕ → Option (List ℕ) → List ℕ
+stem section None = section_stem section
+stem section (Some subsection) = section_stem section ++ subsection ++ dot ∷ []
+
+-- a key as Git lists it
+abbrev pub listed : List ℕ → Option (List ℕ) → List ℕ → List ℕ
+listed section subsection key = stem section subsection ++ str_to_ascii_lowercase key
+
+-- the text for a reader: a key alone is true
+abbrev pub text_of : Setting → List ℕ
+text_of setting = option_map_or (λ v. v.items) setting.value (codes "true")
+
+-- the keys and the texts, as they are looked up
+abbrev pub texts : List Setting → List (List ℕ × List ℕ)
+texts settings = map (λ s. (s.key.items, text_of s)) settings
+
+-- the setting is the last one of its key
+abbrev pub IsLast : List Setting → List ℕ → Setting → Type 0
+IsLast settings key s = (i : ℕ) × (slice_get settings i ≡ Some s) × Decides (texts settings) key i (text_of s)
+
+-- the refusal has the place, the key and the value of the setting
+pub record Tells {F : Type 0} (setting : Setting) (refused : Refused F) : Type 0 where
+  pub file : refused.file.now ≡ setting.file.now
+  pub line : refused.line ≡ setting.line
+  pub key : refused.key.now ≡ setting.key.items
+  pub value : option_map (λ v. v.now) refused.value ≡ option_map (λ v. v.items) setting.value
+
+-- the value that the grammar gives the text of the setting, or a refusal with the place and the fault
+abbrev pub ReadsSetting : {V : Type 0} → (List ℕ → V → Type 0) → (List ℕ → Fault → Type 0) → Setting
+    → Result V (Refused Fault) → Type 0
+ReadsSetting grammar refusal setting result =
+    ReadsOr grammar (λ r. Tells setting r × refusal (text_of setting) r.fault) (text_of setting) result
+
+-- the value of a key: that of its last setting, and no value if no setting has the key
+abbrev pub Gets : {V : Type 0} → (List ℕ → V → Type 0) → (List ℕ → Fault → Type 0) → List Setting → List ℕ
+    → Result (Option V) (Refused Fault) → Type 0
+Gets grammar refusal settings key (Ok None) = IsAbsent (texts settings) key
+Gets grammar refusal settings key (Ok (Some v)) =
+    (setting : Setting) × IsLast settings key setting × ReadsSetting grammar refusal setting (Ok v)
+Gets grammar refusal settings key (Err e) =
+    (setting : Setting) × IsLast settings key setting × ReadsSetting grammar refusal setting (Err e)

@@ -1,0 +1,195 @@
+//! The settings of several files, in order: of the entries of a key the last one decides.
+ghost use Rattle.std.specs.Prelude.{◌≡◌, ◌≢◌, ◌++◌, ◌↔◌, ℕ, List, IsTrue, MatchOption, MatchResult, option_copied};
+ghost use Rattle.std.specs.Str.{str_to_ascii_lowercase};
+ghost use Rattle.config_text.specs.Settings.{IsAbsent};
+ghost use Rattle.config_settings.specs.Settings.{section_stem, stem, listed, text_of, texts, IsLast, Tells};
+ghost use Rattle.config_settings.specs.Settings.{ReadsSetting, Gets};
+
+use bstr::BStr;
+use config_text::errors::Fault;
+use config_text::readers::TryRead;
+use std::alloc::{AllocError, Global};
+use std::fmt;
+
+/// An entry of a file.
+#[derive(Drop)]
+pub struct Setting<'a> {
+    /// The name of the file.
+    pub file: &'a str,
+    /// The line of the entry, from 1.
+    pub line: usize,
+    /// The key as Git lists it.
+    pub key: Vec<u8>,
+    /// The text of the value, or `None` if the key stands alone.
+    pub value: Option<Vec<u8>>,
+}
+
+/// The entries of several files, in the order in which the files were added.
+#[derive(Drop)]
+pub struct Settings<'a> {
+    /// The entries, in order.
+    pub entries: Vec<Setting<'a>>,
+}
+
+/// A setting whose last entry has a text without a value.
+#[derive(Clone, Copy, Debug)]
+pub struct Refused<'s, F> {
+    /// The name of the file.
+    pub file: &'s str,
+    /// The line of the entry, from 1.
+    pub line: usize,
+    /// The key as Git lists it.
+    pub key: &'s [u8],
+    /// The text of the value, or `None` if the key stands alone.
+    pub value: Option<&'s [u8]>,
+    /// Why the text is refused.
+    pub fault: F,
+}
+
+impl<F: fmt::Display> fmt::Display for Refused<'_, F> {
+    fn fmt<W: fmt::Write>(&self, f: &mut fmt::Formatter<W>) -> fmt::Result {
+        let key = BStr::new(self.key);
+        write!(f, "{}:{}: {key}: {}", self.file, self.line, self.fault)
+    }
+}
+
+/// What follows the front in lower case, or `None` if the text begins otherwise.
+fn strip_lower<'t>(text: &'t [u8], front: &[u8]) -> Option<&'t [u8]>
+    ensures { MatchOption result ((rest : List ℕ) → text.now ≢ str_to_ascii_lowercase front.now ++ rest)
+        (λ rest. text.now ≡ str_to_ascii_lowercase front.now ++ rest.now) }
+{
+    let mut rest = text;
+    for byte in front {
+        let (first, others) = rest.split_first()?;
+        if *first != byte.to_ascii_lowercase() {
+            return None;
+        }
+        rest = others;
+    }
+    Some(rest)
+}
+
+/// What follows the front, or `None` if the text begins otherwise.
+fn strip<'t>(text: &'t [u8], front: &[u8]) -> Option<&'t [u8]>
+    ensures { MatchOption result ((rest : List ℕ) → text.now ≢ front.now ++ rest)
+        (λ rest. text.now ≡ front.now ++ rest.now) }
+{
+    text.strip_prefix(front)
+}
+
+/// What follows the section and its dot in a key as Git lists it.
+fn after_section<'t>(listed: &'t [u8], section: &[u8]) -> Option<&'t [u8]>
+    ensures { MatchOption result ((rest : List ℕ) → listed.now ≢ section_stem section.now ++ rest)
+        (λ rest. listed.now ≡ section_stem section.now ++ rest.now) }
+{
+    strip(strip_lower(listed, section)?, b".")
+}
+
+/// What follows the section and the subsection in a key as Git lists it.
+fn after_stem<'t>(listed: &'t [u8], section: &[u8], subsection: Option<&[u8]>) -> Option<&'t [u8]>
+    ensures { MatchOption result
+        ((rest : List ℕ) → listed.now ≢ stem section.now (option_copied subsection.entry) ++ rest)
+        (λ rest. listed.now ≡ stem section.now (option_copied subsection.entry) ++ rest.now) }
+{
+    let rest = after_section(listed, section)?;
+    match subsection {
+        Some(subsection) => strip(strip(rest, subsection)?, b"."),
+        None => Some(rest),
+    }
+}
+
+impl<'a> Setting<'a> {
+    /// The text for a reader: `true` if the key stands alone.
+    pub fn text(&self) -> &[u8]
+        ensures { result.now ≡ text_of self.now }
+    {
+        match &self.value {
+            Some(text) => text.as_slice(),
+            None => b"true",
+        }
+    }
+
+    /// Whether this is an entry of the key. The case of the section and of the key does not count; that of the
+    /// subsection does.
+    pub fn is_named(&self, section: &[u8], subsection: Option<&[u8]>, key: &[u8]) -> bool
+        ensures { IsTrue result
+            ↔ (self.now.key.items ≡ listed section.now (option_copied subsection.entry) key.now) }
+    {
+        match after_stem(&self.key, section, subsection) {
+            Some(rest) => match strip_lower(rest, key) {
+                Some(rest) => rest.is_empty(),
+                None => false,
+            },
+            None => false,
+        }
+    }
+
+    /// A refusal of this entry.
+    pub fn refused<F>(&self, fault: F) -> Refused<'_, F>
+        ensures place { Tells self.now result }
+        ensures fault { result.fault ≡ fault }
+    {
+        let value = match &self.value {
+            Some(text) => Some(text.as_slice()),
+            None => None,
+        };
+        Refused {
+            file: self.file,
+            line: self.line,
+            key: self.key.as_slice(),
+            value,
+            fault,
+        }
+    }
+
+    /// The value of the text, or a refusal with the place of the entry.
+    pub fn read<V: TryRead>(&self) -> Result<V, Refused<'_, Fault>>
+        ensures { ReadsSetting V.grammar V.refusal self.now result }
+    {
+        match V::try_read(self.text()) {
+            Ok(value) => Ok(value),
+            Err(fault) => Err(self.refused(fault)),
+        }
+    }
+}
+
+impl<'a> Settings<'a> {
+    /// The last entry of a key, or `None` if no entry has it.
+    pub fn last(
+        &self,
+        section: &[u8],
+        subsection: Option<&[u8]>,
+        key: &[u8],
+    ) -> Option<&Setting<'a>>
+        ensures { MatchOption result
+            (IsAbsent (texts self.now.entries.items)
+            (listed section.now (option_copied subsection.entry) key.now))
+            (λ s. IsLast self.now.entries.items
+            (listed section.now (option_copied subsection.entry) key.now) s.now) }
+    {
+        let index = self
+            .entries
+            .iter()
+            .rposition(|entry| entry.is_named(section, subsection, key))?;
+        Some(&self.entries[index])
+    }
+
+    /// The value of the last entry of a key, or `None` if no entry has it.
+    pub fn get<V: TryRead>(
+        &self,
+        section: &[u8],
+        subsection: Option<&[u8]>,
+        key: &[u8],
+    ) -> Result<Option<V>, Refused<'_, Fault>>
+        ensures { Gets V.grammar V.refusal self.now.entries.items
+            (listed section.now (option_copied subsection.entry) key.now) result }
+    {
+        match self.last(section, subsection, key) {
+            Some(setting) => match setting.read() {
+                Ok(value) => Ok(Some(value)),
+                Err(refused) => Err(refused),
+            },
+            None => Ok(None),
+        }
+    }
+}
