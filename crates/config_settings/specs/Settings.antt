@@ -1,6 +1,7 @@
 -- Settings: entries of files in order, each with its key as Git lists it and the text that a reader takes.
 use Rattle.std.specs.Prelude.{◌≡◌, ℕ, List, ◌∷◌, [], ◌++◌, Option, Some, None, map, codes, option_map, Result, Ok, Err}
-use Rattle.std.specs.List.{slice_get}
+use Rattle.std.specs.List.{slice_get, filter}
+use Rattle.std.specs.Str.{bytes_eq}
 use Rattle.std.specs.Option.{option_map_or}
 use Rattle.std.specs.Str.{str_to_ascii_lowercase}
 use Rattle.config_text.specs.Settings.{Decides, IsAbsent}
@@ -36,6 +37,10 @@ texts settings = map (λ s. (s.key.items, text_of s)) settings
 -- the setting is the last one of its key
 abbrev pub IsLast : List Setting → List ℕ → Setting → Type 0
 IsLast settings key s = (i : ℕ) × (slice_get settings i ≡ Some s) × Decides (texts settings) key i (text_of s)
+
+-- the settings of a key, in order
+abbrev pub all_named : List ℕ → List Setting → List Setting
+all_named key settings = filter (λ s. bytes_eq s.key.items key) settings
 
 -- the refusal has the place, the key and the value of the setting
 pub record Tells {F : Type 0} (setting : Setting) (refused : Refused F) : Type 0 where

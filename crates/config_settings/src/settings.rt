@@ -1,9 +1,9 @@
 //! The settings of several files, in order: of the entries of a key the last one decides.
-ghost use Rattle.std.specs.Prelude.{◌≡◌, ◌≢◌, ◌++◌, ◌↔◌, ℕ, List, IsTrue, MatchOption, MatchResult, option_copied};
+ghost use Rattle.std.specs.Prelude.{◌≡◌, ◌≢◌, ◌++◌, ◌↔◌, ℕ, List, IsTrue, MatchOption, MatchResult, IfOk, map, option_copied};
 ghost use Rattle.std.specs.Str.{str_to_ascii_lowercase};
 ghost use Rattle.config_text.specs.Settings.{IsAbsent};
 ghost use Rattle.config_settings.specs.Settings.{section_stem, stem, listed, text_of, texts, IsLast, Tells};
-ghost use Rattle.config_settings.specs.Settings.{ReadsSetting, Gets};
+ghost use Rattle.config_settings.specs.Settings.{ReadsSetting, Gets, all_named};
 
 use bstr::BStr;
 use config_text::errors::Fault;
@@ -172,6 +172,26 @@ impl<'a> Settings<'a> {
             .iter()
             .rposition(|entry| entry.is_named(section, subsection, key))?;
         Some(&self.entries[index])
+    }
+
+    /// The entries of a key, in order. Fails only if memory runs out.
+    pub fn all(
+        &self,
+        alloc: Global,
+        section: &[u8],
+        subsection: Option<&[u8]>,
+        key: &[u8],
+    ) -> Result<Vec<&Setting<'a>>, AllocError>
+        ensures { IfOk result (λ v. map (λ s. s.now) v.items
+            ≡ all_named (listed section.now (option_copied subsection.entry) key.now) self.now.entries.items) }
+    {
+        let mut all = Vec::new(alloc);
+        for setting in &self.entries {
+            if setting.is_named(section, subsection, key) {
+                all.push(setting)?;
+            }
+        }
+        Ok(all)
     }
 
     /// The value of the last entry of a key, or `None` if no entry has it.
