@@ -2,12 +2,16 @@
 ghost use Rattle.std.specs.Prelude.{◌≡◌};
 ghost use Rattle.config_file.specs.Header.{fault_at};
 
+use thiserror::Error as ThisError;
+
 /// What is wrong with a line.
-#[derive(Clone, Copy, PartialEq, Eq, Debug)]
+#[derive(Clone, Copy, PartialEq, Eq, Debug, ThisError)]
 pub enum Fault {
     /// Git refuses the line.
+    #[error("bad config line")]
     BadLine,
     /// A NUL, outside a comment.
+    #[error("a NUL byte outside a comment")]
     Nul,
 }
 

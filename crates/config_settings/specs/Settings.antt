@@ -1,6 +1,6 @@
 -- Settings: entries of files in order, each with its key as Git lists it and the text that a reader takes.
 use Rattle.std.specs.Prelude.{◌≡◌, ℕ, List, ◌∷◌, [], ◌++◌, Option, Some, None, map, codes, option_map, Result, Ok, Err}
-use Rattle.std.specs.List.{slice_get, filter}
+use Rattle.std.specs.List.{slice_get, filter, AllZip}
 use Rattle.std.specs.Str.{bytes_eq}
 use Rattle.std.specs.Option.{option_map_or}
 use Rattle.std.specs.Str.{str_to_ascii_lowercase}
@@ -9,6 +9,10 @@ use Rattle.config_text.specs.Refusals.{ReadsOr}
 use Rattle.config_text.specs.declared.errors.Fault.{Fault}
 use Rattle.config_settings.specs.declared.settings.Setting.{Setting}
 use Rattle.config_settings.specs.declared.settings.Refused.{Refused}
+use Rattle.config_settings.specs.declared.settings.AddError.{AddError}
+use Rattle.config_settings.specs.declared.settings.AddError.TheVariants.{Line, Memory}
+use Rattle.config_file.specs.Value.{Ending, SpellsValue}
+use Rattle.config_file.specs.File.{Entry, IsFile}
 
 abbrev pub dot : ℕ
 dot = 46
@@ -37,6 +41,29 @@ texts settings = map (λ s. (s.key.items, text_of s)) settings
 -- the setting is the last one of its key
 abbrev pub IsLast : List Setting → List ℕ → Setting → Type 0
 IsLast settings key s = (i : ℕ) × (slice_get settings i ≡ Some s) × Decides (texts settings) key i (text_of s)
+
+-- these bytes spell the value; a key alone has no value
+abbrev pub IsValueOf : Option (List ℕ) → Option (List ℕ) → Type 0
+IsValueOf None value = value ≡ None
+IsValueOf (Some raw) value = (text : List ℕ) (ending : Ending) → SpellsValue raw text ending → value ≡ Some text
+
+-- the setting of an entry of this file
+pub record IsSettingOf (name : List ℕ) (entry : Entry) (setting : Setting) : Type 0 where
+  pub file : setting.file.now ≡ name
+  pub line : setting.line ≡ entry.line
+  pub value : IsValueOf entry.value (option_map (λ v. v.items) setting.value)
+
+-- the new settings are the old ones, and then one for each of these entries of the file
+abbrev pub Adds : List ℕ → List Entry → List Setting → List Setting → Type 0
+Adds file entries old new =
+    (added : List Setting) × (new ≡ old ++ added) × AllZip (IsSettingOf file) entries added
+
+-- what a file adds: all its entries, those before its first invalid line, or some first ones if memory runs out
+abbrev pub AddsFile : List ℕ → List ℕ → List Setting → List Setting → Result (Unit {0}) AddError → Type 0
+AddsFile file text old new (Ok _) = (entries : List Entry) × IsFile text entries None × Adds file entries old new
+AddsFile file text old new (Err (Line name error)) =
+    (name.now ≡ file) × ((entries : List Entry) × IsFile text entries (Some error) × Adds file entries old new)
+AddsFile file text old new (Err (Memory _)) = (entries : List Entry) × Adds file entries old new
 
 -- the settings of a key, in order
 abbrev pub all_named : List ℕ → List Setting → List Setting

@@ -1,15 +1,20 @@
 //! The settings of several files, in order: of the entries of a key the last one decides.
-ghost use Rattle.std.specs.Prelude.{◌≡◌, ◌≢◌, ◌++◌, ◌↔◌, ℕ, List, IsTrue, MatchOption, MatchResult, IfOk, map, option_copied};
+ghost use Rattle.std.specs.Prelude.{◌≡◌, ◌≢◌, ◌++◌, ◌↔◌, ℕ, List, [], IsTrue, MatchOption, MatchResult, IfOk, map, option_copied};
 ghost use Rattle.std.specs.Str.{str_to_ascii_lowercase};
 ghost use Rattle.config_text.specs.Settings.{IsAbsent};
 ghost use Rattle.config_settings.specs.Settings.{section_stem, stem, listed, text_of, texts, IsLast, Tells};
-ghost use Rattle.config_settings.specs.Settings.{ReadsSetting, Gets, all_named};
+ghost use Rattle.config_settings.specs.Settings.{ReadsSetting, Gets, all_named, IsSettingOf, AddsFile};
+ghost use Rattle.config_file.specs.Views.{entry_of};
 
 use bstr::BStr;
+use config_file::entry::Entry;
+use config_file::errors::Error as FileError;
+use config_file::reader::Entries;
 use config_text::errors::Fault;
 use config_text::readers::TryRead;
 use std::alloc::{AllocError, Global};
 use std::fmt;
+use thiserror::Error;
 
 /// An entry of a file.
 #[derive(Drop)]
@@ -51,6 +56,37 @@ impl<F: fmt::Display> fmt::Display for Refused<'_, F> {
         let key = BStr::new(self.key);
         write!(f, "{}:{}: {key}: {}", self.file, self.line, self.fault)
     }
+}
+
+/// Why a file is not added whole.
+#[derive(Debug, Drop, Error)]
+pub enum AddError<'a> {
+    /// A line of the file is invalid. The entries before it are added.
+    #[error("{file}:{}: {}", .error.line, .error.fault)]
+    Line { file: &'a str, error: FileError },
+    /// There was no memory for an entry. The entries before it are added.
+    #[error("no memory")]
+    Memory(AllocError),
+}
+
+/// The setting of an entry of a file.
+fn read_setting<'a>(
+    alloc: Global,
+    file: &'a str,
+    entry: &Entry<'_>,
+) -> Result<Setting<'a>, AllocError>
+    ensures { IfOk result (IsSettingOf file.now (entry_of entry.now)) }
+{
+    let value = match &entry.value {
+        Some(value) => Some(value.to_vec(alloc)?),
+        None => None,
+    };
+    Ok(Setting {
+        file,
+        line: entry.line,
+        key: entry.key_text(alloc)?,
+        value,
+    })
 }
 
 /// What follows the front in lower case, or `None` if the text begins otherwise.
@@ -154,6 +190,40 @@ impl<'a> Setting<'a> {
 }
 
 impl<'a> Settings<'a> {
+    /// No settings.
+    pub fn new(alloc: Global) -> Settings<'a>
+        ensures { result.entries.items ≡ [] }
+    {
+        Settings {
+            entries: Vec::new(alloc),
+        }
+    }
+
+    /// Appends the entries of a file, which decide over those before. The name of the file is kept for refusals.
+    pub fn add_file(
+        &mut self,
+        alloc: Global,
+        file: &'a str,
+        text: &[u8],
+    ) -> Result<(), AddError<'a>>
+        ensures { AddsFile file.now text.now self.old.entries.items self.new.entries.items result }
+    {
+        for entry in Entries::new(text) {
+            let entry = match entry {
+                Ok(entry) => entry,
+                Err(error) => return Err(AddError::Line { file, error }),
+            };
+            let setting = match read_setting(alloc, file, &entry) {
+                Ok(setting) => setting,
+                Err(error) => return Err(AddError::Memory(error)),
+            };
+            if self.entries.push(setting).is_err() {
+                return Err(AddError::Memory(AllocError));
+            }
+        }
+        Ok(())
+    }
+
     /// The last entry of a key, or `None` if no entry has it.
     pub fn last(
         &self,
