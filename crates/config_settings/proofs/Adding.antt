@@ -20,9 +20,11 @@ adds_none file settings = ([], sym (append-nil settings), tt)
 pub adds_more : (file : List ℕ) (entries : List Entry) (entry : Entry) (old new newer : List Setting) (setting : Setting)
     → Adds file entries old new → IsSettingOf file entry setting → newer ≡ new ++ setting ∷ []
     → Adds file (entries ++ entry ∷ []) old newer
-adds_more file entries entry old new newer setting (added, is, all) one more =
-    (added ++ setting ∷ [], more ∙ ap (λ s. s ++ setting ∷ []) is ∙ append_assoc old added (setting ∷ []),
-    zip_push (IsSettingOf file) entries added entry setting all one)
+adds_more file entries entry old new newer setting (added, is, all) one more = (
+  added ++ setting ∷ [],
+  more ∙ ap (λ s. s ++ setting ∷ []) is ∙ append_assoc old added (setting ∷ []),
+  zip_push (IsSettingOf file) entries added entry setting all one,
+)
 
 pub file_more : (text : List ℕ) (entries left : List Entry) (entry : Entry) (error : Option Error)
     → IsFile text (entries ++ entry ∷ left) error → IsFile text ((entries ++ entry ∷ []) ++ left) error

@@ -13,6 +13,7 @@ use Rattle.config_settings.specs.declared.settings.AddError.{AddError}
 use Rattle.config_settings.specs.declared.settings.AddError.TheVariants.{Line, Memory}
 use Rattle.config_file.specs.Value.{Ending, SpellsValue}
 use Rattle.config_file.specs.File.{Entry, IsFile}
+use Rattle.config_file.specs.Listing.{IsListed}
 
 abbrev pub dot : ℕ
 dot = 46
@@ -51,6 +52,7 @@ IsValueOf (Some raw) value = (text : List ℕ) (ending : Ending) → SpellsValue
 pub record IsSettingOf (name : List ℕ) (entry : Entry) (setting : Setting) : Type 0 where
   pub file : setting.file.now ≡ name
   pub line : setting.line ≡ entry.line
+  pub key : (listed_key : List ℕ) → IsListed entry.section entry.key listed_key → setting.key.items ≡ listed_key
   pub value : IsValueOf entry.value (option_map (λ v. v.items) setting.value)
 
 -- the new settings are the old ones, and then one for each of these entries of the file
