@@ -1,0 +1,4 @@
+//! The includes of Git's configuration files.
+#![tactic(auto)]
+
+pub mod pattern;
