@@ -1,1 +1,2 @@
+pub mod Include
 pub mod Pattern

@@ -1,4 +1,5 @@
 //! The includes of Git's configuration files.
 #![tactic(auto)]
 
+pub mod include;
 pub mod pattern;
