@@ -1,1 +1,3 @@
+pub mod Paths
 pub mod Patterns
+pub mod Walks

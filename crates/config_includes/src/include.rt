@@ -35,7 +35,7 @@ pub struct Repository<'r> {
 }
 
 /// What follows the front, or `None` if the text begins otherwise.
-fn strip<'t>(text: &'t [u8], front: &[u8]) -> Option<&'t [u8]>
+pub(crate) fn strip<'t>(text: &'t [u8], front: &[u8]) -> Option<&'t [u8]>
     ensures { MatchOption result (LacksFront front.now text.now) (λ rest. text.now ≡ front.now ++ rest.now) }
 {
     text.strip_prefix(front)

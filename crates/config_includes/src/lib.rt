@@ -2,4 +2,6 @@
 #![tactic(auto)]
 
 pub mod include;
+pub mod path;
 pub mod pattern;
+pub mod walk;
