@@ -1,0 +1,4 @@
+pub mod Include
+pub mod Path
+pub mod Pattern
+pub mod Walk

@@ -1,0 +1,7 @@
+//! The includes of Git's configuration files.
+#![tactic(auto)]
+
+pub mod include;
+pub mod path;
+pub mod pattern;
+pub mod walk;
