@@ -10,5 +10,6 @@ pub mod Listed
 pub mod Spellings
 pub mod SpelledHeaders
 pub mod LineEnds
+pub mod Shortest
 pub mod Appended
 pub mod AddedEntries
