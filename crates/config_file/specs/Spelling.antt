@@ -1,7 +1,7 @@
 -- Spellings: what bytes that are written read back to.
-use Rattle.std.specs.Prelude.{◌≡◌, ◌≢◌, ℕ, ◌+◌, true, List, [], ◌∷◌, ◌++◌, Option, Some, None, ⊤, ◌⊎◌}
+use Rattle.std.specs.Prelude.{◌≡◌, ℕ, ◌+◌, ◌≤◌, Bool, true, false, ◌==◌, if◌then◌else◌, length, List, [], ◌∷◌, ◌++◌, Option, Some, None, ⊤, ◌⊎◌}
 use Rattle.std.specs.Char.{is_ascii_alphabetic}
-use Rattle.config_file.specs.Bytes.{line_feed, carriage_return, backslash, left_bracket, is_key_byte}
+use Rattle.config_file.specs.Bytes.{line_feed, carriage_return, backslash, equals_sign, left_bracket, is_key_byte}
 use Rattle.config_file.specs.Runs.{Run}
 use Rattle.config_file.specs.Subsection.{SpellsSubsection}
 use Rattle.config_file.specs.Header.{Section, Header}
@@ -25,6 +25,11 @@ IsHeader bytes name subsection =
     (inner : List ℕ) × (section : Section) × (bytes ≡ left_bracket ∷ inner) × Names section name subsection
     × ((rest : List ℕ) → Header (inner ++ rest) section rest)
 
+-- these bytes are such a header, and no fewer are
+pub record IsShortestHeader (bytes name : List ℕ) (subsection : Option (List ℕ)) : Type 0 where
+  pub is_header : IsHeader bytes name subsection
+  pub fewest : (other : List ℕ) → IsHeader other name subsection → length bytes ≤ length other
+
 -- no header has this name and this subsection
 abbrev pub HasNoHeader : List ℕ → Option (List ℕ) → Type 0
 HasNoHeader name subsection =
@@ -38,6 +43,11 @@ IsNoKey key = (b : ℕ) (text rest : List ℕ) → is_ascii_alphabetic b ≡ tru
 abbrev pub IsSpelling : List ℕ → List ℕ → Type 0
 IsSpelling raw value = SpellsValue raw value outside
 
+-- these bytes spell this value, and no fewer do
+pub record IsShortest (raw value : List ℕ) : Type 0 where
+  pub spells : IsSpelling raw value
+  pub fewest : (other : List ℕ) → IsSpelling other value → length raw ≤ length other
+
 -- no bytes spell this value
 abbrev pub HasNoSpelling : List ℕ → Type 0
 HasNoSpelling value = (raw : List ℕ) → ¬ (IsSpelling raw value)
@@ -47,12 +57,18 @@ abbrev pub LacksSpelling : Option (List ℕ) → Type 0
 LacksSpelling None = ⊥
 LacksSpelling (Some value) = HasNoSpelling value
 
--- the text ends in a line end, which no backslash continues
+-- a line is continued: it ends in a backslash, or in a backslash and a CR, and no other backslash escapes that one
+abbrev pub is_continued : List ℕ → Bool
+is_continued [] = false
+is_continued (a ∷ []) = a == backslash
+is_continued (a ∷ b ∷ []) = if a == backslash then b == carriage_return else b == backslash
+is_continued (a ∷ b ∷ c ∷ line) = if a == backslash then is_continued (c ∷ line) else is_continued (b ∷ c ∷ line)
+
+-- the text ends in a line end, over which the last line is not continued
 pub record HasLineEnd (text : List ℕ) : Type 0 where
   pub line : List ℕ
   pub joined : text ≡ line ++ line_feed ∷ []
-  pub not_continued : (front : List ℕ) → line ≢ front ++ backslash ∷ []
-  pub not_continued_after_return : (front : List ℕ) → line ≢ front ++ backslash ∷ carriage_return ∷ []
+  pub not_continued : is_continued line ≡ false
 
 -- a further line may follow the text: it is empty, or its last line has its end
 abbrev pub EndsLine : List ℕ → Type 0
@@ -65,8 +81,18 @@ pub record IsEntry (name : List ℕ) (subsection : Option (List ℕ)) (key : Lis
   pub spells : SpellsOptional IsSpelling entry.value value
   pub same_line : entry.line ≡ line
 
--- After each configuration file that a further line may follow, these bytes are an entry more, on the line after the others.
+-- After each configuration file that a further line may follow, these bytes are an entry more, on the line after the others,
+-- and a further line may follow them.
 abbrev pub AddsEntry : List ℕ → List ℕ → Option (List ℕ) → List ℕ → Option (List ℕ) → Type 0
 AddsEntry bytes name subsection key value =
     (text : List ℕ) (entries : List Entry) → IsFile text entries None → EndsLine text
-    → (entry : Entry) × IsEntry name subsection key value (1 + line_feeds text) entry × IsFile (text ++ bytes) (entries ++ entry ∷ []) None
+    → (entry : Entry) × IsEntry name subsection key value (1 + line_feeds text) entry
+    × IsFile (text ++ bytes) (entries ++ entry ∷ []) None × EndsLine (text ++ bytes)
+
+-- these bytes are a line of the shortest header, the key, and `=` and the shortest spelling of a value if one is given
+abbrev pub IsLine : List ℕ → List ℕ → Option (List ℕ) → List ℕ → Option (List ℕ) → Type 0
+IsLine bytes name subsection key None =
+    (header : List ℕ) × IsShortestHeader header name subsection × (bytes ≡ header ++ (key ++ line_feed ∷ []))
+IsLine bytes name subsection key (Some value) =
+    (header raw : List ℕ) × IsShortestHeader header name subsection × IsShortest raw value
+    × (bytes ≡ header ++ (key ++ equals_sign ∷ (raw ++ line_feed ∷ [])))
