@@ -55,7 +55,7 @@ impl Parts<'_, '_> {
     }
 
     /// The text of the parts, in one allocation. Fails only if memory runs out, and never if it is empty.
-    pub(crate) fn to_text(self, alloc: Global) -> Result<String, AllocError>
+    pub fn to_text(self, alloc: Global) -> Result<String, AllocError>
         ensures { MatchResult result
             (λ whole. string_bytes whole ≡ parts_text self.entry)
             (λ _. parts_text self.entry ≢ []) }

@@ -1,5 +1,5 @@
 -- Settings: entries of files in order, each with its key as Git lists it and the text that a reader takes.
-use Rattle.std.specs.Prelude.{◌≡◌, ℕ, List, ◌∷◌, [], ◌++◌, Option, Some, None, map, codes, option_map, Result, Ok, Err}
+use Rattle.std.specs.Prelude.{◌≡◌, Bool, ℕ, List, ◌∷◌, [], ◌++◌, Option, Some, None, map, codes, option_map, Result, Ok, Err}
 use Rattle.std.specs.List.{slice_get, filter, AllZip}
 use Rattle.std.specs.Fmt.{decimal}
 use Rattle.std.specs.Prelude.{encode_utf8_all}
@@ -14,6 +14,11 @@ use Rattle.config_settings.specs.declared.settings.Setting.{Setting}
 use Rattle.config_settings.specs.declared.settings.Refused.{Refused}
 use Rattle.config_settings.specs.declared.settings.AddError.{AddError}
 use Rattle.config_settings.specs.declared.settings.AddError.TheVariants.{Line, Memory}
+use Rattle.config_path.specs.declared.interpolate.Error.{Error}
+use Rattle.config_path.specs.declared.parts.Parts.{Parts}
+use Rattle.config_path.specs.Interpolation.{Known, PathTable}
+use Rattle.config_path.specs.Parts.{parts_result}
+use Rattle.config_path.specs.Path.{Marked}
 use Rattle.config_file.specs.Value.{Ending, SpellsValue}
 use Rattle.config_file.specs.File.{Entry, IsFile}
 use Rattle.config_file.specs.Listing.{IsListed}
@@ -100,3 +105,15 @@ Gets grammar refusal settings key (Ok (Some v)) =
     (setting : Setting) × IsLast settings key setting × ReadsSetting grammar refusal setting (Ok v)
 Gets grammar refusal settings key (Err e) =
     (setting : Setting) × IsLast settings key setting × ReadsSetting grammar refusal setting (Err e)
+
+-- the bytes of a path: a key alone has none
+abbrev pub path_bytes : Setting → List ℕ
+path_bytes setting = option_map_or (λ v. v.items) setting.value []
+
+-- what the path table gives for the path of a setting, without its mark
+abbrev pub IsPathOfSetting : Known → Setting → Result (Bool × Parts) (Refused Error) → Type 0
+IsPathOfSetting known setting (Ok (is_optional, parts)) =
+    (path : List ℕ) × Marked (path_bytes setting) is_optional path × PathTable known path (parts_result (Ok parts))
+IsPathOfSetting known setting (Err refused) =
+    (is_optional : Bool) × (path : List ℕ) × Marked (path_bytes setting) is_optional path
+    × PathTable known path (parts_result (Err refused.fault)) × Tells setting refused

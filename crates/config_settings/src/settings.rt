@@ -1,17 +1,23 @@
 //! The settings of several files, in order: of the entries of a key the last one decides.
 ghost use Rattle.std.specs.Prelude.{◌≡◌, ◌≢◌, ◌++◌, ◌↔◌, ℕ, List, [], IsTrue, MatchOption, MatchResult};
-ghost use Rattle.std.specs.Prelude.{IfOk, map, option_copied, option_map};
+ghost use Rattle.std.specs.Prelude.{IfOk, IsUtf8, map, option_copied, option_map};
 ghost use Rattle.std.specs.Str.{str_to_ascii_lowercase};
 ghost use Rattle.config_text.specs.Settings.{IsAbsent};
 ghost use Rattle.config_settings.specs.Settings.{place_shown};
 ghost use Rattle.config_settings.specs.Settings.{section_stem, stem, listed, text_of, texts, IsLast, Tells};
 ghost use Rattle.config_settings.specs.Settings.{ReadsSetting, Gets, all_named, IsSettingOf, AddsFile};
+ghost use Rattle.config_settings.specs.Settings.{path_bytes, IsPathOfSetting};
 ghost use Rattle.config_file.specs.Views.{entry_of};
+ghost use Rattle.config_path.specs.Interpolation.{known_in};
+ghost use Rattle.std.specs.Option.{ForSome};
 
 use bstr::BStr;
 use config_file::entry::Entry;
 use config_file::errors::Error as FileError;
 use config_file::reader::Entries;
+use config_path::interpolate::{Context, Error as PathError};
+use config_path::parts::{Parts, parts_of};
+use config_path::path::cut_mark;
 use config_text::errors::Fault;
 use config_text::readers::TryRead;
 use std::alloc::{AllocError, Global};
@@ -190,6 +196,34 @@ impl<'a> Setting<'a> {
         match V::try_read(self.text()) {
             Ok(value) => Ok(value),
             Err(fault) => Err(self.refused(fault)),
+        }
+    }
+
+    /// The bytes of a path: a key alone has none.
+    fn path_bytes(&self) -> &[u8]
+        ensures { result.now ≡ path_bytes self.now }
+    {
+        match &self.value {
+            Some(text) => text.as_slice(),
+            None => &[],
+        }
+    }
+
+    /// Whether the path of the value may be missing, and the parts of what it stands for: docs/GRAMMAR.md, Paths.
+    /// A key alone is refused, as the empty path is. The lookup of the context is called at most once.
+    pub fn path<'s, 'c, F>(
+        &'s self,
+        context: Context<'c, F>,
+    ) -> Result<(bool, Parts<'c, 's>), Refused<'s, PathError<'s>>>
+    where
+        F: FnOnce(&str) -> Option<&'c str> + Drop,
+        requires { ForSome context.home_for_user (λ f. (name : _) → IsUtf8 name.now → F.pre f name) }
+        ensures { IsPathOfSetting (known_in F.FnOnce context.entry) self.now result }
+    {
+        let (is_optional, path) = cut_mark(self.path_bytes());
+        match parts_of(path, context) {
+            Ok(parts) => Ok((is_optional, parts)),
+            Err(error) => Err(self.refused(error)),
         }
     }
 }

@@ -66,7 +66,7 @@ fn write_entry<W: Write>(
     writer.write_all(entry.key_text(alloc)?.as_slice())?;
     if let Some(value) = &entry.value {
         writer.write_all(equals.as_bytes())?;
-        writer.write_all(value.to_vec(alloc)?.as_slice())?;
+        writer.write_all(value.text(alloc)?.as_slice())?;
     }
     writer.write_all(end.as_bytes())
 }
