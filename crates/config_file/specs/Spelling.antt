@@ -1,5 +1,5 @@
 -- Spellings: what bytes that are written read back to.
-use Rattle.std.specs.Prelude.{◌≡◌, ◌≢◌, ℕ, ◌+◌, true, List, [], ◌∷◌, ◌++◌, Option, Some, None, ⊤, ◌⊎◌}
+use Rattle.std.specs.Prelude.{◌≡◌, ◌≢◌, ℕ, ◌+◌, ◌≤◌, true, length, List, [], ◌∷◌, ◌++◌, Option, Some, None, ⊤, ◌⊎◌}
 use Rattle.std.specs.Char.{is_ascii_alphabetic}
 use Rattle.config_file.specs.Bytes.{line_feed, carriage_return, backslash, left_bracket, is_key_byte}
 use Rattle.config_file.specs.Runs.{Run}
@@ -37,6 +37,11 @@ IsNoKey key = (b : ℕ) (text rest : List ℕ) → is_ascii_alphabetic b ≡ tru
 -- these bytes spell this value up to the end of its line
 abbrev pub IsSpelling : List ℕ → List ℕ → Type 0
 IsSpelling raw value = SpellsValue raw value outside
+
+-- these bytes spell this value, and no fewer do
+pub record IsShortest (raw value : List ℕ) : Type 0 where
+  pub spells : IsSpelling raw value
+  pub fewest : (other : List ℕ) → IsSpelling other value → length raw ≤ length other
 
 -- no bytes spell this value
 abbrev pub HasNoSpelling : List ℕ → Type 0

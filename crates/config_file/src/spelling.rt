@@ -2,7 +2,7 @@
 ghost use Rattle.std.specs.Prelude.{◌≡◌, ◌++◌, ◌∷◌, [], ◌⊎◌, IfOk, OnOk, MatchOption, option_copied, count_by, ◌==◌};
 ghost use Rattle.std.specs.List.{flat_map, list_all, list_any};
 ghost use Rattle.config_file.specs.Bytes.{is_name_byte, is_text_byte, is_key_byte};
-ghost use Rattle.config_file.specs.Spelling.{IsSpelling, HasNoSpelling, LacksSpelling, IsHeader, HasNoHeader, IsNoKey, AddsEntry};
+ghost use Rattle.config_file.specs.Spelling.{IsShortest, HasNoSpelling, LacksSpelling, IsHeader, HasNoHeader, IsNoKey, AddsEntry};
 ghost use Rattle.config_file.specs.Reading.Spellings as spec;
 ghost use Rattle.config_file.specs.Reading.Spellings.{spelled_byte, spelled_value, spelled_in_subsection, spelled_subsection, spelled_section, spelled_line};
 
@@ -17,7 +17,7 @@ use std::alloc::{AllocError, Global};
 /// ```
 pub fn spell_value(alloc: Global, value: &[u8]) -> Result<Option<Vec<u8>>, AllocError>
     ensures { IfOk result (λ spelling. MatchOption spelling (HasNoSpelling value.now)
-        (λ raw. IsSpelling raw.items value.now)) }
+        (λ raw. IsShortest raw.items value.now)) }
 {
     if !is_spellable(value) {
         return Ok(None);
