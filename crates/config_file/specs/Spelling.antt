@@ -25,6 +25,11 @@ IsHeader bytes name subsection =
     (inner : List ℕ) × (section : Section) × (bytes ≡ left_bracket ∷ inner) × Names section name subsection
     × ((rest : List ℕ) → Header (inner ++ rest) section rest)
 
+-- these bytes are such a header, and no fewer are
+pub record IsShortestHeader (bytes name : List ℕ) (subsection : Option (List ℕ)) : Type 0 where
+  pub is_header : IsHeader bytes name subsection
+  pub fewest : (other : List ℕ) → IsHeader other name subsection → length bytes ≤ length other
+
 -- no header has this name and this subsection
 abbrev pub HasNoHeader : List ℕ → Option (List ℕ) → Type 0
 HasNoHeader name subsection =

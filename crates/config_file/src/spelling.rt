@@ -2,7 +2,7 @@
 ghost use Rattle.std.specs.Prelude.{◌≡◌, ◌++◌, ◌∷◌, [], ◌⊎◌, IfOk, OnOk, MatchOption, option_copied, count_by, ◌==◌};
 ghost use Rattle.std.specs.List.{flat_map, list_all, list_any};
 ghost use Rattle.config_file.specs.Bytes.{is_name_byte, is_text_byte, is_key_byte};
-ghost use Rattle.config_file.specs.Spelling.{IsShortest, HasNoSpelling, LacksSpelling, IsHeader, HasNoHeader, IsNoKey, AddsEntry};
+ghost use Rattle.config_file.specs.Spelling.{IsShortest, HasNoSpelling, LacksSpelling, IsShortestHeader, HasNoHeader, IsNoKey, AddsEntry};
 ghost use Rattle.config_file.specs.Reading.Spellings as spec;
 ghost use Rattle.config_file.specs.Reading.Spellings.{spelled_byte, spelled_value, spelled_in_subsection, spelled_subsection, spelled_section, spelled_line};
 
@@ -37,7 +37,7 @@ pub fn spell_header(
 ) -> Result<Option<Vec<u8>>, AllocError>
     ensures { let text = option_copied subsection.entry in
         IfOk result (λ spelling. MatchOption spelling (HasNoHeader name.now text)
-        (λ bytes. IsHeader bytes.items name.now text)) }
+        (λ bytes. IsShortestHeader bytes.items name.now text)) }
 {
     if !is_section(name, subsection) {
         return Ok(None);
