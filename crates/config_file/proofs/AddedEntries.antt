@@ -11,11 +11,12 @@ use Rattle.config_file.specs.Header.{Section, Header}
 use Rattle.config_file.specs.Value.{TakesValue, closed, line_feeds}
 use Rattle.config_file.specs.File as file
 use Rattle.config_file.specs.File.{Entry, TakesKey, TakesEntry, alone, valued, Reads, Begins, marked, part_of_mark, unmarked, after_mark, IsPartOfMark, IsFile}
-use Rattle.config_file.specs.Spelling.{EndsLine, IsHeader, IsSpelling, SpellsOptional, IsEntry, AddsEntry, HasNoHeader, IsNoKey, LacksSpelling}
+use Rattle.config_file.specs.Spelling.{EndsLine, IsHeader, IsSpelling, SpellsOptional, IsEntry, AddsEntry, IsLine, HasNoHeader, IsNoKey, LacksSpelling}
 use Rattle.config_file.specs.Reading.Spellings.{letter_of, spelled_byte, after_backslash, is_quoted, spelled_value, is_spellable, is_spellable_or_absent, is_key, spelled_line, is_section, spelled_section, is_writable}
 use Rattle.config_file.proofs.LineEnds.{line_feeds_after, line_feeds_none, ends_line_after}
 use Rattle.config_file.proofs.Spellings.{value_spelled, not_spelled}
-use Rattle.config_file.proofs.SpelledHeaders.{header_spelled, no_header, no_key}
+use Rattle.config_file.proofs.Shortest.{shortest_spelling}
+use Rattle.config_file.proofs.SpelledHeaders.{header_spelled, shortest_header, no_header, no_key}
 use Rattle.config_file.proofs.Appended.{reads_more, both_other}
 
 -- no LF is spelled
@@ -210,3 +211,13 @@ writable_added name text key value all =
     let is : is_key key ≡ true = and_right (is_section name text) _ first in
     let spellable : is_spellable_or_absent value ≡ true = and_right (is_section name text && is_key key) _ all in
     entry_added (91 ∷ spelled_section name text) name text key value (header_spelled name text section) is spellable
+
+pub writable_line : (name : List ℕ) (text : Option (List ℕ)) (key : List ℕ) (value : Option (List ℕ)) → is_writable name text key value ≡ true
+    → IsLine ((91 ∷ spelled_section name text) ++ spelled_line key value) name text key value
+writable_line name text key None all =
+    let section : is_section name text ≡ true = and_left _ (is_key key) (and_left _ true all) in
+    (91 ∷ spelled_section name text, shortest_header name text section, refl)
+writable_line name text key (Some value) all =
+    let section : is_section name text ≡ true = and_left _ (is_key key) (and_left _ (is_spellable value) all) in
+    let spellable : is_spellable value ≡ true = and_right (is_section name text && is_key key) _ all in
+    (91 ∷ spelled_section name text, spelled_value value, shortest_header name text section, shortest_spelling value spellable, refl)

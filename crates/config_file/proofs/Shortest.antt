@@ -8,8 +8,9 @@ use Rattle.std.proofs.lemmas.Bool.{cases_Bool, true≢false}
 use Rattle.std.proofs.lemmas.Bool.Decides.{nat_tests}
 use Rattle.config_file.specs.Bytes.{is_plain, is_blank}
 use Rattle.config_file.specs.Value.{Ending, outside, inside, at_backslash, Spells, ends_outside, ends_inside, ends_at_backslash, quote, escaped, continued, continued_after_return, blank, plain, kept, escape}
-use Rattle.config_file.specs.Spelling.{IsSpelling}
-use Rattle.config_file.specs.Reading.Spellings.{letter_of, after_backslash, spelled_byte, is_lost, begins_with_space, ends_with_space, is_quoted, spelled_value}
+use Rattle.config_file.specs.Spelling.{IsSpelling, IsShortest}
+use Rattle.config_file.specs.Reading.Spellings.{letter_of, after_backslash, spelled_byte, is_lost, begins_with_space, ends_with_space, is_quoted, spelled_value, is_spellable}
+use Rattle.config_file.proofs.Spellings.{value_spelled}
 
 -- how many bytes spell a value, in quotes that are not counted, or outside
 abbrev cost : Bool → List ℕ → ℕ
@@ -243,7 +244,7 @@ quoted_length value is = let e = length-append (flat_map (spelled_byte true) val
 bare_length : (value : List ℕ) → is_quoted value ≡ false → length (spelled_value value) ≡ cost false value
 bare_length value is = rw is refl
 
-pub shortest : (value raw : List ℕ) → IsSpelling raw value → length (spelled_value value) ≤ length raw
+shortest : (value raw : List ℕ) → IsSpelling raw value → length (spelled_value value) ≤ length raw
 shortest value raw s =
     let (left, same, h) = costs s refl in
     let whole : left ≡ value = sym same in
@@ -263,3 +264,6 @@ shortest value raw s =
             let f = few_tabs value (or_right (begins_with_space value || ends_with_space value || list_any is_lost value) _ other) in omega arith
       ]
     ]
+
+pub shortest_spelling : (value : List ℕ) → is_spellable value ≡ true → IsShortest (spelled_value value) value
+shortest_spelling value all = record { spells = value_spelled value all; fewest = λ other s. shortest value other s }

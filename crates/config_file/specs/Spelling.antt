@@ -1,7 +1,7 @@
 -- Spellings: what bytes that are written read back to.
 use Rattle.std.specs.Prelude.{◌≡◌, ◌≢◌, ℕ, ◌+◌, ◌≤◌, true, length, List, [], ◌∷◌, ◌++◌, Option, Some, None, ⊤, ◌⊎◌}
 use Rattle.std.specs.Char.{is_ascii_alphabetic}
-use Rattle.config_file.specs.Bytes.{line_feed, carriage_return, backslash, left_bracket, is_key_byte}
+use Rattle.config_file.specs.Bytes.{line_feed, carriage_return, backslash, equals_sign, left_bracket, is_key_byte}
 use Rattle.config_file.specs.Runs.{Run}
 use Rattle.config_file.specs.Subsection.{SpellsSubsection}
 use Rattle.config_file.specs.Header.{Section, Header}
@@ -80,3 +80,11 @@ abbrev pub AddsEntry : List ℕ → List ℕ → Option (List ℕ) → List ℕ 
 AddsEntry bytes name subsection key value =
     (text : List ℕ) (entries : List Entry) → IsFile text entries None → EndsLine text
     → (entry : Entry) × IsEntry name subsection key value (1 + line_feeds text) entry × IsFile (text ++ bytes) (entries ++ entry ∷ []) None
+
+-- these bytes are a line of the shortest header, the key, and `=` and the shortest spelling of a value if one is given
+abbrev pub IsLine : List ℕ → List ℕ → Option (List ℕ) → List ℕ → Option (List ℕ) → Type 0
+IsLine bytes name subsection key None =
+    (header : List ℕ) × IsShortestHeader header name subsection × (bytes ≡ header ++ (key ++ line_feed ∷ []))
+IsLine bytes name subsection key (Some value) =
+    (header raw : List ℕ) × IsShortestHeader header name subsection × IsShortest raw value
+    × (bytes ≡ header ++ (key ++ equals_sign ∷ (raw ++ line_feed ∷ [])))

@@ -1,8 +1,8 @@
 //! Spellings: the fewest bytes that read back to a value, a section header or an entry.
-ghost use Rattle.std.specs.Prelude.{◌≡◌, ◌++◌, ◌∷◌, [], ◌⊎◌, IfOk, OnOk, MatchOption, option_copied, count_by, ◌==◌};
+ghost use Rattle.std.specs.Prelude.{◌≡◌, ◌++◌, ◌∷◌, [], ◌⊎◌, IfOk, IfSome, OnOk, MatchOption, option_copied, count_by, ◌==◌};
 ghost use Rattle.std.specs.List.{flat_map, list_all, list_any};
 ghost use Rattle.config_file.specs.Bytes.{is_name_byte, is_text_byte, is_key_byte};
-ghost use Rattle.config_file.specs.Spelling.{IsShortest, HasNoSpelling, LacksSpelling, IsShortestHeader, HasNoHeader, IsNoKey, AddsEntry};
+ghost use Rattle.config_file.specs.Spelling.{IsShortest, HasNoSpelling, LacksSpelling, IsShortestHeader, HasNoHeader, IsNoKey, AddsEntry, IsLine};
 ghost use Rattle.config_file.specs.Reading.Spellings as spec;
 ghost use Rattle.config_file.specs.Reading.Spellings.{spelled_byte, spelled_value, spelled_in_subsection, spelled_subsection, spelled_section, spelled_line};
 
@@ -47,9 +47,14 @@ pub fn spell_header(
     Ok(Some(spelling))
 }
 
-/// The fewest bytes that are a line with a header and an entry, to go after any file whose last line has its line end.
-/// Without a value, the entry is its key alone. `None` if the section has no header, the value has a NUL, or the key
-/// is not a letter and then letters, digits and `-`.
+/// A line that adds an entry to a file: the header and the value in the fewest bytes that spell them, and an LF.
+/// Without a value, the entry is its key alone. The line may follow any file that is empty or ends in an LF, unless a
+/// backslash before that LF continues the line. `None` if the section has no header, if the key is not a letter and
+/// then letters, digits and `-`, or if the value has a NUL.
+///
+/// ```
+/// let line = spell_entry(alloc, b"remote", Some(b"origin"), b"url", Some(b"../a"))?;   // [remote "origin"]url=../a
+/// ```
 pub fn spell_entry(
     alloc: Global,
     name: &[u8],
@@ -57,11 +62,14 @@ pub fn spell_entry(
     key: &[u8],
     value: Option<&[u8]>,
 ) -> Result<Option<Vec<u8>>, AllocError>
-    ensures { let text = option_copied subsection.entry in
+    ensures adds { let text = option_copied subsection.entry in
         let spelled = option_copied value.entry in
         IfOk result (λ spelling. MatchOption spelling
         (HasNoHeader name.now text ⊎ IsNoKey key.now ⊎ LacksSpelling spelled)
         (λ bytes. AddsEntry bytes.items name.now text key.now spelled)) }
+    ensures shortest { let text = option_copied subsection.entry in
+        IfOk result (λ spelling. IfSome spelling
+        (λ bytes. IsLine bytes.items name.now text key.now (option_copied value.entry))) }
 {
     if !is_writable(name, subsection, key, value) {
         return Ok(None);
