@@ -13,7 +13,7 @@ use Rattle.config_file.specs.File as file
 use Rattle.config_file.specs.File.{Entry, TakesKey, TakesEntry, alone, valued, Reads, Begins, marked, part_of_mark, unmarked, after_mark, IsPartOfMark, IsFile}
 use Rattle.config_file.specs.Spelling.{EndsLine, IsHeader, IsSpelling, SpellsOptional, IsEntry, AddsEntry, IsLine, HasNoHeader, IsNoKey, LacksSpelling}
 use Rattle.config_file.specs.Reading.Spellings.{letter_of, spelled_byte, after_backslash, is_quoted, spelled_value, is_spellable, is_spellable_or_absent, is_key, spelled_line, is_section, spelled_section, is_writable}
-use Rattle.config_file.proofs.LineEnds.{line_feeds_after, line_feeds_none, ends_line_after}
+use Rattle.config_file.proofs.LineEnds.{line_feeds_after, line_feeds_none, after_front, ends_line}
 use Rattle.config_file.proofs.Spellings.{value_spelled, not_spelled}
 use Rattle.config_file.proofs.Shortest.{shortest_spelling}
 use Rattle.config_file.proofs.SpelledHeaders.{header_spelled, shortest_header, no_header, no_key}
@@ -134,6 +134,10 @@ mark_is (a ∷ b ∷ c ∷ text) rest e =
       | inr other ↦ let none : None ≡ Some rest = rw other at e in cc
     ]
 
+marked_ends : {text : List ℕ} (rest : List ℕ) → text ≡ 0xef ∷ 0xbb ∷ 0xbf ∷ rest → EndsLine text → EndsLine rest
+marked_ends rest same (inl none) = cc
+marked_ends rest same (inr h) = let other : 0xbf ≢ 92 = omega arith in ends_line (after_front (0xef ∷ 0xbb ∷ []) 0xbf rest other same h)
+
 module _ (bytes : List ℕ) (last : List Entry) (end : ℕ) (reads : (section : Option Section) → Reads section end (91 ∷ bytes) last None) where
   unmarked_more : (text : List ℕ) (entries : List Entry) → Reads None 1 text entries None → EndsLine text → 1 + line_feeds text ≡ end
       → IsFile (text ++ 91 ∷ bytes) (entries ++ last) None
@@ -157,7 +161,7 @@ module _ (bytes : List ℕ) (last : List Entry) (end : ℕ) (reads : (section : 
         line = 1;
         rest = rest ++ 91 ∷ bytes;
         begins = rw same (marked refl);
-        reads = reads_more (91 ∷ bytes) last end reads h (ends_line_after (0xef ∷ 0xbb ∷ 0xbf ∷ []) rest same ends) (omega arith);
+        reads = reads_more (91 ∷ bytes) last end reads h (marked_ends rest same ends) (omega arith);
       }
   begun_more (part_of_mark {text = []} part) h ends e = absurd part
   begun_more (part_of_mark {text = b ∷ []} part) h ends e = absurd (begins_no_mark h part)

@@ -14,7 +14,7 @@ use Rattle.config_file.specs.Value.{TakesValue, closed, open_end, EndsValue, lin
 use Rattle.config_file.specs.File as file
 use Rattle.config_file.specs.File.{Entry, TakesKey, TakesEntry, alone, valued, Reads, Begins, marked, part_of_mark, unmarked, after_mark, IsPartOfMark, IsFile}
 use Rattle.config_file.specs.Spelling.{HasLineEnd, EndsLine}
-use Rattle.config_file.proofs.LineEnds.{line_feeds_append, line_feeds_more, line_feeds_after, all_more, not_none, rest_none, tail_or_last, ends_line_after, has_end, no_line_end, value_has_no_end}
+use Rattle.config_file.proofs.LineEnds.{line_feeds_append, line_feeds_more, line_feeds_after, all_more, not_none, rest_none, tail_or_last, after_front, ends_at_byte, ends_line, has_end, no_line_end, value_has_no_end}
 
 -- no LF is in a name, in blanks or in a key
 name_other : (b : ℕ) → is_name_byte b ≡ true → is_comment_byte b ≡ true
@@ -69,27 +69,23 @@ header_more more (quoted {inner = inner} opens (closes {b = b} {raw = raw} {rest
     })
     (closes (record { is_subsection = takes.is_subsection; joined = rw takes.joined (append_assoc raw (34 ∷ b ∷ rest) more) }) e)
 
--- a header is these bytes, which have no LF
+-- a header is bytes without an LF, and a bracket
 header_bytes : {text rest : List ℕ} {section : Section} → Header text section rest
-    → (front : List ℕ) × (text ≡ front ++ rest) × (list_all is_comment_byte front ≡ true)
+    → (front : List ℕ) × (text ≡ front ++ 93 ∷ rest) × (list_all is_comment_byte front ≡ true)
 header_bytes (plain {b = b} {name = name} {rest = rest} run some e) =
-    let last : list_all is_comment_byte (b ∷ []) ≡ true = rw e in (
-      name ++ b ∷ [],
-      run.joined ∙ sym (append_assoc name (b ∷ []) rest),
-      both_other name (b ∷ []) (all_more is_name_byte is_comment_byte name_other name run.pass) last,
-    )
+    (name, run.joined ∙ ap (λ c. name ++ c ∷ rest) e, all_more is_name_byte is_comment_byte name_other name run.pass)
 header_bytes (quoted {name = name} {inner = inner} opens (closes {b = b} {raw = raw} {rest = rest} takes e)) =
     let (text, spells) = takes.is_subsection in
     let names = all_more is_name_byte is_comment_byte name_other name opens.name_run.pass in
     let blanks = all_more is_blank is_comment_byte blank_other opens.blanks opens.blank_run.pass in
-    let raws = subsection_other spells in
-    let inners : list_all is_comment_byte (34 ∷ b ∷ []) ≡ true = rw e in
-    let first : list_all is_comment_byte (opens.quote ∷ (raw ++ 34 ∷ b ∷ [])) ≡ true = rw opens.is_quote (both_other raw (34 ∷ b ∷ []) raws inners) in
-    let joined : inner ≡ (raw ++ 34 ∷ b ∷ []) ++ rest = takes.joined ∙ sym (append_assoc raw (34 ∷ b ∷ []) rest) in
-    let all = both_other name (opens.blanks ++ opens.quote ∷ (raw ++ 34 ∷ b ∷ [])) names (both_other opens.blanks (opens.quote ∷ (raw ++ 34 ∷ b ∷ [])) blanks first) in (
-      name ++ (opens.blanks ++ opens.quote ∷ (raw ++ 34 ∷ b ∷ [])),
-      opens.name_run.joined ∙ rw (opens.blank_run.joined, joined, append_assoc name (opens.blanks ++ opens.quote ∷ (raw ++ 34 ∷ b ∷ [])) rest, append_assoc opens.blanks (opens.quote ∷ (raw ++ 34 ∷ b ∷ [])) rest),
-      all,
+    let raws = both_other raw (34 ∷ []) (subsection_other spells) refl in
+    let within = opens.quote ∷ (raw ++ 34 ∷ []) in
+    let first : list_all is_comment_byte within ≡ true = rw opens.is_quote raws in
+    let joined : inner ≡ (raw ++ 34 ∷ []) ++ 93 ∷ rest =
+    takes.joined ∙ ap (λ c. raw ++ 34 ∷ c ∷ rest) e ∙ sym (append_assoc raw (34 ∷ []) (93 ∷ rest)) in (
+      name ++ (opens.blanks ++ within),
+      opens.name_run.joined ∙ rw (opens.blank_run.joined, joined, append_assoc name (opens.blanks ++ within) (93 ∷ rest), append_assoc opens.blanks within (93 ∷ rest)),
+      both_other name (opens.blanks ++ within) names (both_other opens.blanks within blanks first),
     )
 
 -- keys
@@ -127,16 +123,25 @@ value_more more h (closed {raw = raw} {rest = rest} joined spells ends) =
     closed (rw joined (append_assoc raw rest more)) spells (ends_value_more rest more some ends)
 value_more more h (open_end spells) = absurd (value_has_no_end spells h)
 
+value_end_is_no_backslash : (b : ℕ) → (b ≡ 10) ⊎ (is_comment_sign b ≡ true) → b ≢ 92
+value_end_is_no_backslash b (inl is) e = omega arith
+value_end_is_no_backslash b (inr is) e = grind (arith, nat_tests)
+
+value_ends : {after : List ℕ} (raw rest : List ℕ) → rest ≢ [] → EndsValue rest → after ≡ raw ++ rest → HasLineEnd after → EndsLine rest
+value_ends raw [] some ends joined h = inl refl
+value_ends raw (b ∷ rest) some ends joined h = inr (ends_at_byte raw b rest (value_end_is_no_backslash b ends) joined h)
+
 value_lines : {after raw rest : List ℕ} {lines : ℕ} → HasLineEnd after → TakesValue after raw lines rest → (line_feeds after ≡ lines + line_feeds rest) × EndsLine rest
 value_lines h (closed {raw = raw} {rest = rest} joined spells ends) =
-    (ap line_feeds joined ∙ line_feeds_append raw rest, ends_line_after raw rest joined (inr h))
+    let some = value_some h (closed joined spells ends) in
+    (ap line_feeds joined ∙ line_feeds_append raw rest, value_ends raw rest some ends joined h)
 value_lines h (open_end spells) = absurd (value_has_no_end spells h)
 
 -- what follows the `=` has the line end of the entry
 after_equals : {text key after : List ℕ} {b : ℕ} → HasLineEnd text → TakesKey text key (b ∷ after) → b ≡ 61 → HasLineEnd after
 after_equals {key = key} {after = after} {b = b} h takes is =
     let bytes = key_bytes (b ∷ after) takes in
-    elim (tail_or_last b after (has_end b after (ends_line_after (key ++ takes.spaces) (b ∷ after) bytes.0 (inr h)))) [
+    elim (after_front (key ++ takes.spaces) b after (omega arith) bytes.0 h) [
       | inl p ↦ let e = p.1 in absurd (omega arith)
       | inr k ↦ k
     ]
@@ -159,12 +164,23 @@ entry_more more h (alone {rest = rest} takes end) =
 entry_more more h (valued {b = b} {after = after} takes e taken) =
     valued (key_more (b ∷ after) more (λ no. cc) takes) e (value_more more (after_equals h takes e) taken)
 
+line_ends : {text : List ℕ} (front rest : List ℕ) → IsAtLineEnd rest → text ≡ front ++ rest → HasLineEnd text → EndsLine rest
+line_ends front [] end joined h = inl refl
+line_ends front (a ∷ []) end joined h = inr (ends_at_byte front a [] (omega arith) joined h)
+line_ends front (a ∷ b ∷ rest) (inl is) joined h = inr (ends_at_byte front a (b ∷ rest) (omega arith) joined h)
+line_ends front (a ∷ b ∷ rest) (inr is) joined h = let e = is.0 in inr (ends_at_byte front a (b ∷ rest) (omega arith) joined h)
+
+comment_ends : {text : List ℕ} (front rest : List ℕ) → StopsRun is_comment_byte rest → text ≡ front ++ rest → HasLineEnd text → EndsLine rest
+comment_ends front [] stops joined h = inl refl
+comment_ends front (b ∷ rest) stops joined h =
+    let other : b ≢ 92 = grind (arith, nat_tests) in inr (ends_at_byte front b rest other joined h)
+
 entry_lines : {text key rest : List ℕ} {value : Option (List ℕ)} {lines : ℕ} → HasLineEnd text → TakesEntry text key value lines rest
     → (line_feeds text ≡ lines + line_feeds rest) × EndsLine rest
 entry_lines h (alone {key = key} {rest = rest} takes end) =
     let bytes = key_bytes rest takes in
     let e = line_feeds_after (key ++ takes.spaces) rest bytes.0 bytes.1 in
-    (omega arith, ends_line_after (key ++ takes.spaces) rest bytes.0 (inr h))
+    (omega arith, line_ends (key ++ takes.spaces) rest end bytes.0 h)
 entry_lines h (valued {b = b} {key = key} {after = after} takes is taken) =
     let bytes = key_bytes (b ∷ after) takes in
     let e = line_feeds_after (key ++ takes.spaces) (b ∷ after) bytes.0 bytes.1 in
@@ -191,10 +207,11 @@ module _ (more : List ℕ) (last : List Entry) (end : ℕ) (then : (section : Op
       let same : end ≡ line = omega arith in subst (λ l. Reads section l more last None) same (then section)
   reads_more (file.blank {b = b} {text = text} is h) ends e =
       let f = line_feeds_after {text = b ∷ text} (b ∷ []) text refl (blank_alone b is) in
-      file.blank is (reads_more h (ends_line_after (b ∷ []) text refl ends) (omega arith))
+      let other : b ≢ 92 = grind (arith, nat_tests) in
+      file.blank is (reads_more h (ends_line (tail_or_last b text other (has_end b text ends))) (omega arith))
   reads_more (file.line_end {b = b} {text = text} is h) ends e =
       let f = line_feeds_more b text is in
-      file.line_end is (reads_more h (ends_line_after (b ∷ []) text refl ends) (omega arith))
+      file.line_end is (reads_more h (ends_line (tail_or_last b text (omega arith) (has_end b text ends))) (omega arith))
   reads_more (file.comment {b = b} {text = text} {comment = comment} {rest = rest} is run h) ends e =
       let some = comment_some b text comment rest is run (has_end b text ends) in
       let first : is_comment_byte b ≡ true = grind (arith, nat_tests) in
@@ -202,13 +219,16 @@ module _ (more : List ℕ) (last : List Entry) (end : ℕ) (then : (section : Op
       let all : list_all is_comment_byte (b ∷ comment) ≡ true = rw (first, pass) in
       let joined : b ∷ text ≡ (b ∷ comment) ++ rest = ap (λ t. b ∷ t) run.joined in
       let f = line_feeds_after (b ∷ comment) rest joined all in
-      file.comment is (run_more rest more some run) (reads_more h (ends_line_after (b ∷ comment) rest joined ends) (omega arith))
+      file.comment is (run_more rest more some run) (reads_more h (comment_ends (b ∷ comment) rest run.longest joined (has_end b text ends)) (omega arith))
   reads_more (file.header {b = b} {text = text} {rest = rest} is header h) ends e =
       let (front, joined, all) = header_bytes header in
       let first : list_all is_comment_byte (b ∷ front) ≡ true = rw is all in
-      let joined_too : b ∷ text ≡ (b ∷ front) ++ rest = ap (λ t. b ∷ t) joined in
-      let f = line_feeds_after (b ∷ front) rest joined_too first in
-      file.header is (header_more more header) (reads_more h (ends_line_after (b ∷ front) rest joined_too ends) (omega arith))
+      let joined_too : b ∷ text ≡ (b ∷ front) ++ 93 ∷ rest = ap (λ t. b ∷ t) joined in
+      let f = line_feeds_after (b ∷ front) (93 ∷ rest) joined_too first in
+      let g = line_feeds_after (93 ∷ []) rest refl refl in
+      let bracket : 93 ≢ 92 = omega arith in
+      file.header is (header_more more header)
+      (reads_more h (ends_line (after_front (b ∷ front) 93 rest bracket joined_too (has_end b text ends))) (omega arith))
   reads_more (file.entry {b = b} {text = text} letter takes h) ends e =
       let has = has_end b text ends in
       let (f, ends_rest) = entry_lines has takes in

@@ -3,11 +3,11 @@ use Rattle.std.proofs.Common.{◌≡◌, ◌≢◌, ℕ, ◌+◌, Bool, true, fa
 use Rattle.std.specs.List.{list_all}
 use Rattle.std.proofs.lemmas.List.Sums.{sum_by-cons, sum_by-append}
 use Rattle.std.proofs.lemmas.List.Folds.{list_all-append}
-use Rattle.std.proofs.lemmas.Bool.{true≢false}
+use Rattle.std.proofs.lemmas.Bool.{cases_Bool, true≢false}
 use Rattle.std.proofs.lemmas.Bool.Decides.{nat_tests}
 use Rattle.config_file.specs.Bytes.{is_comment_byte, is_plain, is_blank}
 use Rattle.config_file.specs.Value.{Ending, Spells, ends_outside, ends_inside, ends_at_backslash, quote, escaped, continued, continued_after_return, blank, plain, line_feeds, escape}
-use Rattle.config_file.specs.Spelling.{HasLineEnd, EndsLine}
+use Rattle.config_file.specs.Spelling.{is_continued, HasLineEnd, EndsLine}
 
 -- a byte that is no LF is one of a comment
 pub line_feeds_append : (xs ys : List ℕ) → line_feeds (xs ++ ys) ≡ line_feeds xs + line_feeds ys
@@ -48,30 +48,96 @@ pub rest_none : (front rest : List ℕ) → front ++ rest ≡ [] → rest ≡ []
 rest_none [] rest e = e
 rest_none (x ∷ front) rest e = cc
 
-tail_of : (b : ℕ) (rest line : List ℕ) → b ∷ rest ≡ line ++ 10 ∷ [] → ((front : List ℕ) → line ≢ front ++ 92 ∷ []) → ((front : List ℕ) → line ≢ front ++ 92 ∷ 13 ∷ [])
-    → ((rest ≡ []) × (b ≡ 10)) ⊎ HasLineEnd rest
-tail_of b rest [] e n m =
+-- lines that are continued
+pub continued_tail : (a : ℕ) (line : List ℕ) → a ≢ 92 → is_continued (a ∷ line) ≡ is_continued line
+continued_tail a [] other = grind (arith, nat_tests)
+continued_tail a (b ∷ []) other = let no_backslash : (a == 92) ≡ false = grind (arith, nat_tests) in rw no_backslash
+continued_tail a (b ∷ c ∷ line) other = let no_backslash : (a == 92) ≡ false = grind (arith, nat_tests) in rw no_backslash
+
+continued_pair : (a e : ℕ) (line : List ℕ) → a ≡ 92 → is_continued (a ∷ e ∷ line) ≡ false → is_continued line ≡ false
+continued_pair a e [] is h = refl
+continued_pair a e (c ∷ line) is h = rw is at h
+
+continued_after_front : (front : List ℕ) (b : ℕ) (line : List ℕ) → b ≢ 92 → is_continued (front ++ b ∷ line) ≡ false → is_continued line ≡ false
+continued_after_front [] b line other h = sym (continued_tail b line other) ∙ h
+continued_after_front (x ∷ []) b line other h =
+    elim (cases_Bool (x == 92)) [
+      | inl is ↦ continued_pair x b line (grind (arith, nat_tests)) h
+      | inr no_backslash ↦
+          let no_escape : x ≢ 92 = grind (arith, nat_tests) in
+          sym (continued_tail b line other) ∙ sym (continued_tail x (b ∷ line) no_escape) ∙ h
+    ]
+continued_after_front (x ∷ y ∷ front) b line other h =
+    elim (cases_Bool (x == 92)) [
+      | inl is ↦ continued_after_front front b line other (continued_pair x y (front ++ b ∷ line) (grind (arith, nat_tests)) h)
+      | inr no_backslash ↦
+          let no_escape : x ≢ 92 = grind (arith, nat_tests) in
+          continued_after_front (y ∷ front) b line other (sym (continued_tail x (y ∷ (front ++ b ∷ line)) no_escape) ∙ h)
+    ]
+
+tail_of : (b : ℕ) (rest line : List ℕ) → b ≢ 92 → b ∷ rest ≡ line ++ 10 ∷ [] → is_continued line ≡ false → ((rest ≡ []) × (b ≡ 10)) ⊎ HasLineEnd rest
+tail_of b rest [] other e h =
     let none : rest ≡ [] = cc in let is : b ≡ 10 = cc in inl (none, is)
-tail_of b rest (x ∷ line) e n m =
+tail_of b rest (x ∷ line) other e h =
     let joined : rest ≡ line ++ 10 ∷ [] = cc in
-    inr (record {
-      line = line;
-      joined = joined;
-      not_continued = λ front f. n (x ∷ front) (ap (◌∷◌ x) f);
-      not_continued_after_return = λ front f. m (x ∷ front) (ap (◌∷◌ x) f);
-    })
+    let same : b ≡ x = cc in
+    let no_backslash : x ≢ 92 = rw same at other in
+    inr (record { line = line; joined = joined; not_continued = sym (continued_tail x line no_backslash) ∙ h })
 
-pub tail_or_last : (b : ℕ) (rest : List ℕ) → HasLineEnd (b ∷ rest) → ((rest ≡ []) × (b ≡ 10)) ⊎ HasLineEnd rest
-tail_or_last b rest h = tail_of b rest h.line h.joined h.not_continued h.not_continued_after_return
+pub tail_or_last : (b : ℕ) (rest : List ℕ) → b ≢ 92 → HasLineEnd (b ∷ rest) → ((rest ≡ []) × (b ≡ 10)) ⊎ HasLineEnd rest
+tail_or_last b rest other h = tail_of b rest h.line other h.joined h.not_continued
 
-ends_after : (front rest : List ℕ) → HasLineEnd (front ++ rest) → EndsLine rest
-ends_after [] rest h = inr h
-ends_after (x ∷ front) rest h =
-    elim (tail_or_last x (front ++ rest) h) [ inl p ↦ inl (rest_none front rest p.0) | inr k ↦ ends_after front rest k ]
+pair_of : (b e : ℕ) (rest line : List ℕ) → b ≡ 92 → b ∷ e ∷ rest ≡ line ++ 10 ∷ [] → is_continued line ≡ false → HasLineEnd rest
+pair_of b e rest [] is joined h = cc
+pair_of b e rest (x ∷ []) is joined h =
+    let same : b ≡ x = cc in let backslash : x ≡ 92 = rw same at is in let yes : true ≡ false = rw backslash at h in absurd (true≢false yes)
+pair_of b e rest (x ∷ y ∷ line) is joined h =
+    let more : rest ≡ line ++ 10 ∷ [] = cc in
+    let same : b ≡ x = cc in let backslash : x ≡ 92 = rw same at is in
+    record { line = line; joined = more; not_continued = continued_pair x y line backslash h }
 
-pub ends_line_after : {text : List ℕ} (front rest : List ℕ) → text ≡ front ++ rest → EndsLine text → EndsLine rest
-ends_line_after front rest joined (inl e) = inl (rest_none front rest (sym joined ∙ e))
-ends_line_after front rest joined (inr h) = ends_after front rest (subst HasLineEnd joined h)
+after_pair : (b e : ℕ) (rest : List ℕ) → b ≡ 92 → HasLineEnd (b ∷ e ∷ rest) → HasLineEnd rest
+after_pair b e rest is h = pair_of b e rest h.line is h.joined h.not_continued
+
+-- where a line goes on after these first bytes
+splits : (front : List ℕ) (b : ℕ) (rest line : List ℕ) → front ++ b ∷ rest ≡ line ++ 10 ∷ []
+    → ((rest ≡ []) × (b ≡ 10)) ⊎ ((more : List ℕ) × (rest ≡ more ++ 10 ∷ []) × (line ≡ front ++ b ∷ more))
+splits [] b rest [] e = let none : rest ≡ [] = cc in let is : b ≡ 10 = cc in inl (none, is)
+splits [] b rest (x ∷ line) e =
+    let joined : rest ≡ line ++ 10 ∷ [] = cc in let same : x ∷ line ≡ b ∷ line = cc in inr (line, joined, same)
+splits (f ∷ front) b rest [] e = let none : front ++ b ∷ rest ≡ [] = cc in absurd (not_none front rest b none)
+splits (f ∷ front) b rest (x ∷ line) e =
+    let tails : front ++ b ∷ rest ≡ line ++ 10 ∷ [] = cc in
+    let same : x ≡ f = cc in
+    elim (splits front b rest line tails) [
+      | inl p ↦ inl p
+      | inr p ↦ inr (p.0, p.1, rw (same, p.2))
+    ]
+
+after_front_of : (front : List ℕ) (b : ℕ) (rest line : List ℕ) → b ≢ 92 → front ++ b ∷ rest ≡ line ++ 10 ∷ [] → is_continued line ≡ false
+    → ((rest ≡ []) × (b ≡ 10)) ⊎ HasLineEnd rest
+after_front_of front b rest line other e h =
+    elim (splits front b rest line e) [
+      | inl p ↦ inl p
+      | inr p ↦
+          let whole : is_continued (front ++ b ∷ p.0) ≡ false = rw p.2 at h in
+          inr (record { line = p.0; joined = p.1; not_continued = continued_after_front front b p.0 other whole })
+    ]
+
+pub after_front : {text : List ℕ} (front : List ℕ) (b : ℕ) (rest : List ℕ) → b ≢ 92 → text ≡ front ++ b ∷ rest → HasLineEnd text → ((rest ≡ []) × (b ≡ 10)) ⊎ HasLineEnd rest
+after_front front b rest other joined h = after_front_of front b rest h.line other (sym joined ∙ h.joined) h.not_continued
+
+cons_end : (b : ℕ) (rest : List ℕ) → b ≢ 92 → ((rest ≡ []) × (b ≡ 10)) ⊎ HasLineEnd rest → HasLineEnd (b ∷ rest)
+cons_end b rest other (inl p) = record { line = []; joined = rw (p.0, p.1); not_continued = refl }
+cons_end b rest other (inr h) =
+    record { line = b ∷ h.line; joined = ap (◌∷◌ b) h.joined; not_continued = continued_tail b h.line other ∙ h.not_continued }
+
+pub ends_at_byte : {text : List ℕ} (front : List ℕ) (b : ℕ) (rest : List ℕ) → b ≢ 92 → text ≡ front ++ b ∷ rest → HasLineEnd text → HasLineEnd (b ∷ rest)
+ends_at_byte front b rest other joined h = cons_end b rest other (after_front front b rest other joined h)
+
+pub ends_line : {b : ℕ} {rest : List ℕ} → ((rest ≡ []) × (b ≡ 10)) ⊎ HasLineEnd rest → EndsLine rest
+ends_line (inl p) = inl p.0
+ends_line (inr h) = inr h
 
 pub has_end : (b : ℕ) (rest : List ℕ) → EndsLine (b ∷ rest) → HasLineEnd (b ∷ rest)
 has_end b rest (inl e) = cc
@@ -80,25 +146,31 @@ has_end b rest (inr h) = h
 none_ends : HasLineEnd [] → ⊥
 none_ends h = not_none h.line [] 10 (sym h.joined)
 
+line_feed_is_last : (line : List ℕ) → list_all is_comment_byte (line ++ 10 ∷ []) ≡ false
+line_feed_is_last [] = refl
+line_feed_is_last (b ∷ line) = let more = line_feed_is_last line in grind (arith, nat_tests)
+
 pub no_line_end : (text : List ℕ) → list_all is_comment_byte text ≡ true → HasLineEnd text → ⊥
-no_line_end [] all h = none_ends h
-no_line_end (b ∷ text) all h =
-    let first : is_comment_byte b ≡ true = grind (arith, nat_tests) in
-    let others : list_all is_comment_byte text ≡ true = grind (arith, nat_tests) in
-    elim (tail_or_last b text h) [ inl p ↦ let is = p.1 in grind (arith, nat_tests) | inr k ↦ no_line_end text others k ]
+no_line_end text all h = true≢false (sym all ∙ ap (list_all is_comment_byte) h.joined ∙ line_feed_is_last h.line)
 
-continued_end : (b e : ℕ) (line : List ℕ) → b ∷ e ∷ [] ≡ line ++ 10 ∷ [] → ((front : List ℕ) → line ≢ front ++ 92 ∷ []) → b ≡ 92 → ⊥
-continued_end b e [] joined n is = cc
-continued_end b e (x ∷ []) joined n is = let same : x ≡ 92 = cc in n [] (ap (λ y. y ∷ []) same)
-continued_end b e (x ∷ y ∷ line) joined n is = let more : line ++ 10 ∷ [] ≡ [] = cc in not_none line [] 10 more
+one_end : (b : ℕ) (line : List ℕ) → b ∷ [] ≡ line ++ 10 ∷ [] → b ≡ 10
+one_end b [] e = cc
+one_end b (x ∷ line) e = let none : line ++ 10 ∷ [] ≡ [] = cc in absurd (not_none line [] 10 none)
 
-continued_end_after_return : (b e f : ℕ) (line : List ℕ) → b ∷ e ∷ f ∷ [] ≡ line ++ 10 ∷ [] → ((front : List ℕ) → line ≢ front ++ 92 ∷ 13 ∷ []) → b ≡ 92 → e ≡ 13 → ⊥
-continued_end_after_return b e f [] joined n is next = cc
-continued_end_after_return b e f (x ∷ []) joined n is next = cc
-continued_end_after_return b e f (x ∷ y ∷ []) joined n is next =
+return_end : (b e f : ℕ) (line : List ℕ) → b ∷ e ∷ f ∷ [] ≡ line ++ 10 ∷ [] → is_continued line ≡ false → b ≡ 92 → e ≡ 13 → ⊥
+return_end b e f [] joined h is next = cc
+return_end b e f (x ∷ []) joined h is next = cc
+return_end b e f (x ∷ y ∷ []) joined h is next =
     let same : x ≡ 92 = cc in let same_next : y ≡ 13 = cc in
-    let both : x ∷ y ∷ [] ≡ 92 ∷ 13 ∷ [] = rw (same, same_next) in n [] both
-continued_end_after_return b e f (x ∷ y ∷ z ∷ line) joined n is next = let more : line ++ 10 ∷ [] ≡ [] = cc in not_none line [] 10 more
+    let yes : true ≡ false = rw (same, same_next) at h in true≢false yes
+return_end b e f (x ∷ y ∷ z ∷ line) joined h is next = let more : line ++ 10 ∷ [] ≡ [] = cc in not_none line [] 10 more
+
+blank_is_no_backslash : (b : ℕ) → is_blank b ≡ true → b ≢ 92
+blank_is_no_backslash b is e = grind (arith, nat_tests)
+
+plain_is_no_backslash : (q : Bool) (b : ℕ) → is_plain q b ≡ true → b ≢ 92
+plain_is_no_backslash true b is e = grind (arith, nat_tests)
+plain_is_no_backslash false b is e = grind (arith, nat_tests)
 
 blank_is_no_line_end : (b : ℕ) → is_blank b ≡ true → b ≡ 10 → ⊥
 blank_is_no_line_end b is e = grind (arith, nat_tests)
@@ -107,38 +179,21 @@ plain_is_no_line_end : (q : Bool) (b : ℕ) → is_plain q b ≡ true → b ≡ 
 plain_is_no_line_end true b is e = grind (arith, nat_tests)
 plain_is_no_line_end false b is e = grind (arith, nat_tests)
 
-escaped_is_no_line_end : (e c : ℕ) → escape e ≡ Some c → e ≡ 10 → ⊥
-escaped_is_no_line_end e c l is = let none : None ≡ Some c = rw is at l in cc
-
--- the bytes of a value do not end in a line end that no backslash continues
+-- the bytes of a value do not end in a line end over which it is not continued
 pub value_has_no_end : {q : Bool} {value raw text : List ℕ} {held : ℕ} {ending : Ending} → Spells q value held raw text ending → HasLineEnd raw → ⊥
 value_has_no_end ends_outside h = none_ends h
 value_has_no_end ends_inside h = none_ends h
-value_has_no_end (ends_at_backslash {b = b} is) h = elim (tail_or_last b [] h) [ inl p ↦ let e = p.1 in omega arith | inr k ↦ none_ends k ]
-value_has_no_end (quote {b = b} {raw = raw} is s) h = elim (tail_or_last b raw h) [ inl p ↦ let e = p.1 in omega arith | inr k ↦ value_has_no_end s k ]
-value_has_no_end (escaped {b = b} {e = e} {c = c} {raw = raw} is l s) h =
-    elim (tail_or_last b (e ∷ raw) h) [
-      | inl p ↦ let none = p.0 in cc
-      | inr k ↦ elim (tail_or_last e raw k) [ inl p ↦ escaped_is_no_line_end e c l p.1 | inr m ↦ value_has_no_end s m ]
-    ]
-value_has_no_end (continued {b = b} {e = e} {raw = raw} is l s) h =
-    elim (tail_or_last b (e ∷ raw) h) [
-      | inl p ↦ let none = p.0 in cc
-      | inr k ↦ elim (tail_or_last e raw k) [
-        | inl p ↦ continued_end b e h.line (ap (λ r. b ∷ e ∷ r) (sym p.0) ∙ h.joined) h.not_continued is
-        | inr m ↦ value_has_no_end s m
-      ]
-    ]
+value_has_no_end (ends_at_backslash {b = b} is) h = let e = one_end b h.line h.joined in omega arith
+value_has_no_end (quote {b = b} {raw = raw} is s) h =
+    elim (tail_or_last b raw (omega arith) h) [ inl p ↦ let e = p.1 in omega arith | inr k ↦ value_has_no_end s k ]
+value_has_no_end (escaped {b = b} {e = e} {raw = raw} is l s) h = value_has_no_end s (after_pair b e raw is h)
+value_has_no_end (continued {b = b} {e = e} {raw = raw} is l s) h = value_has_no_end s (after_pair b e raw is h)
 value_has_no_end (continued_after_return {b = b} {e = e} {f = f} {raw = raw} is l n s) h =
-    elim (tail_or_last b (e ∷ f ∷ raw) h) [
-      | inl p ↦ let none = p.0 in cc
-      | inr k ↦ elim (tail_or_last e (f ∷ raw) k) [
-        | inl p ↦ let none = p.0 in cc
-        | inr m ↦ elim (tail_or_last f raw m) [
-          | inl p ↦ continued_end_after_return b e f h.line (ap (λ r. b ∷ e ∷ f ∷ r) (sym p.0) ∙ h.joined) h.not_continued_after_return is l
-          | inr o ↦ value_has_no_end s o
-        ]
-      ]
+    elim (tail_or_last f raw (omega arith) (after_pair b e (f ∷ raw) is h)) [
+      | inl p ↦ return_end b e f h.line (ap (λ r. b ∷ e ∷ f ∷ r) (sym p.0) ∙ h.joined) h.not_continued is l
+      | inr k ↦ value_has_no_end s k
     ]
-value_has_no_end (blank {b = b} {raw = raw} is s) h = elim (tail_or_last b raw h) [ inl p ↦ blank_is_no_line_end b is p.1 | inr k ↦ value_has_no_end s k ]
-value_has_no_end (plain {quoted = q} {b = b} {raw = raw} is s) h = elim (tail_or_last b raw h) [ inl p ↦ plain_is_no_line_end q b is p.1 | inr k ↦ value_has_no_end s k ]
+value_has_no_end (blank {b = b} {raw = raw} is s) h =
+    elim (tail_or_last b raw (blank_is_no_backslash b is) h) [ inl p ↦ blank_is_no_line_end b is p.1 | inr k ↦ value_has_no_end s k ]
+value_has_no_end (plain {quoted = q} {b = b} {raw = raw} is s) h =
+    elim (tail_or_last b raw (plain_is_no_backslash q b is) h) [ inl p ↦ plain_is_no_line_end q b is p.1 | inr k ↦ value_has_no_end s k ]

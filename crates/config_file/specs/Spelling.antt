@@ -1,5 +1,5 @@
 -- Spellings: what bytes that are written read back to.
-use Rattle.std.specs.Prelude.{◌≡◌, ◌≢◌, ℕ, ◌+◌, ◌≤◌, true, length, List, [], ◌∷◌, ◌++◌, Option, Some, None, ⊤, ◌⊎◌}
+use Rattle.std.specs.Prelude.{◌≡◌, ◌≢◌, ℕ, ◌+◌, ◌≤◌, Bool, true, false, ◌==◌, if◌then◌else◌, length, List, [], ◌∷◌, ◌++◌, Option, Some, None, ⊤, ◌⊎◌}
 use Rattle.std.specs.Char.{is_ascii_alphabetic}
 use Rattle.config_file.specs.Bytes.{line_feed, carriage_return, backslash, equals_sign, left_bracket, is_key_byte}
 use Rattle.config_file.specs.Runs.{Run}
@@ -57,12 +57,18 @@ abbrev pub LacksSpelling : Option (List ℕ) → Type 0
 LacksSpelling None = ⊥
 LacksSpelling (Some value) = HasNoSpelling value
 
--- the text ends in a line end, which no backslash continues
+-- a line is continued: it ends in a backslash, or in a backslash and a CR, and no other backslash escapes that one
+abbrev pub is_continued : List ℕ → Bool
+is_continued [] = false
+is_continued (a ∷ []) = a == backslash
+is_continued (a ∷ b ∷ []) = if a == backslash then b == carriage_return else b == backslash
+is_continued (a ∷ b ∷ c ∷ line) = if a == backslash then is_continued (c ∷ line) else is_continued (b ∷ c ∷ line)
+
+-- the text ends in a line end, over which the last line is not continued
 pub record HasLineEnd (text : List ℕ) : Type 0 where
   pub line : List ℕ
   pub joined : text ≡ line ++ line_feed ∷ []
-  pub not_continued : (front : List ℕ) → line ≢ front ++ backslash ∷ []
-  pub not_continued_after_return : (front : List ℕ) → line ≢ front ++ backslash ∷ carriage_return ∷ []
+  pub not_continued : is_continued line ≡ false
 
 -- a further line may follow the text: it is empty, or its last line has its end
 abbrev pub EndsLine : List ℕ → Type 0
