@@ -1,19 +1,17 @@
 -- An entry that is added to a configuration file.
-use Rattle.std.proofs.Common.{◌≡◌, ◌≢◌, ℕ, ◌+◌, Bool, true, false, List, [], ◌∷◌, ◌++◌, Option, Some, None, refl, sym, ap, ◌∙◌, subst, append_assoc, append-nil, arith, inl, inr, ◌⊎◌, ◌==◌, ◌&&◌, ◌||◌}
+use Rattle.std.proofs.Common.{◌≡◌, ◌≢◌, ℕ, ◌+◌, Bool, true, false, List, [], ◌∷◌, ◌++◌, Option, Some, None, refl, sym, ap, ◌∙◌, subst, append_assoc, arith, inl, inr, ◌⊎◌, ◌==◌, ◌&&◌, ◌||◌}
 use Rattle.std.specs.List.{list_all, flat_map}
 use Rattle.std.specs.Char.{is_ascii_alphabetic}
-use Rattle.std.proofs.lemmas.List.Folds.{list_all-append}
 use Rattle.std.proofs.lemmas.Bool.{cases_Bool, true≢false}
 use Rattle.std.proofs.lemmas.Bool.Decides.{nat_tests}
-use Rattle.config_file.specs.Bytes.{is_comment_byte, is_key_byte, is_blank, is_comment_sign}
-use Rattle.config_file.specs.Runs.{Run}
-use Rattle.config_file.specs.Header.{Section, Header}
+use Rattle.config_file.specs.Bytes.{is_comment_byte, is_key_byte}
+use Rattle.config_file.specs.Header.{Section}
 use Rattle.config_file.specs.Value.{TakesValue, closed, line_feeds}
 use Rattle.config_file.specs.File as file
 use Rattle.config_file.specs.File.{Entry, TakesKey, TakesEntry, alone, valued, Reads, Begins, marked, part_of_mark, unmarked, after_mark, IsPartOfMark, IsFile}
-use Rattle.config_file.specs.Spelling.{EndsLine, IsHeader, IsSpelling, SpellsOptional, IsEntry, AddsEntry, IsLine, HasNoHeader, IsNoKey, LacksSpelling}
+use Rattle.config_file.specs.Spelling.{is_continued, HasLineEnd, EndsLine, IsHeader, IsSpelling, SpellsOptional, IsEntry, AddsEntry, IsLine, HasNoHeader, IsNoKey, LacksSpelling}
 use Rattle.config_file.specs.Reading.Spellings.{letter_of, spelled_byte, after_backslash, is_quoted, spelled_value, is_spellable, is_spellable_or_absent, is_key, spelled_line, is_section, spelled_section, is_writable}
-use Rattle.config_file.proofs.LineEnds.{line_feeds_after, line_feeds_none, after_front, ends_line}
+use Rattle.config_file.proofs.LineEnds.{line_feeds_after, line_feeds_none, after_front, ends_line, continued_tail, continued_by_last, pair_continued}
 use Rattle.config_file.proofs.Spellings.{value_spelled, not_spelled}
 use Rattle.config_file.proofs.Shortest.{shortest_spelling}
 use Rattle.config_file.proofs.SpelledHeaders.{header_spelled, shortest_header, no_header, no_key}
@@ -43,6 +41,68 @@ value_lines value =
           (line_feeds_none (34 ∷ (flat_map (spelled_byte true) value ++ 34 ∷ [])) (both_other (flat_map (spelled_byte true) value) (34 ∷ []) (bytes_other true value) refl))
       | inr other ↦ rw other (line_feeds_none (flat_map (spelled_byte false) value) (bytes_other false value))
     ]
+
+-- no spelling is continued
+letter_stays : (b l : ℕ) → letter_of false b ≡ Some l → l ≢ 13
+letter_stays b l e is = grind (arith, nat_tests)
+
+no_letter_stays : (b : ℕ) → letter_of false b ≡ None → b ≢ 92
+no_letter_stays b e is = grind (arith, nat_tests)
+
+byte_stays : (b : ℕ) (o : Option ℕ) (line : List ℕ) → letter_of false b ≡ o → is_continued line ≡ false → is_continued (after_backslash b o ++ line) ≡ false
+byte_stays b (Some l) line is h = pair_continued l line (letter_stays b l is) ∙ h
+byte_stays b None line is h = continued_tail b line (no_letter_stays b is) ∙ h
+
+bytes_stay : (value : List ℕ) → is_continued (flat_map (spelled_byte false) value) ≡ false
+bytes_stay [] = refl
+bytes_stay (b ∷ value) = byte_stays b (letter_of false b) (flat_map (spelled_byte false) value) refl (bytes_stay value)
+
+value_stays : (value : List ℕ) → is_continued (spelled_value value) ≡ false
+value_stays value =
+    elim (cases_Bool (is_quoted value)) [
+      | inl is ↦
+          let no_backslash : 34 ≢ 92 = omega arith in
+          let no_return : 34 ≢ 13 = omega arith in
+          rw is (continued_by_last (34 ∷ flat_map (spelled_byte true) value) 34 [] no_backslash no_return refl)
+      | inr other ↦ rw other (bytes_stay value)
+    ]
+
+key_stays : (key : List ℕ) → list_all is_key_byte key ≡ true → is_continued key ≡ false
+key_stays [] all = refl
+key_stays (b ∷ key) all =
+    let others : list_all is_key_byte key ≡ true = grind (arith, nat_tests) in
+    let first : is_key_byte b ≡ true = grind (arith, nat_tests) in
+    let other : b ≢ 92 = grind (arith, nat_tests) in
+    continued_tail b key other ∙ key_stays key others
+
+line_stays : (front : List ℕ) (k : ℕ) (key : List ℕ) → is_ascii_alphabetic k ≡ true → is_continued (k ∷ key) ≡ false → is_continued (front ++ k ∷ key) ≡ false
+line_stays front k key letter h =
+    let no_backslash : k ≢ 92 = grind (arith, nat_tests) in
+    let no_return : k ≢ 13 = grind (arith, nat_tests) in
+    continued_by_last front k key no_backslash no_return h
+
+line_ends : (front key : List ℕ) (value : Option (List ℕ)) → is_key key ≡ true → HasLineEnd (front ++ spelled_line key value)
+line_ends front [] value is = cc
+line_ends front (k ∷ key) None is =
+    let letter : is_ascii_alphabetic k ≡ true = grind (arith, nat_tests) in
+    let all : list_all is_key_byte (k ∷ key) ≡ true = grind (arith, nat_tests) in
+    record {
+      line = front ++ k ∷ key;
+      joined = sym (append_assoc front (k ∷ key) (10 ∷ []));
+      not_continued = line_stays front k key letter (key_stays (k ∷ key) all);
+    }
+line_ends front (k ∷ key) (Some value) is =
+    let letter : is_ascii_alphabetic k ≡ true = grind (arith, nat_tests) in
+    let raw = spelled_value value in
+    let no_backslash : 61 ≢ 92 = omega arith in
+    let no_return : 61 ≢ 13 = omega arith in
+    let after = continued_tail 61 raw no_backslash ∙ value_stays value in
+    let stays = continued_by_last (k ∷ key) 61 raw no_backslash no_return after in
+    record {
+      line = front ++ (k ∷ key ++ 61 ∷ raw);
+      joined = ap (λ l. front ++ l) (sym (append_assoc (k ∷ key) (61 ∷ raw) (10 ∷ []))) ∙ sym (append_assoc front (k ∷ key ++ 61 ∷ raw) (10 ∷ []));
+      not_continued = line_stays front k (key ++ 61 ∷ raw) letter stays;
+    }
 
 -- a line with a key, and a value if there is one
 value_of : Option (List ℕ) → Option (List ℕ)
@@ -178,8 +238,12 @@ entry_added bytes name text key value (inner, section, same, names, header) is s
     let reads : (before : Option Section) → Reads before end (91 ∷ (inner ++ line)) (entry ∷ []) None =
     λ before. file.header refl (header line) (line_reads section key value end is spellable) in
     let is_entry : IsEntry name text key value end entry =
-    record { section = (section, refl, names); same_key = refl; spells = value_spells value spellable; same_line = refl } in
-    (entry, is_entry, rw same (begun_more (inner ++ line) (entry ∷ []) end reads is_file.begins is_file.reads ends refl))
+    record { section = (section, refl, names); same_key = refl; spells = value_spells value spellable; same_line = refl } in (
+      entry,
+      is_entry,
+      rw same (begun_more (inner ++ line) (entry ∷ []) end reads is_file.begins is_file.reads ends refl),
+      inr (subst HasLineEnd (append_assoc file_text bytes line) (line_ends (file_text ++ bytes) key value is)),
+    )
 
 -- what an entry may not have
 lacks_spelling : (value : Option (List ℕ)) → is_spellable_or_absent value ≡ false → LacksSpelling value

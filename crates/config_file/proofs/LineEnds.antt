@@ -1,12 +1,11 @@
 -- Texts that end in a line end, and how many line ends there are.
-use Rattle.std.proofs.Common.{◌≡◌, ◌≢◌, ℕ, ◌+◌, Bool, true, false, cond, List, [], ◌∷◌, ◌++◌, Some, None, refl, sym, ap, ◌∙◌, subst, append_assoc, append-nil, arith, inl, inr, ◌⊎◌, ◌==◌}
+use Rattle.std.proofs.Common.{◌≡◌, ◌≢◌, ℕ, ◌+◌, Bool, true, false, cond, List, [], ◌∷◌, ◌++◌, refl, sym, ap, ◌∙◌, arith, inl, inr, ◌⊎◌, ◌==◌}
 use Rattle.std.specs.List.{list_all}
 use Rattle.std.proofs.lemmas.List.Sums.{sum_by-cons, sum_by-append}
-use Rattle.std.proofs.lemmas.List.Folds.{list_all-append}
 use Rattle.std.proofs.lemmas.Bool.{cases_Bool, true≢false}
 use Rattle.std.proofs.lemmas.Bool.Decides.{nat_tests}
 use Rattle.config_file.specs.Bytes.{is_comment_byte, is_plain, is_blank}
-use Rattle.config_file.specs.Value.{Ending, Spells, ends_outside, ends_inside, ends_at_backslash, quote, escaped, continued, continued_after_return, blank, plain, line_feeds, escape}
+use Rattle.config_file.specs.Value.{Ending, Spells, ends_outside, ends_inside, ends_at_backslash, quote, escaped, continued, continued_after_return, blank, plain, line_feeds}
 use Rattle.config_file.specs.Spelling.{is_continued, HasLineEnd, EndsLine}
 
 -- a byte that is no LF is one of a comment
@@ -74,6 +73,33 @@ continued_after_front (x ∷ y ∷ front) b line other h =
           let no_escape : x ≢ 92 = grind (arith, nat_tests) in
           continued_after_front (y ∷ front) b line other (sym (continued_tail x (y ∷ (front ++ b ∷ line)) no_escape) ∙ h)
     ]
+
+pair_before : (a e : ℕ) (line : List ℕ) → line ≢ [] → a ≡ 92 → is_continued (a ∷ e ∷ line) ≡ is_continued line
+pair_before a e [] some is = absurd (some refl)
+pair_before a e (c ∷ line) some is = rw is refl
+
+pub continued_by_last : (front : List ℕ) (b : ℕ) (line : List ℕ) → b ≢ 92 → b ≢ 13 → is_continued (b ∷ line) ≡ false → is_continued (front ++ b ∷ line) ≡ false
+continued_by_last [] b line other no_return h = h
+continued_by_last (x ∷ []) b [] other no_return h =
+    let no_backslash : (b == 92) ≡ false = grind (arith, nat_tests) in
+    let no_carriage_return : (b == 13) ≡ false = grind (arith, nat_tests) in
+    elim (cases_Bool (x == 92)) [ inl is ↦ rw (is, no_carriage_return) | inr no_escape ↦ rw (no_escape, no_backslash) ]
+continued_by_last (x ∷ []) b (c ∷ line) other no_return h =
+    let tail = continued_tail b (c ∷ line) other in
+    elim (cases_Bool (x == 92)) [ inl is ↦ rw is (sym tail ∙ h) | inr no_escape ↦ rw no_escape h ]
+continued_by_last (x ∷ y ∷ front) b line other no_return h =
+    elim (cases_Bool (x == 92)) [
+      | inl is ↦
+          let same : x ≡ 92 = grind (arith, nat_tests) in
+          pair_before x y (front ++ b ∷ line) (not_none front line b) same ∙ continued_by_last front b line other no_return h
+      | inr no_backslash ↦
+          let no_escape : x ≢ 92 = grind (arith, nat_tests) in
+          continued_tail x (y ∷ (front ++ b ∷ line)) no_escape ∙ continued_by_last (y ∷ front) b line other no_return h
+    ]
+
+pub pair_continued : (letter : ℕ) (line : List ℕ) → letter ≢ 13 → is_continued (92 ∷ letter ∷ line) ≡ is_continued line
+pair_continued letter [] no_return = grind (arith, nat_tests)
+pair_continued letter (c ∷ line) no_return = refl
 
 tail_of : (b : ℕ) (rest line : List ℕ) → b ≢ 92 → b ∷ rest ≡ line ++ 10 ∷ [] → is_continued line ≡ false → ((rest ≡ []) × (b ≡ 10)) ⊎ HasLineEnd rest
 tail_of b rest [] other e h =

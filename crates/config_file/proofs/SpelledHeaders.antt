@@ -1,14 +1,14 @@
 -- Spellings of headers and keys.
-use Rattle.std.proofs.Common.{◌≡◌, ◌≢◌, ℕ, Bool, true, false, not, ◌&&◌, ◌||◌, List, [], ◌∷◌, ◌++◌, Option, Some, None, length, length-append, ◌+◌, ◌≤◌, refl, sym, ap, ◌∙◌, subst, append_assoc, arith, inl, inr, ◌==◌}
+use Rattle.std.proofs.Common.{◌≡◌, ◌≢◌, ℕ, true, false, not, ◌||◌, List, [], ◌∷◌, ◌++◌, Option, Some, None, length, length-append, ◌+◌, ◌≤◌, refl, sym, ap, ◌∙◌, subst, append_assoc, arith, inl, inr, ◌==◌}
 use Rattle.std.specs.List.{list_all}
 use Rattle.std.specs.Char.{is_ascii_alphabetic}
 use Rattle.std.proofs.lemmas.Bool.{cases_Bool, true≢false}
 use Rattle.std.proofs.lemmas.Bool.Decides.{nat_tests}
-use Rattle.config_file.specs.Bytes.{is_name_byte, is_text_byte, is_key_byte, is_blank, is_plain_in_quotes}
-use Rattle.config_file.specs.Runs.{Run, StopsRun}
+use Rattle.config_file.specs.Bytes.{is_name_byte, is_text_byte, is_key_byte, is_plain_in_quotes}
+use Rattle.config_file.specs.Runs.{StopsRun}
 use Rattle.config_file.specs.Subsection as sub
 use Rattle.config_file.specs.Subsection.{SpellsSubsection}
-use Rattle.config_file.specs.Header.{Section, Header, plain, quoted, closes, OpensSubsection}
+use Rattle.config_file.specs.Header.{Section, Header, plain, quoted, closes}
 use Rattle.config_file.specs.Spelling.{Names, IsHeader, IsShortestHeader, HasNoHeader, IsNoKey}
 use Rattle.config_file.specs.Reading.Spellings.{spelled_in_subsection, spelled_subsection, spelled_section, is_section, is_key}
 

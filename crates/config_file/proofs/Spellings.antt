@@ -1,13 +1,12 @@
 -- Spellings of values.
-use Rattle.std.proofs.Common.{◌≡◌, ◌≢◌, ℕ, zero, suc, ◌+◌, ◌-◌, ◌≤◌, Bool, true, false, not, ◌&&◌, ◌||◌, cond, List, [], ◌∷◌, ◌++◌, Option, Some, None, length, refl, sym, ap, ◌∙◌, subst, append_assoc, append-nil, arith, inl, inr, ◌⊎◌, ◌==◌, slice_index_or}
+use Rattle.std.proofs.Common.{◌≡◌, ◌≢◌, ℕ, zero, suc, ◌+◌, ◌-◌, ◌≤◌, Bool, true, false, not, ◌||◌, List, [], ◌∷◌, ◌++◌, Option, Some, None, length, refl, sym, ap, ◌∙◌, append_assoc, append-nil, arith, inl, inr, ◌==◌, slice_index_or}
 use Rattle.std.specs.Prelude.{replicate, nat_eq}
-use Rattle.std.specs.List.{flat_map, list_all, list_any}
+use Rattle.std.specs.List.{flat_map, list_any}
 use Rattle.std.proofs.lemmas.List.{replicate_more}
-use Rattle.std.proofs.lemmas.Grind.{common_steps}
 use Rattle.std.proofs.lemmas.List.Folds.{list_all-append}
 use Rattle.std.proofs.lemmas.Bool.{cases_Bool, true≢false}
 use Rattle.std.proofs.lemmas.Bool.Decides.{nat_tests}
-use Rattle.config_file.specs.Bytes.{is_plain, is_blank}
+use Rattle.config_file.specs.Bytes.{is_plain}
 use Rattle.config_file.specs.Value.{Ending, outside, Spells, ends_outside, ends_inside, ends_at_backslash, quote, escaped, continued, continued_after_return, blank, plain, kept, escape}
 use Rattle.config_file.specs.Spelling.{IsSpelling, HasNoSpelling}
 use Rattle.config_file.specs.Reading.Spellings.{letter_of, after_backslash, spelled_byte, is_lost, begins_with_space, ends_with_space, is_quoted, spelled_value, is_spellable}

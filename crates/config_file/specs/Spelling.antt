@@ -1,5 +1,5 @@
 -- Spellings: what bytes that are written read back to.
-use Rattle.std.specs.Prelude.{◌≡◌, ◌≢◌, ℕ, ◌+◌, ◌≤◌, Bool, true, false, ◌==◌, if◌then◌else◌, length, List, [], ◌∷◌, ◌++◌, Option, Some, None, ⊤, ◌⊎◌}
+use Rattle.std.specs.Prelude.{◌≡◌, ℕ, ◌+◌, ◌≤◌, Bool, true, false, ◌==◌, if◌then◌else◌, length, List, [], ◌∷◌, ◌++◌, Option, Some, None, ⊤, ◌⊎◌}
 use Rattle.std.specs.Char.{is_ascii_alphabetic}
 use Rattle.config_file.specs.Bytes.{line_feed, carriage_return, backslash, equals_sign, left_bracket, is_key_byte}
 use Rattle.config_file.specs.Runs.{Run}
@@ -81,11 +81,13 @@ pub record IsEntry (name : List ℕ) (subsection : Option (List ℕ)) (key : Lis
   pub spells : SpellsOptional IsSpelling entry.value value
   pub same_line : entry.line ≡ line
 
--- After each configuration file that a further line may follow, these bytes are an entry more, on the line after the others.
+-- After each configuration file that a further line may follow, these bytes are an entry more, on the line after the others,
+-- and a further line may follow them.
 abbrev pub AddsEntry : List ℕ → List ℕ → Option (List ℕ) → List ℕ → Option (List ℕ) → Type 0
 AddsEntry bytes name subsection key value =
     (text : List ℕ) (entries : List Entry) → IsFile text entries None → EndsLine text
-    → (entry : Entry) × IsEntry name subsection key value (1 + line_feeds text) entry × IsFile (text ++ bytes) (entries ++ entry ∷ []) None
+    → (entry : Entry) × IsEntry name subsection key value (1 + line_feeds text) entry
+    × IsFile (text ++ bytes) (entries ++ entry ∷ []) None × EndsLine (text ++ bytes)
 
 -- these bytes are a line of the shortest header, the key, and `=` and the shortest spelling of a value if one is given
 abbrev pub IsLine : List ℕ → List ℕ → Option (List ℕ) → List ℕ → Option (List ℕ) → Type 0

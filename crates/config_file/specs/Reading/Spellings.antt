@@ -1,8 +1,8 @@
 -- What the writers of spellings write.
-use Rattle.std.specs.Prelude.{ℕ, ◌<◌, Bool, true, false, not, ◌&&◌, ◌||◌, ◌==◌, nat_lt, length, List, [], ◌∷◌, ◌++◌, Option, Some, None, if◌then◌else◌, count_by}
+use Rattle.std.specs.Prelude.{ℕ, Bool, true, false, not, ◌&&◌, ◌||◌, ◌==◌, nat_lt, length, List, [], ◌∷◌, ◌++◌, Option, Some, None, if◌then◌else◌, count_by}
 use Rattle.std.specs.Char.{is_ascii_alphabetic}
 use Rattle.std.specs.List.{list_all, list_any, flat_map}
-use Rattle.config_file.specs.Bytes.{tab, line_feed, carriage_return, space, double_quote, equals_sign, left_bracket, backslash, right_bracket, is_comment_sign, is_key_byte, is_name_byte, is_text_byte}
+use Rattle.config_file.specs.Bytes.{tab, line_feed, carriage_return, space, double_quote, equals_sign, backslash, right_bracket, is_comment_sign, is_key_byte, is_name_byte, is_text_byte}
 
 -- the letter after a backslash that spells this byte of a value, if the byte cannot stand for itself
 abbrev pub letter_of : Bool → ℕ → Option ℕ
