@@ -74,10 +74,10 @@ pub fn spell_entry(
     if !is_writable(name, subsection, key, value) {
         return Ok(None);
     }
-    let mut spelling = Vec::new(alloc);
-    push_header(&mut spelling, name, subsection)?;
-    push_line(&mut spelling, key, value)?;
-    Ok(Some(spelling))
+    let mut line = Vec::new(alloc);
+    push_header(&mut line, name, subsection)?;
+    push_line(&mut line, key, value)?;
+    Ok(Some(line))
 }
 
 /// Whether a value has a spelling.
