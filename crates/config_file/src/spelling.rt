@@ -11,9 +11,11 @@ use std::alloc::{AllocError, Global};
 
 /// The fewest bytes that spell this value between an `=` and the end of its line, or `None` if it has a NUL.
 ///
-/// ```
-/// let spelling = spell_value(alloc, b"a \"b\"")?;     // a \"b\"
-/// let spelling = spell_value(alloc, b"#a")?;          // "#a"
+/// ```rust
+/// use config_file::spelling::spell_value;
+///
+/// let raw = spell_value(alloc, b" a\n")?;
+/// assert!(rt; raw.is_some_and(|raw| raw.as_slice() == b"\" a\\n\"".as_slice()));
 /// ```
 pub fn spell_value(alloc: Global, value: &[u8]) -> Result<Option<Vec<u8>>, AllocError>
     ensures { IfOk result (λ spelling. MatchOption spelling (HasNoSpelling value.now)
@@ -30,9 +32,11 @@ pub fn spell_value(alloc: Global, value: &[u8]) -> Result<Option<Vec<u8>>, Alloc
 /// The fewest bytes that are the header of a section and a subsection. `None` if the name has a byte that is no
 /// letter, digit, `-` or `.`, if it is empty and has no subsection, or if the subsection has an LF or a NUL.
 ///
-/// ```
-/// let header = spell_header(alloc, b"core", None)?;               // [core]
-/// let header = spell_header(alloc, b"branch", Some(b"a\"b"))?;     // [branch "a\"b"]
+/// ```rust
+/// use config_file::spelling::spell_header;
+///
+/// let header = spell_header(alloc, b"branch", Some(b"main"))?;
+/// assert!(rt; header.is_some_and(|header| header.as_slice() == b"[branch \"main\"]".as_slice()));
 /// ```
 pub fn spell_header(
     alloc: Global,
@@ -56,8 +60,11 @@ pub fn spell_header(
 /// a backslash before that LF continues the line. `None` if the section has no header, if the key is not a letter
 /// and then letters, digits and `-`, or if the value has a NUL.
 ///
-/// ```
-/// let line = spell_entry(alloc, b"user", None, b"name", Some(b"A"))?;     // [user]name=A, and LF
+/// ```rust
+/// use config_file::spelling::spell_entry;
+///
+/// let line = spell_entry(alloc, b"user", None, b"name", Some(b"A"))?;
+/// assert!(rt; line.is_some_and(|line| line.as_slice() == b"[user]name=A\n".as_slice()));
 /// ```
 pub fn spell_entry(
     alloc: Global,
