@@ -37,7 +37,8 @@ HasNoHeader name subsection =
 
 -- no entry has this key, which begins with a letter and ends before a byte that is no letter, digit or `-`
 abbrev pub IsNoKey : List ℕ → Type 0
-IsNoKey key = (b : ℕ) (text rest : List ℕ) → is_ascii_alphabetic b ≡ true → ¬ (Run is_key_byte (b ∷ text) key rest)
+IsNoKey key =
+    (b : ℕ) (text rest : List ℕ) → is_ascii_alphabetic b ≡ true → ¬ (Run is_key_byte (b ∷ text) key rest)
 
 -- these bytes spell this value up to the end of its line
 abbrev pub IsSpelling : List ℕ → List ℕ → Type 0
@@ -57,12 +58,13 @@ abbrev pub LacksSpelling : Option (List ℕ) → Type 0
 LacksSpelling None = ⊥
 LacksSpelling (Some value) = HasNoSpelling value
 
--- a line is continued: it ends in a backslash, or in a backslash and a CR, and no other backslash escapes that one
+-- a line is continued: it ends in a backslash that no other one escapes, or in such a backslash and a CR
 abbrev pub is_continued : List ℕ → Bool
 is_continued [] = false
 is_continued (a ∷ []) = a == backslash
 is_continued (a ∷ b ∷ []) = if a == backslash then b == carriage_return else b == backslash
-is_continued (a ∷ b ∷ c ∷ line) = if a == backslash then is_continued (c ∷ line) else is_continued (b ∷ c ∷ line)
+is_continued (a ∷ b ∷ c ∷ line) =
+    if a == backslash then is_continued (c ∷ line) else is_continued (b ∷ c ∷ line)
 
 -- the text ends in a line end, over which the last line is not continued
 pub record HasLineEnd (text : List ℕ) : Type 0 where
@@ -75,13 +77,15 @@ abbrev pub EndsLine : List ℕ → Type 0
 EndsLine text = (text ≡ []) ⊎ HasLineEnd text
 
 -- the entry has these parts, and this line
-pub record IsEntry (name : List ℕ) (subsection : Option (List ℕ)) (key : List ℕ) (value : Option (List ℕ)) (line : ℕ) (entry : Entry) : Type 0 where
+pub record IsEntry
+    (name : List ℕ) (subsection : Option (List ℕ)) (key : List ℕ) (value : Option (List ℕ)) (line : ℕ) (entry : Entry)
+    : Type 0 where
   pub section : (section : Section) × (entry.section ≡ Some section) × Names section name subsection
   pub same_key : entry.key ≡ key
   pub spells : SpellsOptional IsSpelling entry.value value
   pub same_line : entry.line ≡ line
 
--- After each configuration file that a further line may follow, these bytes are an entry more, on the line after the others,
+-- After each configuration file that a further line may follow, these bytes are one entry more, on the next line,
 -- and a further line may follow them.
 abbrev pub AddsEntry : List ℕ → List ℕ → Option (List ℕ) → List ℕ → Option (List ℕ) → Type 0
 AddsEntry bytes name subsection key value =
@@ -89,7 +93,7 @@ AddsEntry bytes name subsection key value =
     → (entry : Entry) × IsEntry name subsection key value (1 + line_feeds text) entry
     × IsFile (text ++ bytes) (entries ++ entry ∷ []) None × EndsLine (text ++ bytes)
 
--- these bytes are a line of the shortest header, the key, and `=` and the shortest spelling of a value if one is given
+-- these bytes are a line: the shortest header, the key, and `=` and the shortest spelling of a value, if one is given
 abbrev pub IsLine : List ℕ → List ℕ → Option (List ℕ) → List ℕ → Option (List ℕ) → Type 0
 IsLine bytes name subsection key None =
     (header : List ℕ) × IsShortestHeader header name subsection × (bytes ≡ header ++ (key ++ line_feed ∷ []))

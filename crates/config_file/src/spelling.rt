@@ -11,9 +11,11 @@ use std::alloc::{AllocError, Global};
 
 /// The fewest bytes that spell this value between an `=` and the end of its line, or `None` if it has a NUL.
 ///
-/// ```
-/// let spelling = spell_value(alloc, b"a \"b\"")?;     // a \"b\"
-/// let spelling = spell_value(alloc, b"#a")?;          // "#a"
+/// ```rust
+/// use config_file::spelling::spell_value;
+///
+/// let raw = spell_value(alloc, b" a\n")?;
+/// assert!(rt; raw.is_some_and(|raw| raw.as_slice() == b"\" a\\n\"".as_slice()));
 /// ```
 pub fn spell_value(alloc: Global, value: &[u8]) -> Result<Option<Vec<u8>>, AllocError>
     ensures { IfOk result (λ spelling. MatchOption spelling (HasNoSpelling value.now)
@@ -27,9 +29,15 @@ pub fn spell_value(alloc: Global, value: &[u8]) -> Result<Option<Vec<u8>>, Alloc
     Ok(Some(spelling))
 }
 
-/// The fewest bytes that are the header of this section and subsection, or `None` if they have none: if the name has
-/// a byte that is no letter, digit, `-` or `.`, if it is empty and has no subsection, or if the subsection has an LF
-/// or a NUL.
+/// The fewest bytes that are the header of a section and a subsection. `None` if the name has a byte that is no
+/// letter, digit, `-` or `.`, if it is empty and has no subsection, or if the subsection has an LF or a NUL.
+///
+/// ```rust
+/// use config_file::spelling::spell_header;
+///
+/// let header = spell_header(alloc, b"branch", Some(b"main"))?;
+/// assert!(rt; header.is_some_and(|header| header.as_slice() == b"[branch \"main\"]".as_slice()));
+/// ```
 pub fn spell_header(
     alloc: Global,
     name: &[u8],
@@ -47,13 +55,16 @@ pub fn spell_header(
     Ok(Some(spelling))
 }
 
-/// A line that adds an entry to a file: the header and the value in the fewest bytes that spell them, and an LF.
-/// Without a value, the entry is its key alone. The line may follow any file that is empty or ends in an LF, unless a
-/// backslash before that LF continues the line. `None` if the section has no header, if the key is not a letter and
-/// then letters, digits and `-`, or if the value has a NUL.
+/// A line that adds an entry to a file: the shortest header, the key, the shortest spelling of the value, and an LF.
+/// Without a value, the entry is its key alone. The line may follow any file that is empty or ends in an LF, unless
+/// a backslash before that LF continues the line. `None` if the section has no header, if the key is not a letter
+/// and then letters, digits and `-`, or if the value has a NUL.
 ///
-/// ```
-/// let line = spell_entry(alloc, b"remote", Some(b"origin"), b"url", Some(b"../a"))?;   // [remote "origin"]url=../a
+/// ```rust
+/// use config_file::spelling::spell_entry;
+///
+/// let line = spell_entry(alloc, b"user", None, b"name", Some(b"A"))?;
+/// assert!(rt; line.is_some_and(|line| line.as_slice() == b"[user]name=A\n".as_slice()));
 /// ```
 pub fn spell_entry(
     alloc: Global,
@@ -136,7 +147,8 @@ fn is_key(key: &[u8]) -> bool
 
 /// Whether an entry has these parts.
 fn is_writable(name: &[u8], subsection: Option<&[u8]>, key: &[u8], value: Option<&[u8]>) -> bool
-    ensures { result ≡ spec.is_writable name.now (option_copied subsection.entry) key.now (option_copied value.entry) }
+    ensures { let text = option_copied subsection.entry in
+        result ≡ spec.is_writable name.now text key.now (option_copied value.entry) }
 {
     is_section(name, subsection) && is_key(key) && is_spellable_or_absent(value)
 }
@@ -167,7 +179,8 @@ fn push_byte(spelling: &mut Vec<u8>, quoted: bool, byte: u8) -> Result<(), Alloc
 }
 
 fn push_bytes(spelling: &mut Vec<u8>, quoted: bool, value: &[u8]) -> Result<(), AllocError>
-    ensures { OnOk result (spelling.new.items ≡ spelling.old.items ++ flat_map (spelled_byte quoted) value.now) }
+    ensures { OnOk result
+        (spelling.new.items ≡ spelling.old.items ++ flat_map (spelled_byte quoted) value.now) }
 {
     'bytes: for byte in value {
         push_byte(spelling, quoted, *byte)?;

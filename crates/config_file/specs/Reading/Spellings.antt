@@ -36,7 +36,8 @@ ends_with_space (b ∷ c ∷ rest) = ends_with_space (c ∷ rest)
 -- quotes are needed, or cost less than the backslashes before TABs
 abbrev pub is_quoted : List ℕ → Bool
 is_quoted value =
-    begins_with_space value || ends_with_space value || list_any is_lost value || nat_lt 2 (count_by (λ b. b == tab) value)
+    begins_with_space value || ends_with_space value || list_any is_lost value
+    || nat_lt 2 (count_by (λ b. b == tab) value)
 
 abbrev pub spelled_value : List ℕ → List ℕ
 spelled_value value =
