@@ -18,8 +18,8 @@ pub enum ReadError {
     Refused(Error),
 }
 
-/// The entries of a text, in order. It returns `Refused` if the text is no configuration file, and `Memory` if
-/// memory is refused to the list.
+/// The entries of a text, in order. It returns `Refused` if the text is no configuration file, and `Memory`
+/// if memory is refused to the list.
 pub fn read<'a>(alloc: Global, text: &'a [u8]) -> Result<Vec<Entry<'a>>, ReadError>
     ensures read { IfOk result (λ entries. IsFile text.now (map entry_of entries.items) None) }
     ensures refused { (error : Error) → result ≡ Err (ReadError.Refused error)

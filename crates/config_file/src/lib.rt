@@ -4,11 +4,12 @@
 //! one, or after the error at which the text is refused, it ends. [`file::read`] reads a whole text. An
 //! [`errors::Error`] has the line that Git tells, and the fault.
 //!
-//! The parts of an [`entry::Entry`] are borrowed from the text. A [`value::Value`] gives the text that its bytes
-//! spell, and a [`section::Subsection`] appends it. [`entry::Entry::key_text`] is the key as `git config --list`
-//! shows it.
+//! The parts of an [`entry::Entry`] are borrowed from the text. A [`value::Value`] gives the text that its
+//! bytes spell, and a [`section::Subsection`] appends it. [`entry::Entry::key_text`] is the key as `git
+//! config --list` shows it.
 //!
-//! [`laws`] states that each text has a reading, and one: it is a configuration file, or it is refused on a line.
+//! [`laws`] states that each text has a reading, and one: it is a configuration file, or it is refused on a
+//! line.
 #![tactic(auto)]
 
 mod bytes;

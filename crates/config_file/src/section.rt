@@ -33,8 +33,8 @@ pub struct Subsection<'a> {
 }
 
 impl<'a> Subsection<'a> {
-    /// Appends the text that these bytes spell, where a backslash is dropped and the byte after it is kept. It
-    /// fails only if memory is refused.
+    /// Appends the text that these bytes spell, where a backslash is dropped and the byte after it is kept.
+    /// It fails only if memory is refused.
     pub fn push_text(&self, text: &mut Vec<u8>) -> Result<(), AllocError>
         ensures { (spelled : List ℕ) → SpellsSubsection self.now.raw.now spelled
             → OnOk result (text.new.items ≡ text.old.items ++ spelled) }

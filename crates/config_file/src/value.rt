@@ -41,8 +41,9 @@ pub(crate) struct Taken<'a> {
 }
 
 impl<'a> Value<'a> {
-    /// The text that these bytes spell: docs/GRAMMAR.md. It is borrowed, and takes no memory, if they have
-    /// no quote and no backslash, and each blank within the text is a space. It fails only if memory is refused.
+    /// The text that these bytes spell: docs/GRAMMAR.md, Configuration files. It is borrowed, and takes no
+    /// memory, if they have no quote and no backslash, and each blank within the text is a space. It fails only
+    /// if memory is refused.
     ///
     /// ```rust
     /// use config_file::reader::Entries;

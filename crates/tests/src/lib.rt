@@ -6,6 +6,8 @@
 #![tactic(auto)]
 
 #[cfg(test)]
+mod files;
+#[cfg(test)]
 mod memory;
 #[cfg(test)]
 mod paths;
