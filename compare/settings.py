@@ -68,7 +68,8 @@ COMMANDS = {
     "pack-bitmaps": ("", "git repack -adb --quiet"),
     "midx-bitmaps": ("git repack -dq", "git multi-pack-index write --bitmap"),
     "commit-graph": ("", "git commit-graph write --reachable --changed-paths"),
-    "maintenance": ("", "git maintenance run --auto --task=commit-graph --task=loose-objects --task=incremental-repack"),
+    "maintenance": ("",
+                    "git maintenance run --auto --task=commit-graph --task=loose-objects --task=incremental-repack"),
     "schedule": ("", "git maintenance run --schedule=weekly --quiet"),
     "maintenance-one": ("", "git maintenance run --schedule=daily --quiet"),
     "commit": ("", "git commit -qam x"),
@@ -111,11 +112,14 @@ COMMANDS = {
     "format-patch-files": ("", "git format-patch -1 -o ../out"),
     "clone": ("", "git clone -q . ../copy"),
     "clone-submodules": ("", "git -c protocol.file.allow=always clone -q --recurse-submodules --reference . . ../copy"),
-    "clone-partial": ("git config uploadpack.allowFilter true", "git clone -q --no-checkout --filter=tree:0 \"file://$PWD\" ../copy"),
+    "clone-partial": ("git config uploadpack.allowFilter true",
+                      "git clone -q --no-checkout --filter=tree:0 \"file://$PWD\" ../copy"),
     "init": ("", "git init -q ../new"),
     "fsck": ("", "git fsck"),
-    "submodule": ("git submodule --quiet deinit -f sub", "git -c protocol.file.allow=always submodule --quiet update --init"),
-    "submodule-clone": ("git clone -q . ../copy", "git -C ../copy -c protocol.file.allow=always submodule update --init"),
+    "submodule": ("git submodule --quiet deinit -f sub",
+                  "git -c protocol.file.allow=always submodule --quiet update --init"),
+    "submodule-clone": ("git clone -q . ../copy",
+                        "git -C ../copy -c protocol.file.allow=always submodule update --init"),
     "submodule-errors": ("git clone -q . ../copy", "git -C ../copy -c protocol.file.allow=always "
                          "-c submodule.alternateLocation=no submodule update --init"),
     "submodule-update": ("", "git submodule update"),
@@ -128,7 +132,8 @@ COMMANDS = {
     "ls-remote-http": ("", "git ls-remote http://127.0.0.1:1/x"),
     "ls-remote-password": ("", "git ls-remote http://u:p@127.0.0.1:1/x"),
     "credential": ("", "printf 'url=http://127.0.0.1:1/x\\n\\n' | git credential fill"),
-    "credential-store": ("", "printf 'protocol=http\\nhost=h\\nusername=u\\npassword=p\\n\\n' | git credential-store --file=../cs store"),
+    "credential-store": ("",
+                         "printf 'protocol=http\\nhost=h\\nusername=u\\npassword=p\\n\\n' | git credential-store --file=../cs store"),
     "imap-send": ("", "git -c imap.host=imap://127.0.0.1 -c imap.folder=x -c imap.tunnel=false imap-send < ../p.patch"),
     "imap-curl": ("", "git -c imap.host=imap://127.0.0.1:1 -c imap.folder=x imap-send < ../p.patch"),
     "mailinfo": ("", "git mailinfo ../m1 ../m2 < ../p.patch"),
@@ -165,8 +170,8 @@ Question = collections.namedtuple("Question", "row key command value")
 
 def environment(folder):
     """What Git sees of its surroundings: no other configuration, a name, and one time."""
-    return {"PATH": os.environ["PATH"], "HOME": str(folder), "LC_ALL": "C", "GIT_CONFIG_NOSYSTEM": "1", "EDITOR": "true",
-            "GIT_CONFIG_GLOBAL": str(folder / "config"), "GIT_AUTHOR_DATE": "1700000000 +0000", "PAGER": "cat",
+    return {"PATH": os.environ["PATH"], "HOME": str(folder), "LC_ALL": "C", "GIT_CONFIG_NOSYSTEM": "1",
+            "EDITOR": "true", "GIT_CONFIG_GLOBAL": str(folder / "config"), "GIT_AUTHOR_DATE": "1700000000 +0000", "PAGER": "cat",
             "GIT_COMMITTER_DATE": "1700000000 +0000", "TERM": "dumb", "GIT_TERMINAL_PROMPT": "0", "GIT_ASKPASS": "true",
             **{f"GIT_{who}_{what}": "x@x" for who in ("AUTHOR", "COMMITTER") for what in ("NAME", "EMAIL")}}
 
@@ -183,11 +188,9 @@ def entry(key, value):
 
 
 def shell(script, folder, cwd):
-    try:
-        return subprocess.run(["timeout", str(SECONDS), "sh", "-c", script], cwd=cwd, env=environment(folder), check=False,
-                              stdin=subprocess.DEVNULL, stdout=subprocess.DEVNULL, stderr=subprocess.PIPE)
-    except OSError as error:
-        raise SystemExit(f"cannot ask Git: {error}") from error
+    """Runs a script, without input, and gives how it ended and its errors."""
+    return subprocess.run(["timeout", str(SECONDS), "sh", "-c", script], cwd=cwd, env=environment(folder), check=False,
+                          stdin=subprocess.DEVNULL, stdout=subprocess.DEVNULL, stderr=subprocess.PIPE)
 
 
 def run(made, question):
@@ -261,7 +264,8 @@ splitIndex.maxPercentChange""".split())
 CLASSES = {
     "Git ignores the value without a word": lambda case: (case.ours, case.git) == ("warns", "takes"),
     "a number of 2^63 and more": lambda case: case.question.value == str(2 ** 63) and case.git == "takes",
-    "a missing value at which Git goes on": lambda case: case.question.value is None and (case.ours, case.git) == ("dies", "warns"),
+    "a missing value at which Git goes on":
+        lambda case: case.question.value is None and (case.ours, case.git) == ("dies", "warns"),
     "a text that the command reads further": lambda case: case.kind == "text" and case.ours == "takes",
     "a right value with an effect that fails": lambda case: case.question.row in EFFECTS and case.ours == "takes",
     "a kind that takes more than Git": lambda case: case.question.row in WIDER and case.ours == "takes",

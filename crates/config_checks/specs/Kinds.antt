@@ -1,5 +1,5 @@
 -- What a row demands: words of a list, and how a text has to have them.
-use Rattle.std.specs.Prelude.{◌≡◌, ◌≢◌, ◌⊎◌, ℕ, ◌<◌, ◌==◌, ◌||◌, nat_eq, IsTrue, List, [], ◌∷◌, ◌++◌, codes}
+use Rattle.std.specs.Prelude.{◌≡◌, ◌⊎◌, ℕ, ◌<◌, ◌==◌, ◌||◌, nat_eq, IsTrue, List, [], ◌∷◌, ◌++◌, codes}
 use Rattle.std.specs.Prelude.{length, take, drop, slice_index_or, Bool, true, false, if◌then◌else◌, All}
 use Rattle.std.specs.List.{slice_split, starts_with, Any}
 use Rattle.std.specs.Char.{is_ascii_digit, is_ascii_alphabetic}

@@ -1,5 +1,5 @@
 -- What is wrong with a setting: by its row, over no value or a text, by the grammars of the values.
-use Rattle.std.specs.Prelude.{◌≡◌, ◌≢◌, ◌⊎◌, ℕ, pos, negsuc, ◌≤ℤ◌, List, Bool, true, false, IsTrue}
+use Rattle.std.specs.Prelude.{◌≡◌, ◌≢◌, ◌⊎◌, ℕ, pos, negsuc, ◌≤ℤ◌, List, Bool, true, false}
 use Rattle.std.specs.Prelude.{Option, None, Some, if◌then◌else◌}
 use denote.Ref.{Bor}
 use Rattle.config_text.specs.declared.errors.Fault.{Fault}
