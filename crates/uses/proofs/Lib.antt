@@ -1,4 +1,1 @@
-pub mod Places
-pub mod Joined
-mod EntryFacts
 mod HeadlineLemmas

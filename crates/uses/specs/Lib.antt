@@ -1,5 +1,4 @@
-pub mod Entries
-pub mod Precedence
+pub mod Repository
 pub mod PushDefault
 pub mod Headline
 pub mod Laws

@@ -1,15 +1,15 @@
 //! The callers, each run on texts as a user writes them.
 
-use crate::entries::{Entry, read_file, texts};
 use crate::literals::{default_limit, default_warning};
 use crate::paths::{path_at_home, path_of_user};
-use crate::precedence::{RefusedIn, Source, resolve};
 use crate::push_default::{PushDefault, push_default};
+use crate::repository::{File, is_bare, read};
 use bstr::BStr;
+use config_settings::settings::Settings;
 use gix_config_value::canonical::normalize_as;
 use gix_config_value::integer::Amount;
-use gix_config_value::settings::{Refused, lookup};
-use gix_config_value::{Boolean, Path};
+use gix_config_value::path::interpolate::{Context, absent};
+use gix_config_value::{Boolean, Fault, Path};
 use std::fmt::Debug;
 use std::process::Abort;
 use std::test::Fail;
@@ -19,64 +19,81 @@ fn equal<T: PartialEq + Debug>(rt: &impl Abort, given: &T, wanted: &T) {
     assert!(rt; given == wanted, "{given:?} in place of {wanted:?}");
 }
 
-/// With comments, an empty line, white space of several kinds, and a key alone.
-const FILE: &[u8] =
-    b"# = like best\n\n\tcore.abbrev = 08\r\n ;core.abbrev=9\nshow\npager.options = -F -X=2";
-
-/// An entry of this name and value.
-fn entry(name: &'static [u8], value: Option<&'static [u8]>) -> Entry<'static> {
-    Entry { name, value }
-}
+/// What the system, the user and the repository have. What is wanted of them is what Git 2.39.5 gives.
+const FILES: [File<'static>; 3] = [
+    File {
+        name: "system",
+        bytes: b"[core]\n\tabbrev = 12\n[pack]\n\twindowMemory = 512M\n",
+    },
+    File {
+        name: "user",
+        bytes: b"[Core]\n\tabbrev = 08 ; octal\n\texcludesFile = ~/ignore\n[color \"diff\"]\n\tmeta = bold \"red\"\n",
+    },
+    File {
+        name: "repository",
+        bytes: b"[core]\n\tbare\n[branch \"Main\"]\n\trebase =\n\tmerge = a\n\tmerge = b\n",
+    },
+];
 
 #[test]
-fn reads_entries(rt: HostRuntime) -> Result<(), Fail> {
-    let wanted = [
-        entry(b"core.abbrev", Some(b"08")),
-        entry(b"show", None),
-        entry(b"pager.options", Some(b"-F -X=2")),
-    ];
-    let entries = read_file(rt.alloc(), FILE)?;
-    equal(&rt, &entries.as_slice(), &wanted.as_slice());
+fn reads_settings_of_three_files(rt: HostRuntime) -> Result<(), Fail> {
+    let alloc = rt.alloc();
+    let settings = read(alloc, &FILES)?;
+    equal(&rt, &is_bare(&settings)?, &true);
+    let memory = settings.get::<Amount>(b"PACK", None, b"windowmemory")?;
+    equal(&rt, &memory, &Some(Amount(536_870_912)));
+    let rebase = settings.get::<Boolean>(b"branch", Some(b"Main"), b"rebase")?;
+    equal(&rt, &rebase, &Some(Boolean(false)));
+    let rebase = settings.get::<Boolean>(b"branch", Some(b"main"), b"rebase")?;
+    equal(&rt, &rebase, &None);
+    let merges = settings.all(alloc, b"branch", Some(b"Main"), b"merge")?;
+    equal(&rt, &merges.len(), &2);
+    equal(&rt, &merges[1].text(), &b"b".as_slice());
     Ok(())
 }
 
 #[test]
-fn a_key_alone_is_true(rt: HostRuntime) -> Result<(), Fail> {
-    let entries = read_file(rt.alloc(), b"bare =\n\t shallow\r\n")?;
-    let settings = texts(rt.alloc(), &entries)?;
-    equal(
-        &rt,
-        &lookup(&settings, b"bare", Boolean(true)),
-        &Ok(Boolean(false)),
-    );
-    equal(
-        &rt,
-        &lookup(&settings, b"shallow", Boolean(false)),
-        &Ok(Boolean(true)),
-    );
-    Ok(())
-}
-
-#[test]
-fn resolves_over_three_sources(rt: HostRuntime) {
-    let system: [(&[u8], &[u8]); 2] = [(b"pack.windowMemory", b"512M"), (b"core.abbrev", b"12")];
-    let user: [(&[u8], &[u8]); 2] = [(b"pager", b"yes"), (b"core.abbrev", b"08")];
-    let repository: [(&[u8], &[u8]); 1] = [(b"core.abbrev", b"0x10")];
-    let seven = Amount(7);
-    let abbrev = resolve(&system, &user, &repository, b"core.abbrev", seven);
-    equal(&rt, &abbrev, &Ok(Amount(16)));
-    let memory = resolve(&system, &user, &repository, b"pack.windowMemory", seven);
-    equal(&rt, &memory, &Ok(Amount(512 * 1024 * 1024)));
-    let depth = resolve(&system, &user, &repository, b"pack.depth", seven);
-    equal(&rt, &depth, &Ok(seven));
-    // without the repository's entries those of the user refuse, though the system has a number
-    let refused = Refused {
-        index: 1,
-        input: b"08",
+fn a_refusal_names_its_place(rt: HostRuntime) -> Result<(), Fail> {
+    let alloc = rt.alloc();
+    let settings = read(alloc, &FILES)?;
+    let refused = settings
+        .get::<Amount>(b"core", None, b"abbrev")
+        .err()
+        .ok_or("a number")?;
+    equal(&rt, &refused.line, &2);
+    equal(&rt, &refused.value, &Some(b"08".as_slice()));
+    let told = format!(in alloc; "{refused}")?;
+    let wanted = format!(in alloc; "user:2: core.abbrev: {}", Fault::Integer.text())?;
+    equal(&rt, &told.as_str(), &wanted.as_str());
+    let ignore = settings
+        .last(b"core", None, b"excludesfile")
+        .ok_or("no path")?;
+    let context = Context {
+        home_dir: Some("/home/ann"),
+        home_for_user: absent(|_name: &str| None),
+        ..Context::default()
     };
-    let source = Source::User;
-    let abbrev = resolve(&system, &user, &[], b"core.abbrev", seven);
-    equal(&rt, &abbrev, &Err(RefusedIn { source, refused }));
+    let (_, parts) = ignore.path(context)?;
+    equal(&rt, &parts.to_text(alloc)?.as_str(), &"/home/ann/ignore");
+    Ok(())
+}
+
+#[test]
+fn an_invalid_line_is_told(rt: HostRuntime) -> Result<(), Fail> {
+    let alloc = rt.alloc();
+    let file = File {
+        name: "broken",
+        bytes: b"[a]\n\tb = c\n[",
+    };
+    let mut settings = Settings::new(alloc);
+    let refused = settings
+        .add_file(alloc, file.name, file.bytes)
+        .err()
+        .ok_or("no error")?;
+    let told = format!(in alloc; "{refused}")?;
+    equal(&rt, &told.as_str(), &"broken:4: bad config line");
+    equal(&rt, &settings.entries.len(), &1);
+    Ok(())
 }
 
 #[test]

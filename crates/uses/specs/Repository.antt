@@ -1,0 +1,19 @@
+-- A setting of a repository, with its default.
+use Rattle.std.specs.Prelude.{◌≡◌, List, ℕ, Bool, false, Option, None, Some, Result, Ok, Err, codes}
+use Rattle.config_boolean.specs.Boolean.{BooleanText}
+use Rattle.config_boolean.specs.declared.boolean.Boolean.{Boolean}
+use Rattle.config_text.specs.Refusals.{OnlyFault}
+use Rattle.config_text.specs.declared.errors.Fault.{Fault}
+use Rattle.config_text.specs.declared.errors.Fault.TheVariants as faults
+use Rattle.config_settings.specs.declared.settings.Refused.{Refused}
+use Rattle.config_settings.specs.declared.settings.Setting.{Setting}
+use Rattle.config_settings.specs.Settings.{listed, Gets}
+
+-- a boolean, or false without one
+abbrev pub or_false : Option Boolean → Bool
+or_false None = false
+or_false (Some boolean) = boolean.0
+
+abbrev pub GetsBare : List Setting → Result (Option Boolean) (Refused Fault) → Type 0
+GetsBare settings result =
+    Gets BooleanText (OnlyFault faults.Boolean) settings (listed (codes "core") None (codes "bare")) result
