@@ -246,10 +246,8 @@ pub fn refusal(kind: Kind, input: BStr<'_>) -> Option<Refusal>
 /// ```
 pub fn same(kind: Kind, a: BStr<'_>, b: BStr<'_>) -> Option<bool>
     ensures answer { Compares (KindGrammar kind) (bstr_bytes a.entry) (bstr_bytes b.entry) result }
-    ensures words {
-        kind ≡ kinds.Color
-            → IfSome result (λ same. IsTrue same ↔ (SameWords (bstr_bytes a.entry) (bstr_bytes b.entry)))
-    }
+    ensures words { kind ≡ kinds.Color
+        → IfSome result (λ same. IsTrue same ↔ (SameWords (bstr_bytes a.entry) (bstr_bytes b.entry))) }
 {
     match kind {
         Kind::Suffix => same_as::<Suffix>(a, b),
