@@ -1,5 +1,5 @@
 -- A setting of a repository, with its default.
-use Rattle.std.specs.Prelude.{◌≡◌, List, ℕ, Bool, false, Option, None, Some, Result, Ok, Err, codes}
+use Rattle.std.specs.Prelude.{List, Bool, false, Option, None, Some, Result, codes}
 use Rattle.config_boolean.specs.Boolean.{BooleanText}
 use Rattle.config_boolean.specs.declared.boolean.Boolean.{Boolean}
 use Rattle.config_text.specs.Refusals.{OnlyFault}

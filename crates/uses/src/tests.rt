@@ -48,7 +48,10 @@ fn reads_settings_of_three_files(rt: HostRuntime) -> Result<(), Fail> {
     equal(&rt, &rebase, &None);
     let merges = settings.all(alloc, b"branch", Some(b"Main"), b"merge")?;
     equal(&rt, &merges.len(), &2);
-    equal(&rt, &merges[1].text(), &b"b".as_slice());
+    let last = settings
+        .last(b"branch", Some(b"Main"), b"merge")
+        .ok_or("no entry")?;
+    equal(&rt, &last.text(), &b"b".as_slice());
     Ok(())
 }
 
