@@ -23,3 +23,9 @@ pub mod Appended
 pub mod AddedEntries
 pub mod EachValue
 pub mod EachReading
+pub mod Adding
+pub mod Fronts
+pub mod Last
+pub mod Paths
+pub mod Patterns
+pub mod Walks

@@ -6,6 +6,11 @@ pub mod Value
 pub mod File
 pub mod Listing
 pub mod Spelling
+pub mod Settings
+pub mod Pattern
+pub mod Path
+pub mod Include
+pub mod Walk
 pub mod Views
 pub mod Left
 pub mod Reading

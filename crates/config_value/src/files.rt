@@ -4,7 +4,7 @@ use crate::arguments::Request;
 use bstr::BStr;
 use config_file::entry::Entry;
 use config_file::reader::Entries;
-use config_settings::settings::{AddError, Setting, Settings};
+use config_file::settings::{AddError, Setting, Settings};
 use gix_config_value::canonical::{normalize, refusal};
 use std::alloc::Global;
 use std::fs;

@@ -5,9 +5,9 @@ use Rattle.config_boolean.specs.declared.boolean.Boolean.{Boolean}
 use Rattle.config_text.specs.Refusals.{OnlyFault}
 use Rattle.config_text.specs.declared.errors.Fault.{Fault}
 use Rattle.config_text.specs.declared.errors.Fault.TheVariants as faults
-use Rattle.config_settings.specs.declared.settings.Refused.{Refused}
-use Rattle.config_settings.specs.declared.settings.Setting.{Setting}
-use Rattle.config_settings.specs.Settings.{listed, Gets}
+use Rattle.config_file.specs.declared.settings.Refused.{Refused}
+use Rattle.config_file.specs.declared.settings.Setting.{Setting}
+use Rattle.config_file.specs.Settings.{listed, Gets}
 
 -- a boolean, or false without one
 abbrev pub or_false : Option Boolean → Bool

@@ -3,7 +3,7 @@ ghost use Rattle.std.specs.Prelude.{◌≡◌, MatchResult, Option, Ok, Err};
 ghost use Rattle.config_boolean.specs.declared.boolean.Boolean as value;
 ghost use Rattle.uses.specs.Repository.{or_false, GetsBare};
 
-use config_settings::settings::{AddError, Refused, Settings};
+use config_file::settings::{AddError, Refused, Settings};
 use gix_config_value::{Boolean, Fault};
 use std::alloc::Global;
 

@@ -5,7 +5,7 @@ use crate::paths::{path_at_home, path_of_user};
 use crate::push_default::{PushDefault, push_default};
 use crate::repository::{File, is_bare, read};
 use bstr::BStr;
-use config_settings::settings::Settings;
+use config_file::settings::Settings;
 use gix_config_value::canonical::normalize_as;
 use gix_config_value::integer::Amount;
 use gix_config_value::path::interpolate::{Context, absent};

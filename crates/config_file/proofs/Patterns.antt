@@ -1,0 +1,212 @@
+-- What patterns match, by how they begin.
+use Rattle.std.proofs.Common.{◌≡◌, ◌≢◌, ℕ, suc, ◌+◌, Bool, true, false, List, [], ◌∷◌, ◌++◌, take, drop, refl, sym, ap, ◌∙◌, subst, arith}
+use Rattle.std.proofs.Common.{inl, inr, ◌⊎◌, ◌==◌, ◌&&◌, get_or, length, ◌<◌, ◌≤◌, ◌↔◌, IsTrue}
+use Rattle.std.proofs.lemmas.Bool.{cases_Bool, true≢false}
+use Rattle.std.specs.List.{prefix_len, list_all}
+use Rattle.config_file.specs.Runs.{Run, StopsRun}
+use Rattle.config_file.specs.Pattern.{star, slash, is_star, stands_for, folded, crosses, is_passed, backslash}
+use Rattle.config_file.specs.Pattern.{Item, byte, escaped, Passes, Matches, MatchesLater, MatchesStars, MatchesNoDirectory, LacksStar}
+use Rattle.config_file.specs.Pattern.{ends, one, stars, no_directory, no_more, passes}
+
+-- the front that `prefix_len` counts is the longest run
+pub run_split : (test : ℕ → Bool) (text : List ℕ) → Run test text (take (prefix_len test text) text) (drop (prefix_len test text) text)
+run_split test [] = record { joined = refl; pass = refl; longest = tt }
+run_split test (b ∷ text) =
+    elim (cases_Bool (test b)) [
+      | inl pass ↦ let more = run_split test text in
+          let next : 1 + prefix_len test text ≡ suc (prefix_len test text) = omega arith in
+          rw (pass, next) (record { joined = ap (◌∷◌ b) more.joined; pass = rw pass more.pass; longest = more.longest })
+      | inr fail ↦ rw fail (record { joined = refl; pass = refl; longest = fail })
+    ]
+
+both_true : (a b : Bool) → (a && b) ≡ true → (a ≡ true) × (b ≡ true)
+both_true true b e = (refl, e)
+both_true false b e = absurd (true≢false (sym e))
+
+stops_here : (test : ℕ → Bool) (b : ℕ) (rest r : List ℕ) → r ≡ b ∷ rest → StopsRun test r → test b ≡ false
+stops_here test b rest r e stops = subst (λ x. StopsRun test x) e stops
+
+unique : (test : ℕ → Bool) (a r a2 r2 : List ℕ) → a ++ r ≡ a2 ++ r2 → list_all test a ≡ true → list_all test a2 ≡ true
+    → StopsRun test r → StopsRun test r2 → (a ≡ a2) × (r ≡ r2)
+unique test [] r [] r2 e p p2 s s2 = (refl, e)
+unique test [] r (b ∷ a2) r2 e p p2 s s2 =
+    absurd (true≢false (sym ((both_true (test b) (list_all test a2) p2).0) ∙ stops_here test b (a2 ++ r2) r e s))
+unique test (b ∷ a) r [] r2 e p p2 s s2 =
+    absurd (true≢false (sym ((both_true (test b) (list_all test a) p).0) ∙ stops_here test b (a ++ r) r2 (sym e) s2))
+unique test (b ∷ a) r (b2 ∷ a2) r2 e p p2 s s2 =
+    let tail = unique test a r a2 r2 (ap (drop 1) e) ((both_true (test b) (list_all test a) p).1)
+    ((both_true (test b2) (list_all test a2) p2).1) s s2 in
+    let head : b ≡ b2 = ap (λ l. get_or l 0 0) e in
+    (rw (head, tail.0) refl, tail.1)
+
+-- a text has one longest run
+run_unique : (test : ℕ → Bool) (text a r a2 r2 : List ℕ) → Run test text a r → Run test text a2 r2 → (a ≡ a2) × (r ≡ r2)
+run_unique test text a r a2 r2 run run2 = unique test a r a2 r2 (sym run.joined ∙ run2.joined) run.pass run2.pass run.longest run2.longest
+
+append_longer : (a r : List ℕ) → length r ≤ length (a ++ r)
+append_longer [] r = omega arith
+append_longer (b ∷ a) r = let more = append_longer a r in omega arith
+
+pub run_shortens : {test : ℕ → Bool} {text a r : List ℕ} → Run test text a r → length r ≤ length text
+run_shortens {a = a} {r = r} run = rw run.joined (append_longer a r)
+
+-- ---- items
+
+stands_for_backslash : (i : Bool) (c b : ℕ) → c ≡ backslash → stands_for i c b ≡ true → ⊥
+stands_for_backslash i c b e is = true≢false (sym (rw e at is))
+
+no_star_item : {i : Bool} {b : ℕ} {pattern rest : List ℕ} → Item i (star ∷ pattern) b rest → ⊥
+no_star_item (byte is) = true≢false (sym is)
+no_star_item (escaped e f) = absurd (omega arith)
+
+item_unique : {i : Bool} {b : ℕ} {pattern r r2 : List ℕ} → Item i pattern b r → Item i pattern b r2 → r ≡ r2
+item_unique (byte is) (byte is2) = refl
+item_unique {i = i} (byte {c = c} {b = b} is) (escaped e f) = absurd (stands_for_backslash i c b e is)
+item_unique {i = i} (escaped {c = c} {b = b} e f) (byte is) = absurd (stands_for_backslash i c b e is)
+item_unique (escaped e f) (escaped e2 f2) = refl
+
+pub item_shortens : {i : Bool} {b : ℕ} {pattern r : List ℕ} → Item i pattern b r → length r < length pattern
+item_shortens (byte is) = omega arith
+item_shortens (escaped e f) = omega arith
+
+pub byte_item : {i : Bool} {b c : ℕ} {more : List ℕ} (pattern : List ℕ) → pattern ≡ c ∷ more → stands_for i c b ≡ true → Item i pattern b more
+byte_item pattern at is = rw at (byte is)
+
+pub escaped_item : {i : Bool} {b c : ℕ} {more rest : List ℕ} (pattern : List ℕ) → pattern ≡ c ∷ more → c ≡ backslash
+    → more ≡ folded i b ∷ rest → Item i pattern b rest
+escaped_item pattern at is e = rw (at, e) (escaped is refl)
+
+empty_no_item : {i : Bool} {b : ℕ} {rest : List ℕ} → Item i [] b rest → ⊥
+empty_no_item item = let short = item_shortens item in omega arith
+
+pub no_item : {i : Bool} {b : ℕ} (pattern rest : List ℕ) → pattern ≡ [] → ¬ (Item i pattern b rest)
+no_item {i = i} {b = b} pattern rest at item = empty_no_item (subst (λ p. Item i p b rest) at item)
+
+byte_or_escape : {i : Bool} {b c : ℕ} {more rest : List ℕ} → Item i (c ∷ more) b rest
+    → (stands_for i c b ≡ true) ⊎ ((c ≡ backslash) × (more ≡ folded i b ∷ rest))
+byte_or_escape (byte is) = inl is
+byte_or_escape (escaped {rest = rest} is e) = inr (is, ap (λ x. x ∷ rest) e)
+
+pub no_escaped_item : {i : Bool} {b c : ℕ} {more : List ℕ} (pattern rest : List ℕ) → pattern ≡ c ∷ more → c ≡ backslash
+    → ((r : List ℕ) → more ≢ folded i b ∷ r) → ¬ (Item i pattern b rest)
+no_escaped_item {i = i} {b = b} {c = c} pattern rest at is never item =
+    elim (byte_or_escape (subst (λ p. Item i p b rest) at item)) [
+      | inl stands ↦ stands_for_backslash i c b is stands
+      | inr both ↦ never rest both.1
+    ]
+
+pub no_byte_item : {i : Bool} {b c : ℕ} {more : List ℕ} (pattern rest : List ℕ) → pattern ≡ c ∷ more → c ≢ backslash
+    → stands_for i c b ≡ false → ¬ (Item i pattern b rest)
+no_byte_item {i = i} {b = b} {c = c} pattern rest at is never item =
+    elim (byte_or_escape (subst (λ p. Item i p b rest) at item)) [
+      | inl stands ↦ true≢false (sym stands ∙ never)
+      | inr both ↦ is both.0
+    ]
+
+-- ---- patterns that do not begin with a star
+
+one_inv : {i starts : Bool} {b : ℕ} {pattern text : List ℕ} → Matches i starts pattern (b ∷ text) → LacksStar pattern
+    → (rest : List ℕ) × Item i pattern b rest × Matches i (b == slash) rest text
+one_inv (one rest item more) lacks = (rest, item, more)
+one_inv (stars {pattern = pattern} more rest left is run passed match) lacks = absurd (lacks pattern (ap (λ x. x ∷ pattern) is))
+one_inv (no_directory {pattern = pattern} more rest is run crossing match) lacks = absurd (lacks pattern (ap (λ x. x ∷ pattern) is))
+
+end_inv : {i starts : Bool} {pattern : List ℕ} → Matches i starts pattern [] → LacksStar pattern → pattern ≡ []
+end_inv ends lacks = refl
+end_inv (stars {pattern = pattern} more rest left is run passed match) lacks = absurd (lacks pattern (ap (λ x. x ∷ pattern) is))
+end_inv (no_directory {pattern = pattern} more rest is run crossing match) lacks = absurd (lacks pattern (ap (λ x. x ∷ pattern) is))
+
+pub one_byte : {i starts : Bool} {b : ℕ} {pattern rest : List ℕ} (r : Bool) (at text : List ℕ) → at ≡ b ∷ text → LacksStar pattern
+    → Item i pattern b rest → IsTrue r ↔ (Matches i (b == slash) rest text) → IsTrue r ↔ (Matches i starts pattern at)
+one_byte {i = i} {starts = starts} {b = b} {pattern = pattern} {rest = rest} r at text e lacks item same = rw e (
+  λ t. one rest item (same.0 t),
+  λ whole. let (rest2, item2, more) = one_inv whole lacks in
+      same.1 (subst (λ x. Matches i (b == slash) x text) (item_unique item2 item) more),
+)
+
+pub no_byte : {i starts : Bool} {b : ℕ} {pattern : List ℕ} (at text : List ℕ) → at ≡ b ∷ text → LacksStar pattern
+    → ((rest : List ℕ) → ¬ (Item i pattern b rest)) → ¬ (Matches i starts pattern at)
+no_byte {i = i} {starts = starts} {pattern = pattern} at text e lacks never whole =
+    let (rest, item, more) = one_inv (subst (λ x. Matches i starts pattern x) e whole) lacks in never rest item
+
+pub at_end : {i starts : Bool} (pattern at : List ℕ) → at ≡ [] → LacksStar pattern → (pattern ≡ []) ↔ (Matches i starts pattern at)
+at_end {i = i} {starts = starts} pattern at e lacks = rw e (λ none. rw none ends, λ whole. end_inv whole lacks)
+
+-- ---- stars
+
+stars_inv : {i starts : Bool} {pattern more rest text : List ℕ} → Run is_star pattern more rest → Matches i starts (star ∷ pattern) text
+    → MatchesNoDirectory i (crosses starts more rest) rest text ⊎ MatchesLater i (crosses starts more rest) rest text
+stars_inv run (one rest item match) = absurd (no_star_item item)
+stars_inv {pattern = pattern} {more = more} {rest = rest} run (stars more2 rest2 left is run2 passed match) =
+    let same = run_unique is_star pattern more rest more2 rest2 run run2 in
+    rw (same.0, same.1) (inr (left, passed, match))
+stars_inv {pattern = pattern} {more = more} {rest = rest} run (no_directory more2 rest2 is run2 crossing match) =
+    let same = run_unique is_star pattern more rest more2 (slash ∷ rest2) run run2 in
+    rw (same.0, same.1) (inl (rest2, crossing, refl, match))
+
+pub stars_no_directory : {i starts : Bool} {pattern more text : List ℕ} (rest : List ℕ) → Run is_star pattern more rest
+    → MatchesNoDirectory i (crosses starts more rest) rest text → MatchesStars i starts pattern text
+stars_no_directory {i = i} {starts = starts} {pattern = pattern} {more = more} rest run (after, crossing, at, match) =
+    no_directory more after refl (subst (λ r. Run is_star pattern more r) at run) (subst (λ r. crosses starts more r ≡ true) at crossing) match
+
+pub stars_later : {i starts : Bool} {pattern more rest text : List ℕ} → Run is_star pattern more rest
+    → MatchesLater i (crosses starts more rest) rest text → MatchesStars i starts pattern text
+stars_later {more = more} {rest = rest} run (left, passed, match) = stars more rest left refl run passed match
+
+pub stars_only_later : {i starts : Bool} {pattern more rest text : List ℕ} → Run is_star pattern more rest
+    → ¬ (MatchesNoDirectory i (crosses starts more rest) rest text)
+    → MatchesStars i starts pattern text → MatchesLater i (crosses starts more rest) rest text
+stars_only_later run never whole = elim (stars_inv run whole) [
+  | inl direct ↦ absurd (never direct)
+  | inr later ↦ later
+]
+
+-- ---- what stars pass
+
+pub later_here : {i crossing : Bool} {pattern at : List ℕ} → Matches i false pattern at → MatchesLater i crossing pattern at
+later_here {at = at} match = (at, no_more, match)
+
+pub later_step : {i crossing : Bool} {b : ℕ} {pattern rest : List ℕ} (at : List ℕ) → at ≡ b ∷ rest → is_passed crossing b ≡ true
+    → MatchesLater i crossing pattern rest → MatchesLater i crossing pattern at
+later_step at e is (left, passed, match) = rw e (left, passes is passed, match)
+
+passes_inv : {crossing : Bool} {b : ℕ} {rest left : List ℕ} → Passes crossing (b ∷ rest) left
+    → (left ≡ b ∷ rest) ⊎ ((is_passed crossing b ≡ true) × Passes crossing rest left)
+passes_inv no_more = inl refl
+passes_inv (passes is more) = inr (is, more)
+
+passes_none : {crossing : Bool} {left : List ℕ} → Passes crossing [] left → left ≡ []
+passes_none no_more = refl
+
+later_inv : {i crossing : Bool} {b : ℕ} {pattern rest : List ℕ} (at : List ℕ) → at ≡ b ∷ rest → ¬ (Matches i false pattern at)
+    → MatchesLater i crossing pattern at → (is_passed crossing b ≡ true) × MatchesLater i crossing pattern rest
+later_inv {i = i} {crossing = crossing} {pattern = pattern} at e never (left, passed, match) =
+    elim (passes_inv (subst (λ x. Passes crossing x left) e passed)) [
+      | inl same ↦ absurd (never (subst (λ x. Matches i false pattern x) (same ∙ sym e) match))
+      | inr more ↦ (more.0, (left, more.1, match))
+    ]
+
+pub later_back : {i crossing : Bool} {b : ℕ} {pattern rest : List ℕ} (at : List ℕ) → at ≡ b ∷ rest → ¬ (Matches i false pattern at)
+    → MatchesLater i crossing pattern at → MatchesLater i crossing pattern rest
+later_back at e never later = (later_inv at e never later).1
+
+pub later_stops : {i crossing : Bool} {b : ℕ} {pattern rest : List ℕ} (at : List ℕ) → at ≡ b ∷ rest → ¬ (Matches i false pattern at)
+    → is_passed crossing b ≡ false → ¬ (MatchesLater i crossing pattern at)
+later_stops at e never stops later = true≢false (sym ((later_inv at e never later).0) ∙ stops)
+
+pub later_ends : {i crossing : Bool} {pattern : List ℕ} (at : List ℕ) → at ≡ [] → ¬ (Matches i false pattern at)
+    → ¬ (MatchesLater i crossing pattern at)
+later_ends {i = i} {crossing = crossing} {pattern = pattern} at e never (left, passed, match) =
+    let same = passes_none (subst (λ x. Passes crossing x left) e passed) in
+    never (subst (λ x. Matches i false pattern x) (same ∙ sym e) match)
+
+-- ---- answers of tests
+
+pub not_true : (b : Bool) → b ≡ false → IsTrue b → ⊥
+not_true b e t = grind arith
+
+pub never_true : IsTrue false → ⊥
+never_true t = not_true false refl t
+
+pub no_match : {P : Type 0} (b : Bool) → b ≡ false → IsTrue b ↔ P → ¬ P
+no_match b e same whole = not_true b e (same.1 whole)

@@ -1,0 +1,14 @@
+use Rattle.std.proofs.Common.{◌++◌, [], ◌∷◌, rules}
+use Rattle.config_file.specs.Views.{entry_of}
+use Rattle.config_file.proofs.Adding.{adds_more, file_more}
+use Rattle.config_file.proofs.settings.Settings.add_file.Goals as goal
+
+pub loop-entry-preserved : goal.loop-entry-preserved
+loop-entry-preserved c =
+    let (entries, reads, adds) = c.loop-entry.invariant in
+    let gives = rw c.in-Ok.is at c.in-Some.ensures.steps in (
+      entries ++ entry_of c.in-Ok.entry ∷ [],
+      λ left error h. file_more c.args.text.now entries left (entry_of c.in-Ok.entry) error (reads (entry_of c.in-Ok.entry ∷ left) error (gives left error h)),
+      adds_more c.args.file.now entries (entry_of c.in-Ok.entry) c.args.self.now.entries.items _ c.push.new.self.items c.in-Ok-read_setting.setting adds
+          c.in-Ok-read_setting.ensures (search rules),
+    )

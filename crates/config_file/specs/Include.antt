@@ -1,0 +1,53 @@
+-- The entries that include a file, and their conditions.
+use Rattle.std.specs.Prelude.{◌≡◌, ◌≢◌, ℕ, Bool, false, if◌then◌else◌, List, ◌++◌, codes, nat_eq, Option, None, Some, ◌⊎◌}
+use Rattle.std.specs.List.{ends_with, starts_with}
+use Rattle.config_file.specs.declared.include.Condition.{Condition}
+use Rattle.config_file.specs.declared.include.Condition.TheVariants.{Always, GitDir, GitDirIgnoringCase, OnBranch, HasRemoteUrl, Unknown}
+use Rattle.config_file.specs.declared.include.Repository.{Repository}
+use Rattle.config_file.specs.Pattern.{MatchesText}
+
+-- a text that does not begin with this
+abbrev pub LacksFront : List ℕ → List ℕ → Type 0
+LacksFront front text = (rest : List ℕ) → text ≢ front ++ rest
+
+-- what a condition is by its text; any other text is an unknown condition
+abbrev pub Names : List ℕ → Condition → Type 0
+Names text Always = ⊥
+Names text (GitDir pattern) = text ≡ codes "gitdir:" ++ pattern.now
+Names text (GitDirIgnoringCase pattern) = text ≡ codes "gitdir/i:" ++ pattern.now
+Names text (OnBranch pattern) = text ≡ codes "onbranch:" ++ pattern.now
+Names text (HasRemoteUrl pattern) = text ≡ codes "hasconfig:remote.*.url:" ++ pattern.now
+Names text Unknown = LacksFront (codes "gitdir:") text × LacksFront (codes "gitdir/i:") text × LacksFront (codes "onbranch:") text
+    × LacksFront (codes "hasconfig:remote.*.url:") text
+
+-- the key has this condition: its text is all between the first and the last dot
+abbrev pub IsConditional : List ℕ → List ℕ → Type 0
+IsConditional key text = key ≡ codes "includeif." ++ text ++ codes ".path"
+
+-- the entry of this key, as Git lists it, includes a file on this condition
+abbrev pub Includes : List ℕ → Condition → Type 0
+Includes key Always = key ≡ codes "include.path"
+Includes key condition = (text : List ℕ) × IsConditional key text × Names text condition
+
+-- the entry of this key includes no file
+abbrev pub IncludesNone : List ℕ → Type 0
+IncludesNone key = (key ≢ codes "include.path") × ((text : List ℕ) → ¬ (IsConditional key text))
+
+-- a pattern that ends with `/` stands for all below
+abbrev pub below : List ℕ → List ℕ
+below pattern = if ends_with nat_eq pattern (codes "/") then pattern ++ codes "**" else pattern
+
+-- a pattern that does not begin with `/` stands for itself in any directory
+abbrev pub anywhere : List ℕ → List ℕ
+anywhere pattern = if starts_with nat_eq pattern (codes "/") then pattern else codes "**/" ++ pattern
+
+-- one of the two names of the git directory matches the pattern
+abbrev pub IsGitDir : Bool → List ℕ → Repository → Type 0
+IsGitDir ignores_case pattern repository =
+    MatchesText ignores_case (below (anywhere pattern)) repository.real_git_dir.now
+    ⊎ MatchesText ignores_case (below (anywhere pattern)) repository.git_dir.now
+
+-- the branch matches the pattern
+abbrev pub IsOnBranch : List ℕ → Option (List ℕ) → Type 0
+IsOnBranch pattern None = ⊥
+IsOnBranch pattern (Some branch) = MatchesText false (below pattern) branch

@@ -1,0 +1,102 @@
+//! The name of an included file.
+ghost use Rattle.std.specs.Prelude.{◌≡◌, ◌≤◌, ◌++◌, length, IfOk, MatchOption, List, ℕ, option_copied};
+ghost use Rattle.config_file.specs.Path as spec;
+ghost use Rattle.config_file.specs.Path.{Expands, BeginsUnknown, IsIncludedName, is_no_slash};
+ghost use Rattle.std.specs.List.{suffix_len};
+
+use crate::include::strip;
+use std::alloc::{AllocError, Global};
+
+/// The directories that a path may begin with.
+#[derive(Clone, Copy)]
+pub struct Directories<'d> {
+    /// The home directory of the current user, for `~`.
+    pub home: Option<&'d [u8]>,
+    /// The directory that Git is installed in, for `%(prefix)/`.
+    pub install_dir: Option<&'d [u8]>,
+}
+
+/// Two texts, one after the other.
+pub(crate) fn joined(alloc: Global, first: &[u8], second: &[u8]) -> Result<Vec<u8>, AllocError>
+    ensures { IfOk result (λ whole. whole.items ≡ first.now ++ second.now) }
+{
+    let mut whole = Vec::new(alloc);
+    whole.extend_from_slice(first)?;
+    whole.extend_from_slice(second)?;
+    Ok(whole)
+}
+
+/// How many bytes follow the last `/`.
+fn name_length(file: &[u8]) -> usize
+    ensures count { result ≡ suffix_len is_no_slash file.now }
+    ensures within { result ≤ length file.now }
+{
+    file.iter().rev().take_while(|byte| **byte != b'/').count()
+}
+
+/// The directory of a file: its name up to the last `/`, or nothing.
+fn directory(file: &[u8]) -> &[u8]
+    ensures { result.now ≡ spec.directory file.now }
+{
+    &file[..file.len() - name_length(file)]
+}
+
+/// The name of the file that a path stands for: a relative one is put after the directory of the file that
+/// includes it. Fails only if memory runs out.
+#[tactic(auto, using(crate::proofs::Paths::absolute_name, crate::proofs::Paths::relative_name))]
+pub fn included_name(alloc: Global, file: &[u8], path: &[u8]) -> Result<Vec<u8>, AllocError>
+    ensures { IfOk result (λ name. IsIncludedName file.now path.now name.items) }
+{
+    match strip(path, b"/") {
+        Some(_rest) => Ok(joined(alloc, b"", path)?),
+        None => Ok(joined(alloc, directory(file), path)?),
+    }
+}
+
+/// A directory of a path, and what follows it.
+#[derive(Clone, Copy)]
+pub struct Expanded<'e> {
+    pub directory: &'e [u8],
+    pub rest: &'e [u8],
+}
+
+/// Whether this is nothing, or begins with `/`.
+fn is_rest(rest: &[u8]) -> bool
+    ensures { result ≡ spec.is_rest rest.now }
+{
+    match rest {
+        [] => true,
+        [first, ..] => *first == b'/',
+    }
+}
+
+/// The path that a value stands for, in two parts, or `None` if it begins with a directory that is not known. No
+/// users are looked up, so `~user` is not known.
+#[tactic(auto, using(crate::proofs::Paths::at_home, crate::proofs::Paths::at_prefix, crate::proofs::Paths::elsewhere, crate::proofs::Paths::of_user, crate::proofs::Paths::without_home, crate::proofs::Paths::without_prefix))]
+pub fn expand<'e>(value: &'e [u8], directories: Directories<'e>) -> Option<Expanded<'e>>
+    ensures { MatchOption result
+        (BeginsUnknown (option_copied directories.entry.home) (option_copied directories.entry.install_dir) value.now)
+        (λ parts. Expands (option_copied directories.entry.home) (option_copied directories.entry.install_dir) value.now
+        (parts.directory.now ++ parts.rest.now)) }
+{
+    if let Some(rest) = strip(value, b"~") {
+        if !is_rest(rest) {
+            return None;
+        }
+        return match directories.home {
+            Some(directory) => Some(Expanded { directory, rest }),
+            None => None,
+        };
+    }
+    if let Some(_rest) = strip(value, b"%(prefix)/") {
+        let (_, rest) = value.split_at(9);
+        return match directories.install_dir {
+            Some(directory) => Some(Expanded { directory, rest }),
+            None => None,
+        };
+    }
+    Some(Expanded {
+        directory: b"",
+        rest: value,
+    })
+}

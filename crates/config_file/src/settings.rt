@@ -1,0 +1,324 @@
+//! The settings of several files, in order: of the entries of a key the last one decides.
+ghost use Rattle.std.specs.Prelude.{◌≡◌, ◌≢◌, ◌++◌, ◌↔◌, ℕ, List, [], IsTrue, MatchOption, MatchResult};
+ghost use Rattle.std.specs.Prelude.{IfOk, IsUtf8, map, option_copied, option_map};
+ghost use Rattle.std.specs.Str.{str_to_ascii_lowercase};
+ghost use Rattle.config_text.specs.Settings.{IsAbsent};
+ghost use Rattle.config_file.specs.Settings.{place_shown};
+ghost use Rattle.config_file.specs.Settings.{section_stem, stem, listed, text_of, texts, IsLast, Tells};
+ghost use Rattle.config_file.specs.Settings.{ReadsSetting, Gets, all_named, IsSettingOf, AddsFile};
+ghost use Rattle.config_file.specs.Settings.{path_bytes, IsPathOfSetting};
+ghost use Rattle.config_file.specs.Views.{entry_of};
+ghost use Rattle.config_path.specs.Interpolation.{known_in};
+ghost use Rattle.std.specs.Option.{ForSome};
+
+use bstr::BStr;
+use crate::entry::Entry;
+use crate::errors::Error as FileError;
+use crate::reader::Entries;
+use config_path::interpolate::{Context, Error as PathError};
+use config_path::parts::{Parts, parts_of};
+use config_path::path::cut_mark;
+use config_text::errors::Fault;
+use config_text::readers::TryRead;
+use std::alloc::{AllocError, Global};
+use std::fmt;
+use thiserror::Error;
+
+/// An entry of a file.
+#[derive(Drop)]
+pub struct Setting<'a> {
+    /// The name of the file.
+    pub file: &'a str,
+    /// The line of the entry, from 1.
+    pub line: usize,
+    /// The key as Git lists it.
+    pub key: Vec<u8>,
+    /// The text of the value, or `None` if the key stands alone.
+    pub value: Option<Vec<u8>>,
+}
+
+/// The entries of several files, in the order in which the files were added.
+#[derive(Drop)]
+pub struct Settings<'a> {
+    /// The entries, in order.
+    pub entries: Vec<Setting<'a>>,
+}
+
+/// A setting whose last entry has a text without a value.
+#[derive(Clone, Copy, Debug)]
+pub struct Refused<'s, F> {
+    /// The name of the file.
+    pub file: &'s str,
+    /// The line of the entry, from 1.
+    pub line: usize,
+    /// The key as Git lists it.
+    pub key: &'s [u8],
+    /// The text of the value, or `None` if the key stands alone.
+    pub value: Option<&'s [u8]>,
+    /// Why the text is refused.
+    pub fault: F,
+}
+
+impl<F: fmt::Display> fmt::Display for Refused<'_, F> {
+    ghost output = { λ refused. option_map
+        (λ reason. place_shown refused.file.now refused.line refused.key.now ++ reason) (F.output refused.fault) };
+
+    fn fmt<W: fmt::Write>(&self, f: &mut fmt::Formatter<W>) -> fmt::Result {
+        let key = BStr::new(self.key);
+        write!(f, "{}:{}: {key}: {}", self.file, self.line, self.fault)
+    }
+}
+
+/// Why a file is not added whole.
+#[derive(Debug, Drop, Error)]
+pub enum AddError<'a> {
+    /// A line of the file is invalid. The entries before it are added.
+    #[error("{file}:{}: {}", .error.line, .error.fault)]
+    Line { file: &'a str, error: FileError },
+    /// There was no memory for an entry. The entries before it are added.
+    #[error("no memory")]
+    Memory(AllocError),
+}
+
+/// The setting of an entry of a file.
+fn read_setting<'a>(
+    alloc: Global,
+    file: &'a str,
+    entry: &Entry<'_>,
+) -> Result<Setting<'a>, AllocError>
+    ensures { IfOk result (IsSettingOf file.now (entry_of entry.now)) }
+{
+    let value = match &entry.value {
+        Some(value) => Some(value.to_vec(alloc)?),
+        None => None,
+    };
+    Ok(Setting {
+        file,
+        line: entry.line,
+        key: entry.key_text(alloc)?,
+        value,
+    })
+}
+
+/// What follows the front in lower case, or `None` if the text begins otherwise.
+fn strip_lower<'t>(text: &'t [u8], front: &[u8]) -> Option<&'t [u8]>
+    ensures { MatchOption result ((rest : List ℕ) → text.now ≢ str_to_ascii_lowercase front.now ++ rest)
+        (λ rest. text.now ≡ str_to_ascii_lowercase front.now ++ rest.now) }
+{
+    let mut rest = text;
+    for byte in front {
+        let (first, others) = rest.split_first()?;
+        if *first != byte.to_ascii_lowercase() {
+            return None;
+        }
+        rest = others;
+    }
+    Some(rest)
+}
+
+/// What follows the front, or `None` if the text begins otherwise.
+fn strip<'t>(text: &'t [u8], front: &[u8]) -> Option<&'t [u8]>
+    ensures { MatchOption result ((rest : List ℕ) → text.now ≢ front.now ++ rest)
+        (λ rest. text.now ≡ front.now ++ rest.now) }
+{
+    text.strip_prefix(front)
+}
+
+/// What follows the section and its dot in a key as Git lists it.
+fn after_section<'t>(listed: &'t [u8], section: &[u8]) -> Option<&'t [u8]>
+    ensures { MatchOption result ((rest : List ℕ) → listed.now ≢ section_stem section.now ++ rest)
+        (λ rest. listed.now ≡ section_stem section.now ++ rest.now) }
+{
+    strip(strip_lower(listed, section)?, b".")
+}
+
+/// What follows the section and the subsection in a key as Git lists it.
+fn after_stem<'t>(listed: &'t [u8], section: &[u8], subsection: Option<&[u8]>) -> Option<&'t [u8]>
+    ensures { MatchOption result
+        ((rest : List ℕ) → listed.now ≢ stem section.now (option_copied subsection.entry) ++ rest)
+        (λ rest. listed.now ≡ stem section.now (option_copied subsection.entry) ++ rest.now) }
+{
+    let rest = after_section(listed, section)?;
+    match subsection {
+        Some(subsection) => strip(strip(rest, subsection)?, b"."),
+        None => Some(rest),
+    }
+}
+
+impl<'a> Setting<'a> {
+    /// The text for a reader: `true` if the key stands alone.
+    pub fn text(&self) -> &[u8]
+        ensures { result.now ≡ text_of self.now }
+    {
+        match &self.value {
+            Some(text) => text.as_slice(),
+            None => b"true",
+        }
+    }
+
+    /// Whether this is an entry of the key. The case of the section and of the key does not count; that of the
+    /// subsection does.
+    pub fn is_named(&self, section: &[u8], subsection: Option<&[u8]>, key: &[u8]) -> bool
+        ensures { IsTrue result
+            ↔ (self.now.key.items ≡ listed section.now (option_copied subsection.entry) key.now) }
+    {
+        match after_stem(&self.key, section, subsection) {
+            Some(rest) => match strip_lower(rest, key) {
+                Some(rest) => rest.is_empty(),
+                None => false,
+            },
+            None => false,
+        }
+    }
+
+    /// A refusal of this entry.
+    pub fn refused<F>(&self, fault: F) -> Refused<'_, F>
+        ensures place { Tells self.now result }
+        ensures fault { result.fault ≡ fault }
+    {
+        let value = match &self.value {
+            Some(text) => Some(text.as_slice()),
+            None => None,
+        };
+        Refused {
+            file: self.file,
+            line: self.line,
+            key: self.key.as_slice(),
+            value,
+            fault,
+        }
+    }
+
+    /// The value of the text, or a refusal with the place of the entry.
+    pub fn read<V: TryRead>(&self) -> Result<V, Refused<'_, Fault>>
+        ensures { ReadsSetting V.grammar V.refusal self.now result }
+    {
+        match V::try_read(self.text()) {
+            Ok(value) => Ok(value),
+            Err(fault) => Err(self.refused(fault)),
+        }
+    }
+
+    /// The bytes of a path: a key alone has none.
+    fn path_bytes(&self) -> &[u8]
+        ensures { result.now ≡ path_bytes self.now }
+    {
+        match &self.value {
+            Some(text) => text.as_slice(),
+            None => &[],
+        }
+    }
+
+    /// Whether the path of the value may be missing, and the parts of what it stands for: docs/GRAMMAR.md, Paths.
+    /// A key alone is refused, as the empty path is. The lookup of the context is called at most once.
+    pub fn path<'s, 'c, F>(
+        &'s self,
+        context: Context<'c, F>,
+    ) -> Result<(bool, Parts<'c, 's>), Refused<'s, PathError<'s>>>
+    where
+        F: FnOnce(&str) -> Option<&'c str> + Drop,
+        requires { ForSome context.home_for_user (λ f. (name : _) → IsUtf8 name.now → F.pre f name) }
+        ensures { IsPathOfSetting (known_in F.FnOnce context.entry) self.now result }
+    {
+        let (is_optional, path) = cut_mark(self.path_bytes());
+        match parts_of(path, context) {
+            Ok(parts) => Ok((is_optional, parts)),
+            Err(error) => Err(self.refused(error)),
+        }
+    }
+}
+
+impl<'a> Settings<'a> {
+    /// No settings.
+    pub fn new(alloc: Global) -> Settings<'a>
+        ensures { result.entries.items ≡ [] }
+    {
+        Settings {
+            entries: Vec::new(alloc),
+        }
+    }
+
+    /// Appends the entries of a file, which decide over those before. The name of the file is kept for refusals.
+    pub fn add_file(
+        &mut self,
+        alloc: Global,
+        file: &'a str,
+        text: &[u8],
+    ) -> Result<(), AddError<'a>>
+        ensures { AddsFile file.now text.now self.old.entries.items self.new.entries.items result }
+    {
+        for entry in Entries::new(text) {
+            let entry = match entry {
+                Ok(entry) => entry,
+                Err(error) => return Err(AddError::Line { file, error }),
+            };
+            let setting = match read_setting(alloc, file, &entry) {
+                Ok(setting) => setting,
+                Err(error) => return Err(AddError::Memory(error)),
+            };
+            if self.entries.push(setting).is_err() {
+                return Err(AddError::Memory(AllocError));
+            }
+        }
+        Ok(())
+    }
+
+    /// The last entry of a key, or `None` if no entry has it.
+    pub fn last(
+        &self,
+        section: &[u8],
+        subsection: Option<&[u8]>,
+        key: &[u8],
+    ) -> Option<&Setting<'a>>
+        ensures { MatchOption result
+            (IsAbsent (texts self.now.entries.items)
+            (listed section.now (option_copied subsection.entry) key.now))
+            (λ s. IsLast self.now.entries.items
+            (listed section.now (option_copied subsection.entry) key.now) s.now) }
+    {
+        let index = self
+            .entries
+            .iter()
+            .rposition(|entry| entry.is_named(section, subsection, key))?;
+        Some(&self.entries[index])
+    }
+
+    /// The entries of a key, in order. Fails only if memory runs out.
+    pub fn all(
+        &self,
+        alloc: Global,
+        section: &[u8],
+        subsection: Option<&[u8]>,
+        key: &[u8],
+    ) -> Result<Vec<&Setting<'a>>, AllocError>
+        ensures { IfOk result (λ v. map (λ s. s.now) v.items
+            ≡ all_named (listed section.now (option_copied subsection.entry) key.now) self.now.entries.items) }
+    {
+        let mut all = Vec::new(alloc);
+        for setting in &self.entries {
+            if setting.is_named(section, subsection, key) {
+                all.push(setting)?;
+            }
+        }
+        Ok(all)
+    }
+
+    /// The value of the last entry of a key, or `None` if no entry has it.
+    pub fn get<V: TryRead>(
+        &self,
+        section: &[u8],
+        subsection: Option<&[u8]>,
+        key: &[u8],
+    ) -> Result<Option<V>, Refused<'_, Fault>>
+        ensures { Gets V.grammar V.refusal self.now.entries.items
+            (listed section.now (option_copied subsection.entry) key.now) result }
+    {
+        match self.last(section, subsection, key) {
+            Some(setting) => match setting.read() {
+                Ok(value) => Ok(Some(value)),
+                Err(refused) => Err(refused),
+            },
+            None => Ok(None),
+        }
+    }
+}

@@ -1,0 +1,259 @@
+//! The entries of a file and of the files that it includes, in Git's order.
+ghost use Rattle.std.specs.Prelude.{◌≡◌, ◌≢◌, ◌++◌, ◌↔◌, IsTrue, IfOk, OnOk, MatchOption, List, ℕ, [], ◌∷◌, option_copied};
+ghost use Rattle.config_file.specs.Walk.{Holds, Follows, HasFile, IsNameOf, IsInclude, Walks, WalksFile, AddsNamed, Adds};
+ghost use Rattle.config_file.specs.Path.{BeginsUnknown};
+ghost use Rattle.config_file.specs.Views.{entry_of};
+
+use crate::include::{Condition, Repository};
+use crate::path::{Directories, expand, included_name, joined};
+use crate::entry::Entry;
+use crate::errors::Error as FileError;
+use crate::reader::Entries;
+use std::alloc::{AllocError, Global};
+
+/// What is known of a file.
+#[derive(Clone, Copy)]
+pub enum Content<'a> {
+    /// Its text.
+    Text(&'a [u8]),
+    /// There is no such file: an include of it is skipped.
+    Missing,
+    /// It is a directory, or it cannot be read.
+    Unreadable,
+}
+
+/// A file by its name.
+#[derive(Clone, Copy)]
+pub struct File<'a> {
+    pub name: &'a [u8],
+    pub content: Content<'a>,
+}
+
+/// What a walk over files knows.
+#[derive(Clone, Copy)]
+pub struct Known<'a> {
+    /// The files that may be included.
+    pub files: &'a [File<'a>],
+    /// The directories that a path may begin with.
+    pub directories: Directories<'a>,
+    /// The repository, for conditions.
+    pub repository: Option<Repository<'a>>,
+}
+
+/// An entry, and the name of its file.
+#[derive(Clone, Copy)]
+pub struct Walked<'a> {
+    pub file: &'a [u8],
+    pub entry: Entry<'a>,
+}
+
+/// Whether a condition holds. Without a repository only that of `include.path` does, and no remote is asked.
+pub fn holds(
+    alloc: Global,
+    repository: Option<Repository<'_>>,
+    condition: Condition<'_>,
+) -> Result<bool, AllocError>
+    ensures { IfOk result (λ holds. IsTrue holds ↔ (Holds repository.entry condition.entry)) }
+{
+    if let Condition::Always = condition {
+        return Ok(true);
+    }
+    let Some(repository) = repository else {
+        return Ok(false);
+    };
+    match condition {
+        Condition::Always => Ok(true),
+        Condition::GitDir(pattern) => Ok(repository.is_git_dir(alloc, pattern, false)?),
+        Condition::GitDirIgnoringCase(pattern) => Ok(repository.is_git_dir(alloc, pattern, true)?),
+        Condition::OnBranch(pattern) => Ok(repository.is_on_branch(alloc, pattern)?),
+        Condition::HasRemoteUrl(_) | Condition::Unknown => Ok(false),
+    }
+}
+
+/// Whether the entry of a key includes a file, and its condition holds.
+fn is_followed(
+    alloc: Global,
+    repository: Option<Repository<'_>>,
+    key: &[u8],
+) -> Result<bool, AllocError>
+    ensures { IfOk result (λ followed. Follows repository.entry key.now followed) }
+{
+    match Condition::of_key(key) {
+        Some(condition) => Ok(holds(alloc, repository, condition)?),
+        None => Ok(false),
+    }
+}
+
+/// Whether a file has this name.
+fn is_named(file: &File<'_>, name: &[u8]) -> bool
+    ensures { IsTrue result ↔ (file.now.name.now ≡ name.now) }
+{
+    file.name == name
+}
+
+/// The file of this name, or `None` if no such file is known.
+fn find<'a>(files: &'a [File<'a>], name: &[u8]) -> Option<&'a File<'a>>
+    ensures { MatchOption result ((file : _) → ¬ (HasFile files.now name.now file)) (λ file. HasFile files.now name.now file.now) }
+{
+    let index = files.iter().rposition(|file| is_named(file, name))?;
+    Some(&files[index])
+}
+
+/// What an entry includes.
+#[derive(Drop)]
+pub enum Include {
+    /// It includes no file, or its condition does not hold.
+    NotFollowed,
+    /// It has no value.
+    MissingValue,
+    /// Its path begins with a user's name, or with a directory that is not known.
+    UnknownDirectory,
+    /// It includes the file of this name.
+    Named(Vec<u8>),
+}
+
+/// The name of the file that a value stands for in this file.
+fn name_of(
+    alloc: Global,
+    known: &Known<'_>,
+    file: &[u8],
+    value: &[u8],
+) -> Result<Option<Vec<u8>>, AllocError>
+    ensures { IfOk result (λ name. MatchOption name
+        (BeginsUnknown (option_copied known.now.directories.home) (option_copied known.now.directories.install_dir) value.now)
+        (λ name. IsNameOf known.now file.now value.now name.items)) }
+{
+    let Some(parts) = expand(value, known.directories) else {
+        return Ok(None);
+    };
+    let path = joined(alloc, parts.directory, parts.rest)?;
+    Ok(Some(included_name(alloc, file, &path)?))
+}
+
+/// What an entry of a file includes. Fails only if memory runs out.
+pub fn include_of(
+    alloc: Global,
+    known: &Known<'_>,
+    file: &[u8],
+    entry: &Entry<'_>,
+) -> Result<Include, AllocError>
+    ensures { IfOk result (λ include. IsInclude known.now file.now (entry_of entry.now) include) }
+{
+    let key = entry.key_text(alloc)?;
+    if !is_followed(alloc, known.repository, &key)? {
+        return Ok(Include::NotFollowed);
+    }
+    let Some(value) = &entry.value else {
+        return Ok(Include::MissingValue);
+    };
+    let text = value.to_vec(alloc)?;
+    match name_of(alloc, known, file, &text)? {
+        Some(name) => Ok(Include::Named(name)),
+        None => Ok(Include::UnknownDirectory),
+    }
+}
+
+/// Why a walk stops.
+#[derive(Drop)]
+pub enum WalkError<'a> {
+    /// A line of a file is invalid.
+    Line { file: &'a [u8], error: FileError },
+    /// An entry that includes a file has no value.
+    MissingValue { file: &'a [u8], line: usize },
+    /// A path begins with a user's name, or with a directory that is not known.
+    UnknownDirectory { file: &'a [u8], line: usize },
+    /// The included file is a directory, or it cannot be read.
+    Unreadable { file: &'a [u8], line: usize },
+    /// The included file has a text, and is included too deep.
+    TooDeep { file: &'a [u8], line: usize },
+    /// The file of this name is not known: read it, and walk again.
+    Unread(Vec<u8>),
+    /// Memory was refused.
+    Memory(AllocError),
+}
+
+/// How deep Git follows includes.
+pub const MAX_DEPTH: usize = 10;
+
+/// Appends the entries of a file and of the files that it includes, in Git's order, at most so many includes deep.
+#[cycle(walk)]
+pub fn walk_file<'a>(
+    alloc: Global,
+    known: &Known<'a>,
+    file: &'a [u8],
+    text: &'a [u8],
+    depth: usize,
+    walked: &mut Vec<Walked<'a>>,
+) -> Result<(), WalkError<'a>>
+    ensures { OnOk result ((added : _) × Adds walked.old.items walked.new.items added × WalksFile known.now depth file.now text.now added) }
+{
+    'entries: for entry in Entries::new(text) {
+        let entry = match entry {
+            Ok(entry) => entry,
+            Err(error) => return Err(WalkError::Line { file, error }),
+        };
+        match walk_entry(alloc, known, file, entry, depth, walked) {
+            Ok(()) => {}
+            Err(error) => return Err(error),
+        }
+    }
+    Ok(())
+}
+
+/// Appends an entry, and those of the file that it includes.
+#[cycle(walk)]
+fn walk_entry<'a>(
+    alloc: Global,
+    known: &Known<'a>,
+    file: &'a [u8],
+    entry: Entry<'a>,
+    depth: usize,
+    walked: &mut Vec<Walked<'a>>,
+) -> Result<(), WalkError<'a>>
+    ensures { OnOk result ((added : _) × Adds walked.old.items walked.new.items added
+        × Walks known.now depth file.now (entry_of entry.entry ∷ []) added) }
+{
+    let line = entry.line;
+    let include = match include_of(alloc, known, file, &entry) {
+        Ok(include) => include,
+        Err(error) => return Err(WalkError::Memory(error)),
+    };
+    match walked.push(Walked { file, entry }) {
+        Ok(()) => {}
+        Err(_) => return Err(WalkError::Memory(AllocError)),
+    }
+    match include {
+        Include::NotFollowed => Ok(()),
+        Include::MissingValue => Err(WalkError::MissingValue { file, line }),
+        Include::UnknownDirectory => Err(WalkError::UnknownDirectory { file, line }),
+        Include::Named(name) => walk_named(alloc, known, file, line, name, depth, walked),
+    }
+}
+
+/// Appends the entries of the file of this name, which an entry includes.
+#[cycle(walk)]
+fn walk_named<'a>(
+    alloc: Global,
+    known: &Known<'a>,
+    file: &'a [u8],
+    line: usize,
+    name: Vec<u8>,
+    depth: usize,
+    walked: &mut Vec<Walked<'a>>,
+) -> Result<(), WalkError<'a>>
+    ensures { OnOk result ((added : _) × Adds walked.old.items walked.new.items added × AddsNamed known.now depth name.items added) }
+{
+    let Some(found) = find(known.files, &name) else {
+        return Err(WalkError::Unread(name));
+    };
+    match found.content {
+        Content::Missing => Ok(()),
+        Content::Unreadable => Err(WalkError::Unreadable { file, line }),
+        Content::Text(text) => {
+            if depth == 0 {
+                return Err(WalkError::TooDeep { file, line });
+            }
+            walk_file(alloc, known, found.name, text, depth - 1, walked)
+        }
+    }
+}

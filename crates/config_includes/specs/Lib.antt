@@ -1,4 +1,0 @@
-pub mod Include
-pub mod Path
-pub mod Pattern
-pub mod Walk

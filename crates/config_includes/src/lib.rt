@@ -1,7 +1,0 @@
-//! The includes of Git's configuration files.
-#![tactic(auto)]
-
-pub mod include;
-pub mod path;
-pub mod pattern;
-pub mod walk;

@@ -1,3 +1,0 @@
-pub mod Adding
-pub mod Fronts
-pub mod Last
