@@ -11,10 +11,10 @@ ghost use Rattle.config_file.specs.Views.{entry_of};
 ghost use Rattle.config_path.specs.Interpolation.{known_in};
 ghost use Rattle.std.specs.Option.{ForSome};
 
-use bstr::BStr;
 use crate::entry::Entry;
 use crate::errors::Error as FileError;
 use crate::reader::Entries;
+use bstr::BStr;
 use config_path::interpolate::{Context, Error as PathError};
 use config_path::parts::{Parts, parts_of};
 use config_path::path::cut_mark;
