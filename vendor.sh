@@ -1,9 +1,9 @@
 #!/bin/sh
 # Copies the library into another repository: sh vendor.sh DEST
 #
-# DEST is the top of that repository, or an empty folder. It gets the folders of the library's seven crates in
+# DEST is the top of that repository, or an empty folder. It gets the folders of the library's eight crates in
 # DEST/crates, their lines in DEST/crates.txt, each of them once, and the two licences. A crate of DEST then uses the
-# library by a line such as `NAME: gix_config_value`, and a second run brings a newer version.
+# library by a line such as `NAME: gix_config_value config_file`, and a second run brings a newer version.
 set -eu
 if [ $# -ne 1 ]; then
     echo "usage: sh $0 DEST" >&2
@@ -16,7 +16,8 @@ dest=$(CDPATH='' cd -- "$1" && pwd)
 touch "$dest/crates.txt"
 # its last line gets an end, if it has none
 sed -i '$a\' "$dest/crates.txt"
-for crate in config_text config_integer config_boolean config_word config_color config_path gix_config_value; do
+for crate in config_text config_integer config_boolean config_word config_color config_path gix_config_value \
+    config_file; do
     mkdir -p -- "$dest/crates/$crate"
     for part in src specs proofs; do
         rm -rf -- "$dest/crates/$crate/$part"
