@@ -65,7 +65,8 @@ denies-Decides t =
 boolean_derived : (t : List ℕ) (v : Boolean) → boolean_of t ≡ Some v → BooleanText t v
 boolean_derived t v e = told (affirms t) (denies t) (amount_of t) refl refl refl e where
   told : (a d : Bool) (o : Option Amount) → affirms t ≡ a → denies t ≡ d → amount_of t ≡ o
-      → cond a (Some (boolean true)) (cond d (Some (boolean false)) (option_map (λ n. boolean (nonzero n.0)) o))
+      → cond a (Some (boolean true))
+      (cond d (Some (boolean false)) (option_map (λ n. boolean (nonzero n.0)) o))
       ≡ Some v
       → BooleanText t v
   told true d o p q r e = subst (BooleanText t) (same_Some _ v e) (affirmed ((affirms-Decides t).0 p) refl)
@@ -77,7 +78,8 @@ boolean_derived t v e = told (affirms t) (denies t) (amount_of t) refl refl refl
 boolean_none : (t : List ℕ) → boolean_of t ≡ None → IsRefused BooleanText t
 boolean_none t e = told (affirms t) (denies t) (amount_of t) refl refl refl e where
   told : (a d : Bool) (o : Option Amount) → affirms t ≡ a → denies t ≡ d → amount_of t ≡ o
-      → cond a (Some (boolean true)) (cond d (Some (boolean false)) (option_map (λ n. boolean (nonzero n.0)) o))
+      → cond a (Some (boolean true))
+      (cond d (Some (boolean false)) (option_map (λ n. boolean (nonzero n.0)) o))
       ≡ None
       → IsRefused BooleanText t
   told true d o p q r e = cc

@@ -55,7 +55,8 @@ unfolding boolean_on_literals
 numbers_are_read = all_read boolean_of_is numbers refl
 
 -- and as it answers
-pub booleans_are_shown : map boolean_shown (boolean true ∷ boolean false ∷ []) ≡ codes "true" ∷ codes "false" ∷ []
+pub booleans_are_shown : map boolean_shown (boolean true ∷ boolean false ∷ []) ≡ codes "true" ∷ codes "false"
+    ∷ []
 booleans_are_shown = refl
 
 -- near misses

@@ -16,5 +16,7 @@ module _ (cmp : Name → Name → Ordering) (same : (m n : Name) → cmp m n ≡
   part_same (Some m) (Some n) = same m n
 
   pub color_same : (c d : Color)
-      → ordering_then (option_cmp cmp c.foreground d.foreground) (ordering_then (option_cmp cmp c.background d.background) (nat_cmp c.attributes.0 d.attributes.0)) ≡ color_order c d
+      → ordering_then (option_cmp cmp c.foreground d.foreground)
+      (ordering_then (option_cmp cmp c.background d.background) (nat_cmp c.attributes.0 d.attributes.0))
+      ≡ color_order c d
   color_same c d = rw (part_same c.foreground d.foreground, part_same c.background d.background) refl

@@ -1,5 +1,5 @@
--- What git-config(1) says of colors, on its own examples, and Unicode of white space: a definition with a wrong rule or
--- a wrong spelling does not check.
+-- What git-config(1) says of colors, on its own examples, and Unicode of white space: a definition with a
+-- wrong rule or a wrong spelling does not check.
 use Rattle.std.proofs.Common.{◌≡◌, ℕ, true, ◌==◌, List, [], ◌∷◌, map, codes, Option, Some, None, refl}
 use Rattle.std.specs.Char.{is_whitespace}
 use Rattle.std.specs.Int.RustNames.{bit_or}

@@ -16,8 +16,8 @@ use Rattle.config_color.specs.Words.{Words}
 abbrev pub no_color : Color
 no_color = record { foreground = None; background = None; attributes = record { 0 = 0 } }
 
--- each word is a name text or an attribute text: the names that the words have, in order, and the union of the
--- attributes' bits
+-- each word is a name text or an attribute text: the names that the words have, in order, and the union of
+-- the attributes' bits
 pub data WordsRead : List (List ℕ) → List Name → ℕ → Type 0 where
   nothing : WordsRead [] [] 0
   name : {w : List ℕ} {ws : List (List ℕ)} {n : Name} {names : List Name} {bits : ℕ}
@@ -31,8 +31,8 @@ pub record TextRead (t : List ℕ) (names : List Name) (bits : ℕ) : Type 0 whe
   pub cut : Words t words
   pub read : WordsRead words names bits
 
--- the first name is the foreground, the second the background, each none where there is no such name; there is
--- no place for a third
+-- the first name is the foreground, the second the background, each none where there is no such name; there
+-- is no place for a third
 abbrev pub Placed : List Name → Option Name → Option Name → Type 0
 Placed [] foreground background = (foreground ≡ None) × (background ≡ None)
 Placed (n ∷ []) foreground background = (foreground ≡ Some n) × (background ≡ None)

@@ -14,5 +14,6 @@ piece (x ∷ text) = (x ∷ text) ∷ []
 -- the words of a text: a text without white space is one word, and any other is cut at its last white space
 pub data Words : List ℕ → List (List ℕ) → Type 0 where
   whole : (text : List ℕ) → HasNoSpace text → Words text (piece text)
-  cut : (before space rest : List ℕ) (words : List (List ℕ)) → Words before words → Space space → HasNoSpace rest
+  cut : (before space rest : List ℕ) (words : List (List ℕ)) → Words before words → Space space
+      → HasNoSpace rest
       → Words (before ++ space ++ rest) (words ++ piece rest)

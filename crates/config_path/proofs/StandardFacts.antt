@@ -27,7 +27,10 @@ other_first a b s t differ e = differ (ap (λ l. get_or l 0 0) e)
 pub expanded_have_forms : HaveForms expanded
 expanded_have_forms = (refl, (refl, ((refl, λ e. cc (e), is_name), (refl, tt)))) where
   is_name : IsOneName (codes "user")
-  is_name = (λ e. omega (arith, e), (λ e. omega (arith, e), (λ e. omega (arith, e), (λ e. omega (arith, e), tt))))
+  is_name = (
+    λ e. omega (arith, e),
+    (λ e. omega (arith, e), (λ e. omega (arith, e), (λ e. omega (arith, e), tt))),
+  )
 
 -- "a literal path .. that should not be expanded .. needs to be prefixed by ./, like so: ./%(prefix)/bin"
 pub literal_path : HasForm (codes "./%(prefix)/bin") (other (codes "./%(prefix)/bin"))

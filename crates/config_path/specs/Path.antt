@@ -22,4 +22,5 @@ pub record IsEqualPath (p q : Path) : Type 0 where
 
 -- by the bytes, then by the flag, false first
 abbrev pub path_order : Path → Path → Ordering
-path_order p q = then_cmp (λ a b. slice_cmp nat_cmp (bstring_bytes a.value) (bstring_bytes b.value)) (λ a b. bool_cmp a.is_optional b.is_optional) p q
+path_order p q = then_cmp (λ a b. slice_cmp nat_cmp (bstring_bytes a.value) (bstring_bytes b.value))
+    (λ a b. bool_cmp a.is_optional b.is_optional) p q

@@ -8,7 +8,8 @@ use Rattle.config_text.specs.declared.digits.TheConstants.{DIGITS}
 
 -- whether a byte has this row: 16 where it is no digit of base 16
 abbrev is_row : ℕ → ℕ → Bool
-is_row byte worth = (nat_lt (digit_value byte) 16 && (worth == digit_value byte)) || (nat_lt 15 (digit_value byte) && (worth == 16))
+is_row byte worth = (nat_lt (digit_value byte) 16 && (worth == digit_value byte))
+    || (nat_lt 15 (digit_value byte) && (worth == 16))
 
 -- whether these are the rows from this byte on
 abbrev are_rows : ℕ → List ℕ → Bool
@@ -22,7 +23,8 @@ row_at (worth ∷ rows) from zero byte e h l =
     let same : from ≡ byte = omega arith in
     subst (λ b. is_row b worth ≡ true) same (and_parts (is_row from worth) (are_rows (suc from) rows) h).0
 row_at (worth ∷ rows) from (suc i) byte e h l =
-    row_at rows (suc from) i byte (omega arith) (and_parts (is_row from worth) (are_rows (suc from) rows) h).1 (omega arith)
+    row_at rows (suc from) i byte (omega arith) (and_parts (is_row from worth) (are_rows (suc from) rows) h).1
+    (omega arith)
 
 -- what the table says of a byte
 pub digit_at : (byte : ℕ) → byte < 256 → is_row byte (get_or DIGITS byte 0) ≡ true

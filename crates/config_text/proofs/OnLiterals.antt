@@ -29,7 +29,8 @@ pub read_ok : {V E : Type 0} {grammar : List ℕ → V → Type 0} (refusal : E 
 read_ok refusal one t v (Ok w) text reads = ap Ok (one t w v reads text)
 read_ok refusal one t v (Err e) text reads = absurd (reads.1 v text)
 
-pub read_err : {V E : Type 0} (grammar : List ℕ → V → Type 0) (refusal : E → Type 0) (t : List ℕ) (r : Result V E)
+pub read_err : {V E : Type 0} (grammar : List ℕ → V → Type 0) (refusal : E → Type 0) (t : List ℕ)
+    (r : Result V E)
     → IsRefused grammar t → ReadsOr grammar refusal t r → (e : E) × (r ≡ Err e) × refusal e
 read_err grammar refusal t (Ok v) refused reads = absurd (refused v reads)
 read_err grammar refusal t (Err e) refused reads = (e, refl, reads.0)

@@ -24,24 +24,28 @@ pub record Decides (es : List (List ℕ × List ℕ)) (n : List ℕ) (i : ℕ) (
   pub last : (j : ℕ) (u : List ℕ) → i < j → ¬ (IsNamed es n j u)
 
 -- the value of a name: that of the deciding entry's text, and the default where no entry has the name
-pub data Finds {V : Type 0} (grammar : List ℕ → V → Type 0) (es : List (List ℕ × List ℕ)) (n : List ℕ) (default v : V) : Type 0 where
+pub data Finds {V : Type 0} (grammar : List ℕ → V → Type 0) (es : List (List ℕ × List ℕ)) (n : List ℕ)
+    (default v : V) : Type 0 where
   decided : (i : ℕ) (t : List ℕ) → Decides es n i t → grammar t v → Finds grammar es n default v
   absent : IsAbsent es n → v ≡ default → Finds grammar es n default v
 
 -- the text of the deciding entry has no value
-pub record DecidingIsRefused {V : Type 0} (grammar : List ℕ → V → Type 0) (es : List (List ℕ × List ℕ)) (n : List ℕ) (i : ℕ) (t : List ℕ) : Type 0 where
+pub record DecidingIsRefused {V : Type 0} (grammar : List ℕ → V → Type 0) (es : List (List ℕ × List ℕ))
+    (n : List ℕ) (i : ℕ) (t : List ℕ) : Type 0 where
   pub decides : Decides es n i t
   pub refused : IsRefused grammar t
 
 -- the second entry is the first one, or its text is a canonical text of the same value
-pub data IsReplaced {V : Type 0} (grammar : List ℕ → V → Type 0) (canonical : List ℕ → Type 0) (e f : List ℕ × List ℕ) : Type 0 where
+pub data IsReplaced {V : Type 0} (grammar : List ℕ → V → Type 0) (canonical : List ℕ → Type 0)
+    (e f : List ℕ × List ℕ) : Type 0 where
   kept : e ≡ f → IsReplaced grammar canonical e f
   replaced : (v : V) → e.0 ≡ f.0 → grammar e.1 v → canonical f.1 → grammar f.1 v
       → IsReplaced grammar canonical e f
 
 -- both lists give each name the same value, whatever the default, and refuse it at the same index with the
 -- same text
-pub record SameAnswers {V : Type 0} (grammar : List ℕ → V → Type 0) (es fs : List (List ℕ × List ℕ)) : Type 0 where
+pub record SameAnswers {V : Type 0} (grammar : List ℕ → V → Type 0)
+    (es fs : List (List ℕ × List ℕ)) : Type 0 where
   pub values : (n : List ℕ) (default v : V) → (Finds grammar es n default v) ↔ (Finds grammar fs n default v)
   pub refusals : (n : List ℕ) (i : ℕ) (t : List ℕ)
       → (DecidingIsRefused grammar es n i t) ↔ (DecidingIsRefused grammar fs n i t)

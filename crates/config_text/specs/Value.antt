@@ -23,13 +23,15 @@ Reads grammar t None = IsRefused grammar t
 Reads grammar t (Some v) = grammar t v
 
 -- a canonical text that reads to the value, and is at most as long as the longest
-pub record IsTextOf {V : Type 0} (grammar : List ℕ → V → Type 0) (canonical : List ℕ → Type 0) (v : V) (s : List ℕ) : Type 0 where
+pub record IsTextOf {V : Type 0} (grammar : List ℕ → V → Type 0) (canonical : List ℕ → Type 0) (v : V)
+    (s : List ℕ) : Type 0 where
   pub canonical_text : canonical s
   pub reads_to : grammar s v
   pub short : length s ≤ LONGEST_TEXT
 
 -- what a text means: this value and no other, and this text, the only canonical one that reads to the value
-pub record HasMeaning {V : Type 0} (grammar : List ℕ → V → Type 0) (canonical : List ℕ → Type 0) (t : List ℕ) (v : V) (s : List ℕ) : Type 0 where
+pub record HasMeaning {V : Type 0} (grammar : List ℕ → V → Type 0) (canonical : List ℕ → Type 0) (t : List ℕ)
+    (v : V) (s : List ℕ) : Type 0 where
   pub derived : grammar t v
   pub one_value : (w : V) → grammar t w → w ≡ v
   pub text : IsTextOf grammar canonical v s
@@ -49,7 +51,8 @@ Normalizes grammar canonical t None = IsRefused grammar t
 Normalizes {V} grammar canonical t (Some s) = (v : V) × HasMeaning grammar canonical t v s
 
 -- two texts have these values, and `same` says whether these are equal
-pub record AreCompared {V : Type 0} (grammar : List ℕ → V → Type 0) (a b : List ℕ) (v w : V) (same : Bool) : Type 0 where
+pub record AreCompared {V : Type 0} (grammar : List ℕ → V → Type 0) (a b : List ℕ) (v w : V)
+    (same : Bool) : Type 0 where
   pub first : grammar a v
   pub second : grammar b w
   pub equal : IsTrue same ↔ (v ≡ w)

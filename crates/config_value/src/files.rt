@@ -108,8 +108,8 @@ fn list<W: Write>(
     Ok(are_whole)
 }
 
-/// The section, the subsection and the last part of a key such as `core.bare` or `branch.main.rebase`. What is
-/// between the first dot and the last one is the subsection. `None` if the key has no dot.
+/// The section, the subsection and the last part of a key such as `core.bare` or `branch.main.rebase`. The
+/// subsection is what is between the first dot and the last one. `None` if the key has no dot.
 fn split_key(key: &str) -> Option<(&str, Option<&str>, &str)> {
     let (section, rest) = key.split_once('.')?;
     match rest.rsplit_once('.') {
@@ -128,8 +128,8 @@ fn find<'s, 'a>(settings: &'s Settings<'a>, key: &str) -> Option<&'s Setting<'a>
     settings.last(section.as_bytes(), subsection, name.as_bytes())
 }
 
-/// Prints the last value of a key: its text, or the canonical text of a kind. Reports a key that no entry has and
-/// a text that the kind refuses, and returns whether the value is printed.
+/// Prints the last value of a key: its text, or the canonical text of a kind. Reports a key that no entry has
+/// and a text that the kind refuses, and returns whether the value is printed.
 fn get<W: Write>(
     rt: &HostRuntime,
     writer: &mut W,
@@ -159,8 +159,8 @@ fn get<W: Write>(
     Ok(true)
 }
 
-/// Does what is asked of the files, and returns whether all of it succeeds. If a file is not read whole, no value is
-/// printed, since a later line could have another.
+/// Does what is asked of the files, and returns whether all of it succeeds. If a file is not read whole, no
+/// value is printed, since a later line could have another.
 fn answer(rt: &HostRuntime, request: &Request<'_, '_>) -> io::Result<bool> {
     let mut writer = BufWriter::with_capacity(rt.alloc(), ROOM, rt.stdout())?;
     let Some(key) = request.key else {

@@ -24,7 +24,8 @@ name_of t = item_name (item_of t)
 abbrev pub attribute_of : List ℕ → Option Attribute
 attribute_of t = item_attribute (item_of t)
 
--- a text of which these answer an item, a name or an attribute is its text, and it is refused where they answer none
+-- a text of which these answer an item, a name or an attribute is its text, and it is refused where they
+-- answer none
 pub item_text : (t : List ℕ) (v : Item) → item_of t ≡ Some v → ItemText t v
 item_text = item-law.derived
 

@@ -1,10 +1,18 @@
--- What git-config(1) says of the words of colors: a definition with a wrong word, number or bit does not check. Each of
--- the 41 words stands here, and each attribute beside the constant that the code gives its name.
+-- What git-config(1) says of the words of colors: a definition with a wrong word, number or bit does not
+-- check. Each of the 41 words stands here, and each attribute beside the constant that the code gives its
+-- name.
 use Rattle.std.proofs.Common.{◌≡◌, ℕ, List, [], ◌∷◌, ◌++◌, map, codes, refl}
 use Rattle.config_word.specs.declared.attribute.Attribute.{Attribute}
-use Rattle.config_word.specs.declared.attribute.TheConstants.Attribute.{BOLD, DIM, UL, BLINK, REVERSE, ITALIC, STRIKE, RESET, NO_BOLD, NO_DIM, NO_UL, NO_BLINK, NO_REVERSE, NO_ITALIC, NO_STRIKE}
+use Rattle.config_word.specs.declared.attribute.TheConstants.Attribute.{BOLD, DIM, UL, BLINK, REVERSE, ITALIC}
+use Rattle.config_word.specs.declared.attribute.TheConstants.Attribute.{STRIKE, RESET, NO_BOLD, NO_DIM, NO_UL}
+use Rattle.config_word.specs.declared.attribute.TheConstants.Attribute.{NO_BLINK, NO_REVERSE, NO_ITALIC}
+use Rattle.config_word.specs.declared.attribute.TheConstants.Attribute.{NO_STRIKE}
 use Rattle.config_word.specs.declared.name.Name.{Name}
-use Rattle.config_word.specs.declared.name.Name.TheVariants.{Normal, Default, Black, BrightBlack, Red, BrightRed, Green, BrightGreen, Yellow, BrightYellow, Blue, BrightBlue, Magenta, BrightMagenta, Cyan, BrightCyan, White, BrightWhite, Ansi, Rgb}
+use Rattle.config_word.specs.declared.name.Name.TheVariants.{Normal, Default, Black, BrightBlack, Red}
+use Rattle.config_word.specs.declared.name.Name.TheVariants.{BrightRed, Green, BrightGreen, Yellow}
+use Rattle.config_word.specs.declared.name.Name.TheVariants.{BrightYellow, Blue, BrightBlue, Magenta}
+use Rattle.config_word.specs.declared.name.Name.TheVariants.{BrightMagenta, Cyan, BrightCyan, White}
+use Rattle.config_word.specs.declared.name.Name.TheVariants.{BrightWhite, Ansi, Rgb}
 use Rattle.config_word.specs.Attribute.{AttributeText, attributes, attribute_shown}
 use Rattle.config_word.specs.Item.{ItemText}
 use Rattle.config_word.specs.Name.{NameText, name_shown}
@@ -49,11 +57,12 @@ unfolding item_on_literals
 bright_colors_are_read = all_read name-law bright_colors refl
 
 -- each is shown as this word
-pub names_are_shown : map (λ row. name_shown row.1) (basic_colors ++ bright_colors) ≡ map (λ row. row.0) (basic_colors ++ bright_colors)
+pub names_are_shown : map (λ row. name_shown row.1) (basic_colors ++ bright_colors)
+    ≡ map (λ row. row.0) (basic_colors ++ bright_colors)
 names_are_shown = refl
 
--- "numbers between 0 and 255", and "24-bit RGB values as hex, like #ff0ab3". Beyond that page: `#f1b` is `#ff11bb`, since
--- Git 2.46, and `-1` is normal.
+-- "numbers between 0 and 255", and "24-bit RGB values as hex, like #ff0ab3". Beyond that page: `#f1b` is
+-- `#ff11bb`, since Git 2.46, and `-1` is normal.
 abbrev numbered_colors : List (List ℕ × Name)
 numbered_colors =
     (codes "0", Ansi 0)
@@ -68,7 +77,8 @@ pub numbered_colors_are_read : AreRead NameText numbered_colors
 unfolding item_on_literals
 numbered_colors_are_read = all_read name-law numbered_colors refl
 
--- "The accepted attributes are bold, dim, ul, blink, reverse, italic, and strike", and the "pseudo-attribute reset"
+-- "The accepted attributes are bold, dim, ul, blink, reverse, italic, and strike", and the "pseudo-attribute
+-- reset"
 abbrev attributes_set : List (List ℕ × Attribute)
 attributes_set =
     (codes "bold", BOLD)
@@ -135,10 +145,12 @@ pub attributes_are_shown : map (λ row. attribute_shown row.0.0) constants ≡ m
 unfolding attributes
 attributes_are_shown = refl
 
--- "except normal and default"; a number above 255; five digits; no bright attribute, and no `reset` to turn off
+-- "except normal and default"; a number above 255; five digits; no bright attribute, and no `reset` to turn
+-- off
 abbrev no_words : List (List ℕ)
 no_words =
-    codes "brightnormal" ∷ codes "brightdefault" ∷ codes "256" ∷ codes "#ff0ab" ∷ codes "brightbold" ∷ codes "noreset"
+    codes "brightnormal" ∷ codes "brightdefault" ∷ codes "256" ∷ codes "#ff0ab" ∷ codes "brightbold"
+    ∷ codes "noreset"
     ∷ codes "" ∷ []
 
 pub no_words_are_refused : AreRefused ItemText no_words

@@ -65,14 +65,16 @@ pub data AttributeText (t : List ℕ) (a : Attribute) : Type 0 where
 abbrev pub attribute_words : ℕ → List (List ℕ)
 attribute_words bits = map shown_word (filter (λ row. bit_at bits (bit_of row) == 1) attributes)
 
--- how a set of bits is shown: the words of its known bits, with one space between; an unknown bit shows as nothing
+-- how a set of bits is shown: the words of its known bits, with one space between; an unknown bit shows as
+-- nothing
 abbrev pub attribute_shown : ℕ → List ℕ
 attribute_shown bits = join_with_byte space (attribute_words bits)
 
 -- the words of the canonical texts, by rising bit
 unfoldable pub rising_words : List (List ℕ)
 rising_words =
-    codes "bold" ∷ codes "dim" ∷ codes "italic" ∷ codes "ul" ∷ codes "blink" ∷ codes "reverse" ∷ codes "strike"
+    codes "bold" ∷ codes "dim" ∷ codes "italic" ∷ codes "ul" ∷ codes "blink" ∷ codes "reverse"
+    ∷ codes "strike"
     ∷ codes "reset" ∷ codes "nodim" ∷ codes "nobold" ∷ codes "noitalic" ∷ codes "noul" ∷ codes "noblink"
     ∷ codes "noreverse" ∷ codes "nostrike" ∷ []
 

@@ -1,10 +1,15 @@
 -- Color names: eighteen words, `-1`, palette numbers, and `#` with hexadecimal digits.
-use Rattle.std.specs.Prelude.{◌≡◌, ℕ, ◌+◌, ◌*◌, ◌/◌, ◌%◌, ◌<◌, ◌≤◌, ◌⊎◌, List, [], ◌∷◌, ◌++◌, length, codes, decimal, ⊤}
+use Rattle.std.specs.Prelude.{◌≡◌, ℕ, ◌+◌, ◌*◌, ◌/◌, ◌%◌, ◌<◌, ◌≤◌, ◌⊎◌, List, [], ◌∷◌, ◌++◌, length, codes}
+use Rattle.std.specs.Prelude.{decimal, ⊤}
 use Rattle.std.specs.Char.{digit_value, digit_char}
 use Rattle.std.specs.List.{AllByRecursion}
 use Rattle.std.specs.Str.Parse.{AllDigits, IsNumeral}
 use Rattle.config_word.specs.declared.name.Name.{Name}
-use Rattle.config_word.specs.declared.name.Name.TheVariants.{Normal, Default, Black, BrightBlack, Red, BrightRed, Green, BrightGreen, Yellow, BrightYellow, Blue, BrightBlue, Magenta, BrightMagenta, Cyan, BrightCyan, White, BrightWhite, Ansi, Rgb}
+use Rattle.config_word.specs.declared.name.Name.TheVariants.{Normal, Default, Black, BrightBlack, Red}
+use Rattle.config_word.specs.declared.name.Name.TheVariants.{BrightRed, Green, BrightGreen, Yellow}
+use Rattle.config_word.specs.declared.name.Name.TheVariants.{BrightYellow, Blue, BrightBlue, Magenta}
+use Rattle.config_word.specs.declared.name.Name.TheVariants.{BrightMagenta, Cyan, BrightCyan, White}
+use Rattle.config_word.specs.declared.name.Name.TheVariants.{BrightWhite, Ansi, Rgb}
 use Rattle.config_text.specs.Bytes.{IsLeadingDigit, IsLowerHex}
 use Rattle.config_text.specs.Numerals.{place_sum}
 use Rattle.config_text.specs.OneOf.{OneOf}
@@ -40,7 +45,8 @@ name_shown (Rgb r g b) = codes "#" ++ hex_pair r ++ hex_pair g ++ hex_pair b
 -- the eighteen names that are words
 unfoldable pub word_names : List Name
 word_names =
-    Normal ∷ Default ∷ Black ∷ BrightBlack ∷ Red ∷ BrightRed ∷ Green ∷ BrightGreen ∷ Yellow ∷ BrightYellow ∷ Blue
+    Normal ∷ Default ∷ Black ∷ BrightBlack ∷ Red ∷ BrightRed ∷ Green ∷ BrightGreen ∷ Yellow ∷ BrightYellow
+    ∷ Blue
     ∷ BrightBlue ∷ Magenta ∷ BrightMagenta ∷ Cyan ∷ BrightCyan ∷ White ∷ BrightWhite ∷ []
 
 -- two hexadecimal digits of either case, and the number that they write
@@ -49,8 +55,9 @@ pub record HexPair (high low n : ℕ) : Type 0 where
   pub low_digit : digit_value low < 16
   pub number : n ≡ 16 * digit_value high + digit_value low
 
--- name text: a name's word, ignoring ASCII case; `-1`; an optional `+` and decimal digits whose number is at most
--- 255; or `#` with two hexadecimal digits for each of red, green and blue, or with one, which then stands twice
+-- name text: a name's word, ignoring ASCII case; `-1`; an optional `+` and decimal digits whose number is at
+-- most 255; or `#` with two hexadecimal digits for each of red, green and blue, or with one, which then
+-- stands twice
 pub data NameText (t : List ℕ) (n : Name) : Type 0 where
   word : OneOf word_names n → SameWord t (name_shown n) → NameText t n
   minus_one : t ≡ codes "-1" → n ≡ Normal → NameText t n

@@ -5,13 +5,18 @@ use Rattle.std.specs.Cmp.Lexicographic.{slice_cmp}
 use Rattle.std.specs.declared.cmp.Ordering.{Ordering}
 use Rattle.config_word.specs.declared.attribute.Attribute.{Attribute}
 use Rattle.config_word.specs.declared.name.Name.{Name}
-use Rattle.config_word.specs.declared.name.Name.TheVariants.{Normal, Default, Black, BrightBlack, Red, BrightRed, Green, BrightGreen, Yellow, BrightYellow, Blue, BrightBlue, Magenta, BrightMagenta, Cyan, BrightCyan, White, BrightWhite, Ansi, Rgb}
+use Rattle.config_word.specs.declared.name.Name.TheVariants.{Normal, Default, Black, BrightBlack, Red}
+use Rattle.config_word.specs.declared.name.Name.TheVariants.{BrightRed, Green, BrightGreen, Yellow}
+use Rattle.config_word.specs.declared.name.Name.TheVariants.{BrightYellow, Blue, BrightBlue, Magenta}
+use Rattle.config_word.specs.declared.name.Name.TheVariants.{BrightMagenta, Cyan, BrightCyan, White}
+use Rattle.config_word.specs.declared.name.Name.TheVariants.{BrightWhite, Ansi, Rgb}
 
 -- by the number that the bits write
 abbrev pub attribute_order : Attribute → Attribute → Ordering
 attribute_order = on (λ a. a.0) nat_cmp
 
--- the place of a name: the words from `Normal` to `BrightWhite`, then palette numbers, then red, green and blue
+-- the place of a name: the words from `Normal` to `BrightWhite`, then palette numbers, then red, green and
+-- blue
 abbrev pub name_place : Name → ℕ
 name_place Normal = 0
 name_place Default = 1

@@ -27,7 +27,9 @@ named_among (kind ∷ kinds) head = elim (text_told (kind_name kind) head) [
 pub kind_told : (head : List ℕ)
     → ((kind : Kind) × (kind_name kind ≡ head)) ⊎ ((kind : Kind) → kind_name kind ≢ head)
 kind_told head =
-    elim (named_among (kinds.Suffix ∷ kinds.Integer ∷ kinds.Amount ∷ kinds.Boolean ∷ kinds.Name ∷ kinds.Attribute ∷ kinds.Color ∷ []) head) [
+    elim
+    (named_among (kinds.Suffix ∷ kinds.Integer ∷ kinds.Amount ∷ kinds.Boolean ∷ kinds.Name
+    ∷ kinds.Attribute ∷ kinds.Color ∷ []) head) [
       | inl found ↦ inl found
       | inr none ↦ inr (λ kind. elim kind as (λ k. kind_name k ≢ head) [
         | kinds.Suffix ↦ none.0
@@ -41,7 +43,8 @@ kind_told head =
     ]
 
 -- from the laws of `Value`: a text is refused, or a normalizer gives it a text
-normalized : {V : Type 0} {grammar : List ℕ → V → Type 0} {canonical : List ℕ → Type 0} {displayed : V → List ℕ}
+normalized : {V : Type 0} {grammar : List ℕ → V → Type 0} {canonical : List ℕ → Type 0}
+    {displayed : V → List ℕ}
     → ((t : List ℕ) (v w : V) → grammar t v → grammar t w → v ≡ w)
     → ((s t : List ℕ) (v : V) → canonical s → canonical t → grammar s v → grammar t v → s ≡ t)
     → ((v : V) → HasText grammar v → IsTextOf grammar canonical v (displayed v))
@@ -66,6 +69,7 @@ kind_normalizes kinds.Boolean t =
 kind_normalizes kinds.Name t =
     normalized name.one_value-law name.one_text-law name.shown_is_text-law name.decided-law t
 kind_normalizes kinds.Attribute t =
-    normalized attribute.one_value-law attribute.one_text-law attribute.shown_is_text-law attribute.decided-law t
+    normalized attribute.one_value-law attribute.one_text-law attribute.shown_is_text-law
+    attribute.decided-law t
 kind_normalizes kinds.Color t =
     normalized color.one_value-law color.one_text-law color.shown_is_text-law color.decided-law t

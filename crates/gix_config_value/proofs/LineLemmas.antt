@@ -20,7 +20,8 @@ false_from false n = refl
 pub position_nowhere : (byte : ℕ) (bytes : List ℕ) → Nowhere (Passes (is_byte byte) bytes) 0 (length bytes)
     → position_or_len (λ b. b == byte) bytes ≡ length bytes
 position_nowhere byte bytes none =
-    position_or_len_is (λ b. b == byte) bytes (length bytes) 0 (omega arith) (λ k below. false_from _ (none k (omega arith) below))
+    position_or_len_is (λ b. b == byte) bytes (length bytes) 0 (omega arith)
+    (λ k below. false_from _ (none k (omega arith) below))
     (λ below. absurd (omega arith))
 
 -- the byte stands first at place i
@@ -28,7 +29,8 @@ pub position_first : (byte : ℕ) (bytes : List ℕ) (i : ℕ)
     → NoneBefore (Passes (is_byte byte) bytes) 0 (length bytes) i
     → Passes (is_byte byte) bytes i → position_or_len (λ b. b == byte) bytes ≡ i
 position_first byte bytes i first passes =
-    position_or_len_is (λ b. b == byte) bytes i 0 (omega (arith, first.high)) (λ k below. false_from _ (first.before k (omega arith) below))
+    position_or_len_is (λ b. b == byte) bytes i 0 (omega (arith, first.high))
+    (λ k below. false_from _ (first.before k (omega arith) below))
     (λ _. passes)
 
 -- what holds at each place holds of each element
@@ -40,7 +42,9 @@ AllByRecursion-from_places P (x ∷ xs) each =
 
 pub unbroken_nowhere : (bytes : List ℕ) → Nowhere (Passes (is_byte line_feed) bytes) 0 (length bytes)
     → IsUnbroken bytes
-unbroken_nowhere bytes none = AllByRecursion-from_places (λ b. b ≢ line_feed) bytes (λ k below is. none k (omega arith) below (eq-eqb _ line_feed is))
+unbroken_nowhere bytes none =
+    AllByRecursion-from_places (λ b. b ≢ line_feed) bytes
+    (λ k below is. none k (omega arith) below (eq-eqb _ line_feed is))
 
 pub cuts_first : (bytes : List ℕ) (i : ℕ) → NoneBefore (Passes (is_byte line_feed) bytes) 0 (length bytes) i
     → Passes (is_byte line_feed) bytes i → CutsLine bytes i
@@ -48,7 +52,8 @@ cuts_first bytes i first passes = record {
   parts =
       let inside : i < length bytes = first.high in
       let here : get_or bytes i 0 ≡ line_feed = eqb-true _ line_feed passes in
-      let from_here : drop i bytes ≡ line_feed ∷ drop (i + 1) bytes = rw (add-one, drop-cons bytes i 0) (ap (λ b. b ∷ drop (suc i) bytes) here) in
+      let from_here : drop i bytes ≡ line_feed ∷ drop (i + 1) bytes =
+      rw (add-one, drop-cons bytes i 0) (ap (λ b. b ∷ drop (suc i) bytes) here) in
       rw append_assoc (sym (take-append-drop i bytes) ∙ ap (λ l. take i bytes ++ l) from_here);
   unbroken = AllByRecursion-from_places (λ b. b ≢ line_feed) (take i bytes) (λ k below is.
       let before : k < i = omega (arith, length-take {A = ℕ}) in

@@ -1,6 +1,6 @@
 -- A line has one outcome, and an input one output.
-use Rattle.std.proofs.Common.{◌≡◌, ◌≢◌, ℕ, inl, inr, List, [], ◌∷◌, ◌++◌, Bool, true, Some, refl, sym, ap, subst}
-use Rattle.std.proofs.Common.{◌∙◌, flat_map, append_assoc, append-nil}
+use Rattle.std.proofs.Common.{◌≡◌, ◌≢◌, ℕ, inl, inr, List, [], ◌∷◌, ◌++◌, Bool, true, Some, refl, sym, ap}
+use Rattle.std.proofs.Common.{subst, ◌∙◌, flat_map, append_assoc, append-nil}
 use Rattle.std.specs.List.{AllByRecursion, AllZip, list_all}
 use Rattle.gix_config_value.specs.declared.kind.Kind.{Kind}
 use Rattle.gix_config_value.specs.declared.program.RunError.{RunError}
@@ -21,18 +21,22 @@ use Rattle.config_text.specs.Value.{IsRefused, Normalizes}
 pub text_once : {V : Type 0} (grammar : List ℕ → V → Type 0) (canonical : List ℕ → Type 0) (t r s : List ℕ)
     → Normalizes grammar canonical t (Some r) → Normalizes grammar canonical t (Some s) → r ≡ s
 text_once grammar canonical t r s a b =
-    b.1.only_text r a.1.text.canonical_text (subst (grammar r) (b.1.one_value a.0 a.1.derived) a.1.text.reads_to)
+    b.1.only_text r a.1.text.canonical_text
+    (subst (grammar r) (b.1.one_value a.0 a.1.derived) a.1.text.reads_to)
 
 pub line_outcome : ((k l : Kind) → kind_name k ≡ kind_name l → k ≡ l) → (line : List ℕ) (a b : Outcome)
     → LineOutcome line a → LineOutcome line b → a ≡ b
 line_outcome one_name line (accepted r) (accepted s) a b =
     ap accepted (text_once (KindGrammar a.0) (KindCanonical a.0) (line_value line) r s a.2
-    (subst (λ k. Normalizes (KindGrammar k) (KindCanonical k) (line_value line) (Some s)) (one_name b.0 a.0 (b.1 ∙ sym a.1)) b.2))
+    (subst (λ k. Normalizes (KindGrammar k) (KindCanonical k) (line_value line) (Some s))
+    (one_name b.0 a.0 (b.1 ∙ sym a.1)) b.2))
 line_outcome one_name line (accepted r) refused a b =
-    absurd (subst (λ k. IsRefused (KindGrammar k) (line_value line)) (one_name b.0 a.0 (b.1 ∙ sym a.1)) b.2 a.2.0 a.2.1.derived)
+    absurd (subst (λ k. IsRefused (KindGrammar k) (line_value line)) (one_name b.0 a.0 (b.1 ∙ sym a.1)) b.2
+    a.2.0 a.2.1.derived)
 line_outcome one_name line (accepted r) unknown_kind a b = absurd (b a.0 a.1)
 line_outcome one_name line refused (accepted s) a b =
-    absurd (subst (λ k. IsRefused (KindGrammar k) (line_value line)) (one_name a.0 b.0 (a.1 ∙ sym b.1)) a.2 b.2.0 b.2.1.derived)
+    absurd (subst (λ k. IsRefused (KindGrammar k) (line_value line)) (one_name a.0 b.0 (a.1 ∙ sym b.1)) a.2
+    b.2.0 b.2.1.derived)
 line_outcome one_name line refused refused a b = refl
 line_outcome one_name line refused unknown_kind a b = absurd (b a.0 a.1)
 line_outcome one_name line unknown_kind (accepted s) a b = absurd (a b.0 b.1)
@@ -64,9 +68,11 @@ one_cut : (lines lines' : List (List ℕ)) (rest rest' : List ℕ)
     → (lines ≡ lines') × (rest ≡ rest')
 one_cut [] [] rest rest' e u w s t = (refl, e)
 one_cut [] (l ∷ ls) rest rest' e u w s t =
-    absurd (not_within line_feed l (flat_map ended ls ++ rest') (subst IsUnbroken (e ∙ regroup l (flat_map ended ls) rest') s))
+    absurd (not_within line_feed l (flat_map ended ls ++ rest')
+    (subst IsUnbroken (e ∙ regroup l (flat_map ended ls) rest') s))
 one_cut (l ∷ ls) [] rest rest' e u w s t =
-    absurd (not_within line_feed l (flat_map ended ls ++ rest) (subst IsUnbroken (sym e ∙ regroup l (flat_map ended ls) rest) t))
+    absurd (not_within line_feed l (flat_map ended ls ++ rest)
+    (subst IsUnbroken (sym e ∙ regroup l (flat_map ended ls) rest) t))
 one_cut (l ∷ ls) (m ∷ ms) rest rest' e u w s t =
     let first = first_cut line_feed l m (flat_map ended ls ++ rest) (flat_map ended ms ++ rest') u.0 w.0
     (sym (regroup l (flat_map ended ls) rest) ∙ e ∙ regroup m (flat_map ended ms) rest') in
@@ -111,7 +117,8 @@ module _ (one : (line : List ℕ) (a b : Outcome) → LineOutcome line a → Lin
   cut_once : (input : List ℕ) (lines lines' : List (List ℕ)) (rest rest' : List ℕ) → IsCut input lines rest
       → IsCut input lines' rest' → (lines ≡ lines') × (rest ≡ rest')
   cut_once input lines lines' rest rest' a b =
-      one_cut lines lines' rest rest' (sym a.joined ∙ b.joined) a.unbroken b.unbroken a.rest_unbroken b.rest_unbroken
+      one_cut lines lines' rest rest' (sym a.joined ∙ b.joined) a.unbroken b.unbroken a.rest_unbroken
+      b.rest_unbroken
 
   pub input_output : (input o p : List ℕ) (x y : Bool) → Answers input o x → Answers input p y
       → (o ≡ p) × (x ≡ y)
@@ -125,9 +132,11 @@ module _ (one : (line : List ℕ) (a b : Outcome) → LineOutcome line a → Lin
   after_read input o p a b =
       let cut = cut_once input (a.lines ++ []) (b.lines ++ []) a.rest b.rest a.cut b.cut in
       let same : b.lines ≡ a.lines = sym (append-nil b.lines) ∙ sym cut.0 ∙ append-nil a.lines in
-      (lines_answered a.lines o p a.ok b.ok a.answered (subst (λ lines. LinesAnswered lines p b.ok) same b.answered)).0
+      (lines_answered a.lines o p a.ok b.ok a.answered
+      (subst (λ lines. LinesAnswered lines p b.ok) same b.answered)).0
 
-  beginnings : (input o p : List ℕ) → IsBeginningOfAnswers input o → IsBeginningOfAnswers input p → OneBegins o p
+  beginnings : (input o p : List ℕ) → IsBeginningOfAnswers input o → IsBeginningOfAnswers input p
+      → OneBegins o p
   beginnings input o p a b = begin_each_other o p a.3.0 b.3.0
       (sym a.3.1 ∙ (input_output input a.0 b.0 a.1 b.1 a.2 b.2).0 ∙ b.3.1)
 

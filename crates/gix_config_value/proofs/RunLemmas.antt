@@ -44,20 +44,23 @@ EndsEarly-first a b e k is_write = let last = last_any a.line a.accepted in reco
       same_writer = k.sends.same_writer;
       written = k.sends.written;
       appended = k.sends.appended;
-      in_order = ap (λ x. x ++ last.1) (sym (append-nil a.to.waiting) ∙ k.sends.in_order) ∙ append_assoc k.sends.written k.missing last.1;
+      in_order = ap (λ x. x ++ last.1) (sym (append-nil a.to.waiting) ∙ k.sends.in_order)
+          ∙ append_assoc k.sends.written k.missing last.1;
     };
     allowed = subst (λ e. MayMiss e (k.missing ++ last.1)) (sym is_write) tt;
   };
   is_write = is_write;
 }
 
-module _ (a : RunState) (b : OutputState) (accepts : Bool) (some : a.line ≢ []) (e : SendsAnswer a.line a.to b accepts) where
+module _ (a : RunState) (b : OutputState) (accepts : Bool) (some : a.line ≢ [])
+    (e : SendsAnswer a.line a.to b accepts) where
   pub EndsAnswered-line : (c : OutputState) → SendsBytes b c [] → c.waiting ≡ []
       → EndsAnswered a c (a.accepted && accepts)
   EndsAnswered-line c s empty = record {
     last = outcome_text e.outcome;
     answered = AnswersLast-of a.line a.accepted accepts e.outcome some e.is e.accepts;
-    sends = subst (SendsBytes a.to c) (append-nil _) (SendsBytes-trans a.to b c (outcome_text e.outcome) [] e.sends s);
+    sends = subst (SendsBytes a.to c) (append-nil _)
+        (SendsBytes-trans a.to b c (outcome_text e.outcome) [] e.sends s);
     empty = empty;
   }
 
@@ -67,7 +70,8 @@ module _ (a : RunState) (b : OutputState) (accepts : Bool) (some : a.line ≢ []
     last = outcome_text e.outcome;
     ok = a.accepted && accepts;
     answered = AnswersLast-of a.line a.accepted accepts e.outcome some e.is e.accepts;
-    breaks = subst (λ x. FailsSending a.to c x error) (append-nil _) (FailsSending-after a.to b c (outcome_text e.outcome) [] error e.sends k);
+    breaks = subst (λ x. FailsSending a.to c x error) (append-nil _)
+        (FailsSending-after a.to b c (outcome_text e.outcome) [] error e.sends k);
     is_write = is_write;
   }
 
@@ -90,12 +94,23 @@ lines_of (Memory e) missing input output may some_lines = some_lines may
 
 module _ (unread held : Option (List ℕ)) (writer : GName) where
   pub HasAnswered-start : (line waiting : List ℕ) → line ≡ [] → waiting ≡ []
-      → HasAnswered unread unread (start writer held) (record { line = line; accepted = true; to = record { writer = writer; held = held; waiting = waiting } })
+      → HasAnswered unread unread (start writer held)
+      (record {
+        line = line;
+        accepted = true;
+        to = record { writer = writer; held = held; waiting = waiting };
+      })
   HasAnswered-start line waiting none empty = rw (none, empty)
-      (record { input = []; consumed = Consumes-nil unread; advances = Advances-nil (start writer held); empty = refl })
+      (record {
+        input = [];
+        consumed = Consumes-nil unread;
+        advances = Advances-nil (start writer held);
+        empty = refl;
+      })
 
   -- an error in the middle of the input
-  module _ (left : Option (List ℕ)) (after : OutputState) (input : List ℕ) (e : RunError) (read : Consumes unread left input)
+  module _ (left : Option (List ℕ)) (after : OutputState) (input : List ℕ) (e : RunError)
+      (read : Consumes unread left input)
       (s : FailsWithin (start writer held) after input e) where
     written : List ℕ
     written = s.breaks.sends.written
@@ -108,7 +123,8 @@ module _ (unread held : Option (List ℕ)) (writer : GName) where
     beginning = let rest = takes_any s.line s.accepted s.left in
         begins input rest.0 (s.output ++ rest.2) written (missing ++ rest.2) rest.1
         (subst (λ x. CompletesLines [] true x rest.0 rest.1 (s.output ++ rest.2)) (sym s.split)
-        (CompletesLines-trans [] s.done s.line s.left rest.0 true s.accepted rest.1 s.output rest.2 s.taken rest.3))
+        (CompletesLines-trans [] s.done s.line s.left rest.0 true s.accepted rest.1 s.output rest.2 s.taken
+        rest.3))
         (ap (λ x. x ++ rest.2) s.breaks.sends.in_order ∙ append_assoc written missing rest.2)
 
     some_lines : missing ≡ [] → (more : List (List ℕ)) × AnswersAllBut more input written
@@ -117,7 +133,8 @@ module _ (unread held : Option (List ℕ)) (writer : GName) where
         let found = all_but s.done s.left s.line rest.0 s.output rest.2 s.accepted rest.1 s.taken rest.3 in (
           found.0,
           subst (λ x. AnswersAllBut found.0 x written) (sym s.split)
-              (subst (AnswersAllBut found.0 (s.done ++ s.left)) (s.breaks.sends.in_order ∙ ap (λ x. written ++ x) whole ∙ append-nil written) found.1),
+              (subst (AnswersAllBut found.0 (s.done ++ s.left))
+              (s.breaks.sends.in_order ∙ ap (λ x. written ++ x) whole ∙ append-nil written) found.1),
         )
 
     pub Fails-amid : Fails unread left held after.held e
@@ -131,7 +148,8 @@ module _ (unread held : Option (List ℕ)) (writer : GName) where
       lines = lines_of e missing _ _ s.breaks.allowed some_lines;
     }
 
-  module _ (left : Option (List ℕ)) (now : RunState) (g : HasAnswered unread left (start writer held) now) where
+  module _ (left : Option (List ℕ)) (now : RunState)
+      (g : HasAnswered unread left (start writer held) now) where
     written_all : Appends held now.to.held g.advances.output
     written_all = SendsBytes-all (start writer held).to now.to g.advances.output refl g.empty g.advances.sends
 
@@ -143,7 +161,8 @@ module _ (unread held : Option (List ℕ)) (writer : GName) where
     HasAnswered-on left' between after bytes read t s empty = record {
       input = g.input ++ bytes;
       consumed = Consumes-trans unread left left' g.input bytes g.consumed read;
-      advances = Advances-trans (start writer held) now _ g.input bytes g.advances (Advances-sent now between after bytes t s);
+      advances = Advances-trans (start writer held) now _ g.input bytes g.advances
+          (Advances-sent now between after bytes t s);
       empty = empty;
     }
 
@@ -154,16 +173,18 @@ module _ (unread held : Option (List ℕ)) (writer : GName) where
       output = g.advances.output;
       consumed = Consumes-kept unread left left' g.input g.consumed kept;
       appended = written_all;
-      begins = begins g.input now.line g.advances.output g.advances.output [] now.accepted g.advances.taken (sym (append-nil g.advances.output));
+      begins = begins g.input now.line g.advances.output g.advances.output [] now.accepted g.advances.taken
+          (sym (append-nil g.advances.output));
       lines = record {
         lines = g.advances.taken.lines;
         rest = now.line;
         ok = now.accepted;
-        cut = subst (λ lines. IsCut g.input lines now.line) (sym (append-nil g.advances.taken.lines)) (record {
-          joined = g.advances.taken.joined;
-          unbroken = g.advances.taken.unbroken tt;
-          rest_unbroken = g.advances.taken.rest_unbroken tt;
-        });
+        cut = subst (λ lines. IsCut g.input lines now.line) (sym (append-nil g.advances.taken.lines))
+            (record {
+              joined = g.advances.taken.joined;
+              unbroken = g.advances.taken.unbroken tt;
+              rest_unbroken = g.advances.taken.rest_unbroken tt;
+            });
         answered = record {
           outcomes = g.advances.taken.outcomes;
           each = g.advances.taken.each;
@@ -184,11 +205,14 @@ module _ (unread held : Option (List ℕ)) (writer : GName) where
     Completes-end left' after ok read e = record {
       input = g.input;
       output = g.advances.output ++ e.last;
-      consumed = subst (Consumes unread left') (append-nil g.input) (Consumes-trans unread left left' g.input [] g.consumed read.0);
+      consumed = subst (Consumes unread left') (append-nil g.input)
+          (Consumes-trans unread left left' g.input [] g.consumed read.0);
       at_end = read.1;
       appended = SendsBytes-all (start writer held).to after _ refl e.empty
-          (SendsBytes-trans (start writer held).to now.to after g.advances.output e.last g.advances.sends e.sends);
-      answers = Answers-last g.input now.line g.advances.output e.last now.accepted ok g.advances.taken e.answered;
+          (SendsBytes-trans (start writer held).to now.to after g.advances.output e.last g.advances.sends
+          e.sends);
+      answers = Answers-last g.input now.line g.advances.output e.last now.accepted ok g.advances.taken
+          e.answered;
     }
 
     -- the end of the input is not answered whole
@@ -196,16 +220,19 @@ module _ (unread held : Option (List ℕ)) (writer : GName) where
         → Consumes left left' [] × IsAtEnd left' → EndsEarly now after e
         → Fails unread left' held after.held e
     Fails-end left' after e read end =
-        let k = FailsSending-after (start writer held).to now.to after g.advances.output end.last e g.advances.sends end.breaks in
+        let k = FailsSending-after (start writer held).to now.to after g.advances.output end.last e
+        g.advances.sends end.breaks in
         subst (Fails unread left' held after.held) (sym end.is_write) (record {
           input = g.input;
           output = k.sends.written;
-          consumed = subst (Consumes unread left') (append-nil g.input) (Consumes-trans unread left left' g.input [] g.consumed read.0);
+          consumed = subst (Consumes unread left') (append-nil g.input)
+              (Consumes-trans unread left left' g.input [] g.consumed read.0);
           appended = k.sends.appended;
           begins = (
             g.advances.output ++ end.last,
             end.ok,
-            Answers-last g.input now.line g.advances.output end.last now.accepted end.ok g.advances.taken end.answered,
+            Answers-last g.input now.line g.advances.output end.last now.accepted end.ok g.advances.taken
+                end.answered,
             (k.missing, k.sends.in_order),
           );
           lines = tt;
@@ -233,7 +260,9 @@ module _ (unread held : Option (List ℕ)) (writer : GName) where
     Fails-at_end (Err e) left' after read early = Fails-end left' after e read early
 
     -- a read of which not all answers could be sent
-    pub Fails-unsent : (left' : Option (List ℕ)) (between : RunState) (after : OutputState) (bytes : List ℕ) (e : RunError) → Consumes left left' bytes
+    pub Fails-unsent : (left' : Option (List ℕ)) (between : RunState) (after : OutputState) (bytes : List ℕ)
+        (e : RunError) → Consumes left left' bytes
         → Advances now between bytes → FailsSending between.to after [] e
         → Fails unread left' held after.held e
-    Fails-unsent left' between after bytes e read t k = Fails-on left' after bytes e read (FailsWithin-whole now between after bytes e t k)
+    Fails-unsent left' between after bytes e read t k =
+        Fails-on left' after bytes e read (FailsWithin-whole now between after bytes e t k)

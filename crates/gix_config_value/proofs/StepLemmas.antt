@@ -1,7 +1,7 @@
 -- How the steps of a run compose, and that every line and every input has answers.
 use Rattle.std.proofs.Common.{length, Result, Ok, Err, OnOk, IfErr, ◌+◌, take, drop, take-append-drop, ◌≡◌, ℕ}
-use Rattle.std.proofs.Common.{inl, inr, Some, None, List, [], ◌∷◌, ◌++◌, ◌&&◌, flat_map, Bool, true, Option, refl, sym}
-use Rattle.std.proofs.Common.{ap, ◌∙◌, append_assoc, append-nil, subst}
+use Rattle.std.proofs.Common.{inl, inr, Some, None, List, [], ◌∷◌, ◌++◌, ◌&&◌, flat_map, Bool, true, Option}
+use Rattle.std.proofs.Common.{refl, sym, ap, ◌∙◌, append_assoc, append-nil, subst}
 use Rattle.std.specs.List.{AllByRecursion, AllZip, list_all}
 use Rattle.std.specs.Result.{IsErrAnd}
 use Rattle.std.specs.Io.KnownBytes.{Appends}
@@ -89,14 +89,18 @@ pub CompletesLines-trans : (line p line' q line'' : List ℕ) (ok ok' ok'' : Boo
 CompletesLines-trans line p line' q line'' ok ok' ok'' first second t u = record {
   lines = t.lines ++ u.lines;
   outcomes = t.outcomes ++ u.outcomes;
-  joined = sym (append_assoc line p q) ∙ ap (λ l. l ++ q) t.joined ∙ append_assoc (flat_map ended t.lines) line' q
-      ∙ ap (λ l. flat_map ended t.lines ++ l) u.joined ∙ sym (append_assoc (flat_map ended t.lines) (flat_map ended u.lines) line'')
+  joined = sym (append_assoc line p q) ∙ ap (λ l. l ++ q) t.joined
+      ∙ append_assoc (flat_map ended t.lines) line' q
+      ∙ ap (λ l. flat_map ended t.lines ++ l) u.joined
+      ∙ sym (append_assoc (flat_map ended t.lines) (flat_map ended u.lines) line'')
       ∙ ap (λ l. l ++ line'') (sym (flat_map-append ended t.lines u.lines));
   unbroken = λ h. AllByRecursion-append _ t.lines u.lines (t.unbroken h) (u.unbroken (t.rest_unbroken h));
   rest_unbroken = λ h. u.rest_unbroken (t.rest_unbroken h);
   each = AllZip-append _ t.lines t.outcomes u.lines u.outcomes t.each u.each;
-  written = ap (λ l. l ++ second) t.written ∙ ap (λ l. flat_map outcome_text t.outcomes ++ l) u.written ∙ sym (flat_map-append outcome_text t.outcomes u.outcomes);
-  all_accepted = u.all_accepted ∙ ap (λ b. b && list_all is_accepted u.outcomes) t.all_accepted ∙ and_assoc ok _ _
+  written = ap (λ l. l ++ second) t.written ∙ ap (λ l. flat_map outcome_text t.outcomes ++ l) u.written
+      ∙ sym (flat_map-append outcome_text t.outcomes u.outcomes);
+  all_accepted = u.all_accepted ∙ ap (λ b. b && list_all is_accepted u.outcomes) t.all_accepted
+      ∙ and_assoc ok _ _
       ∙ ap (λ b. ok && b) (sym (list_all-append is_accepted t.outcomes u.outcomes));
 }
 
@@ -120,8 +124,12 @@ CompletesSome line ok bytes =
 take_on : (line : List ℕ) (ok : Bool) (b : ℕ) (bs line' : List ℕ) (ok' : Bool) (output : List ℕ)
     → CompletesLines line ok (b ∷ []) line' ok' output → CompletesSome line' ok' bs
     → CompletesSome line ok (b ∷ bs)
-take_on line ok b bs line' ok' output t rest =
-    (rest.0, rest.1, output ++ rest.2, CompletesLines-trans line (b ∷ []) line' bs rest.0 ok ok' rest.1 output rest.2 t rest.3)
+take_on line ok b bs line' ok' output t rest = (
+  rest.0,
+  rest.1,
+  output ++ rest.2,
+  CompletesLines-trans line (b ∷ []) line' bs rest.0 ok ok' rest.1 output rest.2 t rest.3,
+)
 
 take_line_feed : (line : List ℕ) (ok : Bool) → CompletesSome line ok (line_feed ∷ [])
 take_line_feed line ok = let o = line_decided (line ++ []) in
@@ -132,8 +140,10 @@ pub takes_any : (line : List ℕ) (ok : Bool) (bytes : List ℕ) → CompletesSo
 takes_any line ok [] = (line, ok, [], CompletesLines-nil line ok)
 takes_any line ok (b ∷ bs) = elim (eqb_tells b line_feed) [
   | inl at ↦ let t = take_line_feed line ok in
-      take_on line ok b bs t.0 t.1 t.2 (subst (λ x. CompletesLines line ok (x ∷ []) t.0 t.1 t.2) (sym at.1) t.3) (takes_any t.0 t.1 bs)
-  | inr other ↦ take_on line ok b bs (line ++ b ∷ []) ok [] (CompletesLines-begun line (b ∷ []) ok (other.1, tt)) (takes_any (line ++ b ∷ []) ok bs)
+      take_on line ok b bs t.0 t.1 t.2
+      (subst (λ x. CompletesLines line ok (x ∷ []) t.0 t.1 t.2) (sym at.1) t.3) (takes_any t.0 t.1 bs)
+  | inr other ↦ take_on line ok b bs (line ++ b ∷ []) ok []
+      (CompletesLines-begun line (b ∷ []) ok (other.1, tt)) (takes_any (line ++ b ∷ []) ok bs)
 ]
 
 pub last_any : (line : List ℕ) (ok : Bool) → (ok' : Bool) × (output : List ℕ) × AnswersLast line ok ok' output
@@ -165,10 +175,12 @@ Answers-last input (b ∷ bs) output last ok ok' t l = record {
   answered = record {
     outcomes = t.outcomes ++ l.0 ∷ [];
     each = AllZip-append _ t.lines t.outcomes _ _ t.each (l.1, tt);
-    written = ap (λ x. output ++ x) (l.2 ∙ sym (append-nil _)) ∙ ap (λ x. x ++ flat_map outcome_text (l.0 ∷ [])) t.written
+    written = ap (λ x. output ++ x) (l.2 ∙ sym (append-nil _))
+        ∙ ap (λ x. x ++ flat_map outcome_text (l.0 ∷ [])) t.written
         ∙ sym (flat_map-append outcome_text t.outcomes (l.0 ∷ []));
     all_accepted = l.3 ∙ ap (λ b. b && is_accepted l.0) t.all_accepted
-        ∙ ap (λ b. list_all is_accepted t.outcomes && b) (sym (and-true _)) ∙ sym (list_all-append is_accepted t.outcomes (l.0 ∷ []));
+        ∙ ap (λ b. list_all is_accepted t.outcomes && b) (sym (and-true _))
+        ∙ sym (list_all-append is_accepted t.outcomes (l.0 ∷ []));
   };
 }
 
@@ -188,21 +200,36 @@ pub all_but : (input left line line' output output' : List ℕ) (ok ok' : Bool)
     → CompletesLines [] true input line ok output → CompletesLines line ok left line' ok' output'
     → (more : List (List ℕ)) × AnswersAllBut more (input ++ left) output
 unfolding CompletesLines-trans
-all_but input left line line' output output' ok ok' t u = let whole = CompletesLines-trans [] input line left line' true ok ok' output output' t u in (
-  u.lines,
-  record {
-    lines = t.lines;
-    rest = line';
-    ok = ok;
-    cut = record { joined = whole.joined; unbroken = whole.unbroken tt; rest_unbroken = whole.rest_unbroken tt };
-    answered = record { outcomes = t.outcomes; each = t.each; written = t.written; all_accepted = t.all_accepted };
-  },
-)
+all_but input left line line' output output' ok ok' t u =
+    let whole = CompletesLines-trans [] input line left line' true ok ok' output output' t u in (
+      u.lines,
+      record {
+        lines = t.lines;
+        rest = line';
+        ok = ok;
+        cut = record {
+          joined = whole.joined;
+          unbroken = whole.unbroken tt;
+          rest_unbroken = whole.rest_unbroken tt;
+        };
+        answered = record {
+          outcomes = t.outcomes;
+          each = t.each;
+          written = t.written;
+          all_accepted = t.all_accepted;
+        };
+      },
+    )
 
 -- ---- what is sent
 
 pub SendsBytes-nil : (a : OutputState) → SendsBytes a a []
-SendsBytes-nil a = record { same_writer = refl; written = []; appended = Appends-nil a.held; in_order = append-nil a.waiting }
+SendsBytes-nil a = record {
+  same_writer = refl;
+  written = [];
+  appended = Appends-nil a.held;
+  in_order = append-nil a.waiting;
+}
 
 pub SendsBytes-trans : (a b c : OutputState) (o o' : List ℕ) → SendsBytes a b o → SendsBytes b c o'
     → SendsBytes a c (o ++ o')
@@ -210,7 +237,8 @@ SendsBytes-trans a b c o o' s t = record {
   same_writer = t.same_writer ∙ s.same_writer;
   written = s.written ++ t.written;
   appended = Appends-trans a.held b.held c.held s.written t.written s.appended t.appended;
-  in_order = sym (append_assoc a.waiting o o') ∙ ap (λ x. x ++ o') s.in_order ∙ append_assoc s.written b.waiting o'
+  in_order = sym (append_assoc a.waiting o o') ∙ ap (λ x. x ++ o') s.in_order
+      ∙ append_assoc s.written b.waiting o'
       ∙ ap (λ x. s.written ++ x) t.in_order ∙ sym (append_assoc s.written t.written c.waiting);
 }
 
@@ -219,18 +247,28 @@ pub SendsBytes-write : (a b : OutputState) (held : Option (List ℕ)) (n : ℕ) 
     → Appends b.held held (take n b.waiting)
     → SendsBytes a (record { writer = b.writer; held = held; waiting = drop n b.waiting }) []
 SendsBytes-write a b held n s h = SendsBytes-trans a b _ [] [] s
-    (record { same_writer = refl; written = take n b.waiting; appended = h; in_order = append-nil b.waiting ∙ sym (take-append-drop n b.waiting) })
+    (record {
+      same_writer = refl;
+      written = take n b.waiting;
+      appended = h;
+      in_order = append-nil b.waiting ∙ sym (take-append-drop n b.waiting);
+    })
 
 -- all is written
 pub SendsBytes-all : (a b : OutputState) (bytes : List ℕ) → a.waiting ≡ [] → b.waiting ≡ []
     → SendsBytes a b bytes → Appends a.held b.held bytes
 SendsBytes-all a b bytes first last s = subst (Appends a.held b.held)
-    (sym (ap (λ x. x ++ bytes) (sym first) ∙ s.in_order ∙ ap (λ x. s.written ++ x) last ∙ append-nil s.written)) s.appended
+    (sym (ap (λ x. x ++ bytes) (sym first) ∙ s.in_order ∙ ap (λ x. s.written ++ x) last
+    ∙ append-nil s.written)) s.appended
 
 pub FailsSending-after : (a b c : OutputState) (o o' : List ℕ) (e : RunError) → SendsBytes a b o
     → FailsSending b c o' e → FailsSending a c (o ++ o') e
 FailsSending-after a b c o o' e s k =
-    record { missing = k.missing; sends = SendsBytes-trans a b (record c { waiting = k.missing }) o o' s k.sends; allowed = k.allowed }
+    record {
+      missing = k.missing;
+      sends = SendsBytes-trans a b (record c { waiting = k.missing }) o o' s k.sends;
+      allowed = k.allowed;
+    }
 
 -- the answer to a line is appended to what waits
 pub SendsAnswer-appended : (line : List ℕ) (a b : OutputState) (waiting : List ℕ) (ok : Bool)
@@ -245,10 +283,11 @@ SendsAnswer-appended line a b waiting ok s p = record {
 }
 
 -- nothing is left of what waited, and the buffer is cleared
-pub SendsBytes-cleared : (a b : OutputState) (waiting : List ℕ) → SendsBytes a b [] → length b.waiting ≡ 0 → waiting ≡ [] → SendsBytes a (record b {
-  waiting =
-      waiting;
-}) []
+pub SendsBytes-cleared : (a b : OutputState) (waiting : List ℕ) → SendsBytes a b [] → length b.waiting ≡ 0
+    → waiting ≡ [] → SendsBytes a (record b {
+      waiting =
+          waiting;
+    }) []
 SendsBytes-cleared a b waiting s none cleared =
     subst (λ w. SendsBytes a (record b { waiting = w }) []) (nil_from_length b.waiting none ∙ sym cleared) s
 
@@ -269,32 +308,43 @@ FailsSending-write a b after bytes s h same = record {
 -- ---- bytes taken, and their answers sent
 
 pub Advances-nil : (a : RunState) → Advances a a []
-Advances-nil a = record { output = []; taken = CompletesLines-nil a.line a.accepted; sends = SendsBytes-nil a.to }
+Advances-nil a = record {
+  output = [];
+  taken = CompletesLines-nil a.line a.accepted;
+  sends = SendsBytes-nil a.to;
+}
 
 pub Advances-trans : (a b c : RunState) (p q : List ℕ) → Advances a b p → Advances b c q
     → Advances a c (p ++ q)
 Advances-trans a b c p q t u = record {
   output = t.output ++ u.output;
-  taken = CompletesLines-trans a.line p b.line q c.line a.accepted b.accepted c.accepted t.output u.output t.taken u.taken;
+  taken = CompletesLines-trans a.line p b.line q c.line a.accepted b.accepted c.accepted t.output u.output
+      t.taken u.taken;
   sends = SendsBytes-trans a.to b.to c.to t.output u.output t.sends u.sends;
 }
 
 -- what waited is written once the bytes are taken
-pub Advances-sent : (a b : RunState) (to : OutputState) (bytes : List ℕ) → Advances a b bytes → SendsBytes b.to to [] → Advances a (record b {
-  to =
-      to;
-}) bytes
+pub Advances-sent : (a b : RunState) (to : OutputState) (bytes : List ℕ) → Advances a b bytes
+    → SendsBytes b.to to [] → Advances a (record b {
+      to =
+          to;
+    }) bytes
 Advances-sent a b to bytes t s = record {
   output = t.output;
   taken = t.taken;
-  sends = subst (SendsBytes a.to to) (append-nil t.output) (SendsBytes-trans a.to b.to to t.output [] t.sends s);
+  sends = subst (SendsBytes a.to to) (append-nil t.output)
+      (SendsBytes-trans a.to b.to to t.output [] t.sends s);
 }
 
 -- bytes without LF go on with the line begun, and no answer comes
 pub Advances-begun : (a b : RunState) (bytes : List ℕ) → IsUnbroken bytes → b ≡ with_more a bytes
     → Advances a b bytes
 Advances-begun a b bytes unbroken gathered = subst (λ x. Advances a x bytes) (sym gathered)
-    (record { output = []; taken = CompletesLines-begun a.line bytes a.accepted unbroken; sends = SendsBytes-nil a.to })
+    (record {
+      output = [];
+      taken = CompletesLines-begun a.line bytes a.accepted unbroken;
+      sends = SendsBytes-nil a.to;
+    })
 
 -- the line begun is completed by bytes up to an LF, and answered
 pub Advances-line : (a : RunState) (front : List ℕ) (to : OutputState) (accepts : Bool) → IsUnbroken front
@@ -302,7 +352,8 @@ pub Advances-line : (a : RunState) (front : List ℕ) (to : OutputState) (accept
     → Advances a (record { line = []; accepted = a.accepted && accepts; to = to }) (ended front)
 Advances-line a front to accepts unbroken e = record {
   output = outcome_text e.outcome;
-  taken = subst (λ x. CompletesLines a.line a.accepted (ended front) [] (a.accepted && x) (outcome_text e.outcome)) (sym e.accepts)
+  taken = subst (λ x. CompletesLines a.line a.accepted (ended front) [] (a.accepted && x)
+      (outcome_text e.outcome)) (sym e.accepts)
       (CompletesLines-line a.line front a.accepted e.outcome unbroken e.is);
   sends = e.sends;
 }
@@ -331,7 +382,8 @@ FailsWithin-after a b after p q e t s = record {
   line = s.line;
   accepted = s.accepted;
   output = t.output ++ s.output;
-  taken = CompletesLines-trans a.line p b.line s.done s.line a.accepted b.accepted s.accepted t.output s.output t.taken s.taken;
+  taken = CompletesLines-trans a.line p b.line s.done s.line a.accepted b.accepted s.accepted t.output
+      s.output t.taken s.taken;
   breaks = FailsSending-after a.to b.to after t.output s.output e t.sends s.breaks;
 }
 
@@ -339,7 +391,8 @@ FailsWithin-after a b after p q e t s = record {
 pub FailsWithin-whole : (a b : RunState) (after : OutputState) (bytes : List ℕ) (e : RunError)
     → Advances a b bytes → FailsSending b.to after [] e → FailsWithin a after bytes e
 FailsWithin-whole a b after bytes e t k =
-    subst (λ x. FailsWithin a after x e) (append-nil bytes) (FailsWithin-after a b after bytes [] e t (FailsWithin-first b after [] e k))
+    subst (λ x. FailsWithin a after x e) (append-nil bytes)
+    (FailsWithin-after a b after bytes [] e t (FailsWithin-first b after [] e k))
 
 -- ---- the parts of a read
 
@@ -349,12 +402,15 @@ AnswersUpTo-start a bytes none = record { done = []; split = refl; advances = Ad
 pub AnswersUpTo-more : (a b : RunState) (bytes rest : List ℕ) (place : ℕ) (to : OutputState) (accepts : Bool)
     → AnswersUpTo a b bytes rest → CutsLine rest place
     → SendsAnswer (take place rest) b.to to accepts
-    → AnswersUpTo a (record { line = b.line; accepted = b.accepted && accepts; to = to }) bytes (drop (place + 1) rest)
+    → AnswersUpTo a (record { line = b.line; accepted = b.accepted && accepts; to = to }) bytes
+    (drop (place + 1) rest)
 AnswersUpTo-more a b bytes rest place to accepts t cut e = record {
   done = t.done ++ ended (take place rest);
-  split = t.split ∙ ap (λ x. t.done ++ x) cut.parts ∙ sym (append_assoc t.done (ended (take place rest)) (drop (place + 1) rest));
+  split = t.split ∙ ap (λ x. t.done ++ x) cut.parts
+      ∙ sym (append_assoc t.done (ended (take place rest)) (drop (place + 1) rest));
   advances = Advances-trans a b _ t.done (ended (take place rest)) t.advances
-      (subst (λ l. Advances b (record { line = l; accepted = b.accepted && accepts; to = to }) (ended (take place rest))) (sym t.none)
+      (subst (λ l. Advances b (record { line = l; accepted = b.accepted && accepts; to = to })
+      (ended (take place rest))) (sym t.none)
       (Advances-line b (take place rest) to accepts cut.unbroken
       (subst (λ l. SendsAnswer (l ++ take place rest) b.to to accepts) (sym t.none) e)));
   none = t.none;
@@ -365,7 +421,8 @@ pub FailsWithin-in_lines : (a b : RunState) (bytes rest : List ℕ) (after : Out
     → AnswersUpTo a b bytes rest → FailsSending b.to after [] e
     → FailsWithin a after bytes e
 FailsWithin-in_lines a b bytes rest after e t k =
-    subst (λ x. FailsWithin a after x e) (sym t.split) (FailsWithin-after a b after t.done rest e t.advances (FailsWithin-first b after rest e k))
+    subst (λ x. FailsWithin a after x e) (sym t.split)
+    (FailsWithin-after a b after t.done rest e t.advances (FailsWithin-first b after rest e k))
 
 -- the lines that end within the bytes are answered, and the rest is gathered
 pub Advances-lines : (a b c : RunState) (bytes rest : List ℕ) → AnswersUpTo a b bytes rest → IsUnbroken rest
@@ -379,8 +436,10 @@ pub Advances-completed : (a b : RunState) (front line : List ℕ) (to : OutputSt
     → SendsAnswer b.line b.to to accepts → line ≡ []
     → Advances a (record { line = line; accepted = b.accepted && accepts; to = to }) (ended front)
 Advances-completed a b front line to accepts unbroken gathered e none =
-    subst (λ l. Advances a (record { line = l; accepted = b.accepted && accepts; to = to }) (ended front)) (sym none)
-    (subst (λ x. Advances a (record { line = []; accepted = x.accepted && accepts; to = to }) (ended front)) (sym gathered)
+    subst (λ l. Advances a (record { line = l; accepted = b.accepted && accepts; to = to }) (ended front))
+    (sym none)
+    (subst (λ x. Advances a (record { line = []; accepted = x.accepted && accepts; to = to }) (ended front))
+    (sym gathered)
     (Advances-line a front to accepts unbroken (subst (λ x. SendsAnswer x.line x.to to accepts) gathered e)))
 
 -- ---- a call that may fail
@@ -404,7 +463,8 @@ pub stopped_first : (r : Result (Unit {0}) RunError) (a : RunState) (after : Out
 stopped_first (Ok x) a after bytes k = tt
 stopped_first (Err e) a after bytes k = FailsWithin-first a after bytes e k
 
-module _ (r : Result (Unit {0}) RunError) (a b : RunState) (bytes rest : List ℕ) (t : AnswersUpTo a b bytes rest) where
+module _ (r : Result (Unit {0}) RunError) (a b : RunState) (bytes rest : List ℕ)
+    (t : AnswersUpTo a b bytes rest) where
   -- the rest is gathered behind the lines that end within the bytes
   pub lines_on : (c : RunState) → IsUnbroken rest → OnOk r (c ≡ with_more b rest)
       → OnOk r (Advances a c bytes)
@@ -421,7 +481,8 @@ module _ (r : Result (Unit {0}) RunError) (a b : RunState) (bytes rest : List �
     on (Ok x) k = tt
     on (Err e) k = FailsWithin-in_lines a b bytes rest after e t k
 
-module _ (r : Result (Unit {0}) RunError) (a b : RunState) (bytes : List ℕ) (place : ℕ) (cut : CutsLine bytes place)
+module _ (r : Result (Unit {0}) RunError) (a b : RunState) (bytes : List ℕ) (place : ℕ)
+    (cut : CutsLine bytes place)
     (t : Advances a b (ended (take place bytes))) where
   -- the line begun ends at the first LF, and then the rest is taken
   pub taken_after : (c : RunState) → OnOk r (Advances b c (drop (place + 1) bytes))
@@ -429,7 +490,8 @@ module _ (r : Result (Unit {0}) RunError) (a b : RunState) (bytes : List ℕ) (p
   taken_after c = on r where
     on : (r : Result (Unit {0}) RunError) → OnOk r (Advances b c (drop (place + 1) bytes))
         → OnOk r (Advances a c bytes)
-    on (Ok x) u = subst (Advances a c) (sym cut.parts) (Advances-trans a b c (ended (take place bytes)) (drop (place + 1) bytes) t u)
+    on (Ok x) u = subst (Advances a c) (sym cut.parts)
+        (Advances-trans a b c (ended (take place bytes)) (drop (place + 1) bytes) t u)
     on (Err e) u = tt
 
   pub stopped_after : (after : OutputState) → IfErr r (FailsWithin b after (drop (place + 1) bytes))

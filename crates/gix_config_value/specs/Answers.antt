@@ -105,7 +105,8 @@ pub record Completes (unread left held holds : Option (List ℕ)) (ok : Bool) : 
 
 -- the answers to the input begin with the output
 abbrev pub IsBeginningOfAnswers : List ℕ → List ℕ → Type 0
-IsBeginningOfAnswers input output = (whole : List ℕ) × (ok : Bool) × Answers input whole ok × ((missing : List ℕ) × (whole ≡ output ++ missing))
+IsBeginningOfAnswers input output = (whole : List ℕ) × (ok : Bool) × Answers input whole ok
+    × ((missing : List ℕ) × (whole ≡ output ++ missing))
 
 -- of the lines that the input has with their LF, the output is the answers to all but these last ones
 pub record AnswersAllBut (more : List (List ℕ)) (input output : List ℕ) : Type 0 where

@@ -8,7 +8,7 @@ mod writer;
 
 pub use hoard::{asks_once, can_starve, spares, starved};
 pub use reader::Reader;
-pub use row::{equal, rise};
+pub use row::equal;
 use std::fs::Files;
 use std::process::Abort;
 pub use writer::{Turn, Writer};

@@ -8,7 +8,8 @@ use Rattle.config_color.specs.contracts.color.ColorValue.TheImpl.Laws as color
 use Rattle.uses.specs.Headline.{Headline, JoinedHeadline}
 
 pub says_headline : {V : Type 0} {grammar : List ℕ → V → Type 0} {canonical : List ℕ → Type 0}
-    → ((v w : V) (s t : List ℕ) → IsTextOf grammar canonical v s → IsTextOf grammar canonical w t → (v ≡ w) ↔ (s ≡ t))
+    → ((v w : V) (s t : List ℕ) → IsTextOf grammar canonical v s → IsTextOf grammar canonical w t
+    → (v ≡ w) ↔ (s ≡ t))
     → (text : List ℕ) (value : Option V) (normalized : Option (List ℕ))
     → Means grammar canonical text value normalized → Headline grammar canonical text value normalized
 says_headline values text None None refused = record {
@@ -20,14 +21,20 @@ says_headline values text None None refused = record {
 says_headline values text None (Some s) m = absurd m
 says_headline values text (Some v) None m = absurd m
 says_headline {V} {grammar} {canonical} values text (Some v) (Some s) m = record {
-  accepted = λ w. (λ e. subst (λ (x : V). grammar text x) (some e) m.derived, λ h. ap (λ (x : V). Some x) (sym (m.one_value w h)));
+  accepted = λ w. (
+    λ e. subst (λ (x : V). grammar text x) (some e) m.derived,
+    λ h. ap (λ (x : V). Some x) (sym (m.one_value w h)),
+  );
   only_text = λ r. (
-    λ e. subst (λ (x : List ℕ). canonical x × (w : V) × grammar text w × grammar x w) (some_text e) (m.text.canonical_text, v, m.derived, m.text.reads_to),
-    λ h. ap (λ (x : List ℕ). Some x) (sym (m.only_text r h.0 (subst (λ (x : V). grammar r x) (m.one_value h.1 h.2) h.3))),
+    λ e. subst (λ (x : List ℕ). canonical x × (w : V) × grammar text w × grammar x w) (some_text e)
+        (m.text.canonical_text, v, m.derived, m.text.reads_to),
+    λ h. ap (λ (x : List ℕ). Some x)
+        (sym (m.only_text r h.0 (subst (λ (x : V). grammar r x) (m.one_value h.1 h.2) h.3))),
   );
   at_most = λ r e. subst (λ (x : List ℕ). length x ≤ 127) (some_text e) m.text.short;
   same = λ other r w h p k. (
-    λ e. ap (λ (x : List ℕ). Some x) (sym (m.only_text r p (subst (λ (x : V). grammar r x) (sym (some e)) k))),
+    λ e. ap (λ (x : List ℕ). Some x)
+        (sym (m.only_text r p (subst (λ (x : V). grammar r x) (sym (some e)) k))),
     λ e. ap (λ (x : V). Some x) ((values v w s r m.text (read_text r w p k e)).1 (some_text e)),
   );
 } where
@@ -37,12 +44,19 @@ says_headline {V} {grammar} {canonical} values text (Some v) (Some s) m = record
   some_text : {r : List ℕ} → Some s ≡ Some r → s ≡ r
   some_text e = cc
 
-  read_text : (r : List ℕ) (w : V) → canonical r → grammar r w → Some s ≡ Some r → IsTextOf grammar canonical w r
-  read_text r w p k e = record { canonical_text = p; reads_to = k; short = subst (λ (x : List ℕ). length x ≤ 127) (some_text e) m.text.short }
+  read_text : (r : List ℕ) (w : V) → canonical r → grammar r w → Some s ≡ Some r
+      → IsTextOf grammar canonical w r
+  read_text r w p k e = record {
+    canonical_text = p;
+    reads_to = k;
+    short = subst (λ (x : List ℕ). length x ≤ 127) (some_text e) m.text.short;
+  }
 
-pub says_joined : (front back text joined : List ℕ) (color : Option Color) → text ≡ joined → Reads ColorText text color
+pub says_joined : (front back text joined : List ℕ) (color : Option Color) → text ≡ joined
+    → Reads ColorText text color
     → ((c : Color) → (ColorText joined c) ↔ (Joined front back c))
-    → (IsRefused ColorText joined) ↔ (IsRefused ColorText front ⊎ IsRefused ColorText back ⊎ HaveTooManyNames front back)
+    → (IsRefused ColorText joined)
+    ↔ (IsRefused ColorText front ⊎ IsRefused ColorText back ⊎ HaveTooManyNames front back)
     → JoinedHeadline front back color
 says_joined front back text joined (Some d) e is read refused =
     let found : ColorText joined d = subst (λ (t : List ℕ). ColorText t d) e is in record {

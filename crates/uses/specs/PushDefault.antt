@@ -1,7 +1,8 @@
 -- What `push.default` may be: one of five words, of which one has an old name.
 use Rattle.std.specs.Prelude.{◌≡◌, ℕ, ◌⊎◌, List, codes}
 use Rattle.uses.specs.declared.push_default.PushDefault.{PushDefault}
-use Rattle.uses.specs.declared.push_default.PushDefault.TheVariants.{Nothing, Current, Upstream, Simple, Matching}
+use Rattle.uses.specs.declared.push_default.PushDefault.TheVariants.{Nothing, Current, Upstream, Simple}
+use Rattle.uses.specs.declared.push_default.PushDefault.TheVariants.{Matching}
 
 -- the texts of a value: its word, or the old name of `upstream`
 abbrev pub PushDefaultText : List ℕ → PushDefault → Type 0
@@ -21,5 +22,6 @@ push_default_shown Matching = codes "matching"
 
 -- the canonical texts: the words alone
 abbrev pub CanonicalPushDefault : List ℕ → Type 0
-CanonicalPushDefault t = (t ≡ codes "nothing") ⊎ (t ≡ codes "current") ⊎ (t ≡ codes "upstream") ⊎ (t ≡ codes "simple")
+CanonicalPushDefault t = (t ≡ codes "nothing") ⊎ (t ≡ codes "current") ⊎ (t ≡ codes "upstream")
+    ⊎ (t ≡ codes "simple")
     ⊎ (t ≡ codes "matching")

@@ -1,8 +1,8 @@
 //! Short callers of `gix_config_value`. Each rests on public contracts alone, and its own contract says what
 //! its user gets. Read `repository` first, and then what your task is nearest to.
 //!
-//! - `repository` reads the files of the system, the user and the repository, and looks a setting up; a refusal
-//!   names its file and its line.
+//! - `repository` reads the files of the system, the user and the repository, and looks a setting up; a
+//!   refusal names its file and its line.
 //! - `push_default` reads what `push.default` may be, as a kind of value of one's own.
 //! - `paths` interpolates paths, without users and with those of a passwd text.
 //! - `headline` states for each kind what is read, with which value, and its one canonical text.

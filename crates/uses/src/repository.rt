@@ -1,4 +1,4 @@
-//! A setting of the repository that a program works in, over the files of the system, the user and the repository.
+//! A setting of a repository, over the files of the system, the user and the repository.
 ghost use Rattle.std.specs.Prelude.{◌≡◌, MatchResult, Option, Ok, Err};
 ghost use Rattle.config_boolean.specs.declared.boolean.Boolean as value;
 ghost use Rattle.uses.specs.Repository.{or_false, GetsBare};
@@ -23,11 +23,12 @@ pub fn read<'a>(alloc: Global, files: &[File<'a>]) -> Result<Settings<'a>, AddEr
     Ok(settings)
 }
 
-/// Whether the repository is bare: the last `core.bare`, in any case of its letters, decides. A key alone is true,
-/// an empty text is false, and without an entry the answer is false.
+/// Whether the repository is bare: the last `core.bare`, in any case of its letters, decides. A key alone is
+/// true, an empty text is false, and without an entry the answer is false.
 pub fn is_bare<'s>(settings: &'s Settings<'_>) -> Result<bool, Refused<'s, Fault>>
     ensures { MatchResult result
-        (λ bare. (found : Option value.Boolean) × GetsBare settings.now.entries.items (Ok found) × (bare ≡ or_false found))
+        (λ bare. (found : Option value.Boolean) × GetsBare settings.now.entries.items (Ok found)
+        × (bare ≡ or_false found))
         (λ refused. GetsBare settings.now.entries.items (Err refused)) }
 {
     match settings.get(b"core", None, b"bare") {

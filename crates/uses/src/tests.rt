@@ -27,7 +27,7 @@ const FILES: [File<'static>; 3] = [
     },
     File {
         name: "user",
-        bytes: b"[Core]\n\tabbrev = 08 ; octal\n\texcludesFile = ~/ignore\n[color \"diff\"]\n\tmeta = bold \"red\"\n",
+        bytes: b"[Core]\n\tabbrev = 08 ; octal\n\texcludesFile = ~/ignore\n",
     },
     File {
         name: "repository",

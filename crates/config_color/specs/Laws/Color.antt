@@ -1,5 +1,8 @@
--- The laws of color text: reading words joined and parted, names placed, and that a text has at most one color.
-use Rattle.std.proofs.Common.{◌≡◌, ◌≢◌, take, drop, slice_range, ℕ, ◌+◌, ◌<◌, ◌≤◌, ◌⊎◌, inl, inr, List, [], ◌∷◌, ◌++◌, length, Option, Some, None, refl, sym, ap, subst, ◌∙◌, append_assoc, arith}
+-- The laws of color text: reading words joined and parted, names placed, and that a text has at most one
+-- color.
+use Rattle.std.proofs.Common.{◌≡◌, ◌≢◌, take, drop, slice_range, ℕ, ◌+◌, ◌<◌, ◌≤◌, ◌⊎◌, inl, inr, List, []}
+use Rattle.std.proofs.Common.{◌∷◌, ◌++◌, length, Option, Some, None, refl, sym, ap, subst, ◌∙◌, append_assoc}
+use Rattle.std.proofs.Common.{arith}
 use Rattle.std.specs.Int.RustNames.{bit_or}
 use Rattle.std.specs.Int.Bits.{or_zero_l, or_zero_r}
 use Rattle.std.proofs.lemmas.Bool.Decides.{nat_tests}
@@ -33,11 +36,13 @@ pub or_assoc : (a b c : ℕ) → bit_or (bit_or a b) c ≡ bit_or a (bit_or b c)
 or_assoc a b c = same_from_bits _ _ (λ i. simp bit_at_or (omega arith))
 
 -- the words that are read are those that the function gives
-pub read_words : {t : List ℕ} {names : List Name} {bits : ℕ} → TextRead t names bits → WordsRead (words t) names bits
+pub read_words : {t : List ℕ} {names : List Name} {bits : ℕ} → TextRead t names bits
+    → WordsRead (words t) names bits
 read_words {names = names} {bits = bits} h =
     subst (λ (ws : List (List ℕ)). WordsRead ws names bits) (words_only h.cut) h.read
 
-pub text_read : (t : List ℕ) {names : List Name} {bits : ℕ} → WordsRead (words t) names bits → TextRead t names bits
+pub text_read : (t : List ℕ) {names : List Name} {bits : ℕ} → WordsRead (words t) names bits
+    → TextRead t names bits
 text_read t r = record { words = words t; cut = words_are t; read = r }
 
 pub WordsRead-join : {xs ys : List (List ℕ)} {ns ms : List Name} {i j : ℕ} → WordsRead xs ns i
@@ -46,7 +51,8 @@ pub WordsRead-join : {xs ys : List (List ℕ)} {ns ms : List Name} {i j : ℕ} �
 WordsRead-join {ys = ys} {ms = ms} {j = j} WordsRead.nothing s =
     subst (λ (i : ℕ). WordsRead ys ms i) (sym (or_zero_l j)) s
 WordsRead-join (WordsRead.name t r) s = WordsRead.name t (WordsRead-join r s)
-WordsRead-join {ys = ys} {ms = ms} {j = j} (WordsRead.attribute {w = w} {ws = ws} {a = a} {names = names} {bits = bits} t r) s =
+WordsRead-join {ys = ys} {ms = ms} {j = j}
+    (WordsRead.attribute {w = w} {ws = ws} {a = a} {names = names} {bits = bits} t r) s =
     subst (λ (i : ℕ). WordsRead (w ∷ ws ++ ys) (names ++ ms) i) (sym (or_assoc a.0 bits j))
     (WordsRead.attribute t (WordsRead-join r s))
 
@@ -64,13 +70,41 @@ pub record PartsRead (xs ys : List (List ℕ)) (names : List Name) (bits : ℕ) 
 pub WordsRead-split : (xs ys : List (List ℕ)) {names : List Name} {bits : ℕ} → WordsRead (xs ++ ys) names bits
     → PartsRead xs ys names bits
 WordsRead-split [] ys {names = names} {bits = bits} r =
-    record { front_names = []; back_names = names; front_bits = 0; back_bits = bits; front = WordsRead.nothing; back = r; all_names = refl; all_bits = sym (or_zero_l bits) }
+    record {
+      front_names = [];
+      back_names = names;
+      front_bits = 0;
+      back_bits = bits;
+      front = WordsRead.nothing;
+      back = r;
+      all_names = refl;
+      all_bits = sym (or_zero_l bits);
+    }
 WordsRead-split (w ∷ xs) ys (WordsRead.name {n = n} t r) =
     let p = WordsRead-split xs ys r in
-    record { front_names = n ∷ p.front_names; back_names = p.back_names; front_bits = p.front_bits; back_bits = p.back_bits; front = WordsRead.name t p.front; back = p.back; all_names = ap (λ ns. n ∷ ns) p.all_names; all_bits = p.all_bits }
+    record {
+      front_names = n ∷ p.front_names;
+      back_names = p.back_names;
+      front_bits = p.front_bits;
+      back_bits = p.back_bits;
+      front = WordsRead.name t p.front;
+      back = p.back;
+      all_names = ap (λ ns. n ∷ ns) p.all_names;
+      all_bits = p.all_bits;
+    }
 WordsRead-split (w ∷ xs) ys (WordsRead.attribute {a = a} t r) =
     let p = WordsRead-split xs ys r in
-    record { front_names = p.front_names; back_names = p.back_names; front_bits = bit_or a.0 p.front_bits; back_bits = p.back_bits; front = WordsRead.attribute t p.front; back = p.back; all_names = p.all_names; all_bits = ap (λ i. bit_or a.0 i) p.all_bits ∙ sym (or_assoc a.0 p.front_bits p.back_bits) }
+    record {
+      front_names = p.front_names;
+      back_names = p.back_names;
+      front_bits = bit_or a.0 p.front_bits;
+      back_bits = p.back_bits;
+      front = WordsRead.attribute t p.front;
+      back = p.back;
+      all_names = p.all_names;
+      all_bits = ap (λ i. bit_or a.0 i) p.all_bits
+          ∙ sym (or_assoc a.0 p.front_bits p.back_bits);
+    }
 
 one_name : (w : List ℕ) (n m : Name) → NameText w n → NameText w m → n ≡ m
 one_name w n m p q = let e = item_one_value w (items.Name n) (items.Name m) p q in cc
@@ -85,8 +119,10 @@ WordsRead-one WordsRead.nothing WordsRead.nothing = (refl, refl)
 WordsRead-one (WordsRead.name {w = w} {n = n} {names = more} t r) (WordsRead.name {n = m} u s) =
     let o = WordsRead-one r s in
     (ap (λ n. n ∷ more) (one_name w n m t u) ∙ ap (λ ns. m ∷ ns) o.0, o.1)
-WordsRead-one (WordsRead.name {w = w} {n = n} t r) (WordsRead.attribute {a = b} u s) = absurd (not_both w n b t u)
-WordsRead-one (WordsRead.attribute {w = w} {a = a} t r) (WordsRead.name {n = m} u s) = absurd (not_both w m a u t)
+WordsRead-one (WordsRead.name {w = w} {n = n} t r) (WordsRead.attribute {a = b} u s) =
+    absurd (not_both w n b t u)
+WordsRead-one (WordsRead.attribute {w = w} {a = a} t r) (WordsRead.name {n = m} u s) =
+    absurd (not_both w m a u t)
 WordsRead-one (WordsRead.attribute {w = w} {a = a} {bits = more} t r) (WordsRead.attribute {a = b} u s) =
     let o = WordsRead-one r s in
     (o.0, ap (λ a. bit_or a.0 more) (one_attribute w a b t u) ∙ ap (λ m. bit_or b.0 m) o.1)
@@ -123,13 +159,23 @@ pub same_color : (c d : Color) → c.foreground ≡ d.foreground → c.backgroun
 same_color c d e f g = λ i. record { foreground = e i; background = f i; attributes = record { 0 = g i } }
 
 -- one more name is placed behind those that are placed already
-next_placed : (ns : List Name) (f b : Option Name) (bits : ℕ) (n : Name) (more : List Name) (g d : Option Name) → Placed ns f b
+next_placed : (ns : List Name) (f b : Option Name) (bits : ℕ) (n : Name) (more : List Name)
+    (g d : Option Name) → Placed ns f b
     → Placed (ns ++ n ∷ more) g d
-    → (c : Color) × (next_name f b bits n ≡ Some c) × Placed (ns ++ n ∷ []) c.foreground c.background × (c.attributes.0 ≡ bits)
-next_placed [] f b bits n more g d p q =
-    (record { foreground = Some n; background = b; attributes = record { 0 = bits } }, rw p.0 refl, (refl, p.1), refl)
-next_placed (m ∷ []) f b bits n more g d p q =
-    (record { foreground = Some m; background = Some n; attributes = record { 0 = bits } }, rw (p.0, p.1) refl, (refl, refl), refl)
+    → (c : Color) × (next_name f b bits n ≡ Some c) × Placed (ns ++ n ∷ []) c.foreground c.background
+    × (c.attributes.0 ≡ bits)
+next_placed [] f b bits n more g d p q = (
+  record { foreground = Some n; background = b; attributes = record { 0 = bits } },
+  rw p.0 refl,
+  (refl, p.1),
+  refl,
+)
+next_placed (m ∷ []) f b bits n more g d p q = (
+  record { foreground = Some m; background = Some n; attributes = record { 0 = bits } },
+  rw (p.0, p.1) refl,
+  (refl, refl),
+  refl,
+)
 next_placed (m ∷ o ∷ []) f b bits n more g d p q = absurd q
 next_placed (m ∷ o ∷ k ∷ ns) f b bits n more g d p q = absurd p
 
@@ -137,8 +183,11 @@ some_parts : (f b : Option Name) (bits : ℕ) (c : Color)
     → Some (record { foreground = f; background = b; attributes = record { 0 = bits } }) ≡ Some c
     → (c.foreground ≡ f) × (c.background ≡ b) × (c.attributes.0 ≡ bits)
 some_parts f b bits c e =
-    let k : record { foreground = f; background = b; attributes = record { 0 = bits } } ≡ c = cc in
-    (ap (λ (c : Color). c.foreground) (sym k), ap (λ (c : Color). c.background) (sym k), ap (λ (c : Color). c.attributes.0) (sym k))
+    let k : record { foreground = f; background = b; attributes = record { 0 = bits } } ≡ c = cc in (
+      ap (λ (c : Color). c.foreground) (sym k),
+      ap (λ (c : Color). c.background) (sym k),
+      ap (λ (c : Color). c.attributes.0) (sym k),
+    )
 
 next_from : (ns : List Name) (f b : Option Name) (bits : ℕ) (n : Name) (c : Color) → Placed ns f b
     → next_name f b bits n ≡ Some c
@@ -151,7 +200,8 @@ next_from (m ∷ o ∷ []) f b bits n c p e = let h = rw (p.0, p.1) at e in absu
 next_from (m ∷ o ∷ k ∷ ns) f b bits n c p e = absurd p
 
 -- what the words read to, read from the front
-reading_found : {ws : List (List ℕ)} {names : List Name} {bits : ℕ} (p c : Color) (ns : List Name) → WordsRead ws names bits
+reading_found : {ws : List (List ℕ)} {names : List Name} {bits : ℕ} (p c : Color) (ns : List Name)
+    → WordsRead ws names bits
     → Placed ns p.foreground p.background → Placed (ns ++ names) c.foreground c.background
     → c.attributes.0 ≡ bit_or p.attributes.0 bits → read_from p ws ≡ Some c
 reading_found p c ns WordsRead.nothing before after united =
@@ -159,12 +209,18 @@ reading_found p c ns WordsRead.nothing before after united =
     let o = Placed-one ns p.foreground p.background c.foreground c.background before k in
     ap Some (same_color p c o.0 o.1 (sym (united ∙ or_zero_r p.attributes.0)))
 reading_found p c ns (WordsRead.name {w = w} {n = n} {names = more} {bits = bits} t r) before after united =
-    let d = next_placed ns p.foreground p.background p.attributes.0 n more c.foreground c.background before after in
+    let d = next_placed ns p.foreground p.background p.attributes.0 n more c.foreground c.background before
+    after in
     rw (word_item-value.found w (items.Name n) t, d.1)
-    (reading_found d.0 c (ns ++ n ∷ []) r d.2 (rw append_assoc after) (united ∙ ap (λ a. bit_or a bits) (sym d.3)))
+    (reading_found d.0 c (ns ++ n ∷ []) r d.2 (rw append_assoc after)
+    (united ∙ ap (λ a. bit_or a bits) (sym d.3)))
 reading_found p c ns (WordsRead.attribute {w = w} {a = a} {bits = more} t r) before after united =
     rw (word_item-value.found w (items.Attribute a) t)
-    (reading_found (record { foreground = p.foreground; background = p.background; attributes = record { 0 = bit_or p.attributes.0 a.0 } }) c ns r before after
+    (reading_found (record {
+      foreground = p.foreground;
+      background = p.background;
+      attributes = record { 0 = bit_or p.attributes.0 a.0 };
+    }) c ns r before after
     (united ∙ sym (or_assoc p.attributes.0 a.0 more)))
 
 -- what words read from the front read to
@@ -179,41 +235,70 @@ reading_derived : (ws : List (List ℕ)) (p c : Color) (ns : List Name) → Plac
     → read_from p ws ≡ Some c → ReadOn ws p c ns
 reading_derived [] p c ns before h =
     let e : p ≡ c = cc in
-    record { names = []; bits = 0; read = WordsRead.nothing; placed = rw append-nil (rw e at before); united = ap (λ (c : Color). c.attributes.0) (sym e) ∙ sym (or_zero_r p.attributes.0) }
-reading_derived (w ∷ ws) p c ns before h = at_item w ws p c ns before (word_item w) refl h (λ d ms q e. reading_derived ws d c ms q e) where
-  at_name : (w : List ℕ) (ws : List (List ℕ)) (p c : Color) (ns : List Name)
-      → Placed ns p.foreground p.background → (n : Name) → NameText w n
-      → (o : Option Color) → next_name p.foreground p.background p.attributes.0 n ≡ o
-      → option_and_then (λ d. read_from d ws) o ≡ Some c
-      → ((d : Color) (ms : List Name) → Placed ms d.foreground d.background → read_from d ws ≡ Some c → ReadOn ws d c ms) → ReadOn (w ∷ ws) p c ns
-  at_name w ws p c ns before n t None e h more = absurd (cc)
-  at_name w ws p c ns before n t (Some d) e h more =
-      let k = next_from ns p.foreground p.background p.attributes.0 n d before e in
-      let r = more d (ns ++ n ∷ []) k.0 h in
-      record { names = n ∷ r.names; bits = r.bits; read = WordsRead.name t r.read; placed = rw append_assoc at r.placed; united = r.united ∙ ap (λ a. bit_or a r.bits) k.1 }
+    record {
+      names = [];
+      bits = 0;
+      read = WordsRead.nothing;
+      placed = rw append-nil (rw e at before);
+      united = ap (λ (c : Color). c.attributes.0) (sym e) ∙ sym (or_zero_r p.attributes.0);
+    }
+reading_derived (w ∷ ws) p c ns before h =
+    at_item w ws p c ns before (word_item w) refl h (λ d ms q e. reading_derived ws d c ms q e) where
+      at_name : (w : List ℕ) (ws : List (List ℕ)) (p c : Color) (ns : List Name)
+          → Placed ns p.foreground p.background → (n : Name) → NameText w n
+          → (o : Option Color) → next_name p.foreground p.background p.attributes.0 n ≡ o
+          → option_and_then (λ d. read_from d ws) o ≡ Some c
+          → ((d : Color) (ms : List Name) → Placed ms d.foreground d.background → read_from d ws ≡ Some c
+          → ReadOn ws d c ms) → ReadOn (w ∷ ws) p c ns
+      at_name w ws p c ns before n t None e h more = absurd (cc)
+      at_name w ws p c ns before n t (Some d) e h more =
+          let k = next_from ns p.foreground p.background p.attributes.0 n d before e in
+          let r = more d (ns ++ n ∷ []) k.0 h in
+          record {
+            names = n ∷ r.names;
+            bits = r.bits;
+            read = WordsRead.name t r.read;
+            placed = rw append_assoc at r.placed;
+            united = r.united ∙ ap (λ a. bit_or a r.bits) k.1;
+          }
 
-  at_item : (w : List ℕ) (ws : List (List ℕ)) (p c : Color) (ns : List Name)
-      → Placed ns p.foreground p.background
-      → (o : Option Item) → word_item w ≡ o
-      → option_and_then (λ d. read_from d ws) (option_and_then (λ i. with_item p i) o) ≡ Some c
-      → ((d : Color) (ms : List Name) → Placed ms d.foreground d.background → read_from d ws ≡ Some c → ReadOn ws d c ms) → ReadOn (w ∷ ws) p c ns
-  at_item w ws p c ns before None e h more = absurd (cc)
-  at_item w ws p c ns before (Some (items.Name n)) e h more =
-      at_name w ws p c ns before n (word_item-value.derived w (items.Name n) e) (next_name p.foreground p.background p.attributes.0 n) refl h more
-  at_item w ws p c ns before (Some (items.Attribute a)) e h more =
-      let r = more (record { foreground = p.foreground; background = p.background; attributes = record { 0 = bit_or p.attributes.0 a.0 } }) ns before h in
-      record { names = r.names; bits = bit_or a.0 r.bits; read = WordsRead.attribute (word_item-value.derived w (items.Attribute a) e) r.read; placed = r.placed; united = r.united ∙ or_assoc p.attributes.0 a.0 r.bits }
+      at_item : (w : List ℕ) (ws : List (List ℕ)) (p c : Color) (ns : List Name)
+          → Placed ns p.foreground p.background
+          → (o : Option Item) → word_item w ≡ o
+          → option_and_then (λ d. read_from d ws) (option_and_then (λ i. with_item p i) o) ≡ Some c
+          → ((d : Color) (ms : List Name) → Placed ms d.foreground d.background → read_from d ws ≡ Some c
+          → ReadOn ws d c ms) → ReadOn (w ∷ ws) p c ns
+      at_item w ws p c ns before None e h more = absurd (cc)
+      at_item w ws p c ns before (Some (items.Name n)) e h more =
+          at_name w ws p c ns before n (word_item-value.derived w (items.Name n) e)
+          (next_name p.foreground p.background p.attributes.0 n) refl h more
+      at_item w ws p c ns before (Some (items.Attribute a)) e h more =
+          let r =
+          more (record {
+            foreground = p.foreground;
+            background = p.background;
+            attributes = record { 0 = bit_or p.attributes.0 a.0 };
+          }) ns before h in
+          record {
+            names = r.names;
+            bits = bit_or a.0 r.bits;
+            read = WordsRead.attribute (word_item-value.derived w (items.Attribute a) e) r.read;
+            placed = r.placed;
+            united = r.united ∙ or_assoc p.attributes.0 a.0 r.bits;
+          }
 
 -- color text as a function
 pub color_of-value : IsValueOf ColorText color_of
 color_of-value = record {
-  found = λ t c h. reading_found no_color c [] (read_words h.read) (refl, refl) h.placed (sym (or_zero_l c.attributes.0));
+  found = λ t c h. reading_found no_color c [] (read_words h.read) (refl, refl) h.placed
+      (sym (or_zero_l c.attributes.0));
   derived = λ t c e. whole t c (reading_derived (words t) no_color c [] (refl, refl) e);
 } where
   whole : (t : List ℕ) (c : Color) → ReadOn (words t) no_color c [] → ColorText t c
   whole t c r = record {
     names = r.names;
-    read = text_read t (subst (λ (b : ℕ). WordsRead (words t) r.names b) (sym (r.united ∙ or_zero_l r.bits)) r.read);
+    read = text_read t (subst (λ (b : ℕ). WordsRead (words t) r.names b) (sym (r.united ∙ or_zero_l r.bits))
+        r.read);
     placed = r.placed;
   }
 
@@ -255,17 +340,20 @@ at_end (Some d) = refl
 -- a text whose first word is n bytes long, with s bytes of white space after it, or at its end
 read_step : (c : Color) (text : List ℕ) (n s : ℕ) → IsWithoutSpace text n → n + s ≤ length text
     → (0 < s → Space (slice_range text n (n + s))) → (s ≡ 0 → n ≡ length text)
-    → read_from c (words text) ≡ option_and_then (λ d. read_from d (words (drop (n + s) text))) (read_from c (piece (take n text)))
+    → read_from c (words text) ≡ option_and_then (λ d. read_from d (words (drop (n + s) text)))
+    (read_from c (piece (take n text)))
 read_step c text n s clear within parted last =
     elim (eqb_told s 0) [
       | inl z ↦
           let all : n ≡ length text = last z.1 in
-          let clear_all : IsWithoutSpace text (length text) = subst (λ (n : ℕ). IsWithoutSpace text n) all clear in
+          let clear_all : IsWithoutSpace text (length text) =
+          subst (λ (n : ℕ). IsWithoutSpace text n) all clear in
           rw (take_all n text (omega arith), drop_all (n + s) text (omega arith))
           (ap (λ ws. read_from c ws) (words_last text clear_all) ∙ at_end (read_from c (piece text)))
       | inr z ↦
           let some : 0 < s = grind (arith, nat_tests) in
-          ap (λ ws. read_from c ws) (words_step text n s clear within (parted some)) ∙ read_piece c (take n text) (words (drop (n + s) text))
+          ap (λ ws. read_from c ws) (words_step text n s clear within (parted some))
+          ∙ read_piece c (take n text) (words (drop (n + s) text))
     ]
 
 -- the walk: what the words of the input read to is what the color so far and the words of the rest read to
@@ -285,8 +373,10 @@ pub walk_goes_on : (input rest : List ℕ) (c d : Color) (n s : ℕ)
     → read_from c (piece (take n rest)) ≡ Some d
     → read_from no_color (words input) ≡ read_from d (words (drop (n + s) rest))
 walk_goes_on input rest c d n s same clear within parted last e =
-    same ∙ (read_step c rest n s clear within parted last ∙ ap (λ o. option_and_then (λ d. read_from d (words (drop (n + s) rest))) o) e)
+    same ∙ (read_step c rest n s clear within parted last
+    ∙ ap (λ o. option_and_then (λ d. read_from d (words (drop (n + s) rest))) o) e)
 
-pub walk_done : (input : List ℕ) (c : Color) → read_from no_color (words input) ≡ read_from c (words []) → ColorText input c
+pub walk_done : (input : List ℕ) (c : Color) → read_from no_color (words input) ≡ read_from c (words [])
+    → ColorText input c
 unfolding words
 walk_done input c same = color_of-value.derived input c same

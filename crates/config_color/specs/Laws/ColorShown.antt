@@ -1,6 +1,8 @@
--- The laws of `Value` for colors: canonical texts read, one for each color, and it is the text that the color is
--- shown as.
-use Rattle.std.proofs.Common.{◌≡◌, ◌≢◌, ℕ, zero, suc, ◌+◌, ◌^◌, ◌<◌, ◌≤◌, ◌↔◌, ◌⊎◌, inl, inr, ◌&&◌, nat_le, Bool, true, false, ◌==◌, List, [], ◌∷◌, ◌++◌, length, map, filter, Option, Some, None, bit_and, min, refl, sym, ap, subst, ◌∙◌, length-append, arith}
+-- The laws of `Value` for colors: canonical texts read, one for each color, and it is the text that the color
+-- is shown as.
+use Rattle.std.proofs.Common.{◌≡◌, ◌≢◌, ℕ, zero, suc, ◌+◌, ◌^◌, ◌<◌, ◌≤◌, ◌↔◌, ◌⊎◌, inl, inr, ◌&&◌, nat_le}
+use Rattle.std.proofs.Common.{Bool, true, false, ◌==◌, List, [], ◌∷◌, ◌++◌, length, map, filter, Option, Some}
+use Rattle.std.proofs.Common.{None, bit_and, min, refl, sym, ap, subst, ◌∙◌, length-append, arith}
 use Rattle.std.specs.Bool.{⊤, IsTrue}
 use Rattle.std.specs.Option.{option_eq, is_some}
 use Rattle.std.specs.Prelude.{not}
@@ -13,13 +15,17 @@ use Rattle.std.proofs.lemmas.List.{append-nil, length-map}
 use Rattle.std.proofs.lemmas.Bool.{and_parts, leb-true}
 use Rattle.std.proofs.lemmas.Nat.{and_comm}
 use Rattle.std.proofs.lemmas.Bool.Decides.{Decides-eqb}
-use Rattle.std.proofs.lemmas.Nat.Bits.{and_pow, bit_at_or, bit_at_and, bit_at-lt, bit_at-zero, bit_at-pow_same, bit_at-pow_other, same_from_bits}
+use Rattle.std.proofs.lemmas.Nat.Bits.{and_pow, bit_at_or, bit_at_and, bit_at-lt, bit_at-zero}
+use Rattle.std.proofs.lemmas.Nat.Bits.{bit_at-pow_same, bit_at-pow_other, same_from_bits}
 use Rattle.config_color.specs.declared.color.Color.{Color}
 use Rattle.config_word.specs.declared.attribute.Attribute.{Attribute}
 use Rattle.config_word.specs.declared.name.Name.{Name}
-use Rattle.config_word.specs.Attribute.{AttributeRow, attributes, attribute_flags, AttributeText, attribute_words, rising_words}
-use Rattle.config_color.specs.Color.{WordsRead, Placed, ColorText, part_shown, set_shown, color_shown, Chosen, CanonicalColor, PartFits, AreKnown}
-use Rattle.config_color.specs.Laws.Color.{text_read, WordsRead-join, Placed-short, placing, same_color, color_one_value}
+use Rattle.config_word.specs.Attribute.{AttributeRow, attributes, attribute_flags, AttributeText}
+use Rattle.config_word.specs.Attribute.{attribute_words, rising_words}
+use Rattle.config_color.specs.Color.{WordsRead, Placed, ColorText, part_shown, set_shown, color_shown, Chosen}
+use Rattle.config_color.specs.Color.{CanonicalColor, PartFits, AreKnown}
+use Rattle.config_color.specs.Laws.Color.{text_read, WordsRead-join, Placed-short, placing, same_color}
+use Rattle.config_color.specs.Laws.Color.{color_one_value}
 use Rattle.config_text.specs.Bytes.{space}
 use Rattle.config_text.specs.declared.value.TheConstants.{LONGEST_TEXT}
 use Rattle.config_word.specs.declared.attribute.TheConstants.{LONGEST_SET}
@@ -27,10 +33,12 @@ use Rattle.config_word.specs.declared.name.TheConstants.{LONGEST_NAME}
 use Rattle.config_word.specs.Laws.Attribute.{attribute_short}
 use Rattle.config_color.specs.Laws.Composition.{background_beside, some_none}
 use Rattle.config_word.specs.Name.{NameText, CanonicalName, name_shown}
-use Rattle.config_word.specs.Laws.Name.{name_canonical_reads, name_one_text, name_short, name_fits, name_shown_is_text, name_has_text}
+use Rattle.config_word.specs.Laws.Name.{name_canonical_reads, name_one_text, name_short, name_fits}
+use Rattle.config_word.specs.Laws.Name.{name_shown_is_text, name_has_text}
 use Rattle.config_text.specs.OneOf.{OneOf}
 use Rattle.config_text.specs.Laws.OneOf.{all-one}
-use Rattle.config_color.specs.Laws.PlainWords.{is_plain_word, words_spaced, all_plain_append, chosen_plain, names_plain}
+use Rattle.config_color.specs.Laws.PlainWords.{is_plain_word, words_spaced, all_plain_append, chosen_plain}
+use Rattle.config_color.specs.Laws.PlainWords.{names_plain}
 use Rattle.config_text.specs.Value.{IsAccepted, HasText, IsTextOf}
 use Rattle.config_color.specs.Reading.Split.{words}
 use Rattle.config_color.specs.Laws.Split.{eqb_told}
@@ -82,8 +90,14 @@ set_words_read : (rows : List AttributeRow) (bits : ℕ) → AreRead rows
 set_words_read [] bits h = subst (λ (n : ℕ). WordsRead [] [] n) (sym (and_zero bits)) WordsRead.nothing
 set_words_read (row ∷ rows) bits h =
     elim (bit_told bits row.1) [
-      | inl e ↦ rw e (subst (λ (n : ℕ). WordsRead (row.2 ∷ set_words bits rows) [] n) (sym (or_and bits (2 ^ row.1) (bits_of rows) ∙ ap (λ n. bit_or n (bit_and bits (bits_of rows))) (and_pow_set bits row.1 e))) (WordsRead.attribute h.0 (set_words_read rows bits h.1)))
-      | inr e ↦ rw e (subst (λ (n : ℕ). WordsRead (set_words bits rows) [] n) (sym (or_and bits (2 ^ row.1) (bits_of rows) ∙ (ap (λ n. bit_or n (bit_and bits (bits_of rows))) (and_pow_clear bits row.1 e) ∙ or_zero_l (bit_and bits (bits_of rows))))) (set_words_read rows bits h.1))
+      | inl e ↦ rw e (subst (λ (n : ℕ). WordsRead (row.2 ∷ set_words bits rows) [] n)
+          (sym (or_and bits (2 ^ row.1) (bits_of rows)
+          ∙ ap (λ n. bit_or n (bit_and bits (bits_of rows))) (and_pow_set bits row.1 e)))
+          (WordsRead.attribute h.0 (set_words_read rows bits h.1)))
+      | inr e ↦ rw e (subst (λ (n : ℕ). WordsRead (set_words bits rows) [] n)
+          (sym (or_and bits (2 ^ row.1) (bits_of rows)
+          ∙ (ap (λ n. bit_or n (bit_and bits (bits_of rows))) (and_pow_clear bits row.1 e)
+          ∙ or_zero_l (bit_and bits (bits_of rows))))) (set_words_read rows bits h.1))
     ]
 
 chosen_more : (row : List ℕ) (rows ws : List (List ℕ)) → Chosen rows ws → Chosen (row ∷ rows) ws
@@ -97,7 +111,8 @@ set_words_chosen [] bits = tt
 set_words_chosen (row ∷ rows) bits =
     elim (bit_told bits row.1) [
       | inl e ↦ rw e (inl (refl, set_words_chosen rows bits))
-      | inr e ↦ rw e (chosen_more row.2 (map (λ row. row.2) rows) (set_words bits rows) (set_words_chosen rows bits))
+      | inr e ↦ rw e (chosen_more row.2 (map (λ row. row.2) rows) (set_words bits rows)
+          (set_words_chosen rows bits))
     ]
 
 set_words_zero : (rows : List AttributeRow) → set_words 0 rows ≡ []
@@ -129,28 +144,40 @@ chosen_read : (rows : List AttributeRow) (low : ℕ) (ws : List (List ℕ)) → 
 chosen_read [] low [] r h c =
     record { bits = 0; read = WordsRead.nothing; shown = refl; above = λ i l. bit_at-zero i }
 chosen_read [] low (w ∷ ws) r h c = absurd c
-chosen_read (row ∷ rows) low [] r h c = record { bits = 0; read = WordsRead.nothing; shown = sym (set_words_zero (row ∷ rows)); above = λ i l. bit_at-zero i }
-chosen_read (row ∷ rows) low (w ∷ ws) r h (inl c) = with_row (chosen_read rows (row.1 + 1) ws r.1 h.1 c.1) where
-  with_row : ChosenRead (row.1 + 1) rows ws → ChosenRead low (row ∷ rows) (w ∷ ws)
-  with_row more =
-      let set : bit_at (bit_or (2 ^ row.1) more.bits) row.1 ≡ 1 =
-      bit_at_or (2 ^ row.1) more.bits row.1 ∙ rw (bit_at-pow_same row.1) (omega (arith, bit_at-lt more.bits row.1)) in
-      let rest = set_words_same (row.1 + 1) rows (bit_or (2 ^ row.1) more.bits) more.bits r.1
-      (λ i l. let ne : i ≢ row.1 = omega arith in bit_at_or (2 ^ row.1) more.bits i ∙ rw bit_at-pow_other (omega arith)) in
-      record {
-        bits = bit_or (2 ^ row.1) more.bits;
-        read = WordsRead.attribute (subst (λ (w : List ℕ). AttributeText w (record { 0 = 2 ^ row.1 })) (sym c.0) h.0) more.read;
-        shown = rw set (ap (λ w. w ∷ ws) c.0 ∙ ap (λ ws. row.2 ∷ ws) (more.shown ∙ sym rest));
-        above = λ i l. let ne : i ≢ row.1 = omega arith in bit_at_or (2 ^ row.1) more.bits i ∙ rw bit_at-pow_other (rw (more.above i (omega arith)) refl);
+chosen_read (row ∷ rows) low [] r h c =
+    record {
+      bits = 0;
+      read = WordsRead.nothing;
+      shown = sym (set_words_zero (row ∷ rows));
+      above = λ i l. bit_at-zero i;
+    }
+chosen_read (row ∷ rows) low (w ∷ ws) r h (inl c) =
+    with_row (chosen_read rows (row.1 + 1) ws r.1 h.1 c.1) where
+      with_row : ChosenRead (row.1 + 1) rows ws → ChosenRead low (row ∷ rows) (w ∷ ws)
+      with_row more =
+          let set : bit_at (bit_or (2 ^ row.1) more.bits) row.1 ≡ 1 =
+          bit_at_or (2 ^ row.1) more.bits row.1
+          ∙ rw (bit_at-pow_same row.1) (omega (arith, bit_at-lt more.bits row.1)) in
+          let rest = set_words_same (row.1 + 1) rows (bit_or (2 ^ row.1) more.bits) more.bits r.1
+          (λ i l. let ne : i ≢ row.1 = omega arith in
+          bit_at_or (2 ^ row.1) more.bits i ∙ rw bit_at-pow_other (omega arith)) in
+          record {
+            bits = bit_or (2 ^ row.1) more.bits;
+            read = WordsRead.attribute (subst (λ (w : List ℕ). AttributeText w (record { 0 = 2 ^ row.1 }))
+                (sym c.0) h.0) more.read;
+            shown = rw set (ap (λ w. w ∷ ws) c.0 ∙ ap (λ ws. row.2 ∷ ws) (more.shown ∙ sym rest));
+            above = λ i l. let ne : i ≢ row.1 = omega arith in
+                bit_at_or (2 ^ row.1) more.bits i ∙ rw bit_at-pow_other (rw (more.above i (omega arith)) refl);
+          }
+chosen_read (row ∷ rows) low (w ∷ ws) r h (inr c) =
+    without_row (chosen_read rows (row.1 + 1) (w ∷ ws) r.1 h.1 c) where
+      without_row : ChosenRead (row.1 + 1) rows (w ∷ ws) → ChosenRead low (row ∷ rows) (w ∷ ws)
+      without_row more = record {
+        bits = more.bits;
+        read = more.read;
+        shown = rw (more.above row.1 (omega arith)) more.shown;
+        above = λ i l. more.above i (omega arith);
       }
-chosen_read (row ∷ rows) low (w ∷ ws) r h (inr c) = without_row (chosen_read rows (row.1 + 1) (w ∷ ws) r.1 h.1 c) where
-  without_row : ChosenRead (row.1 + 1) rows (w ∷ ws) → ChosenRead low (row ∷ rows) (w ∷ ws)
-  without_row more = record {
-    bits = more.bits;
-    read = more.read;
-    shown = rw (more.above row.1 (omega arith)) more.shown;
-    above = λ i l. more.above i (omega arith);
-  }
 
 are_read : (rows : List AttributeRow) → ((row : AttributeRow) → OneOf rows row → OneOf attributes row)
     → AreRead rows
@@ -168,7 +195,8 @@ rises low (row ∷ rows) = nat_le low row.1 && rises (row.1 + 1) rows
 rise : (low : ℕ) (rows : List AttributeRow) → rises low rows ≡ true → Rise low rows
 unfolding rises
 rise low [] h = tt
-rise low (row ∷ rows) h = let k = and_parts (nat_le low row.1) (rises (row.1 + 1) rows) h in (leb-true low row.1 k.0, rise (row.1 + 1) rows k.1)
+rise low (row ∷ rows) h = let k = and_parts (nat_le low row.1) (rises (row.1 + 1) rows) h in
+    (leb-true low row.1 k.0, rise (row.1 + 1) rows k.1)
 
 attributes_rise : Rise 0 attributes
 unfolding attributes rises
@@ -181,7 +209,9 @@ rising_is = refl
 -- the bits of the rows are those that are set in their union
 row_bit : (rows : List AttributeRow) (i : ℕ) → OneOf (map (λ row. row.1) rows) i → bit_at (bits_of rows) i ≡ 1
 row_bit [] i o = absurd o
-row_bit (row ∷ rows) i (inl e) = rw e (bit_at_or (2 ^ row.1) (bits_of rows) row.1 ∙ rw (bit_at-pow_same row.1) (omega (arith, bit_at-lt (bits_of rows) row.1)))
+row_bit (row ∷ rows) i (inl e) =
+    rw e (bit_at_or (2 ^ row.1) (bits_of rows) row.1
+    ∙ rw (bit_at-pow_same row.1) (omega (arith, bit_at-lt (bits_of rows) row.1)))
 row_bit (row ∷ rows) i (inr o) =
     bit_at_or (2 ^ row.1) (bits_of rows) i ∙ rw (row_bit rows i o) (omega (arith, bit_at-lt (2 ^ row.1) i))
 
@@ -192,7 +222,8 @@ bit_row (row ∷ rows) i h =
       | inl e ↦ inl e.1
       | inr n ↦
           let other : i ≢ row.1 = λ e. cc (n, (Decides-eqb i row.1).1 e) in
-          inr (bit_row rows i (omega (arith, h, bit_at_or (2 ^ row.1) (bits_of rows) i, bit_at-pow_other row.1 i other)))
+          inr (bit_row rows i
+          (omega (arith, h, bit_at_or (2 ^ row.1) (bits_of rows) i, bit_at-pow_other row.1 i other)))
     ]
 
 -- a set without other bits than those of the constants
@@ -201,11 +232,12 @@ IsMasked bits = bit_and bits (bits_of attributes) ≡ bits
 
 -- which is the same as that each set bit is known
 known_mask : (bits : ℕ) → AreKnown bits → IsMasked bits
-known_mask bits known = same_from_bits _ _ (λ i. bit_at_and bits (bits_of attributes) i ∙ at_bit i (bit_told bits i)) where
-  at_bit : (i : ℕ) → (bit_at bits i ≡ 1) ⊎ (bit_at bits i ≡ 0)
-      → min (bit_at bits i) (bit_at (bits_of attributes) i) ≡ bit_at bits i
-  at_bit i (inl e) = rw (e, row_bit attributes i (known i e)) refl
-  at_bit i (inr e) = rw e (omega arith)
+known_mask bits known = same_from_bits _ _
+    (λ i. bit_at_and bits (bits_of attributes) i ∙ at_bit i (bit_told bits i)) where
+      at_bit : (i : ℕ) → (bit_at bits i ≡ 1) ⊎ (bit_at bits i ≡ 0)
+          → min (bit_at bits i) (bit_at (bits_of attributes) i) ≡ bit_at bits i
+      at_bit i (inl e) = rw (e, row_bit attributes i (known i e)) refl
+      at_bit i (inr e) = rw e (omega arith)
 
 mask_known : (bits : ℕ) → IsMasked bits → AreKnown bits
 mask_known bits h = λ i e.
@@ -216,15 +248,18 @@ mask_known bits h = λ i e.
 -- chosen words of the canonical ones
 rising_read : (ws : List (List ℕ)) → Chosen rising_words ws → ChosenRead 0 attributes ws
 rising_read ws c =
-    chosen_read attributes 0 ws attributes_rise attributes_read (subst (λ (rows : List (List ℕ)). Chosen rows ws) rising_is c)
+    chosen_read attributes 0 ws attributes_rise attributes_read
+    (subst (λ (rows : List (List ℕ)). Chosen rows ws) rising_is c)
 
 attribute_words_chosen : (bits : ℕ) → Chosen rising_words (attribute_words bits)
 attribute_words_chosen bits =
-    subst (λ (rows : List (List ℕ)). Chosen rows (attribute_words bits)) (sym rising_is) (set_words_chosen attributes bits)
+    subst (λ (rows : List (List ℕ)). Chosen rows (attribute_words bits)) (sym rising_is)
+    (set_words_chosen attributes bits)
 
 attribute_words_read : (bits : ℕ) → IsMasked bits → WordsRead (attribute_words bits) [] bits
 attribute_words_read bits e =
-    subst (λ (n : ℕ). WordsRead (attribute_words bits) [] n) e (set_words_read attributes bits attributes_read)
+    subst (λ (n : ℕ). WordsRead (attribute_words bits) [] n) e
+    (set_words_read attributes bits attributes_read)
 
 attribute_known : (w : List ℕ) (a : Attribute) → AttributeText w a → IsMasked a.0
 unfolding attributes
@@ -275,7 +310,8 @@ canonical_names_read (t ∷ ts) h = with_name (name_canonical_reads t h.0) (cano
   with_name : IsAccepted NameText t → NamesRead ts → NamesRead (t ∷ ts)
   with_name (n, p) more =
       let text = name_shown_is_text n (t, p) in
-      let same : t ≡ name_shown n = name_one_text t (name_shown n) n h.0 text.canonical_text p text.reads_to in
+      let same : t ≡ name_shown n =
+      name_one_text t (name_shown n) n h.0 text.canonical_text p text.reads_to in
       record {
         names = n ∷ more.names;
         read = WordsRead.name p more.read;
@@ -328,7 +364,8 @@ shown_spaced : (c : Color) (ns : List Name) → Placed ns c.foreground c.backgro
     → color_shown c ≡ join_with_byte space (map name_shown ns ++ attribute_words c.attributes.0)
 shown_spaced c ns placed e =
     join_set (part_shown c.foreground ++ part_shown c.background) c.attributes.0 e
-    ∙ ap (λ xs. join_with_byte space (xs ++ attribute_words c.attributes.0)) (parts_named ns c.foreground c.background placed)
+    ∙ ap (λ xs. join_with_byte space (xs ++ attribute_words c.attributes.0))
+    (parts_named ns c.foreground c.background placed)
 
 -- a canonical text reads to a color, and is its displayed text
 canonical_shown : (t : List ℕ) → CanonicalColor t → (c : Color) × ColorText t c × (t ≡ color_shown c)
@@ -352,8 +389,11 @@ canonical_shown t h = whole (canonical_names_read h.names h.named) (rising_read 
         let read = subst (λ (ws : List (List ℕ)). WordsRead ws n.names w.bits) (sym spelled_words) joined in
         let shown = shown_spaced c n.names p (WordsRead-known joined) in
         let parts : h.names ++ h.words ≡ map name_shown n.names ++ attribute_words w.bits =
-        ap (λ ts. ts ++ h.words) n.shown ∙ ap (λ ws. map name_shown n.names ++ ws) w.shown in
-        (c, record { names = n.names; read = text_read t read; placed = p }, h.spelled ∙ (ap (join_with_byte space) parts ∙ sym shown))
+        ap (λ ts. ts ++ h.words) n.shown ∙ ap (λ ws. map name_shown n.names ++ ws) w.shown in (
+          c,
+          record { names = n.names; read = text_read t read; placed = p },
+          h.spelled ∙ (ap (join_with_byte space) parts ∙ sym shown),
+        )
 
 pub color_canonical_reads : (t : List ℕ) → CanonicalColor t → IsAccepted ColorText t
 color_canonical_reads t h = let k = canonical_shown t h in (k.0, k.1)
@@ -433,7 +473,8 @@ shown_is_text c ns placed texts e = record {
   };
   reads_to = record {
     names = ns;
-    read = text_read (color_shown c) (subst (λ (ws : List (List ℕ)). WordsRead ws ns c.attributes.0) (sym shown_words)
+    read = text_read (color_shown c)
+        (subst (λ (ws : List (List ℕ)). WordsRead ws ns c.attributes.0) (sym shown_words)
         (names_and_words (map name_shown ns) (attribute_words c.attributes.0) ns c.attributes.0
         (names_read ns texts) (attribute_words_read c.attributes.0 e)));
     placed = placed;
@@ -485,7 +526,8 @@ color_has_text c f b = (
 -- whether the parts of two colors are the same, in the order in which `==` tries them
 abbrev pub same_parts : (Name → Name → Bool) → Color → Color → Bool
 same_parts E v w =
-    option_eq E v.foreground w.foreground && (option_eq E v.background w.background && (v.attributes.0 == w.attributes.0))
+    option_eq E v.foreground w.foreground
+    && (option_eq E v.background w.background && (v.attributes.0 == w.attributes.0))
 
 -- tests all of which pass
 all_pass : (a b c : Bool) → (a && (b && c)) ≡ true → (a ≡ true) × (b ≡ true) × (c ≡ true)
@@ -524,8 +566,10 @@ pub known_told : (all bits : ℕ) (r : Bool) → all ≡ known_bits_of attribute
     → (IsTrue r) ↔ (AreKnown bits)
 unfolding attributes known_from
 known_told all bits r e f = (
-  λ h. mask_known bits (and_comm bits all_bits ∙ (ap (λ m. bit_and m bits) (sym e) ∙ (Decides-eqb (bit_and all bits) bits).0 (sym f ∙ h))),
-  λ h. f ∙ (Decides-eqb (bit_and all bits) bits).1 (ap (λ m. bit_and m bits) e ∙ (and_comm all_bits bits ∙ known_mask bits h)),
+  λ h. mask_known bits (and_comm bits all_bits
+      ∙ (ap (λ m. bit_and m bits) (sym e) ∙ (Decides-eqb (bit_and all bits) bits).0 (sym f ∙ h))),
+  λ h. f ∙ (Decides-eqb (bit_and all bits) bits).1
+      (ap (λ m. bit_and m bits) e ∙ (and_comm all_bits bits ∙ known_mask bits h)),
 ) where
   all_bits : ℕ
   all_bits = known_bits_of attribute_flags

@@ -1,6 +1,8 @@
--- The laws of composition: the color of a joined text is the composition of its parts' colors, and what follows
--- from that for `same`.
-use Rattle.std.proofs.Common.{◌≡◌, ℕ, ◌+◌, ◌<◌, ◌≤◌, ◌↔◌, ◌⊎◌, inl, inr, List, [], ◌∷◌, ◌++◌, length, codes, Option, Some, None, IfSome, Bool, IsTrue, refl, sym, ap, subst, ◌∙◌, append_assoc, length-append, arith}
+-- The laws of composition: the color of a joined text is the composition of its parts' colors, and what
+-- follows from that for `same`.
+use Rattle.std.proofs.Common.{◌≡◌, ℕ, ◌+◌, ◌<◌, ◌≤◌, ◌↔◌, ◌⊎◌, inl, inr, List, [], ◌∷◌, ◌++◌, length, codes}
+use Rattle.std.proofs.Common.{Option, Some, None, IfSome, Bool, IsTrue, refl, sym, ap, subst, ◌∙◌}
+use Rattle.std.proofs.Common.{append_assoc, length-append, arith}
 use Rattle.std.proofs.lemmas.Option.{some_pair_parts}
 use Rattle.std.proofs.lemmas.Bool.Decides.{leb_tells}
 use Rattle.std.specs.Int.RustNames.{bit_or}
@@ -8,9 +10,12 @@ use Rattle.std.specs.Option.{option_to_list}
 use Rattle.config_color.specs.declared.color.Color.{Color}
 use Rattle.config_word.specs.declared.name.Name.{Name}
 use Rattle.config_color.specs.Color.{WordsRead, TextRead, Placed, ColorText}
-use Rattle.config_color.specs.Laws.Color.{read_words, text_read, WordsRead-join, PartsRead, WordsRead-split, WordsRead-one, Placed-words, Placed-short, Placed-one, placing, same_color, color_one_value, color_decided}
+use Rattle.config_color.specs.Laws.Color.{read_words, text_read, WordsRead-join, PartsRead, WordsRead-split}
+use Rattle.config_color.specs.Laws.Color.{WordsRead-one, Placed-words, Placed-short, Placed-one, placing}
+use Rattle.config_color.specs.Laws.Color.{same_color, color_one_value, color_decided}
 use Rattle.config_color.specs.Reading.Color.{places_of}
-use Rattle.config_color.specs.Composition.{color_names, Composition, Composes, Joined, HaveTooManyNames, SameWords}
+use Rattle.config_color.specs.Composition.{color_names, Composition, Composes, Joined, HaveTooManyNames}
+use Rattle.config_color.specs.Composition.{SameWords}
 use Rattle.config_color.specs.Space.{Space}
 use Rattle.config_text.specs.Value.{IsAccepted, IsRefused, HasText, Compares}
 use Rattle.config_color.specs.Reading.Split.{words}
@@ -33,9 +38,12 @@ joined_reads front space back c s (a, b, p, q, k) =
     let r = WordsRead-join (read_words p.read) (read_words q.read) in
     record {
       names = p.names ++ q.names;
-      read = text_read (front ++ space ++ back) (subst (λ (ws : List (List ℕ)). WordsRead ws (p.names ++ q.names) c.attributes.0) w (subst (λ (i : ℕ). WordsRead (words front ++ words back) (p.names ++ q.names) i) (sym k.united) r));
+      read = text_read (front ++ space ++ back)
+          (subst (λ (ws : List (List ℕ)). WordsRead ws (p.names ++ q.names) c.attributes.0) w
+          (subst (λ (i : ℕ). WordsRead (words front ++ words back) (p.names ++ q.names) i) (sym k.united) r));
       placed = subst (λ (ns : List Name). Placed ns c.foreground c.background)
-          (ap (λ ns. ns ++ color_names b) (Placed-words p.names a.foreground a.background p.placed) ∙ ap (λ ms. p.names ++ ms) (Placed-words q.names b.foreground b.background q.placed)) k.placed;
+          (ap (λ ns. ns ++ color_names b) (Placed-words p.names a.foreground a.background p.placed)
+          ∙ ap (λ ms. p.names ++ ms) (Placed-words q.names b.foreground b.background q.placed)) k.placed;
     }
 
 -- the color of a joined text is the composition of the colors of its parts
@@ -43,22 +51,41 @@ pub reads_joined : (front space back : List ℕ) (c : Color) → Space space
     → ColorText (front ++ space ++ back) c → Joined front back c
 reads_joined front space back c s h = parted (WordsRead-split (words front) (words back) read) where
   read : WordsRead (words front ++ words back) h.names c.attributes.0
-  read = subst (λ (ws : List (List ℕ)). WordsRead ws h.names c.attributes.0) (ap words (append_assoc front space back) ∙ words_joined front space back s) (read_words h.read)
+  read = subst (λ (ws : List (List ℕ)). WordsRead ws h.names c.attributes.0)
+      (ap words (append_assoc front space back) ∙ words_joined front space back s) (read_words h.read)
 
   parted : PartsRead (words front) (words back) h.names c.attributes.0 → Joined front back c
   parted r =
-      let short : length r.front_names + length r.back_names ≤ 2 = omega (arith, Placed-short h.names c.foreground c.background h.placed, ap length r.all_names, length-append r.front_names r.back_names) in
+      let short : length r.front_names + length r.back_names ≤ 2 =
+      omega (
+        arith,
+        Placed-short h.names c.foreground c.background h.placed,
+        ap length r.all_names,
+        length-append r.front_names r.back_names,
+      ) in
       let a = placing r.front_names (omega arith) in
       let b = placing r.back_names (omega arith) in
-      let front_color : Color = record { foreground = a.0; background = a.1; attributes = record { 0 = r.front_bits } } in
-      let back_color : Color = record { foreground = b.0; background = b.1; attributes = record { 0 = r.back_bits } } in
+      let front_color : Color = record {
+        foreground = a.0;
+        background = a.1;
+        attributes = record { 0 = r.front_bits };
+      } in
+      let back_color : Color = record {
+        foreground = b.0;
+        background = b.1;
+        attributes = record { 0 = r.back_bits };
+      } in
       let names : h.names ≡ color_names front_color ++ color_names back_color =
-      r.all_names ∙ (ap (λ ns. ns ++ r.back_names) (sym (Placed-words r.front_names a.0 a.1 a.2)) ∙ ap (λ ms. color_names front_color ++ ms) (sym (Placed-words r.back_names b.0 b.1 b.2))) in (
+      r.all_names ∙ (ap (λ ns. ns ++ r.back_names) (sym (Placed-words r.front_names a.0 a.1 a.2))
+      ∙ ap (λ ms. color_names front_color ++ ms) (sym (Placed-words r.back_names b.0 b.1 b.2))) in (
         front_color,
         back_color,
         record { names = r.front_names; read = text_read front r.front; placed = a.2 },
         record { names = r.back_names; read = text_read back r.back; placed = b.2 },
-        record { placed = subst (λ (ns : List Name). Placed ns c.foreground c.background) names h.placed; united = r.all_bits },
+        record {
+          placed = subst (λ (ns : List Name). Placed ns c.foreground c.background) names h.placed;
+          united = r.all_bits;
+        },
       )
 
 -- a joined text is refused exactly where a part is refused or the names are too many
@@ -77,31 +104,51 @@ joined_refused front space back s = (λ r. told r (color_decided front) (color_d
       elim (leb_tells (length names) 2) [
         | inl l ↦
             let k = placing names l.1 in
-            let c : Color = record { foreground = k.0; background = k.1; attributes = record { 0 = bit_or a.attributes.0 b.attributes.0 } } in
-            absurd (r c (joined_reads front space back c s (a, b, p, q, record { placed = k.2; united = refl })))
+            let c : Color = record {
+              foreground = k.0;
+              background = k.1;
+              attributes = record { 0 = bit_or a.attributes.0 b.attributes.0 };
+            } in
+            absurd
+            (r c (joined_reads front space back c s (a, b, p, q, record { placed = k.2; united = refl })))
         | inr l ↦ inr (inr (a, b, p, q, l.1))
       ]
 
   refuse : IsRefused ColorText front ⊎ IsRefused ColorText back ⊎ HaveTooManyNames front back
       → IsRefused ColorText (front ++ space ++ back)
   refuse h c t = parted h (reads_joined front space back c s t) where
-    parted : IsRefused ColorText front ⊎ IsRefused ColorText back ⊎ HaveTooManyNames front back → Joined front back c
+    parted : IsRefused ColorText front ⊎ IsRefused ColorText back ⊎ HaveTooManyNames front back
+        → Joined front back c
         → ⊥
     parted (inl r) (a, b, p, q, k) = r a p
     parted (inr (inl r)) (a, b, p, q, k) = r b q
     parted (inr (inr (v, w, t, u, l))) (a, b, p, q, k) =
         let same : color_names v ++ color_names w ≡ color_names a ++ color_names b =
-        ap (λ (v : Color). color_names v ++ color_names w) (color_one_value front v a t p) ∙ ap (λ (w : Color). color_names a ++ color_names w) (color_one_value back w b u q) in
-        omega (arith, l, ap length same, Placed-short (color_names a ++ color_names b) c.foreground c.background k.placed)
+        ap (λ (v : Color). color_names v ++ color_names w) (color_one_value front v a t p)
+        ∙ ap (λ (w : Color). color_names a ++ color_names w) (color_one_value back w b u q) in
+        omega (
+          arith,
+          l,
+          ap length same,
+          Placed-short (color_names a ++ color_names b) c.foreground c.background k.placed,
+        )
 
 -- texts have one color exactly where their words are the same
 pub same_words : (a b : List ℕ) (v w : Color) → ColorText a v → ColorText b w → (v ≡ w) ↔ (SameWords a b)
 same_words a b v w p q = (agree, meet) where
   agree : v ≡ w → SameWords a b
   agree e =
-      let names : q.names ≡ p.names = sym (Placed-words q.names w.foreground w.background q.placed) ∙ (ap (λ (c : Color). color_names c) (sym e) ∙ Placed-words p.names v.foreground v.background p.placed) in
+      let names : q.names ≡ p.names = sym (Placed-words q.names w.foreground w.background q.placed)
+      ∙ (ap (λ (c : Color). color_names c) (sym e)
+      ∙ Placed-words p.names v.foreground v.background p.placed) in
       let bits : w.attributes.0 ≡ v.attributes.0 = ap (λ (c : Color). c.attributes.0) (sym e) in
-      record { names = p.names; bits = v.attributes.0; first = p.read; second = subst (λ (ns : List Name). TextRead b ns v.attributes.0) names (subst (λ (i : ℕ). TextRead b q.names i) bits q.read) }
+      record {
+        names = p.names;
+        bits = v.attributes.0;
+        first = p.read;
+        second = subst (λ (ns : List Name). TextRead b ns v.attributes.0) names
+            (subst (λ (i : ℕ). TextRead b q.names i) bits q.read);
+      }
 
   meet : SameWords a b → v ≡ w
   meet s =
@@ -164,13 +211,21 @@ places_none (Some n) (Some o) (Some m) (Some k) p q e = omega arith
 pub places_compose : (a b : Color) (f g : Option Name) → HasText ColorText a → HasText ColorText b
     → places_of a.foreground a.background b.foreground b.background ≡ Some (f, g)
     → Placed (color_names a ++ color_names b) f g
-places_compose a b f g (s, p) (t, q) e = places_some a.foreground a.background b.foreground b.background f g (background_beside s a p) (background_beside t b q) e
+places_compose a b f g (s, p) (t, q) e =
+    places_some a.foreground a.background b.foreground b.background f g (background_beside s a p)
+    (background_beside t b q) e
 
 pub places_refuse : (a b : Color) → HasText ColorText a → HasText ColorText b
     → places_of a.foreground a.background b.foreground b.background ≡ None → Composes a b None
 places_refuse a b (s, p) (t, q) e =
-    let l = places_none a.foreground a.background b.foreground b.background (background_beside s a p) (background_beside t b q) e in
-    (l, λ c k. absurd (omega (arith, Placed-short (color_names a ++ color_names b) c.foreground c.background k.placed)))
+    let l = places_none a.foreground a.background b.foreground b.background (background_beside s a p)
+    (background_beside t b q) e in (
+      l,
+      λ c k. absurd (omega (
+        arith,
+        Placed-short (color_names a ++ color_names b) c.foreground c.background k.placed,
+      )),
+    )
 
 -- two colors have one composition, or none
 pub composes_one : (a b : Color) (r s : Option Color) → Composes a b r → Composes a b s → r ≡ s
@@ -178,5 +233,6 @@ composes_one a b None None p q = refl
 composes_one a b None (Some d) p q = absurd (p.1 d q.0)
 composes_one a b (Some c) None p q = absurd (q.1 c p.0)
 composes_one a b (Some c) (Some d) (k, t) (m, u) =
-    let placed = Placed-one (color_names a ++ color_names b) c.foreground c.background d.foreground d.background k.placed m.placed in
+    let placed = Placed-one (color_names a ++ color_names b) c.foreground c.background d.foreground
+    d.background k.placed m.placed in
     ap Some (same_color c d placed.0 placed.1 (k.united ∙ sym m.united))

@@ -44,7 +44,8 @@ taken_out w a (x ∷ front) back t (WordsRead.attribute {a = b} u r) =
     (bit_or b.0 o.0, WordsRead.attribute u o.1, ap (λ i. bit_or b.0 i) o.2 ∙ or_swap b.0 a.0 o.0)
 
 -- an attribute word that stands at another place reads to the same
-moved_reads : (w : List ℕ) (a : Attribute) (front back ahead behind : List (List ℕ)) (names : List Name) (bits : ℕ) → AttributeText w a
+moved_reads : (w : List ℕ) (a : Attribute) (front back ahead behind : List (List ℕ)) (names : List Name)
+    (bits : ℕ) → AttributeText w a
     → front ++ back ≡ ahead ++ behind → WordsRead (front ++ w ∷ back) names bits
     → WordsRead (ahead ++ w ∷ behind) names bits
 moved_reads w a front back ahead behind names bits t e r =
@@ -53,32 +54,38 @@ moved_reads w a front back ahead behind names bits t e r =
     (put_in ahead behind t (subst (λ (ws : List (List ℕ)). WordsRead ws names o.0) e o.1))
 
 -- an attribute word that already stands among the words reads to the same once more
-again_reads : (w : List ℕ) (a : Attribute) (ws front back ahead behind : List (List ℕ)) (names : List Name) (bits : ℕ) → AttributeText w a
+again_reads : (w : List ℕ) (a : Attribute) (ws front back ahead behind : List (List ℕ)) (names : List Name)
+    (bits : ℕ) → AttributeText w a
     → ws ≡ front ++ w ∷ back → ws ≡ ahead ++ behind → WordsRead ws names bits
     → WordsRead (ahead ++ w ∷ behind) names bits
 again_reads w a ws front back ahead behind names bits t e f r =
     let o = taken_out w a front back t (subst (λ (ws : List (List ℕ)). WordsRead ws names bits) e r) in
-    subst (λ (i : ℕ). WordsRead (ahead ++ w ∷ behind) names i) (ap (λ i. bit_or a.0 i) o.2 ∙ (or_again a.0 o.0 ∙ sym o.2))
+    subst (λ (i : ℕ). WordsRead (ahead ++ w ∷ behind) names i)
+    (ap (λ i. bit_or a.0 i) o.2 ∙ (or_again a.0 o.0 ∙ sym o.2))
     (put_in ahead behind t (subst (λ (ws : List (List ℕ)). WordsRead ws names bits) f r))
 
 -- and what is read with it once more is read without
-once_reads : (w : List ℕ) (a : Attribute) (ws front back ahead behind : List (List ℕ)) (names : List Name) (bits : ℕ) → AttributeText w a
+once_reads : (w : List ℕ) (a : Attribute) (ws front back ahead behind : List (List ℕ)) (names : List Name)
+    (bits : ℕ) → AttributeText w a
     → ws ≡ front ++ w ∷ back → ws ≡ ahead ++ behind → WordsRead (ahead ++ w ∷ behind) names bits
     → WordsRead ws names bits
 once_reads w a ws front back ahead behind names bits t e f r =
     let o = taken_out w a ahead behind t r in
     let read : WordsRead ws names o.0 = subst (λ (ws : List (List ℕ)). WordsRead ws names o.0) (sym f) o.1 in
     let p = taken_out w a front back t (subst (λ (ws : List (List ℕ)). WordsRead ws names o.0) e read) in
-    subst (λ (i : ℕ). WordsRead ws names i) (p.2 ∙ (sym (or_again a.0 p.0) ∙ (ap (λ i. bit_or a.0 i) (sym p.2) ∙ sym o.2))) read
+    subst (λ (i : ℕ). WordsRead ws names i)
+    (p.2 ∙ (sym (or_again a.0 p.0) ∙ (ap (λ i. bit_or a.0 i) (sym p.2) ∙ sym o.2))) read
 
 -- words that differ in the place, or in the number, of one attribute word read to the same
 moves_read : (ws vs : List (List ℕ)) (names : List Name) (bits : ℕ) → Moves ws vs
     → (WordsRead ws names bits) ↔ (WordsRead vs names bits)
 moves_read ws vs names bits (Moves.moved w front back ahead behind (a, p) e f same) = (
   λ r. subst (λ (ws : List (List ℕ)). WordsRead ws names bits) (sym f)
-      (moved_reads w a front back ahead behind names bits p same (subst (λ (ws : List (List ℕ)). WordsRead ws names bits) e r)),
+      (moved_reads w a front back ahead behind names bits p same
+      (subst (λ (ws : List (List ℕ)). WordsRead ws names bits) e r)),
   λ r. subst (λ (ws : List (List ℕ)). WordsRead ws names bits) (sym e)
-      (moved_reads w a ahead behind front back names bits p (sym same) (subst (λ (ws : List (List ℕ)). WordsRead ws names bits) f r)),
+      (moved_reads w a ahead behind front back names bits p (sym same)
+      (subst (λ (ws : List (List ℕ)). WordsRead ws names bits) f r)),
 )
 moves_read ws vs names bits (Moves.repeated w front back ahead behind (a, p) e f same) = (
   λ r. subst (λ (ws : List (List ℕ)). WordsRead ws names bits) (sym f)
@@ -91,14 +98,27 @@ moves_read ws vs names bits (Moves.repeated w front back ahead behind (a, p) e f
 pub moved_words : (t u : List ℕ) (ws vs : List (List ℕ)) (c : Color) → Words t ws → Words u vs → Moves ws vs
     → (ColorText t c) ↔ (ColorText u c)
 moved_words t u ws vs c w v m = (
-  λ h. record { names = h.names; read = text_of u vs h.names v ((moves_read ws vs h.names c.attributes.0 m).0 (read_of t ws h.names w h.read)); placed = h.placed },
-  λ h. record { names = h.names; read = text_of t ws h.names w ((moves_read ws vs h.names c.attributes.0 m).1 (read_of u vs h.names v h.read)); placed = h.placed },
+  λ h. record {
+    names = h.names;
+    read = text_of u vs h.names v
+        ((moves_read ws vs h.names c.attributes.0 m).0 (read_of t ws h.names w h.read));
+    placed = h.placed;
+  },
+  λ h. record {
+    names = h.names;
+    read = text_of t ws h.names w
+        ((moves_read ws vs h.names c.attributes.0 m).1 (read_of u vs h.names v h.read));
+    placed = h.placed;
+  },
 ) where
-  read_of : (t : List ℕ) (ws : List (List ℕ)) (names : List Name) → Words t ws → TextRead t names c.attributes.0
+  read_of : (t : List ℕ) (ws : List (List ℕ)) (names : List Name) → Words t ws
+      → TextRead t names c.attributes.0
       → WordsRead ws names c.attributes.0
   read_of t ws names w r =
-      subst (λ (ws : List (List ℕ)). WordsRead ws names c.attributes.0) (words_only r.cut ∙ sym (words_only w)) r.read
+      subst (λ (ws : List (List ℕ)). WordsRead ws names c.attributes.0)
+      (words_only r.cut ∙ sym (words_only w)) r.read
 
-  text_of : (t : List ℕ) (ws : List (List ℕ)) (names : List Name) → Words t ws → WordsRead ws names c.attributes.0
+  text_of : (t : List ℕ) (ws : List (List ℕ)) (names : List Name) → Words t ws
+      → WordsRead ws names c.attributes.0
       → TextRead t names c.attributes.0
   text_of t ws names w r = record { words = ws; cut = w; read = r }

@@ -1,6 +1,7 @@
 -- Words of printing ASCII bytes: no white space stands in them, so a text that is joined of them by spaces
 -- has these words.
-use Rattle.std.proofs.Common.{◌≡◌, ℕ, ◌≤◌, inl, inr, Bool, true, false, ◌&&◌, codes, nat_le, List, [], ◌∷◌, ◌++◌, Option, Some, None, refl, ◌∙◌, arith}
+use Rattle.std.proofs.Common.{◌≡◌, ℕ, ◌≤◌, inl, inr, Bool, true, false, ◌&&◌, codes, nat_le, List, [], ◌∷◌}
+use Rattle.std.proofs.Common.{◌++◌, Option, Some, None, refl, ◌∙◌, arith}
 use Rattle.std.specs.List.{AllByRecursion, join_with_byte, list_all}
 use Rattle.std.specs.Str.Parse.{AllDigits}
 use Rattle.std.proofs.lemmas.Bool.{and_from, and_parts}
@@ -60,7 +61,8 @@ words_spaced [] h = words_none [] refl
 words_spaced (w ∷ []) h = plain_word w (and_parts (is_plain_word w) true h).0
 words_spaced (w ∷ v ∷ ws) h =
     let k = and_parts (is_plain_word w) (list_all is_plain_word (v ∷ ws)) h in
-    words_joined w (codes " ") (join_with_byte space (v ∷ ws)) space_byte ∙ rw (plain_word w k.0, words_spaced (v ∷ ws) k.1) refl
+    words_joined w (codes " ") (join_with_byte space (v ∷ ws)) space_byte
+    ∙ rw (plain_word w k.0, words_spaced (v ∷ ws) k.1) refl
 
 pub all_plain_append : (xs ys : List (List ℕ)) → list_all is_plain_word xs ≡ true
     → list_all is_plain_word ys ≡ true
@@ -92,7 +94,9 @@ lower_plain t o = all-one is_plain_word lower_words t refl o
 digits_plain : (ds : List ℕ) → AllDigits 10 ds → list_all is_plain ds ≡ true
 digits_plain [] h = refl
 digits_plain (d ∷ ds) h =
-    let k = digit_from_value d h.0 in and_from (is_plain d) (list_all is_plain ds) (range_plain d (omega arith) (omega arith)) (digits_plain ds h.1)
+    let k = digit_from_value d h.0 in
+    and_from (is_plain d) (list_all is_plain ds) (range_plain d (omega arith) (omega arith))
+    (digits_plain ds h.1)
 
 hex_plain : (ds : List ℕ) → AllByRecursion IsLowerHex ds → list_all is_plain ds ≡ true
 hex_plain [] h = refl
@@ -106,7 +110,8 @@ pub name_plain : (t : List ℕ) → CanonicalName t → is_plain_word t ≡ true
 name_plain t (CanonicalName.word o) = lower_plain t o
 name_plain t (CanonicalName.nought e) = rw e refl
 name_plain t (CanonicalName.palette d ds e r h s) =
-    rw e (and_from (is_plain d) (list_all is_plain ds) (range_plain d (omega arith) (omega arith)) (digits_plain ds h))
+    rw e (and_from (is_plain d) (list_all is_plain ds) (range_plain d (omega arith) (omega arith))
+    (digits_plain ds h))
 name_plain t (CanonicalName.rgb ds e l h) = rw e (hex_plain ds h)
 
 pub names_plain : (ts : List (List ℕ)) → AllByRecursion CanonicalName ts → list_all is_plain_word ts ≡ true

@@ -1,5 +1,6 @@
 -- Which bytes the spellings of white space have.
-use Rattle.std.proofs.Common.{◌≡◌, ℕ, ◌+◌, ◌<◌, ◌≤◌, ◌⊎◌, inl, inr, Bool, true, false, ◌||◌, nat_le, List, [], ◌∷◌, ◌++◌, length, get_or, drop, refl, ap, arith}
+use Rattle.std.proofs.Common.{◌≡◌, ℕ, ◌+◌, ◌<◌, ◌≤◌, ◌⊎◌, inl, inr, Bool, true, false, ◌||◌, nat_le, List, []}
+use Rattle.std.proofs.Common.{◌∷◌, ◌++◌, length, get_or, drop, refl, ap, arith}
 use Rattle.std.proofs.lemmas.Bool.Decides.{leb_tells, nat_tests}
 use Rattle.std.proofs.lemmas.List.{get_or-drop}
 use Rattle.config_color.specs.Reading.Split.{IsWithoutSpace}
@@ -16,7 +17,8 @@ unfolding spellings
 double_bytes a b h = grind arith
 
 pub triple_bytes : (a b c : ℕ) → Space (a ∷ b ∷ c ∷ [])
-    → ((a ≡ 225) × (b ≡ 154) × (c ≡ 128)) ⊎ ((a ≡ 226) × (b ≡ 128) × (((128 ≤ c) × (c ≤ 138)) ⊎ (c ≡ 168) ⊎ (c ≡ 169) ⊎ (c ≡ 175)))
+    → ((a ≡ 225) × (b ≡ 154) × (c ≡ 128))
+    ⊎ ((a ≡ 226) × (b ≡ 128) × (((128 ≤ c) × (c ≤ 138)) ⊎ (c ≡ 168) ⊎ (c ≡ 169) ⊎ (c ≡ 175)))
     ⊎ ((a ≡ 226) × (b ≡ 129) × (c ≡ 159)) ⊎ ((a ≡ 227) × (b ≡ 128) × (c ≡ 128))
 unfolding spellings
 triple_bytes a b c h = grind arith
@@ -31,7 +33,8 @@ unfolding spellings
 bytes_general c h = grind arith
 
 pub bytes_triple : (a b c : ℕ)
-    → (a ≡ 225) × (b ≡ 154) × (c ≡ 128) ⊎ (a ≡ 226) × (b ≡ 129) × (c ≡ 159) ⊎ (a ≡ 227) × (b ≡ 128) × (c ≡ 128)
+    → (a ≡ 225) × (b ≡ 154) × (c ≡ 128) ⊎ (a ≡ 226) × (b ≡ 129) × (c ≡ 159) ⊎ (a ≡ 227) × (b ≡ 128)
+    × (c ≡ 128)
     → Space (a ∷ b ∷ c ∷ [])
 unfolding spellings
 bytes_triple a b c h = grind arith
@@ -95,7 +98,8 @@ unfolding spellings
 bytes_double a b h k = grind arith
 
 -- a run of plain bytes has no white space
-pub plain_run : (text : List ℕ) (from to : ℕ) → IsWithoutSpace text from → ArePlain text from to → IsWithoutSpace text to
+pub plain_run : (text : List ℕ) (from to : ℕ) → IsWithoutSpace text from → ArePlain text from to
+    → IsWithoutSpace text to
 plain_run text from to clear plain k below space rest s =
     elim (leb_tells from k) [
       | inl h ↦

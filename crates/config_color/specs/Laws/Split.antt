@@ -1,6 +1,8 @@
--- The laws of words: each text has one list of them, which the function gives; the words of a text that is joined of two
--- by white space; and the first word of a text that is walked from its front.
-use Rattle.std.proofs.Common.{◌≡◌, ℕ, zero, suc, ◌+◌, ◌-◌, ◌<◌, ◌≤◌, ◌==◌, ◌⊎◌, inl, inr, Bool, true, false, List, [], ◌∷◌, ◌++◌, length, map, get_or, take, drop, slice_range, Option, Some, None, refl, sym, ap, subst, ◌∙◌, append_assoc, arith}
+-- The laws of words: each text has one list of them, which the function gives; the words of a text that is
+-- joined of two by white space; and the first word of a text that is walked from its front.
+use Rattle.std.proofs.Common.{◌≡◌, ℕ, zero, suc, ◌+◌, ◌-◌, ◌<◌, ◌≤◌, ◌==◌, ◌⊎◌, inl, inr, Bool, true, false}
+use Rattle.std.proofs.Common.{List, [], ◌∷◌, ◌++◌, length, map, get_or, take, drop, slice_range, Option, Some}
+use Rattle.std.proofs.Common.{None, refl, sym, ap, subst, ◌∙◌, append_assoc, arith}
 use Rattle.std.specs.Bool.{Decides}
 use Rattle.std.specs.Option.{option_or}
 use Rattle.std.proofs.lemmas.Bool.Decides.{Decides-eqb}
@@ -9,7 +11,8 @@ use Rattle.config_text.specs.OneOf.{OneOf}
 use Rattle.config_color.specs.Space.{spellings, Space}
 use Rattle.config_color.specs.Laws.Space.{no_empty}
 use Rattle.config_color.specs.Words.{HasNoSpace, piece, Words}
-use Rattle.config_color.specs.Reading.Split.{IsWithoutSpace, after, after_one, after_space, Cut, cut_at, last_cut, words_within, words}
+use Rattle.config_color.specs.Reading.Split.{IsWithoutSpace, after, after_one, after_space, Cut, cut_at}
+use Rattle.config_color.specs.Reading.Split.{last_cut, words_within, words}
 
 pub space_byte : Space (32 ∷ [])
 unfolding spellings
@@ -107,7 +110,8 @@ cut_shorter : (text : List ℕ) (cut : Cut) → last_cut text ≡ Some cut → l
 cut_shorter [] cut h = absurd (cc)
 cut_shorter (x ∷ text) cut h =
     elim (cut_told text) [
-      | inr c ↦ let k = rw c.1 at h in let e : x ∷ c.0.0 ≡ cut.0 = ap (λ o. front_of o) k in omega (arith, cut_shorter text c.0 c.1, ap length e)
+      | inr c ↦ let k = rw c.1 at h in let e : x ∷ c.0.0 ≡ cut.0 = ap (λ o. front_of o) k in
+          omega (arith, cut_shorter text c.0 c.1, ap length e)
       | inl n ↦ let k = rw n at h in at_head (after_space (x ∷ text)) k
     ] where
       at_head : (here : Option (List ℕ)) → cut_at x here None ≡ Some cut → length cut.0 < length (x ∷ text)
@@ -124,7 +128,9 @@ within_enough (suc n) zero (x ∷ text) p q = absurd (omega arith)
 within_enough (suc n) (suc m) text p q =
     elim (cut_told text) [
       | inl e ↦ rw e refl
-      | inr c ↦ rw c.1 (ap (λ ws. ws ++ piece c.0.1) (within_enough n m c.0.0 (omega (arith, cut_shorter text c.0 c.1)) (omega (arith, cut_shorter text c.0 c.1))))
+      | inr c ↦ rw c.1 (ap (λ ws. ws ++ piece c.0.1)
+          (within_enough n m c.0.0 (omega (arith, cut_shorter text c.0 c.1))
+          (omega (arith, cut_shorter text c.0 c.1))))
     ]
 
 -- where no spelling stands in the text: itself, or no word where it is empty
@@ -139,12 +145,15 @@ pub words_some : (text : List ℕ) (cut : Cut) → last_cut text ≡ Some cut
 unfolding words
 words_some [] cut h = absurd (cc)
 words_some (x ∷ text) cut h =
-    rw h (ap (λ ws. ws ++ piece cut.1) (within_enough (length text) (length cut.0) cut.0 (omega (arith, cut_shorter (x ∷ text) cut h)) (omega arith)))
+    rw h (ap (λ ws. ws ++ piece cut.1)
+    (within_enough (length text) (length cut.0) cut.0 (omega (arith, cut_shorter (x ∷ text) cut h))
+    (omega arith)))
 
 joined_none : (before space rest : List ℕ) → Space space → last_cut rest ≡ None
     → words (before ++ (space ++ rest)) ≡ words before ++ words rest
 joined_none before space rest s e =
-    words_some (before ++ (space ++ rest)) (before ++ [], rest) (cut_append before (space ++ rest) [] rest (last_space space rest s e))
+    words_some (before ++ (space ++ rest)) (before ++ [], rest)
+    (cut_append before (space ++ rest) [] rest (last_space space rest s e))
     ∙ rw (append-nil, words_none rest e) refl
 
 joined_some : (before space rest : List ℕ) (cut : Cut) → last_cut rest ≡ Some cut
@@ -154,7 +163,8 @@ joined_some before space rest cut e h =
     words_some (before ++ (space ++ rest)) (before ++ (space ++ cut.0), cut.1)
     (cut_append before (space ++ rest) (space ++ cut.0) cut.1 (cut_append space rest cut.0 cut.1 e))
     ∙ (ap (λ ws. ws ++ piece cut.1) h
-    ∙ (append_assoc (words before) (words cut.0) (piece cut.1) ∙ ap (λ ws. words before ++ ws) (sym (words_some rest cut e))))
+    ∙ (append_assoc (words before) (words cut.0) (piece cut.1)
+    ∙ ap (λ ws. words before ++ ws) (sym (words_some rest cut e))))
 
 words_joined_within : (n : ℕ) (before space rest : List ℕ) → length rest ≤ n → Space space
     → words (before ++ (space ++ rest)) ≡ words before ++ words rest
@@ -163,7 +173,8 @@ words_joined_within zero before space (x ∷ rest) l s = absurd (omega arith)
 words_joined_within (suc n) before space rest l s =
     elim (cut_told rest) [
       | inl e ↦ joined_none before space rest s e
-      | inr c ↦ joined_some before space rest c.0 c.1 (words_joined_within n before space c.0.0 (omega (arith, cut_shorter rest c.0 c.1)) s)
+      | inr c ↦ joined_some before space rest c.0 c.1
+          (words_joined_within n before space c.0.0 (omega (arith, cut_shorter rest c.0 c.1)) s)
     ]
 
 -- the words of two texts joined by a spelling are those of the one, then those of the other
@@ -184,50 +195,59 @@ words_past_space (c ∷ cs) l e =
 uncut : (n : ℕ) (text : List ℕ) → IsWithoutSpace text n → last_cut (take n text) ≡ None
 uncut zero text h = refl
 uncut (suc n) [] h = refl
-uncut (suc n) (x ∷ text) h = rw (uncut n text (λ k l. h (suc k) (omega arith))) (at_head (after_space (x ∷ take n text)) refl) where
-  at_head : (here : Option (List ℕ)) → after_space (x ∷ take n text) ≡ here → cut_at x here None ≡ None
-  at_head None e = refl
-  at_head (Some r) e =
-      let found = after_space_is (x ∷ take n text) r e in
-      absurd (h 0 (omega arith) found.0 (r ++ drop n text) found.1
-      (ap (λ t. x ∷ t) (sym (take-append-drop n text)) ∙ (ap (λ t. t ++ drop n text) found.2 ∙ append_assoc found.0 r (drop n text))))
+uncut (suc n) (x ∷ text) h =
+    rw (uncut n text (λ k l. h (suc k) (omega arith))) (at_head (after_space (x ∷ take n text)) refl) where
+      at_head : (here : Option (List ℕ)) → after_space (x ∷ take n text) ≡ here → cut_at x here None ≡ None
+      at_head None e = refl
+      at_head (Some r) e =
+          let found = after_space_is (x ∷ take n text) r e in
+          absurd (h 0 (omega arith) found.0 (r ++ drop n text) found.1
+          (ap (λ t. x ∷ t) (sym (take-append-drop n text))
+          ∙ (ap (λ t. t ++ drop n text) found.2 ∙ append_assoc found.0 r (drop n text))))
 
 -- the words of a text at whose place n the first spelling stands, s bytes long
 pub words_step : (text : List ℕ) (n s : ℕ) → IsWithoutSpace text n → n + s ≤ length text
     → Space (slice_range text n (n + s))
     → words text ≡ piece (take n text) ++ words (drop (n + s) text)
 words_step text n s h l k =
-    ap words (parts text n s l) ∙ (words_joined (take n text) (slice_range text n (n + s)) (drop (n + s) text) k
+    ap words (parts text n s l) ∙ (words_joined (take n text) (slice_range text n (n + s)) (drop (n + s) text)
+    k
     ∙ ap (λ ws. ws ++ words (drop (n + s) text)) (words_none (take n text) (uncut n text h))) where
       parts : (text : List ℕ) (n s : ℕ) → n + s ≤ length text
           → text ≡ take n text ++ (slice_range text n (n + s) ++ drop (n + s) text)
       parts text n s l = let e : n + s - n ≡ s = omega arith in
-          rw e (sym (take-append-drop n text) ∙ ap (λ t. take n text ++ t) (sym (take-append-drop s (drop n text)) ∙ ap (λ t. take s (drop n text) ++ t) (drop-drop s n text)))
+          rw e (sym (take-append-drop n text)
+          ∙ ap (λ t. take n text ++ t)
+          (sym (take-append-drop s (drop n text))
+          ∙ ap (λ t. take s (drop n text) ++ t) (drop-drop s n text)))
 
 -- the words of a text in which no spelling stands
 pub words_last : (text : List ℕ) → IsWithoutSpace text (length text) → words text ≡ piece text
-words_last text h = words_none text (let k = uncut (length text) text h in ap last_cut (sym (take_all (length text) text (omega arith))) ∙ k)
+words_last text h = words_none text
+    (let k = uncut (length text) text h in ap last_cut (sym (take_all (length text) text (omega arith))) ∙ k)
 
 -- the parts of a cut
 cut_parts : (text : List ℕ) (cut : Cut) → last_cut text ≡ Some cut
     → (space : List ℕ) × Space space × (text ≡ cut.0 ++ (space ++ cut.1))
 cut_parts [] cut h = absurd (cc)
-cut_parts (x ∷ text) cut h = at_place x text cut (after_space (x ∷ text)) refl (last_cut text) h (cut_parts text) where
-  at_place : (x : ℕ) (text : List ℕ) (cut : Cut) (here : Option (List ℕ)) → after_space (x ∷ text) ≡ here
-      → (further : Option Cut) → cut_at x here further ≡ Some cut
-      → ((cut : Cut) → further ≡ Some cut → (space : List ℕ) × Space space × (text ≡ cut.0 ++ (space ++ cut.1)))
-      → (space : List ℕ) × Space space × (x ∷ text ≡ cut.0 ++ (space ++ cut.1))
-  at_place x text cut here e (Some c) h more =
-      let k = more c refl in
-      let f : x ∷ c.0 ≡ cut.0 = ap (λ o. front_of o) h in
-      let g : c.1 ≡ cut.1 = ap (λ o. back_of o) h in
-      (k.0, k.1, ap (λ t. x ∷ t) k.2 ∙ (ap (λ t. t ++ (k.0 ++ c.1)) f ∙ ap (λ t. cut.0 ++ (k.0 ++ t)) g))
-  at_place x text cut (Some r) e None h more =
-      let k = after_space_is (x ∷ text) r e in
-      let f : [] ≡ cut.0 = ap (λ o. front_of o) h in
-      let g : r ≡ cut.1 = ap (λ o. back_of o) h in
-      (k.0, k.1, k.2 ∙ (ap (λ t. t ++ (k.0 ++ r)) f ∙ ap (λ t. cut.0 ++ (k.0 ++ t)) g))
-  at_place x text cut None e None h more = absurd (cc)
+cut_parts (x ∷ text) cut h =
+    at_place x text cut (after_space (x ∷ text)) refl (last_cut text) h (cut_parts text) where
+      at_place : (x : ℕ) (text : List ℕ) (cut : Cut) (here : Option (List ℕ)) → after_space (x ∷ text) ≡ here
+          → (further : Option Cut) → cut_at x here further ≡ Some cut
+          → ((cut : Cut) → further ≡ Some cut → (space : List ℕ) × Space space
+          × (text ≡ cut.0 ++ (space ++ cut.1)))
+          → (space : List ℕ) × Space space × (x ∷ text ≡ cut.0 ++ (space ++ cut.1))
+      at_place x text cut here e (Some c) h more =
+          let k = more c refl in
+          let f : x ∷ c.0 ≡ cut.0 = ap (λ o. front_of o) h in
+          let g : c.1 ≡ cut.1 = ap (λ o. back_of o) h in
+          (k.0, k.1, ap (λ t. x ∷ t) k.2 ∙ (ap (λ t. t ++ (k.0 ++ c.1)) f ∙ ap (λ t. cut.0 ++ (k.0 ++ t)) g))
+      at_place x text cut (Some r) e None h more =
+          let k = after_space_is (x ∷ text) r e in
+          let f : [] ≡ cut.0 = ap (λ o. front_of o) h in
+          let g : r ≡ cut.1 = ap (λ o. back_of o) h in
+          (k.0, k.1, k.2 ∙ (ap (λ t. t ++ (k.0 ++ r)) f ∙ ap (λ t. cut.0 ++ (k.0 ++ t)) g))
+      at_place x text cut None e None h more = absurd (cc)
 
 -- a text in which no spelling stands has no cut
 no_cut : (text : List ℕ) → ((before space rest : List ℕ) → Space space → ¬ (text ≡ before ++ (space ++ rest)))
@@ -240,49 +260,56 @@ no_cut text h =
 
 -- a text in which no spelling stands is its own one word
 pub words_whole : (text : List ℕ) → HasNoSpace text → words text ≡ piece text
-words_whole text h = words_none text (no_cut text (λ before space rest s e. h before space rest s (e ∙ sym (append_assoc before space rest))))
+words_whole text h = words_none text
+    (no_cut text (λ before space rest s e. h before space rest s (e ∙ sym (append_assoc before space rest))))
 
 -- a text without a cut has no white space
 uncut_whole : (text : List ℕ) → last_cut text ≡ None → HasNoSpace text
 uncut_whole text h before space rest s e =
     elim (cut_told rest) [
-      | inl n ↦ refuted (before ++ [], rest) (cut_append before (space ++ rest) [] rest (last_space space rest s n))
-      | inr c ↦ refuted (before ++ (space ++ c.0.0), c.0.1) (cut_append before (space ++ rest) (space ++ c.0.0) c.0.1 (cut_append space rest c.0.0 c.0.1 c.1))
+      | inl n ↦ refuted (before ++ [], rest)
+          (cut_append before (space ++ rest) [] rest (last_space space rest s n))
+      | inr c ↦ refuted (before ++ (space ++ c.0.0), c.0.1)
+          (cut_append before (space ++ rest) (space ++ c.0.0) c.0.1 (cut_append space rest c.0.0 c.0.1 c.1))
     ] where
       refuted : (cut : Cut) → last_cut (before ++ (space ++ rest)) ≡ Some cut → ⊥
-      refuted cut k = let l : last_cut text ≡ Some cut = ap last_cut (e ∙ append_assoc before space rest) ∙ k in cc (h, l)
+      refuted cut k = let l : last_cut text ≡ Some cut = ap last_cut (e ∙ append_assoc before space rest)
+          ∙ k in cc (h, l)
 
 -- what follows the last cut has none
 cut_is_last : (text : List ℕ) (cut : Cut) → last_cut text ≡ Some cut → last_cut cut.1 ≡ None
 cut_is_last [] cut h = absurd (cc)
-cut_is_last (x ∷ text) cut h = at_place x text cut (after_space (x ∷ text)) refl (last_cut text) refl h (cut_is_last text) where
-  uncut_rest : (x : ℕ) (text space rest : List ℕ) → Space space → x ∷ text ≡ space ++ rest → last_cut text ≡ None
-      → last_cut rest ≡ None
-  uncut_rest x text [] rest s e n = absurd (no_empty s)
-  uncut_rest x text (y ∷ more) rest s e n =
-      let same : text ≡ more ++ rest = cc in
-      elim (cut_told rest) [
-        | inl f ↦ f
-        | inr c ↦
-            let k = cut_append more rest c.0.0 c.0.1 c.1 in
-            let l : last_cut text ≡ Some (more ++ c.0.0, c.0.1) = ap last_cut same ∙ k in absurd (cc (n, l))
-      ]
+cut_is_last (x ∷ text) cut h =
+    at_place x text cut (after_space (x ∷ text)) refl (last_cut text) refl h (cut_is_last text) where
+      uncut_rest : (x : ℕ) (text space rest : List ℕ) → Space space → x ∷ text ≡ space ++ rest
+          → last_cut text ≡ None
+          → last_cut rest ≡ None
+      uncut_rest x text [] rest s e n = absurd (no_empty s)
+      uncut_rest x text (y ∷ more) rest s e n =
+          let same : text ≡ more ++ rest = cc in
+          elim (cut_told rest) [
+            | inl f ↦ f
+            | inr c ↦
+                let k = cut_append more rest c.0.0 c.0.1 c.1 in
+                let l : last_cut text ≡ Some (more ++ c.0.0, c.0.1) = ap last_cut same ∙ k in absurd (cc (n, l))
+          ]
 
-  at_place : (x : ℕ) (text : List ℕ) (cut : Cut) (here : Option (List ℕ)) → after_space (x ∷ text) ≡ here
-      → (further : Option Cut) → last_cut text ≡ further → cut_at x here further ≡ Some cut
-      → ((cut : Cut) → last_cut text ≡ Some cut → last_cut cut.1 ≡ None)
-      → last_cut cut.1 ≡ None
-  at_place x text cut here e (Some c) f h more =
-      let g : c.1 ≡ cut.1 = ap (λ o. back_of o) h in ap last_cut (sym g) ∙ more c f
-  at_place x text cut (Some r) e None f h more =
-      let g : r ≡ cut.1 = ap (λ o. back_of o) h in
-      let k = after_space_is (x ∷ text) r e in ap last_cut (sym g) ∙ uncut_rest x text k.0 r k.1 k.2 f
-  at_place x text cut None e None f h more = absurd (cc)
+      at_place : (x : ℕ) (text : List ℕ) (cut : Cut) (here : Option (List ℕ)) → after_space (x ∷ text) ≡ here
+          → (further : Option Cut) → last_cut text ≡ further → cut_at x here further ≡ Some cut
+          → ((cut : Cut) → last_cut text ≡ Some cut → last_cut cut.1 ≡ None)
+          → last_cut cut.1 ≡ None
+      at_place x text cut here e (Some c) f h more =
+          let g : c.1 ≡ cut.1 = ap (λ o. back_of o) h in ap last_cut (sym g) ∙ more c f
+      at_place x text cut (Some r) e None f h more =
+          let g : r ≡ cut.1 = ap (λ o. back_of o) h in
+          let k = after_space_is (x ∷ text) r e in ap last_cut (sym g) ∙ uncut_rest x text k.0 r k.1 k.2 f
+      at_place x text cut None e None f h more = absurd (cc)
 
 -- the function gives words
 pub words_are : (text : List ℕ) → Words text (words text)
 words_are text = within (length text) text (omega arith) where
-  at_cut : (text : List ℕ) (cut : Cut) → last_cut text ≡ Some cut → Words cut.0 (words cut.0) → Words text (words text)
+  at_cut : (text : List ℕ) (cut : Cut) → last_cut text ≡ Some cut → Words cut.0 (words cut.0)
+      → Words text (words text)
   at_cut text cut h before =
       let p = cut_parts text cut h in
       subst (λ (ws : List (List ℕ)). Words text ws) (sym (words_some text cut h))
@@ -295,7 +322,8 @@ words_are text = within (length text) text (omega arith) where
         → (last_cut text ≡ None) ⊎ ((cut : Cut) × (last_cut text ≡ Some cut))
         → Words text (words text)
     told n text l (inl e) =
-        subst (λ (ws : List (List ℕ)). Words text ws) (sym (words_none text e)) (Words.whole text (uncut_whole text e))
+        subst (λ (ws : List (List ℕ)). Words text ws) (sym (words_none text e))
+        (Words.whole text (uncut_whole text e))
     told zero text l (inr (cut, e)) = absurd (omega (arith, cut_shorter text cut e))
     told (suc n) text l (inr (cut, e)) =
         at_cut text cut e (told n cut.0 (omega (arith, cut_shorter text cut e)) (cut_told cut.0))
@@ -305,7 +333,8 @@ pub words_only : {text : List ℕ} {ws : List (List ℕ)} → Words text ws → 
 words_only (Words.whole t h) = sym (words_whole t h)
 words_only (Words.cut b s r ws w k h) =
     ap (λ ws. ws ++ piece r) (words_only w)
-    ∙ sym (ap words (append_assoc b s r) ∙ (words_joined b s r k ∙ ap (λ vs. words b ++ vs) (words_whole r h)))
+    ∙ sym (ap words (append_assoc b s r)
+    ∙ (words_joined b s r k ∙ ap (λ vs. words b ++ vs) (words_whole r h)))
 
 pub one_words : (text : List ℕ)
     → (ws : List (List ℕ)) × Words text ws × ((vs : List (List ℕ)) → Words text vs → vs ≡ ws)
@@ -319,4 +348,5 @@ joined_words before space rest ws vs s w v =
     let same : words (before ++ space ++ rest) ≡ ws ++ vs =
     ap words (append_assoc before space rest) ∙ (words_joined before space rest s
     ∙ (ap (λ xs. xs ++ words rest) (sym (words_only w)) ∙ ap (λ ys. ws ++ ys) (sym (words_only v)))) in
-    subst (λ (xs : List (List ℕ)). Words (before ++ space ++ rest) xs) same (words_are (before ++ space ++ rest))
+    subst (λ (xs : List (List ℕ)). Words (before ++ space ++ rest) xs) same
+    (words_are (before ++ space ++ rest))

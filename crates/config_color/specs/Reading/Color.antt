@@ -1,6 +1,7 @@
--- Color text as a function, from the front: what the code computes, proved in `Laws.Color` to be `ColorText`. The
--- contracts of private functions cite it, and no public one does.
-use Rattle.std.specs.Prelude.{ℕ, ◌+◌, ◌<◌, ◌≤◌, List, [], ◌∷◌, ◌++◌, length, slice_index, slice_range, Option, None, Some}
+-- Color text as a function, from the front: what the code computes, proved in `Laws.Color` to be `ColorText`.
+-- The contracts of private functions cite it, and no public one does.
+use Rattle.std.specs.Prelude.{ℕ, ◌+◌, ◌<◌, ◌≤◌, List, [], ◌∷◌, ◌++◌, length, slice_index, slice_range, Option}
+use Rattle.std.specs.Prelude.{None, Some}
 use Rattle.std.specs.Int.RustNames.{bit_or}
 use Rattle.std.specs.List.{join_with_byte}
 use Rattle.std.specs.Option.{option_and_then}
@@ -21,26 +22,35 @@ word_item t = item_of t
 
 -- the color with one more name: the foreground, else the background, else there is no place for it
 abbrev pub next_name : Option Name → Option Name → ℕ → Name → Option Color
-next_name None background bits n = Some (record { foreground = Some n; background = background; attributes = record { 0 = bits } })
-next_name (Some m) None bits n = Some (record { foreground = Some m; background = Some n; attributes = record { 0 = bits } })
+next_name None background bits n =
+    Some (record { foreground = Some n; background = background; attributes = record { 0 = bits } })
+next_name (Some m) None bits n =
+    Some (record { foreground = Some m; background = Some n; attributes = record { 0 = bits } })
 next_name (Some m) (Some o) bits n = None
 
 -- the color with one more item
 abbrev pub with_item : Color → Item → Option Color
 with_item c (items.Name n) = next_name c.foreground c.background c.attributes.0 n
-with_item c (items.Attribute a) = Some (record { foreground = c.foreground; background = c.background; attributes = record { 0 = bit_or c.attributes.0 a.0 } })
+with_item c (items.Attribute a) =
+    Some (record {
+      foreground = c.foreground;
+      background = c.background;
+      attributes = record { 0 = bit_or c.attributes.0 a.0 };
+    })
 
 -- the color of these words, behind those that gave the color so far
 abbrev pub read_from : Color → List (List ℕ) → Option Color
 read_from c [] = Some c
-read_from c (w ∷ ws) = option_and_then (λ d. read_from d ws) (option_and_then (λ i. with_item c i) (word_item w))
+read_from c (w ∷ ws) = option_and_then (λ d. read_from d ws)
+    (option_and_then (λ i. with_item c i) (word_item w))
 
 -- the color of a text
 abbrev pub color_of : List ℕ → Option Color
 color_of t = read_from no_color (words t)
 
 -- the places of the names of two colors, where each has a background only beside a foreground
-abbrev pub places_of : Option Name → Option Name → Option Name → Option Name → Option (Option Name × Option Name)
+abbrev pub places_of : Option Name → Option Name → Option Name → Option Name
+    → Option (Option Name × Option Name)
 places_of None b g d = Some (g, d)
 places_of (Some n) None g None = Some (Some n, g)
 places_of (Some n) None g (Some m) = None

@@ -1,6 +1,7 @@
--- The words of a text as a function, which counts down: `Laws.Split` proves that it gives the words of `Split`. The
--- contracts of private functions cite it, and no public one does.
-use Rattle.std.specs.Prelude.{◌≡◌, ℕ, zero, suc, ◌<◌, ◌==◌, List, [], ◌∷◌, ◌++◌, length, drop, Option, None, Some, if◌then◌else◌}
+-- The words of a text as a function, which counts down: `Laws.Split` proves that it gives the words of
+-- `Split`. The contracts of private functions cite it, and no public one does.
+use Rattle.std.specs.Prelude.{◌≡◌, ℕ, zero, suc, ◌<◌, ◌==◌, List, [], ◌∷◌, ◌++◌, length, drop, Option, None}
+use Rattle.std.specs.Prelude.{Some, if◌then◌else◌}
 use Rattle.std.specs.Option.{option_or}
 use Rattle.config_color.specs.Space.{spellings, Space}
 use Rattle.config_color.specs.Words.{piece}

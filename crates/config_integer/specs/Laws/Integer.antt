@@ -124,8 +124,8 @@ product_told t =
           let p = product_of t h.0 h.1 in
           elim (range_told (product h.0)) [
             | inl r ↦ inl (product h.0, record { product_text = p; in_range = r })
-            | inr r ↦
-                inr (λ z k. r (subst IsInI64 (product_one_value t z (product h.0) k.product_text p) k.in_range))
+            | inr r ↦ inr (λ z k.
+                r (subst IsInI64 (product_one_value t z (product h.0) k.product_text p) k.in_range))
           ]
       | inr h ↦ inr (λ z k. h k.product_text.integer k.product_text.text)
     ]
@@ -134,7 +134,8 @@ product_told t =
 pub product_first : (t : List ℕ) (z : ℤ) → ProductText t z → IsInRange 43 57 (get_or t 0 0)
 product_first t z p =
     subst (λ l. IsInRange 43 57 (get_or l 0 0)) (sym p.text.parts) (first p.text.number.signed) where
-      first : SignedText p.text.front p.integer.value → IsInRange 43 57 (get_or (p.text.front ++ p.text.back) 0 0)
+      first : SignedText p.text.front p.integer.value
+          → IsInRange 43 57 (get_or (p.text.front ++ p.text.back) 0 0)
       first (plain n m e) =
           let r = magnitude_first p.text.front n p.text.back m in (omega (arith, r.0), omega (arith, r.1))
       first (plus m n e k f) = rw e (omega arith, omega arith)
@@ -151,17 +152,20 @@ refusal_tells refuses never t faults.OutOfRange r z p = never r.0 r.1.in_range r
 refusal_tells refuses never t _ r z p = r
 
 -- a text that gives no number has one fault
-pub one_refusal : (refuses : ℤ → Type 0) (t : List ℕ) (f g : Fault) → IntegerFault refuses t f → IntegerFault refuses t g → f ≡ g
+pub one_refusal : (refuses : ℤ → Type 0) (t : List ℕ) (f g : Fault) → IntegerFault refuses t f
+    → IntegerFault refuses t g → f ≡ g
 one_refusal refuses t faults.Integer faults.Integer r s = refl
 one_refusal refuses t faults.Integer faults.Overflow r s = absurd (r s.1.integer s.1.text)
-one_refusal refuses t faults.Integer faults.OutOfRange r s = absurd (r s.1.product_text.integer s.1.product_text.text)
+one_refusal refuses t faults.Integer faults.OutOfRange r s =
+    absurd (r s.1.product_text.integer s.1.product_text.text)
 one_refusal refuses t faults.Integer _ r s = absurd s
 one_refusal refuses t faults.Overflow faults.Integer r s = absurd (s r.1.integer r.1.text)
 one_refusal refuses t faults.Overflow faults.Overflow r s = refl
 one_refusal refuses t faults.Overflow faults.OutOfRange r s =
     absurd (r.2 (subst IsInI64 (product_one_value t s.0 r.0 s.1.product_text r.1) s.1.in_range))
 one_refusal refuses t faults.Overflow _ r s = absurd s
-one_refusal refuses t faults.OutOfRange faults.Integer r s = absurd (s r.1.product_text.integer r.1.product_text.text)
+one_refusal refuses t faults.OutOfRange faults.Integer r s =
+    absurd (s r.1.product_text.integer r.1.product_text.text)
 one_refusal refuses t faults.OutOfRange faults.Overflow r s =
     absurd (s.2 (subst IsInI64 (product_one_value t r.0 s.0 r.1.product_text s.1) r.1.in_range))
 one_refusal refuses t faults.OutOfRange faults.OutOfRange r s = refl

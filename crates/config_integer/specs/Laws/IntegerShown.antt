@@ -1,7 +1,7 @@
 -- Displayed integers are the canonical texts, and each canonical text is that of its value.
-use Rattle.std.proofs.Common.{◌≡◌, true, false, ℕ, ℤ, pos, negsuc, neg_ℤ, zero, suc, ◌+◌, ◌*◌, ◌^◌, ◌<◌, ◌≤◌, ◌⊎◌, inl}
-use Rattle.std.proofs.Common.{inr, List, [], ◌∷◌, ◌++◌, length, get_or, Option, Some, None, refl, sym, ap}
-use Rattle.std.proofs.Common.{◌∙◌, subst, arith, length-append}
+use Rattle.std.proofs.Common.{◌≡◌, true, false, ℕ, ℤ, pos, negsuc, neg_ℤ, zero, suc, ◌+◌, ◌*◌, ◌^◌, ◌<◌, ◌≤◌}
+use Rattle.std.proofs.Common.{◌⊎◌, inl, inr, List, [], ◌∷◌, ◌++◌, length, get_or, Option, Some, None, refl}
+use Rattle.std.proofs.Common.{sym, ap, ◌∙◌, subst, arith, length-append}
 use Rattle.std.proofs.lemmas.Int.{ints}
 use Rattle.std.proofs.Math.Nat.{one-le-pow}
 use Rattle.std.proofs.lemmas.Fmt.{decimal_is_IsNumeral, first_decimal, decimal_digit, length-decimal-le}
@@ -29,20 +29,22 @@ use Rattle.config_integer.specs.Laws.Integer.{in_range_of, integer_one_value}
 
 -- digits that begin with 1 to 9 write a number that is not zero
 one_or_more : (first : ℕ) (others : List ℕ) → IsInRange 49 57 first → 0 < place_sum (first ∷ others) 10
-one_or_more first others r = step (digit_value first) (10 ^ length others) (place_sum others 10) digit power where
-  digit : 1 ≤ digit_value first
-  digit = grind (arith, r.0, r.1)
+one_or_more first others r =
+    step (digit_value first) (10 ^ length others) (place_sum others 10) digit power where
+      digit : 1 ≤ digit_value first
+      digit = grind (arith, r.0, r.1)
 
-  power : 1 ≤ 10 ^ length others
-  power = one-le-pow _ _ (omega arith)
+      power : 1 ≤ 10 ^ length others
+      power = one-le-pow _ _ (omega arith)
 
-  step : (d p s : ℕ) → 1 ≤ d → 1 ≤ p → 0 < d * p + s
-  step d p s h l = grind arith
+      step : (d p s : ℕ) → 1 ≤ d → 1 ≤ p → 0 < d * p + s
+      step d p s h l = grind arith
 
 digits_shown : (most : ℕ) (t : List ℕ) → most < 2 ^ 64 → PlainDigits most t → decimal (place_sum t 10) ≡ t
 digits_shown most t bound p =
     ap decimal (place_sum_is 10 t)
-    ∙ decimal-digits_value (numerals_by_value (AllDigits 10) tells_digits) t (all t p.spelled) (some t p.spelled)
+    ∙ decimal-digits_value (numerals_by_value (AllDigits 10) tells_digits) t (all t p.spelled)
+    (some t p.spelled)
     (λ e. absurd (omega (arith, leads t p.spelled, e))) (omega (arith, place_sum_is 10 t, p.small)) where
       all : (t : List ℕ) → t ≡ p.first ∷ p.others → AllDigits 10 t
       all t e = rw e (grind (arith, p.from_one.0, p.from_one.1), p.digits)
@@ -180,8 +182,16 @@ record IsShownUnit (o : Option Suffix) (t : List ℕ) : Type 0 where
 shown_unit : (o : Option Suffix) → IsShownUnit o (option_map_or suffix_shown o [])
 shown_unit None = record { canonical_unit = inl refl; unit = refl; short = omega arith }
 shown_unit (Some Kibi) = record { canonical_unit = inr (inl refl); unit = inl refl; short = omega arith }
-shown_unit (Some Mebi) = record { canonical_unit = inr (inr (inl refl)); unit = inl refl; short = omega arith }
-shown_unit (Some Gibi) = record { canonical_unit = inr (inr (inr refl)); unit = inl refl; short = omega arith }
+shown_unit (Some Mebi) = record {
+  canonical_unit = inr (inr (inl refl));
+  unit = inl refl;
+  short = omega arith;
+}
+shown_unit (Some Gibi) = record {
+  canonical_unit = inr (inr (inr refl));
+  unit = inl refl;
+  short = omega arith;
+}
 
 joined : (v : Integer) (front back : List ℕ) → IsShownNumber v.value front → IsShownUnit v.suffix back
     → IsTextOf IntegerText CanonicalInteger v (front ++ back)

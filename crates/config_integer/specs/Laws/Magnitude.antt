@@ -308,7 +308,8 @@ decimal_read : (limit : ℕ) (t : List ℕ) (n : ℕ) (o : Option Suffix) → ge
     → MagnitudeText limit t n o
 decimal_read limit t n o z k =
     plain_read 10 limit t n o k (from k.front k.digits k.number (λ e. z (rw k.parts e))) where
-      from : (front : List ℕ) → IsNumeral 10 front → n ≡ place_sum front 10 → get_or (front ++ k.back) 0 0 ≢ 48
+      from : (front : List ℕ) → IsNumeral 10 front → n ≡ place_sum front 10
+          → get_or (front ++ k.back) 0 0 ≢ 48
           → Magnitude front n
       from [] a s z = absurd (omega (arith, a.0))
       from (c ∷ cs) a s z = decimal c cs refl (range c a.1.0 z) a.1.1 s where

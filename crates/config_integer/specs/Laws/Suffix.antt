@@ -86,7 +86,8 @@ unit_derived c v e =
             either : (x y : ℕ) → (c == x || c == y) ≡ true → (c ≡ x) ⊎ (c ≡ y)
             either x y h = grind (arith, nat_tests)
 
-      told : (k m g : Bool) → (c == 107 || c == 75) ≡ k → (c == 109 || c == 77) ≡ m → (c == 103 || c == 71) ≡ g
+      told : (k m g : Bool) → (c == 107 || c == 75) ≡ k → (c == 109 || c == 77) ≡ m
+          → (c == 103 || c == 71) ≡ g
           → cond k (Some Kibi) (cond m (Some Mebi) (cond g (Some Gibi) None)) ≡ Some v → SuffixText (c ∷ []) v
       told true m g p q r e = subst (SuffixText (c ∷ [])) (same_Some _ v e) (one_of 107 75 p)
       told false true g p q r e = subst (SuffixText (c ∷ [])) (same_Some _ v e) (one_of 109 77 q)

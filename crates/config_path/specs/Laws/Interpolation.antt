@@ -1,6 +1,7 @@
 -- Each value has just one form and one result in the path table.
-use Rattle.std.proofs.Common.{◌≡◌, ◌≢◌, inl, inr, ◌⊎◌, ℕ, List, [], ◌∷◌, ◌++◌, codes, Option, None, Some, Result}
-use Rattle.std.proofs.Common.{Bool, true, false, refl, sym, ap, ◌∙◌, subst, arith, drop, IsUtf8, Ok, Err, ◌↔◌}
+use Rattle.std.proofs.Common.{◌≡◌, ◌≢◌, inl, inr, ◌⊎◌, ℕ, List, [], ◌∷◌, ◌++◌, codes, Option, None, Some}
+use Rattle.std.proofs.Common.{Result, Bool, true, false, refl, sym, ap, ◌∙◌, subst, arith, drop, IsUtf8, Ok}
+use Rattle.std.proofs.Common.{Err, ◌↔◌}
 use Rattle.std.specs.declared.string.String.{String}
 use Rattle.std.specs.declared.alloc.Global.{Global}
 use Rattle.std.proofs.lemmas.Bool.Decides.{Decides-eqb, eqb_tells}
@@ -12,9 +13,10 @@ use Rattle.config_path.specs.declared.interpolate.Error.{Error}
 use Rattle.config_path.specs.declared.interpolate.Error.TheVariants.{PathMissing, InstallDirMissing}
 use Rattle.config_path.specs.declared.interpolate.Error.TheVariants.{HomeMissing, LookupMissing, UserNotFound}
 use Rattle.config_path.specs.declared.interpolate.Error.TheVariants.{IllFormed, Memory}
-use Rattle.config_path.specs.Interpolation.{Form, HasForm, below, join, IsOneName, Users, Known, PathResult, WhereUtf8}
-use Rattle.config_path.specs.Interpolation.{Row, home_row, IsBelow, IsBelowUser, Gives, PathTable, refusal, returned}
-use Rattle.config_path.specs.Interpolation.{IsAllocated, Interpolated, HaveOneHome, IsOutOfMemory}
+use Rattle.config_path.specs.Interpolation.{Form, HasForm, below, join, IsOneName, Users, Known, PathResult}
+use Rattle.config_path.specs.Interpolation.{WhereUtf8, Row, home_row, IsBelow, IsBelowUser, Gives, PathTable}
+use Rattle.config_path.specs.Interpolation.{refusal, returned, IsAllocated, Interpolated, HaveOneHome}
+use Rattle.config_path.specs.Interpolation.{IsOutOfMemory}
 use Rattle.config_path.specs.Interpolation.Users.{no_lookup, looked_up}
 use Rattle.config_path.specs.Interpolation.PathResult.{text, fault}
 use Rattle.config_path.specs.Interpolation.WhereUtf8.{utf8, other_bytes}
@@ -41,7 +43,8 @@ same_below (x ∷ m) [] (Some r) None e h k = absurd (grind arith)
 same_below (x ∷ m) [] None (Some s) e h k = absurd (h.0 (cc))
 same_below (x ∷ m) [] (Some r) (Some s) e h k = absurd (h.0 (cc))
 same_below (x ∷ m) (y ∷ n) r s e h k =
-    let t = same_below m n r s (tails r s e) h.1 k.1 in record { name = cc (t.name, heads r s e); rest = t.rest } where
+    let t = same_below m n r s (tails r s e) h.1 k.1 in
+    record { name = cc (t.name, heads r s e); rest = t.rest } where
       tails : (r s : Option (List ℕ)) → below (x ∷ m) r ≡ below (y ∷ n) s → below m r ≡ below n s
       tails None None e = cc
       tails None (Some s) e = cc
@@ -115,12 +118,22 @@ some_form (c ∷ t) = told _ (starts_is Decides-eqb (c ∷ t) (codes "%(prefix)/
   at_tilde (x ∷ name) rest h e k = (below_user (x ∷ name) rest, (cc, (λ q. cc), k))
 
   told : (r : Bool)
-      → (r ≡ true → (c ∷ t) ≡ codes "%(prefix)/" ++ drop 10 (c ∷ t)) × ((rest : List ℕ) → (c ∷ t) ≡ codes "%(prefix)/" ++ rest → r ≡ true) → (form : Form) × HasForm (c ∷ t) form
+      → (r ≡ true → (c ∷ t) ≡ codes "%(prefix)/" ++ drop 10 (c ∷ t))
+      × ((rest : List ℕ) → (c ∷ t) ≡ codes "%(prefix)/" ++ rest → r ≡ true)
+      → (form : Form) × HasForm (c ∷ t) form
   told true h = (below_prefix (drop 10 (c ∷ t)), h.0 refl)
   told false h =
       elim (eqb_tells c 126) [
         | inl k ↦ let r = some_below t in at_tilde r.0 r.1.0 k.1 r.1.1 r.1.2
-        | inr k ↦ (other (c ∷ t), (refl, (λ q. cc), (λ rest q. let b = h.1 rest q in cc), (λ rest q. k.1 (cc))))
+        | inr k ↦ (
+          other (c ∷ t),
+          (
+            refl,
+            (λ q. cc),
+            (λ rest q. let b = h.1 rest q in cc),
+            (λ rest q. k.1 (cc)),
+          ),
+        )
       ]
 
 -- ---- one result of a row
@@ -152,16 +165,20 @@ one_below row r s (both dir rest d p w) (no_rest at b n f) = absurd (some_none r
 one_below row r s (both dir rest d p w) (both at more b q v) =
     let there = same_some dir at row.dir d b in
     let same = same_some rest more row.rest p q in
-    one_where row.place rest _ _ r s (λ e f. e ∙ (cc (there) ∙ sym f)) w (subst (λ x. WhereUtf8 row.place x (s ≡ text (join at x)) s) (sym same) v)
+    one_where row.place rest _ _ r s (λ e f. e ∙ (cc (there) ∙ sym f)) w
+    (subst (λ x. WhereUtf8 row.place x (s ≡ text (join at x)) s) (sym same) v)
 
 one_user : (users : Users) → HaveOneHome users → (name : List ℕ) (rest : Option (List ℕ)) (r s : PathResult)
     → IsBelowUser users name rest r → IsBelowUser users name rest s → r ≡ s
 one_user no_lookup one name rest r s p q = p ∙ sym q
 one_user (looked_up may_give) one name rest r s p q =
-    one_where Username name _ _ r s (λ h k. one_below _ r s h.2 (subst (λ x. IsBelow (home_row x rest) s) (one name k.0 h.0 k.1 h.1) k.2)) p q
+    one_where Username name _ _ r s
+    (λ h k. one_below _ r s h.2 (subst (λ x. IsBelow (home_row x rest) s) (one name k.0 h.0 k.1 h.1) k.2))
+    p q
 
 -- a form has one result
-pub one_row : (known : Known) → HaveOneHome known.users → (form : Form) (r s : PathResult) → Gives known form r
+pub one_row : (known : Known) → HaveOneHome known.users → (form : Form) (r s : PathResult)
+    → Gives known form r
     → Gives known form s → r ≡ s
 one_row known one empty r s p q = p ∙ sym q
 one_row known one (below_prefix rest) r s p q = one_below _ r s p q
@@ -173,7 +190,8 @@ one_row known one (other value) r s p q = one_where Whole value _ _ r s (λ e f.
 pub one_result_of : (known : Known) → HaveOneHome known.users → (value : List ℕ) (r s : PathResult)
     → PathTable known value r → PathTable known value s → r ≡ s
 one_result_of known one value r s p q =
-    one_row known one p.form r s p.gives (subst (λ f. Gives known f s) (one_form value q.form p.form q.has_form p.has_form) q.gives)
+    one_row known one p.form r s p.gives
+    (subst (λ f. Gives known f s) (one_form value q.form p.form q.has_form p.has_form) q.gives)
 
 -- ---- the table never gives out of memory
 
@@ -201,7 +219,8 @@ row_memory known (below_home rest) e h = below_memory _ e (λ k. cc (k)) h
 row_memory known (below_user name rest) e h = user_memory known.users name rest e h
 row_memory known (other value) e h = where_memory Whole value _ e (λ k. cc (k)) h
 
-pub never_memory : (known : Known) (value : List ℕ) (e : AllocError) → ¬ (PathTable known value (fault (Memory e)))
+pub never_memory : (known : Known) (value : List ℕ) (e : AllocError)
+    → ¬ (PathTable known value (fault (Memory e)))
 never_memory known value e p = row_memory known p.form e p.gives
 
 -- ---- what is returned
@@ -229,7 +248,8 @@ is_returned result (Err (IllFormed place input)) p n = p
 is_returned result (Err (Memory e)) p n = absurd (n tt)
 
 -- what is returned, or out of memory
-by_memory : (r : Result (String Global) Error) → ((e : AllocError) × (r ≡ Err (Memory e))) ⊎ (¬ (IsOutOfMemory r))
+by_memory : (r : Result (String Global) Error) → ((e : AllocError) × (r ≡ Err (Memory e)))
+    ⊎ (¬ (IsOutOfMemory r))
 by_memory (Ok s) = inr (λ h. h)
 by_memory (Err PathMissing) = inr (λ h. h)
 by_memory (Err InstallDirMissing) = inr (λ h. h)
@@ -239,7 +259,8 @@ by_memory (Err UserNotFound) = inr (λ h. h)
 by_memory (Err (IllFormed place input)) = inr (λ h. h)
 by_memory (Err (Memory e)) = inl (e, refl)
 
-pub one_returned : (known : Known) → HaveOneHome known.users → (value : List ℕ) (r s : Result (String Global) Error)
+pub one_returned : (known : Known) → HaveOneHome known.users
+    → (value : List ℕ) (r s : Result (String Global) Error)
     → Interpolated known value r → Interpolated known value s → (IsOutOfMemory r ↔ IsOutOfMemory s)
     → returned r ≡ returned s
 one_returned known one value r s p q memory = elim (by_memory r) [
@@ -264,11 +285,13 @@ pub by_lookup : (install_dir home_dir : Option (List ℕ)) (P Q : List ℕ → O
     → (value : List ℕ) (r : PathResult)
     → PathTable (record { install_dir = install_dir; home_dir = home_dir; users = looked_up P }) value r
     → PathTable (record { install_dir = install_dir; home_dir = home_dir; users = looked_up Q }) value r
-by_lookup install_dir home_dir P Q more value r p = record { form = p.form; has_form = p.has_form; gives = row p.form p.gives } where
-  row : (form : Form) → Gives (record { install_dir = install_dir; home_dir = home_dir; users = looked_up P }) form r
-      → Gives (record { install_dir = install_dir; home_dir = home_dir; users = looked_up Q }) form r
-  row empty g = g
-  row (below_prefix rest) g = g
-  row (below_home rest) g = g
-  row (below_user name rest) g = where_more Username name _ _ r (λ u h. (h.0, more name h.0 u h.1, h.2)) g
-  row (other whole) g = g
+by_lookup install_dir home_dir P Q more value r p =
+    record { form = p.form; has_form = p.has_form; gives = row p.form p.gives } where
+      row : (form : Form) → Gives (record { install_dir = install_dir; home_dir = home_dir; users = looked_up P })
+          form r
+          → Gives (record { install_dir = install_dir; home_dir = home_dir; users = looked_up Q }) form r
+      row empty g = g
+      row (below_prefix rest) g = g
+      row (below_home rest) g = g
+      row (below_user name rest) g = where_more Username name _ _ r (λ u h. (h.0, more name h.0 u h.1, h.2)) g
+      row (other whole) g = g

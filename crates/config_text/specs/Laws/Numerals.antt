@@ -14,7 +14,8 @@ digits_value_after_is base n [] = none n base where
   none : (n base : ℕ) → n ≡ n * base ^ 0 + 0
   none n base = rw pow-zero (omega arith)
 digits_value_after_is base n (c ∷ cs) =
-    digits_value_after_is base (n * base + digit_value c) cs ∙ step n base (digit_value c) (length cs) (place_sum cs base) where
+    digits_value_after_is base (n * base + digit_value c) cs
+    ∙ step n base (digit_value c) (length cs) (place_sum cs base) where
       step : (n base d k s : ℕ) → (n * base + d) * base ^ k + s ≡ n * base ^ suc k + (d * base ^ k + s)
       step n base d k s = rw pow-succ' (spread n base d (base ^ k) s) where
         spread : (n base d p s : ℕ) → (n * base + d) * p + s ≡ n * (base * p) + (d * p + s)

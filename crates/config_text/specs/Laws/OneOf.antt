@@ -51,14 +51,19 @@ OneOf-from_flat_map f (x ∷ xs) y h =
 -- where it is told of each of finitely many values whether a text has it, each text is accepted or refused
 pub decided_among : {V : Type 0} (grammar : List ℕ → V → Type 0) (vs : List V) → ((v : V) → OneOf vs v)
     → (t : List ℕ) → ((v : V) → Told (grammar t v)) → IsAccepted grammar t ⊎ IsRefused grammar t
-decided_among {V} grammar vs all t told = elim (among vs) [ inl a ↦ inl a | inr r ↦ inr (λ v. r v (all v)) ] where
-  among : (ws : List V) → IsAccepted grammar t ⊎ ((v : V) → OneOf ws v → ¬ (grammar t v))
-  among [] = inr (λ v o h. o)
-  among (w ∷ ws) =
-      elim (told w) [
-        | inl h ↦ inl (w, h)
-        | inr n ↦ elim (among ws) [ inl a ↦ inl a | inr r ↦ inr (λ v o h. elim o [ inl e ↦ n (subst (grammar t) e h) | inr k ↦ r v k h ]) ]
-      ]
+decided_among {V} grammar vs all t told =
+    elim (among vs) [ inl a ↦ inl a | inr r ↦ inr (λ v. r v (all v)) ] where
+      among : (ws : List V) → IsAccepted grammar t ⊎ ((v : V) → OneOf ws v → ¬ (grammar t v))
+      among [] = inr (λ v o h. o)
+      among (w ∷ ws) =
+          elim (told w) [
+            | inl h ↦ inl (w, h)
+            | inr n ↦ elim (among ws) [
+              | inl a ↦ inl a
+              | inr r ↦ inr
+                  (λ v o h. elim o [ inl e ↦ n (subst (grammar t) e h) | inr k ↦ r v k h ])
+            ]
+          ]
 
 -- what passes for each of a list passes for one of them
 pub all-one : {X : Type 0} (p : X → Bool) (xs : List X) (x : X) → list_all p xs ≡ true → OneOf xs x

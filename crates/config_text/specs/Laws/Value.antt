@@ -7,7 +7,8 @@ use Rattle.std.specs.Bool.{Decides}
 use Rattle.config_text.specs.Value.{IsAccepted, IsRefused, HasText, Reads, IsTextOf, HasMeaning}
 
 -- a grammar as a function: it answers the value that the grammar gives, and none where it gives none
-pub record IsValueOf {V : Type 0} (grammar : List ℕ → V → Type 0) (value_of : List ℕ → Option V) : Type 0 where
+pub record IsValueOf {V : Type 0} (grammar : List ℕ → V → Type 0)
+    (value_of : List ℕ → Option V) : Type 0 where
   pub found : (t : List ℕ) (v : V) → grammar t v → value_of t ≡ Some v
   pub derived : (t : List ℕ) (v : V) → value_of t ≡ Some v → grammar t v
 
@@ -48,27 +49,32 @@ reads_by law t (Some v) e = law.derived t v (cc (e))
 reads_by law t None e = λ v h. cc (e, law.found t v h)
 
 -- what each canonical text tells: the value that it has, as which it is shown
-pub record IsShown {V : Type 0} (grammar : List ℕ → V → Type 0) (shown : V → List ℕ) (t : List ℕ) : Type 0 where
+pub record IsShown {V : Type 0} (grammar : List ℕ → V → Type 0) (shown : V → List ℕ)
+    (t : List ℕ) : Type 0 where
   pub value : V
   pub reads_to : grammar t value
   pub same : t ≡ shown value
 
 -- each value has one canonical text where canonical texts are shown ones
-pub one_text_by : {V : Type 0} {grammar : List ℕ → V → Type 0} {shown : V → List ℕ} {canonical : List ℕ → Type 0}
+pub one_text_by : {V : Type 0} {grammar : List ℕ → V → Type 0} {shown : V → List ℕ}
+    {canonical : List ℕ → Type 0}
     → ((t : List ℕ) (v w : V) → grammar t v → grammar t w → v ≡ w)
     → ((t : List ℕ) → canonical t → IsShown grammar shown t)
     → (s t : List ℕ) (v : V) → canonical s → canonical t → grammar s v → grammar t v → s ≡ t
-one_text_by {V} {grammar} {shown} {canonical} one law s t v p q r u = as_shown s p r ∙ sym (as_shown t q u) where
-  as_shown : (t : List ℕ) → canonical t → grammar t v → t ≡ shown v
-  as_shown t p r = let k = law t p in k.same ∙ ap shown (one t k.value v k.reads_to r)
+one_text_by {V} {grammar} {shown} {canonical} one law s t v p q r u = as_shown s p r
+    ∙ sym (as_shown t q u) where
+      as_shown : (t : List ℕ) → canonical t → grammar t v → t ≡ shown v
+      as_shown t p r = let k = law t p in k.same ∙ ap shown (one t k.value v k.reads_to r)
 
-pub canonical_reads_by : {V : Type 0} {grammar : List ℕ → V → Type 0} {shown : V → List ℕ} {canonical : List ℕ → Type 0}
+pub canonical_reads_by : {V : Type 0} {grammar : List ℕ → V → Type 0} {shown : V → List ℕ}
+    {canonical : List ℕ → Type 0}
     → ((t : List ℕ) → canonical t → IsShown grammar shown t) → (t : List ℕ) → canonical t
     → IsAccepted grammar t
 canonical_reads_by law t p = let k = law t p in (k.value, k.reads_to)
 
 -- a text with a value means this value and the text that shows it
-pub means_shown : {V : Type 0} {grammar : List ℕ → V → Type 0} {canonical : List ℕ → Type 0} {displayed : V → List ℕ}
+pub means_shown : {V : Type 0} {grammar : List ℕ → V → Type 0} {canonical : List ℕ → Type 0}
+    {displayed : V → List ℕ}
     → ((t : List ℕ) (v w : V) → grammar t v → grammar t w → v ≡ w)
     → ((s t : List ℕ) (v : V) → canonical s → canonical t → grammar s v → grammar t v → s ≡ t)
     → ((v : V) → HasText grammar v → IsTextOf grammar canonical v (displayed v))

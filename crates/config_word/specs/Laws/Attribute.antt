@@ -1,5 +1,8 @@
 -- The laws of `Value` for attributes, and what is said of several.
-use Rattle.std.proofs.Common.{◌≡◌, ℕ, zero, suc, ◌+◌, ◌*◌, ◌^◌, ◌<◌, ◌≤◌, ◌⊎◌, ◌↔◌, inl, inr, Bool, true, false, cond, ◌||◌, List, [], ◌∷◌, ◌++◌, map, filter, flat_map, length, take, drop, rules, codes, refl, sym, ap, ◌∙◌, arith, lit≤, ◌==◌, nat_le, bit_and, bytes_eq, IsTrue}
+use Rattle.std.proofs.Common.{◌≡◌, ℕ, zero, suc, ◌+◌, ◌*◌, ◌^◌, ◌<◌, ◌≤◌, ◌⊎◌, ◌↔◌, inl, inr, Bool, true}
+use Rattle.std.proofs.Common.{false, cond, ◌||◌, List, [], ◌∷◌, ◌++◌, map, filter, flat_map, length, take}
+use Rattle.std.proofs.Common.{drop, rules, codes, refl, sym, ap, ◌∙◌, arith, lit≤, ◌==◌, nat_le, bit_and}
+use Rattle.std.proofs.Common.{bytes_eq, IsTrue}
 use Rattle.std.proofs.Math.Bool.{or-true}
 use Rattle.std.proofs.lemmas.Bool.{leb-true}
 use Rattle.std.proofs.lemmas.Bool.Decides.{Decides-eqb, nat_tests}
@@ -12,7 +15,8 @@ use Rattle.std.specs.Int.{bit_at}
 use Rattle.std.specs.List.{AllByRecursion, join_with_byte, list_all, list_any}
 use Rattle.config_word.specs.declared.attribute.Attribute.{Attribute}
 use Rattle.config_word.specs.declared.attribute.TheConstants.{LONGEST_SET}
-use Rattle.config_word.specs.Attribute.{AttributeRow, AttributeText, CanonicalAttribute, IsKnownBit, attribute_shown, attribute_words, attributes, rising_words}
+use Rattle.config_word.specs.Attribute.{AttributeRow, AttributeText, CanonicalAttribute, IsKnownBit}
+use Rattle.config_word.specs.Attribute.{attribute_shown, attribute_words, attributes, rising_words}
 use Rattle.config_word.specs.Reading.Attribute.{remaining, shown_rows, words_in}
 use Rattle.config_text.specs.Bytes.{space}
 use Rattle.config_text.specs.OneOf.{OneOf}
@@ -74,7 +78,11 @@ spelled-as row s o e = AttributeText.word row o (inl e) refl
 canonical-shown : (s : List ℕ) → CanonicalAttribute s → IsShown AttributeText (λ a. attribute_shown a.0) s
 canonical-shown s c =
     let r = OneOf-from_map (λ (r : AttributeRow). r.2) attributes s (rw rising c) in
-    record { value = record { 0 = 2 ^ r.0.1 }; reads_to = spelled-as r.0 s r.1 r.2; same = r.2 ∙ sym (single-shown r.0 r.1) }
+    record {
+      value = record { 0 = 2 ^ r.0.1 };
+      reads_to = spelled-as r.0 s r.1 r.2;
+      same = r.2 ∙ sym (single-shown r.0 r.1);
+    }
 
 -- a canonical text is that of an attribute
 pub attribute_canonical_reads : (t : List ℕ) → CanonicalAttribute t → IsAccepted AttributeText t
@@ -91,7 +99,8 @@ pub attribute_shown_is_text : (v : Attribute) → HasText AttributeText v
 attribute_shown_is_text v h = told (text-constant h.0 v h.1) where
   told : IsConstant v → IsTextOf AttributeText CanonicalAttribute v (attribute_shown v.0)
   told (row, o, e) =
-      let small = leb-true (length row.2) 9 (all-one (λ (r : AttributeRow). nat_le (length r.2) 9) attributes row words-short o) in
+      let small = leb-true (length row.2) 9
+      (all-one (λ (r : AttributeRow). nat_le (length r.2) 9) attributes row words-short o) in
       rw (constant-shown v (row, o, e)) (record {
         canonical_text = rw (← rising) (OneOf-map (λ (r : AttributeRow). r.2) attributes row o);
         reads_to = AttributeText.word row o (inl refl) e;
@@ -103,7 +112,8 @@ pub attribute_has_text : (a : Attribute)
     → (HasText AttributeText a) ↔ ((bit : ℕ) × IsKnownBit bit × (a.0 ≡ 2 ^ bit))
 attribute_has_text a = (to, from) where
   to : HasText AttributeText a → (bit : ℕ) × IsKnownBit bit × (a.0 ≡ 2 ^ bit)
-  to h = let k = text-constant h.0 a h.1 in (k.0.1, OneOf-map (λ (r : AttributeRow). r.1) attributes k.0 k.1, k.2)
+  to h = let k = text-constant h.0 a h.1 in
+      (k.0.1, OneOf-map (λ (r : AttributeRow). r.1) attributes k.0 k.1, k.2)
 
   from : (bit : ℕ) × IsKnownBit bit × (a.0 ≡ 2 ^ bit) → HasText AttributeText a
   from (bit, known, e) =
@@ -133,9 +143,11 @@ bit_test : (bits k : ℕ) → (bit_and bits (2 ^ k) == 2 ^ k) ≡ (bit_at bits k
 bit_test bits k = ap (λ n. n == 2 ^ k) (and_pow bits k) ∙ bit_test-of k (bit_at bits k) (bit_at-lt bits k)
 
 -- one row more, with its bit in the set or not
-words_in-step : (x y : Bool) (p : ℕ × List ℕ) (row : AttributeRow) (ps : List (ℕ × List ℕ)) (rows : List AttributeRow) → x ≡ y → p.1 ≡ row.2
+words_in-step : (x y : Bool) (p : ℕ × List ℕ) (row : AttributeRow) (ps : List (ℕ × List ℕ))
+    (rows : List AttributeRow) → x ≡ y → p.1 ≡ row.2
     → map (λ (q : ℕ × List ℕ). q.1) ps ≡ map (λ (r : AttributeRow). r.2) rows
-    → map (λ (q : ℕ × List ℕ). q.1) (cond x (p ∷ ps) ps) ≡ map (λ (r : AttributeRow). r.2) (cond y (row ∷ rows) rows)
+    → map (λ (q : ℕ × List ℕ). q.1) (cond x (p ∷ ps) ps)
+    ≡ map (λ (r : AttributeRow). r.2) (cond y (row ∷ rows) rows)
 words_in-step true true p row ps rows e f rest = λ i. f i ∷ rest i
 words_in-step false false p row ps rows e f rest = rest
 words_in-step true false p row ps rows e f rest = cc
@@ -143,10 +155,12 @@ words_in-step false true p row ps rows e f rest = cc
 
 -- the words that the code writes are those of the bits that are set
 words_in-rows : (bits : ℕ) (rows : List AttributeRow)
-    → words_in bits (map (λ row. (2 ^ row.1, row.2)) rows) ≡ map (λ row. row.2) (filter (λ row. bit_at bits row.1 == 1) rows)
+    → words_in bits (map (λ row. (2 ^ row.1, row.2)) rows)
+    ≡ map (λ row. row.2) (filter (λ row. bit_at bits row.1 == 1) rows)
 words_in-rows bits [] = refl
 words_in-rows bits (row ∷ rows) =
-    words_in-step (bit_and bits (2 ^ row.1) == 2 ^ row.1) (bit_at bits row.1 == 1) (2 ^ row.1, row.2) row _ _ (bit_test bits row.1) refl (words_in-rows bits rows)
+    words_in-step (bit_and bits (2 ^ row.1) == 2 ^ row.1) (bit_at bits row.1 == 1) (2 ^ row.1, row.2) row _ _
+    (bit_test bits row.1) refl (words_in-rows bits rows)
 
 -- the words that the code writes are those that are shown
 pub words_in-shown : (bits : ℕ) → words_in bits shown_rows ≡ attribute_words bits
@@ -177,20 +191,24 @@ early_rows bits h =
     let p : ℕ × List ℕ → Bool = λ row. bit_and bits row.0 == row.0 in
     ap (λ rows. map (λ (row : ℕ × List ℕ). row.1) rows)
     (sym (append-nil (filter p (take 8 shown_rows)))
-    ∙ ap (λ rows. filter p (take 8 shown_rows) ++ rows) (sym (none_above bits (2 ^ 21) (drop 8 shown_rows) late_rows h))
+    ∙ ap (λ rows. filter p (take 8 shown_rows) ++ rows)
+    (sym (none_above bits (2 ^ 21) (drop 8 shown_rows) late_rows h))
     ∙ sym (filter-append p (take 8 shown_rows) (drop 8 shown_rows))
     ∙ ap (filter p) (take-append-drop 8 shown_rows))
 
 -- one row more, left out or not
 spaced-step : (x : Bool) (w : List ℕ) (row : AttributeRow) (rows all : List AttributeRow)
-    → length (spaced (map (λ (r : AttributeRow). r.2) rows)) ≤ length (spaced (map (λ (r : AttributeRow). r.2) all))
-    → length (spaced (map (λ (r : AttributeRow). r.2) (cond x (row ∷ rows) rows))) ≤ length (spaced (map (λ (r : AttributeRow). r.2) (row ∷ all)))
+    → length (spaced (map (λ (r : AttributeRow). r.2) rows))
+    ≤ length (spaced (map (λ (r : AttributeRow). r.2) all))
+    → length (spaced (map (λ (r : AttributeRow). r.2) (cond x (row ∷ rows) rows)))
+    ≤ length (spaced (map (λ (r : AttributeRow). r.2) (row ∷ all)))
 spaced-step true w row rows all h = simp length-append (omega arith)
 spaced-step false w row rows all h = simp length-append (omega arith)
 
 -- fewer words have no more bytes
 spaced-filter : (p : AttributeRow → Bool) (rows : List AttributeRow)
-    → length (spaced (map (λ (r : AttributeRow). r.2) (filter p rows))) ≤ length (spaced (map (λ (r : AttributeRow). r.2) rows))
+    → length (spaced (map (λ (r : AttributeRow). r.2) (filter p rows)))
+    ≤ length (spaced (map (λ (r : AttributeRow). r.2) rows))
 spaced-filter p [] = lit≤ tt
 spaced-filter p (row ∷ rows) = spaced-step (p row) [] row (filter p rows) rows (spaced-filter p rows)
 
@@ -219,20 +237,25 @@ attribute_short bits =
 
 -- a set that passes the test of some row is the constant of that row
 any-one : (bits : ℕ) (rows : List AttributeRow)
-    → list_any (λ (row : ℕ × List ℕ). row.0 == bits) (map (λ (row : AttributeRow). (2 ^ row.1, row.2)) rows) ≡ true
+    → list_any (λ (row : ℕ × List ℕ). row.0 == bits) (map (λ (row : AttributeRow). (2 ^ row.1, row.2)) rows)
+    ≡ true
     → (row : AttributeRow) × OneOf rows row × (bits ≡ 2 ^ row.1)
 any-one bits [] h = cc
 any-one bits (row ∷ rows) h = told (2 ^ row.1 == bits) refl h (any-one bits rows) where
   told : (x : Bool) → (2 ^ row.1 == bits) ≡ x
-      → (x || list_any (λ (row : ℕ × List ℕ). row.0 == bits) (map (λ (row : AttributeRow). (2 ^ row.1, row.2)) rows)) ≡ true
-      → (list_any (λ (row : ℕ × List ℕ). row.0 == bits) (map (λ (row : AttributeRow). (2 ^ row.1, row.2)) rows) ≡ true → (row : AttributeRow) × OneOf rows row × (bits ≡ 2 ^ row.1))
+      → (x || list_any (λ (row : ℕ × List ℕ). row.0 == bits)
+      (map (λ (row : AttributeRow). (2 ^ row.1, row.2)) rows)) ≡ true
+      → (list_any (λ (row : ℕ × List ℕ). row.0 == bits)
+      (map (λ (row : AttributeRow). (2 ^ row.1, row.2)) rows) ≡ true
+      → (row : AttributeRow) × OneOf rows row × (bits ≡ 2 ^ row.1))
       → (r : AttributeRow) × OneOf (row ∷ rows) r × (bits ≡ 2 ^ r.1)
   told true e f rest = (row, inl refl, sym ((Decides-eqb (2 ^ row.1) bits).0 e))
   told false e f rest = let r = rest f in (r.0, inr r.1, r.2)
 
 -- a constant passes the test of its row
 one-any : (bits : ℕ) (rows : List AttributeRow) (row : AttributeRow) → OneOf rows row → bits ≡ 2 ^ row.1
-    → list_any (λ (row : ℕ × List ℕ). row.0 == bits) (map (λ (row : AttributeRow). (2 ^ row.1, row.2)) rows) ≡ true
+    → list_any (λ (row : ℕ × List ℕ). row.0 == bits) (map (λ (row : AttributeRow). (2 ^ row.1, row.2)) rows)
+    ≡ true
 one-any bits [] row o e = absurd o
 one-any bits (first ∷ rows) row (inl f) e =
     let same : 2 ^ first.1 ≡ bits = ap (λ (r : AttributeRow). 2 ^ r.1) (sym f) ∙ sym e in

@@ -1,5 +1,8 @@
 -- `item_of` is `ItemText`: a text has at most one item, and each text is told.
-use Rattle.std.proofs.Common.{◌≡◌, ℕ, ◌+◌, ◌-◌, ◌*◌, ◌^◌, ◌<◌, ◌≤◌, ◌⊎◌, inl, inr, Bool, true, false, cond, not, ◌&&◌, ◌||◌, List, [], ◌∷◌, map, flat_map, length, codes, Option, Some, None, nat_le, nat_lt, ◌==◌, option_map, refl, sym, ap, ◌∙◌, arith, suc, bytes_eq, lit<, lit≤}
+use Rattle.std.proofs.Common.{◌≡◌, ℕ, ◌+◌, ◌-◌, ◌*◌, ◌^◌, ◌<◌, ◌≤◌, ◌⊎◌, inl, inr, Bool, true, false, cond}
+use Rattle.std.proofs.Common.{not, ◌&&◌, ◌||◌, List, [], ◌∷◌, map, flat_map, length, codes, Option, Some}
+use Rattle.std.proofs.Common.{None, nat_le, nat_lt, ◌==◌, option_map, refl, sym, ap, ◌∙◌, arith, suc}
+use Rattle.std.proofs.Common.{bytes_eq, lit<, lit≤}
 use Rattle.std.proofs.lemmas.Bool.Decides.{Decides-eqb, nat_tests}
 use Rattle.std.proofs.lemmas.Slice.Eq.{bytes_eq-Decides}
 use Rattle.std.proofs.Math.Nat.{le-mul_of_pos_right, one-le-pow, pow-suc}
@@ -18,12 +21,15 @@ use Rattle.config_word.specs.Attribute.{AttributeRow, AttributeText, attributes}
 use Rattle.config_word.specs.Name.{HexPair, NameText, name_shown, word_names}
 use Rattle.config_text.specs.Numerals.{place_sum}
 use Rattle.config_text.specs.OneOf.{OneOf}
-use Rattle.config_text.specs.Laws.OneOf.{all-one, OneOf-map, OneOf-from_map, OneOf-front, OneOf-back, OneOf-from_append, OneOf-flat_map, OneOf-from_flat_map}
+use Rattle.config_text.specs.Laws.OneOf.{all-one, OneOf-map, OneOf-from_map, OneOf-front, OneOf-back}
+use Rattle.config_text.specs.Laws.OneOf.{OneOf-from_append, OneOf-flat_map, OneOf-from_flat_map}
 use Rattle.config_text.specs.Value.{Reads}
 use Rattle.config_text.specs.Laws.Value.{IsValueOf}
 use Rattle.config_text.specs.Laws.Value.{one_value_by, reads_by}
 use Rattle.config_word.specs.Item.{ItemText}
-use Rattle.config_word.specs.Reading.Item.{WordRow, name_row, attribute_item, attribute_rows, word_table, fits, found, known, of_length, decimal_from, palette_of, hex_pair_of, rgb_from, rgb_of, palette_item, rgb_item, item_of}
+use Rattle.config_word.specs.Reading.Item.{WordRow, name_row, attribute_item, attribute_rows, word_table}
+use Rattle.config_word.specs.Reading.Item.{fits, found, known, of_length, decimal_from, palette_of}
+use Rattle.config_word.specs.Reading.Item.{hex_pair_of, rgb_from, rgb_of, palette_item, rgb_item, item_of}
 
 -- ---- one row fits
 
@@ -62,7 +68,8 @@ is_new-apart row other (first ∷ rows) h (inl e) =
     let q = (bytes_eq-Decides (lowered first.0) (lowered row.0)).1 p in
     let r : not true ≡ true = rw q at b.0 in cc
 is_new-apart row other (first ∷ rows) h (inr o) =
-    is_new-apart row other rows (and_parts (not (bytes_eq (lowered first.0) (lowered row.0))) (is_new row rows) h).1 o
+    is_new-apart row other rows (and_parts (not (bytes_eq (lowered first.0) (lowered row.0)))
+    (is_new row rows) h).1 o
 
 -- what a later row says is found where the first does not fit
 found-told : (first row : WordRow) (rows : List WordRow) (t : List ℕ) → ¬ (fits first t ≡ true)
@@ -135,7 +142,8 @@ lowered_byte c h = grind (arith, nat_tests)
 -- what each row's word begins with, each text that fits it begins with
 starts-fits : (row : WordRow) (t : List ℕ) → OneOf word_table row → fits row t ≡ true → starts_word t ≡ true
 starts-fits row t o f =
-    told t (ap starts_word (fits-lowered row t f) ∙ all-one (λ (r : WordRow). starts_word (lowered r.0)) word_table row word_table-starts o) where
+    told t (ap starts_word (fits-lowered row t f)
+    ∙ all-one (λ (r : WordRow). starts_word (lowered r.0)) word_table row word_table-starts o) where
       told : (s : List ℕ) → starts_word (lowered s) ≡ true → starts_word s ≡ true
       told [] h = h
       told (c ∷ cs) h = lowered_byte c h
@@ -160,7 +168,8 @@ skipped row t rest false f no_fit = refl
 found_of_length-told : (first : WordRow) (rows : List WordRow) (t : List ℕ)
     → found (of_length (length t) rows) t ≡ found rows t
     → (x : Bool) → (length first.0 == length t) ≡ x
-    → found (cond x (first ∷ of_length (length t) rows) (of_length (length t) rows)) t ≡ found (first ∷ rows) t
+    → found (cond x (first ∷ of_length (length t) rows) (of_length (length t) rows)) t
+    ≡ found (first ∷ rows) t
 found_of_length-told first rows t rest true e = ap (cond (fits first t) (Some first.2)) rest
 found_of_length-told first rows t rest false e = rest ∙ skipped first t (found rows t) (fits first t) refl e
 
@@ -202,7 +211,8 @@ shifted n v k p = rw (pow-suc 10 k) (omega arith)
 one_more : (n v k p : ℕ) → n * 10 ^ suc k + (v * 10 ^ k + p) ≤ 255 → n * 10 + v ≤ 255
 one_more n v k p h =
     let e = shifted n v k p in
-    let less : n * 10 + v ≤ (n * 10 + v) * 10 ^ k = le-mul_of_pos_right (n * 10 + v) (one-le-pow k 10 (lit< tt)) in
+    let less : n * 10 + v ≤ (n * 10 + v) * 10 ^ k =
+    le-mul_of_pos_right (n * 10 + v) (one-le-pow k 10 (lit< tt)) in
     omega arith
 
 -- the sum of one digit more
@@ -227,7 +237,8 @@ DecimalRead ds n k = AllDigits 10 ds × (k ≡ n * 10 ^ length ds + place_sum ds
 
 -- one digit, and what is read behind it
 decimal-derived-told : (d : ℕ) (ds : List ℕ) (n k : ℕ)
-    → (n * 10 + (d - 48) ≤ 255 → decimal_from ds (n * 10 + (d - 48)) ≡ Some k → DecimalRead ds (n * 10 + (d - 48)) k)
+    → (n * 10 + (d - 48) ≤ 255 → decimal_from ds (n * 10 + (d - 48)) ≡ Some k
+    → DecimalRead ds (n * 10 + (d - 48)) k)
     → (x y : Bool) → is_ascii_digit d ≡ x → nat_le (n * 10 + (d - 48)) 255 ≡ y
     → cond (x && y) (decimal_from ds (n * 10 + (d - 48))) None ≡ Some k → DecimalRead (d ∷ ds) n k
 decimal-derived-told d ds n k rest true true digit fit h =
@@ -264,7 +275,8 @@ palette-derived (d ∷ ds) k h =
 
 -- two hexadecimal digits are read to the number that they write
 pair-found : (a b n : ℕ) → HexPair a b n → hex_pair_of a b ≡ Some n
-pair-found a b n h = rw (lt-ltb (digit_value a) 16 h.high_digit, lt-ltb (digit_value b) 16 h.low_digit) (ap Some (sym h.number))
+pair-found a b n h = rw (lt-ltb (digit_value a) 16 h.high_digit, lt-ltb (digit_value b) 16 h.low_digit)
+    (ap Some (sym h.number))
 
 -- what is read to a number are two hexadecimal digits that write it
 pair-derived : (a b n : ℕ) → hex_pair_of a b ≡ Some n → HexPair a b n
@@ -301,7 +313,8 @@ item_of-digits (d ∷ ds) h = let m = digit_marks d h.1.0 in rw (m.0, m.1, m.2) 
 name-found : (t : List ℕ) (n : Name) → NameText t n → item_of t ≡ Some (items.Name n)
 name-found t n (NameText.word o s) =
     row-item (name_row n) t
-    (OneOf-front (map name_row word_names) ((codes "-1", false, items.Name names.Normal) ∷ flat_map attribute_rows attributes)
+    (OneOf-front (map name_row word_names)
+    ((codes "-1", false, items.Name names.Normal) ∷ flat_map attribute_rows attributes)
     (name_row n) (OneOf-map name_row word_names n o))
     ((bytes_eq-Decides (lowered t) (lowered (name_shown n))).1 s)
 name-found t n (NameText.minus_one e f) = rw (e, f) minus_one-item
@@ -323,7 +336,8 @@ fits-self t false i = (bytes_eq-Decides t t).1 refl
 spelling-row : (row : AttributeRow) (w : List ℕ) → OneOf attributes row → OneOf (row.2 ∷ row.3) w
     → OneOf word_table (w, row.1 == 8, attribute_item row.1)
 spelling-row row w o h =
-    OneOf-back (map name_row word_names) ((codes "-1", false, items.Name names.Normal) ∷ flat_map attribute_rows attributes)
+    OneOf-back (map name_row word_names)
+    ((codes "-1", false, items.Name names.Normal) ∷ flat_map attribute_rows attributes)
     (w, row.1 == 8, attribute_item row.1)
     (inr (OneOf-flat_map attribute_rows attributes row (w, row.1 == 8, attribute_item row.1) o
     (OneOf-map (λ (x : List ℕ). (x, row.1 == 8, attribute_item row.1)) (row.2 ∷ row.3) w h)))
@@ -340,8 +354,12 @@ attribute_is a bit e = ap (λ n. items.Attribute (record { 0 = n })) (sym e)
 -- the text of an attribute fits a row of the attribute
 attribute-row : (t : List ℕ) (a : Attribute) → AttributeText t a
     → (row : WordRow) × OneOf word_table row × (fits row t ≡ true) × (row.2 ≡ items.Attribute a)
-attribute-row t a (AttributeText.word row o h e) =
-    ((t, row.1 == 8, attribute_item row.1), spelling-row row t o h, fits-self t (row.1 == 8) (attribute_item row.1), attribute_is a row.1 e)
+attribute-row t a (AttributeText.word row o h e) = (
+  (t, row.1 == 8, attribute_item row.1),
+  spelling-row row t o h,
+  fits-self t (row.1 == 8) (attribute_item row.1),
+  attribute_is a row.1 e,
+)
 attribute-row t a (AttributeText.reset s e) = (
   (codes "reset", true, attribute_item 8),
   spelling-row (codes "RESET", 8, codes "reset", []) (codes "reset") reset-known (inl refl),
@@ -364,7 +382,8 @@ item-found t (items.Attribute a) h = attribute-found t a h
 -- ---- what is found is a name or an attribute
 
 -- only bit 8 is read in either case, and has one spelling
-reset-spelled : list_all (λ row. not (row.1 == 8) || list_all (λ w. bytes_eq w (codes "reset")) (row.2 ∷ row.3)) attributes ≡ true
+reset-spelled : list_all (λ row. not (row.1 == 8)
+    || list_all (λ w. bytes_eq w (codes "reset")) (row.2 ∷ row.3)) attributes ≡ true
 unfolding attributes
 reset-spelled = refl
 
@@ -372,7 +391,8 @@ reset-spelled = refl
 reset-only : (row : AttributeRow) (w : List ℕ) → OneOf attributes row → (row.1 == 8) ≡ true
     → OneOf (row.2 ∷ row.3) w → w ≡ codes "reset"
 reset-only row w o e h =
-    let p = all-one (λ (r : AttributeRow). not (r.1 == 8) || list_all (λ w. bytes_eq w (codes "reset")) (r.2 ∷ r.3)) attributes row reset-spelled o in
+    let p = all-one (λ (r : AttributeRow). not (r.1 == 8)
+    || list_all (λ w. bytes_eq w (codes "reset")) (r.2 ∷ r.3)) attributes row reset-spelled o in
     let q : list_all (λ w. bytes_eq w (codes "reset")) (row.2 ∷ row.3) ≡ true = rw e at p in
     (bytes_eq-Decides w (codes "reset")).0 (all-one (λ w. bytes_eq w (codes "reset")) (row.2 ∷ row.3) w q h)
 
@@ -390,12 +410,15 @@ spelled row w t o h false e f =
 -- a text that fits a row is one of what the row says
 row-text : (row : WordRow) (t : List ℕ) → OneOf word_table row → fits row t ≡ true → ItemText t row.2
 row-text row t o f =
-    elim (OneOf-from_append (map name_row word_names) ((codes "-1", false, items.Name names.Normal) ∷ flat_map attribute_rows attributes) row o) [
+    elim (OneOf-from_append (map name_row word_names)
+    ((codes "-1", false, items.Name names.Normal) ∷ flat_map attribute_rows attributes) row o) [
       | inl a ↦ (let r = OneOf-from_map name_row word_names row a in
-          rw r.2 (NameText.word r.1 ((bytes_eq-Decides (lowered t) (lowered (name_shown r.0))).0 (rw r.2 at f))))
+          rw r.2
+          (NameText.word r.1 ((bytes_eq-Decides (lowered t) (lowered (name_shown r.0))).0 (rw r.2 at f))))
       | inr (inl e) ↦ rw e (NameText.minus_one ((bytes_eq-Decides t (codes "-1")).0 (rw e at f)) refl)
       | inr (inr b) ↦ (let r = OneOf-from_flat_map attribute_rows attributes row b in
-          let q = OneOf-from_map (λ (x : List ℕ). (x, r.0.1 == 8, attribute_item r.0.1)) (r.0.2 ∷ r.0.3) row r.2 in
+          let q = OneOf-from_map (λ (x : List ℕ). (x, r.0.1 == 8, attribute_item r.0.1)) (r.0.2 ∷ r.0.3) row
+          r.2 in
           rw q.2 (spelled r.0 q.0 t r.1 q.1 (r.0.1 == 8) refl (rw q.2 at f)))
     ]
 
@@ -411,10 +434,12 @@ rgb_from-parts None y z n h = cc
 rgb-derived : (ds : List ℕ) (n : Name) → rgb_of ds ≡ Some n → NameText (35 ∷ ds) n
 rgb-derived (a ∷ b ∷ c ∷ d ∷ e ∷ f ∷ []) n h =
     let p = rgb_from-parts (hex_pair_of a b) (hex_pair_of c d) (hex_pair_of e f) n h in
-    NameText.pairs a b c d e f p.0 p.1 p.2 refl (pair-derived a b p.0 p.3) (pair-derived c d p.1 p.4) (pair-derived e f p.2 p.5) p.6
+    NameText.pairs a b c d e f p.0 p.1 p.2 refl (pair-derived a b p.0 p.3) (pair-derived c d p.1 p.4)
+    (pair-derived e f p.2 p.5) p.6
 rgb-derived (a ∷ c ∷ e ∷ []) n h =
     let p = rgb_from-parts (hex_pair_of a a) (hex_pair_of c c) (hex_pair_of e e) n h in
-    NameText.doubled a c e p.0 p.1 p.2 refl (pair-derived a a p.0 p.3) (pair-derived c c p.1 p.4) (pair-derived e e p.2 p.5) p.6
+    NameText.doubled a c e p.0 p.1 p.2 refl (pair-derived a a p.0 p.3) (pair-derived c c p.1 p.4)
+    (pair-derived e e p.2 p.5) p.6
 rgb-derived _ n h = cc
 
 -- the same behind `#`
@@ -438,14 +463,16 @@ palette_item-derived t ds v spelled h = told (palette_of ds) refl h where
 
 -- what the table says of a text, the grammar says
 known-derived : (t : List ℕ) (v : Item) → known t ≡ Some v → ItemText t v
-known-derived t v h = let r = found-row word_table t v (sym (found_of_length word_table t) ∙ h) in rw (← r.3) (row-text r.0 t r.1 r.2)
+known-derived t v h = let r = found-row word_table t v (sym (found_of_length word_table t) ∙ h) in
+    rw (← r.3) (row-text r.0 t r.1 r.2)
 
 -- what is read of a text, the grammar says
 item-derived : (t : List ℕ) (v : Item) → item_of t ≡ Some v → ItemText t v
 item-derived [] v h = known-derived [] v h
 item-derived (c ∷ cs) v h = told (c == 35) (c == 43) (is_ascii_digit c) refl refl h where
   told : (x y z : Bool) → (c == 35) ≡ x → (c == 43) ≡ y
-      → cond x (rgb_item cs) (cond y (palette_item cs) (cond z (palette_item (c ∷ cs)) (known (c ∷ cs)))) ≡ Some v
+      → cond x (rgb_item cs) (cond y (palette_item cs) (cond z (palette_item (c ∷ cs)) (known (c ∷ cs))))
+      ≡ Some v
       → ItemText (c ∷ cs) v
   told true y z p q e = rw ((Decides-eqb c 35).0 p) (rgb_item-derived cs v e)
   told false true z p q e =

@@ -1,8 +1,11 @@
 -- The laws of `Value` for names.
-use Rattle.std.proofs.Common.{◌≡◌, ℕ, zero, suc, Some, ◌+◌, ◌-◌, ◌*◌, ◌/◌, ◌%◌, ◌^◌, ◌<◌, ◌≤◌, ◌⊎◌, inl, inr, Bool, true, false, ◌==◌, nat_le, List, [], ◌∷◌, ◌++◌, map, length, get_or, codes, decimal, refl, sym, ap, ◌∙◌, arith, lit<, lit≤}
+use Rattle.std.proofs.Common.{◌≡◌, ℕ, zero, suc, Some, ◌+◌, ◌-◌, ◌*◌, ◌/◌, ◌%◌, ◌^◌, ◌<◌, ◌≤◌, ◌⊎◌, inl, inr}
+use Rattle.std.proofs.Common.{Bool, true, false, ◌==◌, nat_le, List, [], ◌∷◌, ◌++◌, map, length, get_or}
+use Rattle.std.proofs.Common.{codes, decimal, refl, sym, ap, ◌∙◌, arith, lit<, lit≤}
 use Rattle.std.proofs.lemmas.Bool.Decides.{Decides-eqb, nat_tests}
 use Rattle.std.proofs.lemmas.Bool.{leb-true}
-use Rattle.std.proofs.lemmas.Fmt.{decimal-digits_value, decimal_digit, decimal_is_IsNumeral, first_decimal, length-decimal-le}
+use Rattle.std.proofs.lemmas.Fmt.{decimal-digits_value, decimal_digit, decimal_is_IsNumeral, first_decimal}
+use Rattle.std.proofs.lemmas.Fmt.{length-decimal-le}
 use Rattle.std.proofs.lemmas.Str.Parse.{IsNumeralModel, digit_from_value, numerals_by_weight, tells_digits}
 use Rattle.std.specs.Char.{digit_char, digit_value, to_ascii_lowercase}
 use Rattle.std.specs.Int.{IsInRange}
@@ -11,7 +14,8 @@ use Rattle.std.specs.Str.Parse.{AllDigits, IsNumeral}
 use Rattle.config_word.specs.declared.name.Name.{Name}
 use Rattle.config_word.specs.declared.name.Name.TheVariants as names
 use Rattle.config_word.specs.declared.name.TheConstants.{LONGEST_NAME}
-use Rattle.config_word.specs.Name.{CanonicalName, HexPair, NameFits, NameText, hex_pair, lower_words, name_shown, word_names}
+use Rattle.config_word.specs.Name.{CanonicalName, HexPair, NameFits, NameText, hex_pair, lower_words}
+use Rattle.config_word.specs.Name.{name_shown, word_names}
 use Rattle.config_word.specs.Orders.{name_place}
 use Rattle.config_text.specs.Bytes.{IsLeadingDigit, IsLowerHex}
 use Rattle.config_text.specs.Numerals.{place_sum}
@@ -40,7 +44,8 @@ weight c cs h =
 
 -- decimal digits as std's lemmas on numerals take them
 numerals : IsNumeralModel (AllDigits 10) (λ ds. place_sum ds 10)
-numerals = numerals_by_weight (AllDigits 10) tells_digits (λ ds. place_sum ds 10) record { empty = refl; more = weight }
+numerals = numerals_by_weight (AllDigits 10) tells_digits (λ ds. place_sum ds 10)
+    record { empty = refl; more = weight }
 
 -- a number is shown by digits whose sum it is
 decimal_text : (n : ℕ) → n ≤ 255 → IsNumeral 10 (decimal n) × (n ≡ place_sum (decimal n) 10)
@@ -67,14 +72,19 @@ decimal-canonical n small = told (decimal n) refl (first_byte n small) where
       let first_digit : 48 < d = rw e at first in
       let all : AllDigits 10 (d ∷ ds) = rw e at r.0.1 in
       let sum : n ≡ place_sum (d ∷ ds) 10 = rw e at r.1 in
-      CanonicalName.palette d ds refl (omega arith, (digit_from_value d all.0).1) all.1 (omega (arith, sum, small))
+      CanonicalName.palette d ds refl (omega arith, (digit_from_value d all.0).1) all.1
+      (omega (arith, sum, small))
 
 -- digits that begin with 1 to 9 are what their number is shown as
 digits-shown : (d : ℕ) (ds : List ℕ) → IsLeadingDigit d → AllDigits 10 ds → place_sum (d ∷ ds) 10 ≤ 255
     → IsNumeral 10 (d ∷ ds) × (d ∷ ds ≡ decimal (place_sum (d ∷ ds) 10))
 digits-shown d ds h all small =
-    let v : digit_value d < 10 = grind (arith, nat_tests) in
-    ((omega arith, (v, all)), sym (decimal-digits_value numerals (d ∷ ds) (v, all) (omega arith) (λ e. absurd (omega (arith, h.0, e))) (omega arith)))
+    let v : digit_value d < 10 = grind (arith, nat_tests) in (
+      (omega arith, (v, all)),
+      sym
+          (decimal-digits_value numerals (d ∷ ds) (v, all) (omega arith) (λ e. absurd (omega (arith, h.0, e)))
+          (omega arith)),
+    )
 
 -- `0` is what 0 is shown as
 digits-of_nought : IsNumeral 10 (codes "0") × (0 ≡ place_sum (codes "0") 10) × (codes "0" ≡ decimal 0)
@@ -109,7 +119,11 @@ pair_shown : (n : ℕ) → n ≤ 255 → HexPair (digit_char (n / 16)) (digit_ch
 pair_shown n small =
     let p = shown_digit (n / 16) (omega arith) in
     let q = shown_digit (n % 16) (omega arith) in
-    record { high_digit = omega (arith, p.1); low_digit = omega (arith, q.1); number = omega (arith, p.1, q.1) }
+    record {
+      high_digit = omega (arith, p.1);
+      low_digit = omega (arith, q.1);
+      number = omega (arith, p.1, q.1);
+    }
 
 -- ---- canonical texts
 
@@ -127,20 +141,28 @@ six a b c d e f x y z p q r = rw (p, q, r) refl
 rgb-shown : (ds : List ℕ) → length ds ≡ 6 → AllByRecursion IsLowerHex ds
     → IsShown NameText name_shown (codes "#" ++ ds)
 rgb-shown (a ∷ b ∷ c ∷ d ∷ e ∷ f ∷ []) l h = record {
-  value = names.Rgb (16 * digit_value a + digit_value b) (16 * digit_value c + digit_value d) (16 * digit_value e + digit_value f);
-  reads_to = NameText.pairs a b c d e f _ _ _ refl (pair_of a b h.0 h.1.0) (pair_of c d h.1.1.0 h.1.1.1.0) (pair_of e f h.1.1.1.1.0 h.1.1.1.1.1.0) refl;
-  same = six a b c d e f _ _ _ (hex_pair-back a b h.0 h.1.0) (hex_pair-back c d h.1.1.0 h.1.1.1.0) (hex_pair-back e f h.1.1.1.1.0 h.1.1.1.1.1.0);
+  value = names.Rgb (16 * digit_value a + digit_value b) (16 * digit_value c + digit_value d)
+      (16 * digit_value e + digit_value f);
+  reads_to = NameText.pairs a b c d e f _ _ _ refl (pair_of a b h.0 h.1.0) (pair_of c d h.1.1.0 h.1.1.1.0)
+      (pair_of e f h.1.1.1.1.0 h.1.1.1.1.1.0) refl;
+  same = six a b c d e f _ _ _ (hex_pair-back a b h.0 h.1.0) (hex_pair-back c d h.1.1.0 h.1.1.1.0)
+      (hex_pair-back e f h.1.1.1.1.0 h.1.1.1.1.1.0);
 }
 rgb-shown _ l h = absurd (omega (arith, l))
 
 -- a canonical text is what its name is shown as
 canonical-shown : (s : List ℕ) → CanonicalName s → IsShown NameText name_shown s
 canonical-shown s (CanonicalName.word o) =
-    let r : (n : Name) × OneOf word_names n × (s ≡ name_shown n) = OneOf-from_map name_shown word_names s (rw shown_words o) in
+    let r : (n : Name) × OneOf word_names n × (s ≡ name_shown n) =
+    OneOf-from_map name_shown word_names s (rw shown_words o) in
     record { value = r.0; reads_to = NameText.word r.1 (ap (map to_ascii_lowercase) r.2); same = r.2 }
 canonical-shown s (CanonicalName.nought e) =
     let r = digits-of_nought in
-    rw e record { value = names.Ansi 0; reads_to = NameText.palette (codes "0") 0 (inl refl) r.0 r.1 (lit≤ tt) refl; same = r.2 }
+    rw e record {
+      value = names.Ansi 0;
+      reads_to = NameText.palette (codes "0") 0 (inl refl) r.0 r.1 (lit≤ tt) refl;
+      same = r.2;
+    }
 canonical-shown s (CanonicalName.palette d ds e h all small) =
     let small_sum : place_sum (d ∷ ds) 10 ≤ 255 = rw e at small in
     let r = digits-shown d ds h all small_sum in
@@ -204,8 +226,11 @@ ShownWell v =
 ansi-shown : (n : ℕ) → n ≤ 255 → ShownWell (names.Ansi n)
 ansi-shown n small =
     let r = decimal_text n small in
-    let size : length (decimal n) ≤ 3 = length-decimal-le 3 n (lit< tt) (omega arith) (omega arith) in
-    (NameText.palette (decimal n) n (inl refl) r.0 r.1 small refl, decimal-canonical n small, omega (arith, size))
+    let size : length (decimal n) ≤ 3 = length-decimal-le 3 n (lit< tt) (omega arith) (omega arith) in (
+      NameText.palette (decimal n) n (inl refl) r.0 r.1 small refl,
+      decimal-canonical n small,
+      omega (arith, size),
+    )
 
 -- red, green and blue are shown well
 rgb-shown_well : (r g b : ℕ) → r ≤ 255 → g ≤ 255 → b ≤ 255 → ShownWell (names.Rgb r g b)
@@ -219,11 +244,17 @@ rgb-shown_well r g b p q u =
         (shown_digit (r % 16) (omega arith)).0,
         (
           (shown_digit (g / 16) (omega arith)).0,
-          ((shown_digit (g % 16) (omega arith)).0, ((shown_digit (b / 16) (omega arith)).0, ((shown_digit (b % 16) (omega arith)).0, tt))),
+          (
+            (shown_digit (g % 16) (omega arith)).0,
+            ((shown_digit (b / 16) (omega arith)).0, ((shown_digit (b % 16) (omega arith)).0, tt)),
+          ),
         ),
       ),
-    ) in
-    (NameText.pairs _ _ _ _ _ _ r g b refl x y z refl, CanonicalName.rgb (hex_pair r ++ hex_pair g ++ hex_pair b) refl refl hex, lit≤ tt)
+    ) in (
+      NameText.pairs _ _ _ _ _ _ r g b refl x y z refl,
+      CanonicalName.rgb (hex_pair r ++ hex_pair g ++ hex_pair b) refl refl hex,
+      lit≤ tt,
+    )
 
 -- each name is shown well
 shown-well : (v : Name) → NameFits v → ShownWell v
@@ -232,7 +263,8 @@ shown-well v fits = told (name_told v) fits where
   told (inl o) h = (
     NameText.word o refl,
     CanonicalName.word (rw (← shown_words) (OneOf-map name_shown word_names v o)),
-    leb-true (length (name_shown v)) LONGEST_NAME (all-one (λ (w : Name). nat_le (length (name_shown w)) LONGEST_NAME) word_names v words-short o),
+    leb-true (length (name_shown v)) LONGEST_NAME
+        (all-one (λ (w : Name). nat_le (length (name_shown w)) LONGEST_NAME) word_names v words-short o),
   )
   told (inr (inl (n, e))) h = rw e (ansi-shown n (rw e at h))
   told (inr (inr (r, g, b, e))) h =

@@ -1,6 +1,7 @@
--- How the code shows attributes: a table of values and words, and what is left to write. `Laws/Attribute` proves that
--- this is `attribute_shown`. The contracts of private functions cite it, and no public one does.
-use Rattle.std.specs.Prelude.{ℕ, ◌^◌, Bool, true, false, List, [], ◌∷◌, ◌++◌, map, filter, flat_map, bit_and, ◌==◌}
+-- How the code shows attributes: a table of values and words, and what is left to write. `Laws/Attribute`
+-- proves that this is `attribute_shown`. The contracts of private functions cite it, and no public one does.
+use Rattle.std.specs.Prelude.{ℕ, ◌^◌, Bool, true, false, List, [], ◌∷◌, ◌++◌, map, filter, flat_map, bit_and}
+use Rattle.std.specs.Prelude.{◌==◌}
 use Rattle.config_text.specs.Bytes.{space}
 use Rattle.config_word.specs.declared.attribute.Shown.{Shown}
 use Rattle.config_word.specs.Attribute.{attributes, bit_of, shown_word}

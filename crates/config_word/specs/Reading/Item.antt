@@ -1,6 +1,8 @@
--- Item text as a function: what the code computes. `Laws/Item` proves that it is `ItemText`. The contracts of private
--- functions cite it, and no public one does.
-use Rattle.std.specs.Prelude.{ℕ, ◌+◌, ◌-◌, ◌*◌, ◌^◌, Bool, true, false, if◌then◌else◌, ◌&&◌, List, [], ◌∷◌, ◌++◌, map, flat_map, filter, length, codes, Option, Some, None, nat_le, nat_lt, ◌==◌, bytes_eq, option_map}
+-- Item text as a function: what the code computes. `Laws/Item` proves that it is `ItemText`. The contracts of
+-- private functions cite it, and no public one does.
+use Rattle.std.specs.Prelude.{ℕ, ◌+◌, ◌-◌, ◌*◌, ◌^◌, Bool, true, false, if◌then◌else◌, ◌&&◌, List, [], ◌∷◌}
+use Rattle.std.specs.Prelude.{◌++◌, map, flat_map, filter, length, codes, Option, Some, None, nat_le, nat_lt}
+use Rattle.std.specs.Prelude.{◌==◌, bytes_eq, option_map}
 use Rattle.std.specs.Char.{digit_value, is_ascii_digit, to_ascii_lowercase}
 use Rattle.config_word.specs.declared.name.Name.{Name}
 use Rattle.config_word.specs.declared.name.Name.TheVariants as names
@@ -28,11 +30,13 @@ attribute_rows row = map (λ w. (w, bit_of row == 8, attribute_item (bit_of row)
 -- the 41 words
 abbrev pub word_table : List WordRow
 word_table =
-    map name_row word_names ++ (codes "-1", false, items.Name names.Normal) ∷ flat_map attribute_rows attributes
+    map name_row word_names ++ (codes "-1", false, items.Name names.Normal)
+    ∷ flat_map attribute_rows attributes
 
 -- whether the text is the row's word
 abbrev pub fits : WordRow → List ℕ → Bool
-fits row t = if row.1 then bytes_eq (map to_ascii_lowercase t) (map to_ascii_lowercase row.0) else bytes_eq t row.0
+fits row t = if row.1 then bytes_eq (map to_ascii_lowercase t) (map to_ascii_lowercase row.0) else bytes_eq t
+    row.0
 
 -- what the first row that fits stands for
 abbrev pub found : List WordRow → List ℕ → Option Item

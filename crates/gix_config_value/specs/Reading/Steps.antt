@@ -20,7 +20,8 @@ pub record CutsLine (bytes : List ℕ) (i : ℕ) : Type 0 where
 
 -- after the line begun, and with this truth for the lines before it, the bytes complete lines whose answers
 -- are the output, and begin another line
-pub record CompletesLines (line : List ℕ) (ok : Bool) (bytes line' : List ℕ) (ok' : Bool) (output : List ℕ) : Type 0 where
+pub record CompletesLines (line : List ℕ) (ok : Bool) (bytes line' : List ℕ) (ok' : Bool)
+    (output : List ℕ) : Type 0 where
   pub lines : List (List ℕ)
   pub outcomes : List Outcome
   pub joined : line ++ bytes ≡ flat_map ended lines ++ line'
@@ -33,7 +34,8 @@ pub record CompletesLines (line : List ℕ) (ok : Bool) (bytes line' : List ℕ)
 -- the line begun, if it is not empty, is answered as the last one
 abbrev pub AnswersLast : List ℕ → Bool → Bool → List ℕ → Type 0
 AnswersLast [] ok ok' output = (output ≡ []) × (ok' ≡ ok)
-AnswersLast (b ∷ bs) ok ok' output = (outcome : Outcome) × LineOutcome (b ∷ bs) outcome × (output ≡ outcome_text outcome)
+AnswersLast (b ∷ bs) ok ok' output = (outcome : Outcome) × LineOutcome (b ∷ bs) outcome
+    × (output ≡ outcome_text outcome)
     × (ok' ≡ (ok && is_accepted outcome))
 
 -- ---- what is sent
@@ -46,7 +48,11 @@ pub record OutputState : Type 0 where
 
 -- where this output is
 abbrev pub output_state : {W : Type 0} → (W → Option (List ℕ)) → Output W → OutputState
-output_state contents o = record { writer = o.writer.ghost_name; held = contents o.writer.now; waiting = o.waiting.bytes }
+output_state contents o = record {
+  writer = o.writer.ghost_name;
+  held = contents o.writer.now;
+  waiting = o.waiting.bytes;
+}
 
 -- the bytes were sent to one writer: some first bytes of what waited and of them are written, and the others
 -- wait
@@ -93,7 +99,11 @@ pub record RunState : Type 0 where
 
 -- where this run is
 abbrev pub run_state : {W : Type 0} → (W → Option (List ℕ)) → Progress → Output W → RunState
-run_state contents p o = record { line = p.line.items; accepted = p.all_accepted; to = output_state contents o }
+run_state contents p o = record {
+  line = p.line.items;
+  accepted = p.all_accepted;
+  to = output_state contents o;
+}
 
 -- with these bytes appended to the line begun
 abbrev pub with_more : RunState → List ℕ → RunState
@@ -107,7 +117,8 @@ pub record Advances (before after : RunState) (bytes : List ℕ) : Type 0 where
 
 -- an error in the middle of the bytes: the lines that the first ones complete are answered, and of the
 -- answers a part is written
-pub record FailsWithin (before : RunState) (after : OutputState) (bytes : List ℕ) (e : RunError) : Type 0 where
+pub record FailsWithin (before : RunState) (after : OutputState) (bytes : List ℕ)
+    (e : RunError) : Type 0 where
   pub done : List ℕ
   pub left : List ℕ
   pub split : bytes ≡ done ++ left
@@ -124,7 +135,8 @@ pub record AnswersUpTo (before after : RunState) (bytes rest : List ℕ) : Type 
   pub advances : Advances before after done
   pub none : after.line ≡ []
 
--- the lines that end within the front of the input are answered, after what was held, and the rest follows them
+-- the lines that end within the front of the input are answered, after what was held, and the rest follows
+-- them
 pub record AnswersFront (input rest held holds : List ℕ) (ok : Bool) : Type 0 where
   pub done : List ℕ
   pub output : List ℕ
@@ -149,7 +161,11 @@ pub record EndsEarly (before : RunState) (after : OutputState) (e : RunError) : 
 
 -- the start of a run: no line is begun, and nothing waits
 abbrev pub start : GName → Option (List ℕ) → RunState
-start writer held = record { line = []; accepted = true; to = record { writer = writer; held = held; waiting = [] } }
+start writer held = record {
+  line = [];
+  accepted = true;
+  to = record { writer = writer; held = held; waiting = [] };
+}
 
 -- a run since its start: some input was read, the lines that it completes are answered, and nothing waits
 pub record HasAnswered (unread left : Option (List ℕ)) (before after : RunState) : Type 0 where

@@ -1,7 +1,7 @@
 //! Paths made in each way, and cloned.
 
-use crate::support::{Host, asks_once, can_starve, equal, starved};
-use bstr::{BStr, BString};
+use crate::support::{Host, asks_once};
+use bstr::BStr;
 use gix_config_value::Path;
 use std::alloc::AllocError;
 use std::borrow::CowSlice;
@@ -55,28 +55,6 @@ fn makes_paths_by_one_request(rt: HostRuntime) -> Result<(), Fail> {
         makes(&rt, row, rest.len(), bstr)?;
         let path = Path::from_text(alloc, text)?;
         makes(&rt, row, rest.len(), || path.clone(alloc))?;
-    }
-    Ok(())
-}
-
-/// The row's path is made of owned bytes, with ample memory or with none.
-fn makes_of_owned_bytes(rt: &impl Host, row: Row<'_>, starve: bool) -> Result<(), Fail> {
-    let text = BString::from_slice(rt.alloc(), row.0.as_bytes())?;
-    let cow = CowSlice::Owned(Vec::from_slice(rt.alloc(), row.0.as_bytes())?);
-    let hoard = if starve { Some(starved(rt)?) } else { None };
-    let from_text = Path::from(text);
-    let from_cow = Path::from_cow(rt.alloc(), cow);
-    drop(hoard);
-    equal(rt, is_path(&from_text, row), true, row);
-    equal(rt, is_path(&from_cow?, row), true, row);
-    Ok(())
-}
-
-#[test]
-fn makes_paths_of_owned_bytes_without_memory(rt: HostRuntime) -> Result<(), Fail> {
-    for row in &ROWS {
-        makes_of_owned_bytes(&rt, *row, false)?;
-        makes_of_owned_bytes(&rt, *row, can_starve(&rt)?)?;
     }
     Ok(())
 }

@@ -15,13 +15,3 @@ where
         "{row:?}: {given:?} in place of {wanted:?}"
     );
 }
-
-/// Each value is less than all that follow it.
-pub fn rise<T: Ord>(rt: &impl Host, values: &[T]) {
-    for (i, a) in values.iter().enumerate() {
-        for (j, b) in values.iter().enumerate() {
-            equal(rt, a.cmp(b), i.cmp(&j), (i, j));
-            equal(rt, a == b, i == j, (i, j));
-        }
-    }
-}

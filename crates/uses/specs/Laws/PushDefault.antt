@@ -1,12 +1,15 @@
 -- What `push.default` owes as a kind of value.
-use Rattle.std.proofs.Common.{◌≡◌, ℕ, ◌⊎◌, inl, inr, List, [], ◌∷◌, Option, Some, None, refl, sym, ◌∙◌, codes, lit≤, if◌then◌else◌}
+use Rattle.std.proofs.Common.{◌≡◌, ℕ, ◌⊎◌, inl, inr, List, [], ◌∷◌, Option, Some, None, refl, sym, ◌∙◌, codes}
+use Rattle.std.proofs.Common.{lit≤, if◌then◌else◌}
 use Rattle.std.specs.Str.{bytes_eq}
 use Rattle.std.proofs.lemmas.Option.{same_Some}
 use Rattle.uses.specs.declared.push_default.PushDefault.{PushDefault}
-use Rattle.uses.specs.declared.push_default.PushDefault.TheVariants.{Nothing, Current, Upstream, Simple, Matching}
+use Rattle.uses.specs.declared.push_default.PushDefault.TheVariants.{Nothing, Current, Upstream, Simple}
+use Rattle.uses.specs.declared.push_default.PushDefault.TheVariants.{Matching}
 use Rattle.config_text.specs.Value.{IsAccepted, IsRefused, HasText, IsTextOf}
 use Rattle.config_text.specs.OneOf.{OneOf}
-use Rattle.config_text.specs.Laws.Value.{text_told, Told, either_told, IsShown, one_text_by, canonical_reads_by}
+use Rattle.config_text.specs.Laws.Value.{text_told, Told, either_told, IsShown, one_text_by}
+use Rattle.config_text.specs.Laws.Value.{canonical_reads_by}
 use Rattle.config_text.specs.Laws.OneOf.{decided_among}
 use Rattle.uses.specs.PushDefault.{PushDefaultText, CanonicalPushDefault, push_default_shown}
 
@@ -30,7 +33,8 @@ found t Upstream (inr p) = rw p refl
 found t Simple p = rw p refl
 found t Matching p = rw p refl
 
-pub push_default_one_value : (t : List ℕ) (v w : PushDefault) → PushDefaultText t v → PushDefaultText t w → v ≡ w
+pub push_default_one_value : (t : List ℕ) (v w : PushDefault) → PushDefaultText t v → PushDefaultText t w
+    → v ≡ w
 push_default_one_value t v w p q = same_Some v w (sym (found t v p) ∙ found t w q)
 
 -- a canonical text is what its value is shown as
@@ -51,10 +55,14 @@ push_default_canonical_reads = canonical_reads_by canonical_is_shown
 pub push_default_shown_is_text : (v : PushDefault) → HasText PushDefaultText v
     → IsTextOf PushDefaultText CanonicalPushDefault v (push_default_shown v)
 push_default_shown_is_text Nothing h = record { canonical_text = inl refl; reads_to = refl; short = lit≤ tt }
-push_default_shown_is_text Current h = record { canonical_text = inr (inl refl); reads_to = refl; short = lit≤ tt }
-push_default_shown_is_text Upstream h = record { canonical_text = inr (inr (inl refl)); reads_to = inl refl; short = lit≤ tt }
-push_default_shown_is_text Simple h = record { canonical_text = inr (inr (inr (inl refl))); reads_to = refl; short = lit≤ tt }
-push_default_shown_is_text Matching h = record { canonical_text = inr (inr (inr (inr refl))); reads_to = refl; short = lit≤ tt }
+push_default_shown_is_text Current h =
+    record { canonical_text = inr (inl refl); reads_to = refl; short = lit≤ tt }
+push_default_shown_is_text Upstream h =
+    record { canonical_text = inr (inr (inl refl)); reads_to = inl refl; short = lit≤ tt }
+push_default_shown_is_text Simple h =
+    record { canonical_text = inr (inr (inr (inl refl))); reads_to = refl; short = lit≤ tt }
+push_default_shown_is_text Matching h =
+    record { canonical_text = inr (inr (inr (inr refl))); reads_to = refl; short = lit≤ tt }
 
 values : List PushDefault
 values = Nothing ∷ Current ∷ Upstream ∷ Simple ∷ Matching ∷ []

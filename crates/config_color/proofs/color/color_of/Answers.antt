@@ -14,20 +14,25 @@ returns-in_err-color c =
     let first = c.first_word-first in
     let piece_read = rw c.split_at.ensures.front at c.with_word.ensures in
     subst (λ (r : Option Color). Reads ColorText c.args.input.now r) (sym c.from_residual.ensures)
-    (walk_refused c.args.input.now c.loop-rest.rest.now c.loop-rest.color first.result.length first.result.space c.loop-rest.invariant
-    first.ensures.clear first.ensures.within first.ensures.parted first.ensures.last (sym piece_read ∙ c.in_err-color.was))
+    (walk_refused c.args.input.now c.loop-rest.rest.now c.loop-rest.color first.result.length
+    first.result.space c.loop-rest.invariant first.ensures.clear first.ensures.within first.ensures.parted
+    first.ensures.last (sym piece_read ∙ c.in_err-color.was))
 
 pub loop-rest-preserved : goal.loop-rest-preserved
 loop-rest-preserved c =
     let first = c.first_word-first in
     let piece_read = rw c.split_at.ensures.front at c.with_word.ensures in
-    let h = walk_goes_on c.args.input.now c.loop-rest.rest.now c.loop-rest.color c.in_ok-color.color first.result.length first.result.space c.loop-rest.invariant
-    first.ensures.clear first.ensures.within first.ensures.parted first.ensures.last (sym piece_read ∙ c.in_ok-color.was) in
-    let e = ap (λ t. drop c.first_word-first.result.space t) c.split_at.ensures.back in
-    h ∙ (ap (λ t. read_from c.in_ok-color.color (words t)) (sym (take_rest c.split_at.result.1.now c.first_word-first.result.space ∙ (e ∙ drop-drop c.first_word-first.result.space c.first_word-first.result.length c.loop-rest.rest.now)))
+    let h = walk_goes_on c.args.input.now c.loop-rest.rest.now c.loop-rest.color c.in_ok-color.color
+    first.result.length first.result.space c.loop-rest.invariant first.ensures.clear
+    first.ensures.within first.ensures.parted first.ensures.last (sym piece_read ∙ c.in_ok-color.was) in
+    let e = ap (λ t. drop first.result.space t) c.split_at.ensures.back in
+    h ∙ (ap (λ t. read_from c.in_ok-color.color (words t))
+    (sym (take_rest c.split_at.result.1.now first.result.space
+    ∙ (e ∙ drop-drop first.result.space first.result.length c.loop-rest.rest.now)))
     ∙ ap (read_from c.in_ok-color.color) (sym c.past_spaces-rest-in-loop-rest.ensures.same))
 
 pub returns : goal.returns
 returns c =
     let no_more = nil_from_length c.loop-rest.rest.now (grind (arith, nat_tests)) in
-    walk_done c.args.input.now c.loop-rest.color (c.loop-rest.invariant ∙ ap (λ t. read_from c.loop-rest.color (words t)) no_more)
+    walk_done c.args.input.now c.loop-rest.color
+    (c.loop-rest.invariant ∙ ap (λ t. read_from c.loop-rest.color (words t)) no_more)

@@ -41,12 +41,15 @@ seven name user home shell (a ∷ b ∷ c ∷ d ∷ e ∷ rest) h k = absurd (om
 
 pub returns-in-Some : goal.returns-in-Some
 returns-in-Some c =
-    let is = fields_are _ _ _ _ _ _ _ c.in_ok-user.ensures.cut c.in_ok-rest.ensures c.in_ok-home.ensures.cut c.in-Some.ensures.cut in
-    eight c.args.name.now c.in_ok-user.user.now _ _ _ _ c.in_ok-rest.ensures.counted (some_piece c.in-Some.field-0.1.now)
+    let is = fields_are _ _ _ _ _ _ _ c.in_ok-user.ensures.cut c.in_ok-rest.ensures c.in_ok-home.ensures.cut
+    c.in-Some.ensures.cut in
+    eight c.args.name.now c.in_ok-user.user.now _ _ _ _ c.in_ok-rest.ensures.counted
+    (some_piece c.in-Some.field-0.1.now)
     ∙ ap (λ ps. home_of_fields c.args.name.now ps) (sym is)
 
 pub returns-in-None : goal.returns-in-None
 returns-in-None c =
-    let is = fields_are _ _ _ _ _ _ _ c.in_ok-user.ensures.cut c.in_ok-rest.ensures c.in_ok-home.ensures.cut c.in-None.ensures.cut in
+    let is = fields_are _ _ _ _ _ _ _ c.in_ok-user.ensures.cut c.in_ok-rest.ensures c.in_ok-home.ensures.cut
+    c.in-None.ensures.cut in
     seven c.args.name.now c.in_ok-user.user.now _ _ _ c.in_ok-rest.ensures.counted (is_true _ c.if-ne.ensures)
     ∙ ap (λ ps. home_of_fields c.args.name.now ps) (sym is)

@@ -17,7 +17,13 @@ no_more : (n count : ℕ) (fields rest : List (List ℕ)) (field : List ℕ) →
     → rest ≡ field ∷ [] → n < count
     → length fields ≤ count
 no_more n count fields rest field f e below =
-    omega (arith, f.counted, below, ap length (f.parts ∙ ap (λ r. f.others ++ r) e), length-append f.others (field ∷ []))
+    omega (
+      arith,
+      f.counted,
+      below,
+      ap length (f.parts ∙ ap (λ r. f.others ++ r) e),
+      length-append f.others (field ∷ []),
+    )
 
 pub loop-field-init : goal.loop-field-init
 loop-field-init c = (record { others = []; counted = refl; parts = refl }, search rules)
@@ -31,5 +37,7 @@ returns-in_err-_skipped c = rw c.from_residual.ensures
     (no_more _ _ _ _ _ c.loop-field.invariant.0 c.in_err-_skipped.ensures.cut c.loop-field-test.true)
 
 pub returns : goal.returns
-returns c = let whole : c.loop-field._field ≡ c.args.count = omega (arith, c.loop-field-test.false, c.loop-field.auto._field-end) in
-    subst (λ n. FollowsFields n (pieces colon c.args.line.now) (pieces colon c.loop-field.rest.now)) whole c.loop-field.invariant.0
+returns c = let whole : c.loop-field._field ≡ c.args.count =
+    omega (arith, c.loop-field-test.false, c.loop-field.auto._field-end) in
+    subst (λ n. FollowsFields n (pieces colon c.args.line.now) (pieces colon c.loop-field.rest.now)) whole
+    c.loop-field.invariant.0

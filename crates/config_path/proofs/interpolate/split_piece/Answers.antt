@@ -8,10 +8,15 @@ use Rattle.config_path.specs.Passwd.{pieces}
 use Rattle.config_path.proofs.interpolate.split_piece.Goals as goal
 
 first_piece : (separator : ℕ) (text : List ℕ) (r : Option (Bor (List ℕ) × Bor (List ℕ)))
-    → MatchOption r (position_or_len (λ b. b == separator) text ≡ length text) (λ x. (x.0.now ≡ before_first (λ b. b == separator) text) × (x.1.now ≡ after_first (λ b. b == separator) text) × (position_or_len (λ b. b == separator) text < length text))
-    → MatchOption r (pieces separator text ≡ text ∷ []) (λ cut. pieces separator text ≡ cut.0.now ∷ pieces separator cut.1.now)
+    → MatchOption r (position_or_len (λ b. b == separator) text ≡ length text)
+    (λ x. (x.0.now ≡ before_first (λ b. b == separator) text)
+    × (x.1.now ≡ after_first (λ b. b == separator) text)
+    × (position_or_len (λ b. b == separator) text < length text))
+    → MatchOption r (pieces separator text ≡ text ∷ [])
+    (λ cut. pieces separator text ≡ cut.0.now ∷ pieces separator cut.1.now)
 first_piece separator text None e =
-    let fails : (i : ℕ) → i < length text → (get_or text i 0 == separator) ≡ false = λ i h. fails_before_first (λ b. b == separator) text i 0 (rw e h) in
+    let fails : (i : ℕ) → i < length text → (get_or text i 0 == separator) ≡ false =
+    λ i h. fails_before_first (λ b. b == separator) text i 0 (rw e h) in
     slice_split_none _ text (All-from_get_or (λ b. (b == separator) ≡ false) text 0 fails)
 first_piece separator text (Some cut) h =
     let e = slice_split_first (λ b. b == separator) text 0 h.2 in rw (h.0, h.1) e

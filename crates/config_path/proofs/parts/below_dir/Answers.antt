@@ -7,11 +7,13 @@ use Rattle.config_path.proofs.parts.below_dir.Goals as goal
 pub returns-in_err-text_at-in-Some-rest : goal.returns-in_err-text_at-in-Some-rest
 returns-in_err-text_at-in-Some-rest c =
     both c.in-Some.dir.now c.in-Some-rest.rest.now (rw c.in-Some.is refl) (rw c.in-Some-rest.is refl)
-    (other_bytes c.in_err-text_at-in-Some-rest.ensures.0 (let e = c.in_err-text_at-in-Some-rest.ensures.1 in let r = c.from_residual.ensures in search rules))
+    (other_bytes c.in_err-text_at-in-Some-rest.ensures.0
+    (let e = c.in_err-text_at-in-Some-rest.ensures.1 in let r = c.from_residual.ensures in search rules))
 
 pub returns-in-None : goal.returns-in-None
 returns-in-None c =
-    no_rest c.in-Some.dir.now (rw c.in-Some.is refl) (rw c.in-None.is refl) (ap text (append-nil _ ∙ append-nil _))
+    no_rest c.in-Some.dir.now (rw c.in-Some.is refl) (rw c.in-None.is refl)
+    (ap text (append-nil _ ∙ append-nil _))
 
 pub returns-in_ok-text_at-in-Some-rest : goal.returns-in_ok-text_at-in-Some-rest
 returns-in_ok-text_at-in-Some-rest c =

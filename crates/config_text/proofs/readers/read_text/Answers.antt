@@ -7,7 +7,8 @@ use Rattle.config_text.specs.Refusals.{ReadsBytes, ReadsText}
 use Rattle.config_text.proofs.readers.read_text.Goals as goal
 
 -- what is read of a byte string is read of the text with these bytes
-text_read : {V : Type 0} (grammar : List ℕ → V → Type 0) (refusal : List ℕ → Fault → Type 0) (s : BStr) (t : List ℕ) (r : Result V Error)
+text_read : {V : Type 0} (grammar : List ℕ → V → Type 0) (refusal : List ℕ → Fault → Type 0) (s : BStr)
+    (t : List ℕ) (r : Result V Error)
     → bstr_bytes s ≡ t → ReadsBytes grammar refusal s r → ReadsText grammar refusal t r
 text_read grammar refusal s t (Ok v) e h = rw (← e) h
 text_read grammar refusal s t (Err x) e h = rw (← e) ((h.0.0, ap bstr_bytes h.0.1), h.1)

@@ -3,4 +3,5 @@ use Rattle.config_text.proofs.words.equals.Given as goal
 
 -- what is left of both decides
 abbrev pub invariant-loop-at : goal.invariant-loop-at
-invariant-loop-at g l = (length l.text ≡ length l.word) × (bytes_eq (drop l.at l.text) (drop l.at l.word) ≡ bytes_eq l.text l.word)
+invariant-loop-at g l = (length l.text ≡ length l.word)
+    × (bytes_eq (drop l.at l.text) (drop l.at l.word) ≡ bytes_eq l.text l.word)

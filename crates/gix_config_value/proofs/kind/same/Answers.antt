@@ -17,7 +17,12 @@ pub returns-in-Name : goal.returns-in-Name
 returns-in-Name c = rw c.in-Name.is (record { answer = c.same_as-in-Name.ensures; words = λ e. cc })
 
 pub returns-in-Attribute : goal.returns-in-Attribute
-returns-in-Attribute c = rw c.in-Attribute.is (record { answer = c.same_as-in-Attribute.ensures; words = λ e. cc })
+returns-in-Attribute c = rw c.in-Attribute.is
+    (record { answer = c.same_as-in-Attribute.ensures; words = λ e. cc })
 
 pub returns-in-Color : goal.returns-in-Color
-returns-in-Color c = rw c.in-Color.is (record { answer = c.same_as-in-Color.ensures; words = λ e. compares_words _ _ _ c.same_as-in-Color.ensures })
+returns-in-Color c = rw c.in-Color.is
+    (record {
+      answer = c.same_as-in-Color.ensures;
+      words = λ e. compares_words _ _ _ c.same_as-in-Color.ensures;
+    })

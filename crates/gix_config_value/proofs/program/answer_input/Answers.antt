@@ -20,11 +20,13 @@ returns-in-Err-clause-same_writer g c = c.loop.invariant.advances.sends.same_wri
 
 pub returns-then-count-eq0-clause-completes : goal.returns-then-count-eq0-clause-completes
 returns-then-count-eq0-clause-completes g c = Completes-at_end _ _ _ _ _ c.loop.invariant _ _ _
-    (at_the_end _ _ _ _ c.if-count-eq0.true (omega (arith, c.read.auto.buf)) c.in-Ok.ensures.bytes) c.finish.ensures.ok
+    (at_the_end _ _ _ _ c.if-count-eq0.true (omega (arith, c.read.auto.buf)) c.in-Ok.ensures.bytes)
+    c.finish.ensures.ok
 
 pub returns-then-count-eq0-clause-fails : goal.returns-then-count-eq0-clause-fails
 returns-then-count-eq0-clause-fails g c = Fails-at_end _ _ _ _ _ c.loop.invariant _ _ _
-    (at_the_end _ _ _ _ c.if-count-eq0.true (omega (arith, c.read.auto.buf)) c.in-Ok.ensures.bytes) c.finish.ensures.err
+    (at_the_end _ _ _ _ c.if-count-eq0.true (omega (arith, c.read.auto.buf)) c.in-Ok.ensures.bytes)
+    c.finish.ensures.err
 
 pub returns-in_err-take_bytes-clause-fails : goal.returns-in_err-take_bytes-clause-fails
 returns-in_err-take_bytes-clause-fails g c = passed_on _ _ _ c.from_residual.ensures.1

@@ -9,7 +9,9 @@ pub loop-place-init : goal.loop-place-init
 loop-place-init c = front_start _ _
 
 pub loop-place-preserved : goal.loop-place-preserved
-loop-place-preserved c = rw (take_rest _ _) (front_more _ _ _ _ _ _ _ _ c.loop-place.invariant (cuts_first _ _ c.in-Some.ensures.0 c.in-Some.ensures.1) c.in_ok-accepted.ensures.ok)
+loop-place-preserved c = rw (take_rest _ _)
+    (front_more _ _ _ _ _ _ _ _ c.loop-place.invariant
+    (cuts_first _ _ c.in-Some.ensures.0 c.in-Some.ensures.1) c.in_ok-accepted.ensures.ok)
 
 pub returns-in_err-accepted-clause-lines : goal.returns-in_err-accepted-clause-lines
 returns-in_err-accepted-clause-lines c =
@@ -25,4 +27,5 @@ returns-in_err-accepted-2-clause-lines c =
 
 pub returns-clause-answers : goal.returns-clause-answers
 returns-clause-answers c = front_last _ _ _ _ _ _ _ c.loop-place.invariant
-    (some_line _ _ refl (sym c.is_empty.ensures ∙ c.if-is_empty.false)) (unbroken_nowhere _ c.in_default.ensures) c.in_ok-accepted-2.ensures.ok
+    (some_line _ _ refl (sym c.is_empty.ensures ∙ c.if-is_empty.false))
+    (unbroken_nowhere _ c.in_default.ensures) c.in_ok-accepted-2.ensures.ok

@@ -11,11 +11,13 @@ known = amount_text (codes "10m") (record { 0 = pos 10485760 }) refl
 pub unwrap-requires : goal.unwrap-requires
 unwrap-requires c =
     let ensures = c.from_bytes.ensures in
-    let read = converts _ _ _ (pos 10485760) c.from_bytes.result known (λ h. h.1 (omega arith)) ensures.accepted ensures.refused in
+    let read = converts _ _ _ (pos 10485760) c.from_bytes.result known (λ h. h.1 (omega arith))
+    ensures.accepted ensures.refused in
     rw read.1 refl
 
 pub returns : goal.returns
 returns c =
     let ensures = c.from_bytes.ensures in
-    let read = converts _ _ _ (pos 10485760) c.from_bytes.result known (λ h. h.1 (omega arith)) ensures.accepted ensures.refused in
+    let read = converts _ _ _ (pos 10485760) c.from_bytes.result known (λ h. h.1 (omega arith))
+    ensures.accepted ensures.refused in
     let same : c.unwrap.result ≡ read.0 = cc (read.1, c.unwrap.ensures) in same ∙ read.2.1

@@ -9,7 +9,8 @@ returns c =
     record {
       result = i.result;
       table = by_lookup _ _ _ (IsHomeIn c.args.passwd.now) (λ name home u h.
-          let found : option_copied h.0 ≡ home_in c.args.passwd.now name = let p = h.1.1 in let n = h.1.2 in search rules in
+          let found : option_copied h.0 ≡ home_in c.args.passwd.now name = let p = h.1.1 in let n = h.1.2 in
+          search rules in
           sym h.2 ∙ found) _ _ i.table;
       allocated = i.allocated;
     }

@@ -11,4 +11,5 @@ returns-in_err-word c =
 pub returns : goal.returns
 returns c =
     let some : c.args.text.now ≢ [] = λ e. grind (arith, nat_tests) in
-    c.with_item.ensures ∙ sym (read_word c.args.self c.args.text.now (Some c.in_ok-word.field-0) some c.in_ok-word.ensures)
+    c.with_item.ensures ∙ sym (read_word c.args.self c.args.text.now (Some c.in_ok-word.field-0) some
+    c.in_ok-word.ensures)

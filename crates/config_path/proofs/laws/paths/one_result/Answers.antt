@@ -13,4 +13,5 @@ pub returns-clause-memory : goal.returns-clause-memory
 returns-clause-memory g c = λ context value e. never_memory (known_in g.F.FnOnce context) value e
 
 pub returns-clause-result : goal.returns-clause-result
-returns-clause-result g c = λ context value r s one p q. one_returned (known_in g.F.FnOnce context) one value r s p q
+returns-clause-result g c = λ context value r s one p q. one_returned (known_in g.F.FnOnce context) one value
+    r s p q

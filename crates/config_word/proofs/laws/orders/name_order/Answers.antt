@@ -1,6 +1,7 @@
 use Rattle.std.proofs.Common.{Some, ap, ◌∙◌}
 use Rattle.config_word.specs.contracts.name.NameHash.TheImpl.Laws.{respects_eq-law}
-use Rattle.config_word.specs.contracts.name.NameOrd.TheImpl.Laws.{matches_eq-law, matches_partial_cmp-law, total-law}
+use Rattle.config_word.specs.contracts.name.NameOrd.TheImpl.Laws.{matches_eq-law, matches_partial_cmp-law}
+use Rattle.config_word.specs.contracts.name.NameOrd.TheImpl.Laws.{total-law}
 use Rattle.config_word.specs.contracts.name.NameValue.TheImpl.Laws.{equal_is_same-law}
 use Rattle.config_word.proofs.NameOrder.{name_same}
 use Rattle.config_word.proofs.laws.orders.name_order.Goals as goal

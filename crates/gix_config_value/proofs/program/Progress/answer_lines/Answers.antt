@@ -9,7 +9,8 @@ loop-place-init g c = AnswersUpTo-start _ _ c.requires
 
 pub returns-in_err-accepted-clause-err : goal.returns-in_err-accepted-clause-err
 returns-in_err-accepted-clause-err g c =
-    passed_on _ _ _ c.from_residual.ensures.1 (FailsWithin-in_lines _ _ _ _ _ _ c.loop-place.invariant c.in_err-accepted.ensures.err)
+    passed_on _ _ _ c.from_residual.ensures.1
+    (FailsWithin-in_lines _ _ _ _ _ _ c.loop-place.invariant c.in_err-accepted.ensures.err)
 
 pub loop-place-preserved : goal.loop-place-preserved
 loop-place-preserved g c = rw (take_rest _ _) (AnswersUpTo-more _ _ _ _ _ _ _ c.loop-place.invariant

