@@ -4,10 +4,10 @@ ghost use Rattle.config_file.specs.Walk.{Holds, Follows, HasFile, IsNameOf, IsIn
 ghost use Rattle.config_file.specs.Path.{BeginsUnknown};
 ghost use Rattle.config_file.specs.Views.{entry_of};
 
-use crate::include::{Condition, Repository};
-use crate::path::{Directories, expand, included_name, joined};
 use crate::entry::Entry;
 use crate::errors::Error as FileError;
+use crate::include::{Condition, Repository};
+use crate::path::{Directories, expand, included_name, joined};
 use crate::reader::Entries;
 use std::alloc::{AllocError, Global};
 
