@@ -1,11 +1,15 @@
 -- Settings that are added one by one.
-use Rattle.std.proofs.Common.{◌≡◌, ◌++◌, ◌∙◌, ℕ, List, [], ◌∷◌, Option, sym, ap, subst}
+use Rattle.std.proofs.Common.{◌≡◌, ◌++◌, ◌∙◌, ℕ, length, option_map, arith, List, [], ◌∷◌, Option, sym, ap, subst}
 use Rattle.std.specs.List.{AllZip}
 use Rattle.std.proofs.lemmas.List.{append_assoc, append-nil}
 use Rattle.config_file.specs.declared.errors.Error.{Error}
 use Rattle.config_file.specs.File.{Entry, IsFile}
 use Rattle.config_file.specs.declared.settings.Setting.{Setting}
-use Rattle.config_file.specs.Settings.{IsSettingOf, Adds}
+use Rattle.config_file.specs.declared.reader.Entries.{Entries}
+use Rattle.config_file.specs.Left.{HasLeft}
+use Rattle.config_file.specs.Settings.{IsSettingOf, Adds, HasFirst}
+use Rattle.config_file.specs.Views.{section_of}
+use Rattle.config_file.proofs.EachReading.{are_read}
 
 zip_push : {A B : Type 0} (R : A → B → Type 0) (xs : List A) (ys : List B) (x : A) (y : B) → AllZip R xs ys → R x y
     → AllZip R (xs ++ x ∷ []) (ys ++ y ∷ [])
@@ -32,3 +36,11 @@ file_more text entries left entry error file = subst (λ e. IsFile text e error)
 
 pub file_end : (text : List ℕ) (entries : List Entry) (error : Option Error) → IsFile text (entries ++ []) error → IsFile text entries error
 file_end text entries error file = subst (λ e. IsFile text e error) (append-nil entries) file
+
+pub first_of : (text : List ℕ) (entries : List Entry) (reader : Entries)
+    → ((left : List Entry) (error : Option Error) → HasLeft reader left error → IsFile text (entries ++ left) error)
+    → HasFirst text entries
+first_of text entries reader before =
+    let (left, error, reads) =
+    are_read (length reader.rest.now) (option_map section_of reader.section) reader.line reader.rest.now (omega arith) in
+    (left, error, before left error reads)

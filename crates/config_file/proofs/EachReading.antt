@@ -119,7 +119,7 @@ abbrev HasReading : Option Section → ℕ → List ℕ → Type 0
 HasReading section line text = (entries : List Entry) × (error : Option Error) × Reads section line text entries error
 
 -- texts that are no longer have a reading
-abbrev AreRead : ℕ → Type 0
+abbrev pub AreRead : ℕ → Type 0
 AreRead n = (section : Option Section) (line : ℕ) (text : List ℕ) → length text ≤ n → HasReading section line text
 
 after_header : (n : ℕ) → AreRead n → (section : Option Section) (line b : ℕ) (text : List ℕ) → length text ≤ n → b ≡ 91 → (o : one_header.Outcome) → HeaderHas text o
@@ -163,7 +163,7 @@ after_byte n more section line b text room =
       ]
     ]
 
-are_read : (n : ℕ) → AreRead n
+pub are_read : (n : ℕ) → AreRead n
 are_read n section line [] room = ([], None, file.ends)
 are_read zero section line (b ∷ text) room = absurd (omega arith)
 are_read (suc n) section line (b ∷ text) room = after_byte n (are_read n) section line b text (omega arith)

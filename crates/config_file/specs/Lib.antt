@@ -2,6 +2,7 @@ pub mod Bytes
 pub mod Runs
 pub mod Subsection
 pub mod Header
+pub mod Errors
 pub mod Value
 pub mod File
 pub mod Listing

@@ -14,13 +14,15 @@ use Rattle.config_file.specs.declared.settings.Setting.{Setting}
 use Rattle.config_file.specs.declared.settings.Refused.{Refused}
 use Rattle.config_file.specs.declared.settings.AddError.{AddError}
 use Rattle.config_file.specs.declared.settings.AddError.TheVariants.{Line, Memory}
-use Rattle.config_path.specs.declared.interpolate.Error.{Error}
+use Rattle.config_path.specs.declared.interpolate.Error as path_errors
 use Rattle.config_path.specs.declared.parts.Parts.{Parts}
 use Rattle.config_path.specs.Interpolation.{Known, PathTable}
 use Rattle.config_path.specs.Parts.{parts_result}
 use Rattle.config_path.specs.Path.{Marked}
 use Rattle.config_file.specs.Value.{Ending, SpellsValue}
+use Rattle.config_file.specs.Errors.{error_shown}
 use Rattle.config_file.specs.File.{Entry, IsFile}
+use Rattle.config_file.specs.declared.errors.Error.{Error}
 use Rattle.config_file.specs.Listing.{IsListed}
 
 abbrev pub dot : ℕ
@@ -43,6 +45,11 @@ listed section subsection key = stem section subsection ++ str_to_ascii_lowercas
 abbrev pub place_shown : (file : List ℕ) (line : ℕ) (key : List ℕ) → List ℕ
 place_shown file line key =
     file ++ codes ":" ++ decimal line ++ codes ": " ++ encode_utf8_all (lossy_chars key) ++ codes ": "
+
+-- `FILE:LINE: reason`, or that memory ran out
+abbrev pub add_error_shown : AddError → List ℕ
+add_error_shown (Line file error) = file.now ++ codes ":" ++ error_shown error
+add_error_shown (Memory _) = codes "no memory"
 
 -- the text for a reader: a key alone is true
 abbrev pub text_of : Setting → List ℕ
@@ -73,12 +80,16 @@ abbrev pub Adds : List ℕ → List Entry → List Setting → List Setting → 
 Adds file entries old new =
     (added : List Setting) × (new ≡ old ++ added) × AllZip (IsSettingOf file) entries added
 
+-- the file has these entries first
+abbrev pub HasFirst : List ℕ → List Entry → Type 0
+HasFirst text entries = (rest : List Entry) × (error : Option Error) × IsFile text (entries ++ rest) error
+
 -- what a file adds: all its entries, those before its first invalid line, or some first ones if memory runs out
 abbrev pub AddsFile : List ℕ → List ℕ → List Setting → List Setting → Result (Unit {0}) AddError → Type 0
 AddsFile file text old new (Ok _) = (entries : List Entry) × IsFile text entries None × Adds file entries old new
 AddsFile file text old new (Err (Line name error)) =
     (name.now ≡ file) × ((entries : List Entry) × IsFile text entries (Some error) × Adds file entries old new)
-AddsFile file text old new (Err (Memory _)) = (entries : List Entry) × Adds file entries old new
+AddsFile file text old new (Err (Memory _)) = (entries : List Entry) × HasFirst text entries × Adds file entries old new
 
 -- the settings of a key, in order
 abbrev pub all_named : List ℕ → List Setting → List Setting
@@ -111,7 +122,7 @@ abbrev pub path_bytes : Setting → List ℕ
 path_bytes setting = option_map_or (λ v. v.items) setting.value []
 
 -- what the path table gives for the path of a setting, without its mark
-abbrev pub IsPathOfSetting : Known → Setting → Result (Bool × Parts) (Refused Error) → Type 0
+abbrev pub IsPathOfSetting : Known → Setting → Result (Bool × Parts) (Refused path_errors.Error) → Type 0
 IsPathOfSetting known setting (Ok (is_optional, parts)) =
     (path : List ℕ) × Marked (path_bytes setting) is_optional path × PathTable known path (parts_result (Ok parts))
 IsPathOfSetting known setting (Err refused) =

@@ -1,19 +1,40 @@
 //! Why a text is no configuration file.
-ghost use Rattle.std.specs.Prelude.{◌≡◌};
+ghost use Rattle.std.specs.Prelude.{◌≡◌, Some};
+ghost use Rattle.config_file.specs.Errors.{fault_text, error_shown};
 ghost use Rattle.config_file.specs.Header.{fault_at};
 
-use thiserror::Error as ThisError;
+use std::{error, fmt};
 
 /// Why the reading stops.
-#[derive(Clone, Copy, PartialEq, Eq, Debug, ThisError)]
+#[derive(Clone, Copy, PartialEq, Eq, Debug)]
 pub enum Fault {
     /// A byte with which nothing goes on there, or the end of the text. Git tells `bad config line`.
-    #[error("bad config line")]
     BadLine,
     /// A NUL outside a comment. Git reads on only in a value and in a subsection, which it cuts there.
-    #[error("a NUL byte outside a comment")]
     Nul,
 }
+
+impl Fault {
+    /// The reason in words, which `Display` writes.
+    pub fn text(self) -> &'static str
+        ensures { result.now ≡ fault_text self }
+    {
+        match self {
+            Fault::BadLine => "bad config line",
+            Fault::Nul => "a NUL byte outside a comment",
+        }
+    }
+}
+
+impl fmt::Display for Fault {
+    ghost output = { λ fault. Some (fault_text fault) };
+
+    fn fmt<W: fmt::Write>(&self, f: &mut fmt::Formatter<W>) -> fmt::Result {
+        f.write_str(self.text())
+    }
+}
+
+impl error::Error for Fault {}
 
 /// Why a text is no configuration file.
 #[derive(Clone, Copy, PartialEq, Eq, Debug)]
@@ -23,6 +44,17 @@ pub struct Error {
     /// Why the reading stops on that line.
     pub fault: Fault,
 }
+
+impl fmt::Display for Error {
+    ghost output = { λ error. Some (error_shown error) };
+
+    /// Writes `LINE: reason`.
+    fn fmt<W: fmt::Write>(&self, f: &mut fmt::Formatter<W>) -> fmt::Result {
+        write!(f, "{}: {}", self.line, self.fault)
+    }
+}
+
+impl error::Error for Error {}
 
 /// Where the reading of an item stops: how many lines after its first one, and why.
 #[derive(Clone, Copy)]

@@ -1,9 +1,9 @@
 //! The settings of several files, in order: of the entries of a key the last one decides.
-ghost use Rattle.std.specs.Prelude.{◌≡◌, ◌≢◌, ◌++◌, ◌↔◌, ℕ, List, [], IsTrue, MatchOption, MatchResult};
+ghost use Rattle.std.specs.Prelude.{◌≡◌, ◌≢◌, ◌++◌, ◌↔◌, ℕ, List, [], Some, IsTrue, MatchOption, MatchResult};
 ghost use Rattle.std.specs.Prelude.{IfOk, IsUtf8, map, option_copied, option_map};
 ghost use Rattle.std.specs.Str.{str_to_ascii_lowercase};
 ghost use Rattle.config_text.specs.Settings.{IsAbsent};
-ghost use Rattle.config_file.specs.Settings.{place_shown};
+ghost use Rattle.config_file.specs.Settings.{place_shown, add_error_shown};
 ghost use Rattle.config_file.specs.Settings.{section_stem, stem, listed, text_of, texts, IsLast, Tells};
 ghost use Rattle.config_file.specs.Settings.{ReadsSetting, Gets, all_named, IsSettingOf, AddsFile};
 ghost use Rattle.config_file.specs.Settings.{path_bytes, IsPathOfSetting};
@@ -21,8 +21,7 @@ use config_path::path::cut_mark;
 use config_text::errors::Fault;
 use config_text::readers::TryRead;
 use std::alloc::{AllocError, Global};
-use std::fmt;
-use thiserror::Error;
+use std::{error, fmt};
 
 /// An entry of a file.
 #[derive(Drop)]
@@ -70,15 +69,27 @@ impl<F: fmt::Display> fmt::Display for Refused<'_, F> {
 }
 
 /// Why a file is not added whole.
-#[derive(Debug, Drop, Error)]
+#[derive(Debug, Drop)]
 pub enum AddError<'a> {
     /// A line of the file is invalid. The entries before it are added.
-    #[error("{file}:{}: {}", .error.line, .error.fault)]
     Line { file: &'a str, error: FileError },
     /// There was no memory for an entry. The entries before it are added.
-    #[error("no memory")]
     Memory(AllocError),
 }
+
+impl fmt::Display for AddError<'_> {
+    ghost output = { λ error. Some (add_error_shown error) };
+
+    /// Writes `FILE:LINE: reason`, or `no memory`.
+    fn fmt<W: fmt::Write>(&self, f: &mut fmt::Formatter<W>) -> fmt::Result {
+        match self {
+            AddError::Line { file, error } => write!(f, "{file}:{error}"),
+            AddError::Memory(_) => f.write_str("no memory"),
+        }
+    }
+}
+
+impl error::Error for AddError<'_> {}
 
 /// The setting of an entry of a file.
 fn read_setting<'a>(

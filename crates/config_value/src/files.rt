@@ -85,7 +85,7 @@ fn list_file<W: Write>(
         match entry {
             Ok(entry) => write_entry(rt.alloc(), writer, file, &entry, null)?,
             Err(error) => {
-                eprintln!(rt; "{file}:{}: {}", error.line, error.fault)?;
+                eprintln!(rt; "{file}:{error}")?;
                 return Ok(false);
             }
         }

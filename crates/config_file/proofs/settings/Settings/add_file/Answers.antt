@@ -1,6 +1,6 @@
 use Rattle.std.proofs.Common.{◌++◌, [], ◌∷◌, rules}
 use Rattle.config_file.specs.Views.{entry_of}
-use Rattle.config_file.proofs.Adding.{adds_more, file_more}
+use Rattle.config_file.proofs.Adding.{adds_more, file_more, first_of}
 use Rattle.config_file.proofs.settings.Settings.add_file.Goals as goal
 
 pub loop-entry-preserved : goal.loop-entry-preserved
@@ -12,3 +12,13 @@ loop-entry-preserved c =
       adds_more c.args.file.now entries (entry_of c.in-Ok.entry) c.args.self.now.entries.items _ c.push.new.self.items c.in-Ok-read_setting.setting adds
           c.in-Ok-read_setting.ensures (search rules),
     )
+
+pub returns-in-Err-read_setting : goal.returns-in-Err-read_setting
+returns-in-Err-read_setting c =
+    let (entries, reads, adds) = c.loop-entry.invariant in
+    (entries, first_of c.args.text.now entries c.loop-entry.entry-iterator reads, adds)
+
+pub returns-then-is_err : goal.returns-then-is_err
+returns-then-is_err c =
+    let (entries, reads, adds) = c.loop-entry.invariant in
+    (entries, first_of c.args.text.now entries c.loop-entry.entry-iterator reads, search rules)
