@@ -1,7 +1,7 @@
 -- One turn of the count of digits, and its end at a byte that is no digit.
 use Rattle.std.proofs.Common.{◌≡◌, refl, sym, ap, ◌∙◌, subst, arith, ℕ, zero, suc, ◌+◌, ◌-◌, ◌*◌, ◌<◌, ◌≤◌}
 use Rattle.std.proofs.Common.{add-one}
-use Rattle.std.proofs.Common.{List, [], ◌∷◌, length, get_or, take, drop, length-drop, drop-cons, Option, Some}
+use Rattle.std.proofs.Common.{List, [], ◌∷◌, ◌++◌, length, get_or, take, drop, length-drop, drop-cons, replicate, Option, Some}
 use Rattle.std.proofs.lemmas.Bool.Decides.{nat_tests}
 use Rattle.std.proofs.lemmas.List.{take_all, take_rest}
 use Rattle.std.specs.Option.{option_map}
@@ -56,6 +56,19 @@ without_zero base limit t long first second low high =
       dropped [] long first second = absurd (omega arith)
       dropped (x ∷ []) long first second = absurd (omega arith)
       dropped (x ∷ y ∷ ds) long first second = rw (first, second) (two_zeros base limit ds low high)
+
+-- the same of more zeros
+many_zeros : (n base limit : ℕ) (ds : List ℕ) → 0 < base → base ≤ 16
+    → number_and_suffix base limit (48 ∷ ds) ≡ number_and_suffix base limit (replicate n 48 ++ 48 ∷ ds)
+many_zeros zero base limit ds low high = refl
+many_zeros (suc zero) base limit ds low high = two_zeros base limit ds low high
+many_zeros (suc (suc n)) base limit ds low high =
+    many_zeros (suc n) base limit ds low high ∙ two_zeros base limit (replicate n 48 ++ 48 ∷ ds) low high
+
+pub without_run : (base limit : ℕ) (t ds : List ℕ) → t ≡ replicate 17 48 ++ ds → 0 < base → base ≤ 16
+    → number_and_suffix base limit (take (length t - 16) (drop 16 t)) ≡ number_and_suffix base limit t
+without_run base limit t ds run low high =
+    ap (number_and_suffix base limit) (take_rest t 16) ∙ rw run (many_zeros 16 base limit ds low high)
 
 -- after a digit, a byte that is no digit ends the count: the rest is a suffix, or the text is refused
 pub ended : (base limit n at b : ℕ) (t : List ℕ) (r o : Option Suffix) → r ≡ o → at < length t → base ≤ 36

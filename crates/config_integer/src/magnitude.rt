@@ -63,6 +63,9 @@ fn base_and_digits(text: &[u8]) -> (u64, &[u8])
     }
 }
 
+/// A run of zeros. All of them but the last are passed at once.
+const ZEROS: [u8; 17] = [b'0'; 17];
+
 /// The text without those zeros at its front that another zero follows, which change no number.
 #[inline(always)]
 fn without_zeros(text: &[u8]) -> &[u8]
@@ -71,7 +74,11 @@ fn without_zeros(text: &[u8]) -> &[u8]
 {
     let mut rest = text;
     while let [b'0', b'0', ..] = rest {
-        rest = &rest[1..];
+        rest = if rest.starts_with(&ZEROS) {
+            &rest[16..]
+        } else {
+            &rest[1..]
+        };
     }
     rest
 }
