@@ -27,5 +27,6 @@ pub mod Adding
 pub mod Fronts
 pub mod Last
 pub mod Paths
+pub mod Sets
 pub mod Patterns
 pub mod Walks

@@ -4,8 +4,11 @@ use Rattle.std.proofs.Common.{inl, inr, ◌⊎◌, ◌==◌, ◌&&◌, get_or, l
 use Rattle.std.proofs.lemmas.Bool.{cases_Bool, true≢false}
 use Rattle.std.specs.List.{prefix_len, list_all}
 use Rattle.config_file.specs.Runs.{Run, StopsRun}
-use Rattle.config_file.specs.Pattern.{star, slash, is_star, stands_for, folded, crosses, is_passed, backslash}
-use Rattle.config_file.specs.Pattern.{Item, byte, escaped, Passes, Matches, MatchesLater, MatchesStars, MatchesNoDirectory, LacksStar}
+use Rattle.config_file.specs.Bytes.{left_bracket, backslash}
+use Rattle.config_file.specs.Set.{slash, folded, StandsForByte}
+use Rattle.config_file.proofs.Sets.{rest_unique, set_shortens}
+use Rattle.config_file.specs.Pattern.{star, is_star, stands_for, crosses, is_passed}
+use Rattle.config_file.specs.Pattern.{Item, byte, escaped, set, Passes, Matches, MatchesLater, MatchesStars, MatchesNoDirectory, LacksStar}
 use Rattle.config_file.specs.Pattern.{ends, one, stars, no_directory, no_more, passes}
 
 -- the front that `prefix_len` counts is the longest run
@@ -55,19 +58,29 @@ run_shortens {a = a} {r = r} run = rw run.joined (append_longer a r)
 stands_for_backslash : (i : Bool) (c b : ℕ) → c ≡ backslash → stands_for i c b ≡ true → ⊥
 stands_for_backslash i c b e is = true≢false (sym (rw e at is))
 
+stands_for_bracket : (i : Bool) (c b : ℕ) → c ≡ left_bracket → stands_for i c b ≡ true → ⊥
+stands_for_bracket i c b e is = true≢false (sym (rw e at is))
+
 no_star_item : {i : Bool} {b : ℕ} {pattern rest : List ℕ} → Item i (star ∷ pattern) b rest → ⊥
 no_star_item (byte is) = true≢false (sym is)
 no_star_item (escaped e f) = absurd (omega arith)
+no_star_item (set e is) = absurd (omega arith)
 
 item_unique : {i : Bool} {b : ℕ} {pattern r r2 : List ℕ} → Item i pattern b r → Item i pattern b r2 → r ≡ r2
 item_unique (byte is) (byte is2) = refl
 item_unique {i = i} (byte {c = c} {b = b} is) (escaped e f) = absurd (stands_for_backslash i c b e is)
+item_unique {i = i} (byte {c = c} {b = b} is) (set e stands) = absurd (stands_for_bracket i c b e is)
 item_unique {i = i} (escaped {c = c} {b = b} e f) (byte is) = absurd (stands_for_backslash i c b e is)
 item_unique (escaped e f) (escaped e2 f2) = refl
+item_unique (escaped e f) (set e2 stands) = absurd (omega arith)
+item_unique {i = i} (set {c = c} {b = b} e stands) (byte is) = absurd (stands_for_bracket i c b e is)
+item_unique (set e stands) (escaped e2 f2) = absurd (omega arith)
+item_unique (set e stands) (set e2 stands2) = rest_unique stands stands2
 
 pub item_shortens : {i : Bool} {b : ℕ} {pattern r : List ℕ} → Item i pattern b r → length r < length pattern
 item_shortens (byte is) = omega arith
 item_shortens (escaped e f) = omega arith
+item_shortens (set e stands) = let short = set_shortens stands in omega arith
 
 pub byte_item : {i : Bool} {b c : ℕ} {more : List ℕ} (pattern : List ℕ) → pattern ≡ c ∷ more → stands_for i c b ≡ true → Item i pattern b more
 byte_item pattern at is = rw at (byte is)
@@ -76,32 +89,46 @@ pub escaped_item : {i : Bool} {b c : ℕ} {more rest : List ℕ} (pattern : List
     → more ≡ folded i b ∷ rest → Item i pattern b rest
 escaped_item pattern at is e = rw (at, e) (escaped is refl)
 
+pub set_item : {i : Bool} {b c : ℕ} {more rest : List ℕ} (pattern : List ℕ) → pattern ≡ c ∷ more → c ≡ left_bracket
+    → StandsForByte i more b rest → Item i pattern b rest
+set_item pattern at is stands = rw at (set is stands)
+
 empty_no_item : {i : Bool} {b : ℕ} {rest : List ℕ} → Item i [] b rest → ⊥
 empty_no_item item = let short = item_shortens item in omega arith
 
 pub no_item : {i : Bool} {b : ℕ} (pattern rest : List ℕ) → pattern ≡ [] → ¬ (Item i pattern b rest)
 no_item {i = i} {b = b} pattern rest at item = empty_no_item (subst (λ p. Item i p b rest) at item)
 
-byte_or_escape : {i : Bool} {b c : ℕ} {more rest : List ℕ} → Item i (c ∷ more) b rest
-    → (stands_for i c b ≡ true) ⊎ ((c ≡ backslash) × (more ≡ folded i b ∷ rest))
-byte_or_escape (byte is) = inl is
-byte_or_escape (escaped {rest = rest} is e) = inr (is, ap (λ x. x ∷ rest) e)
+byte_inv : {i : Bool} {b c : ℕ} {more rest : List ℕ} → Item i (c ∷ more) b rest → c ≢ backslash → c ≢ left_bracket
+    → stands_for i c b ≡ true
+byte_inv (byte is) plain closed = is
+byte_inv (escaped is e) plain closed = absurd (plain is)
+byte_inv (set is stands) plain closed = absurd (closed is)
+
+escape_inv : {i : Bool} {b c : ℕ} {more rest : List ℕ} → Item i (c ∷ more) b rest → c ≡ backslash → more ≡ folded i b ∷ rest
+escape_inv {i = i} {b = b} {c = c} (byte is) e = absurd (stands_for_backslash i c b e is)
+escape_inv (escaped {rest = rest} is e) f = ap (λ x. x ∷ rest) e
+escape_inv (set is stands) e = absurd (omega arith)
+
+set_inv : {i : Bool} {b c : ℕ} {more rest : List ℕ} → Item i (c ∷ more) b rest → c ≡ left_bracket → StandsForByte i more b rest
+set_inv {i = i} {b = b} {c = c} (byte is) e = absurd (stands_for_bracket i c b e is)
+set_inv (escaped is e) f = absurd (omega arith)
+set_inv (set is stands) e = stands
 
 pub no_escaped_item : {i : Bool} {b c : ℕ} {more : List ℕ} (pattern rest : List ℕ) → pattern ≡ c ∷ more → c ≡ backslash
     → ((r : List ℕ) → more ≢ folded i b ∷ r) → ¬ (Item i pattern b rest)
-no_escaped_item {i = i} {b = b} {c = c} pattern rest at is never item =
-    elim (byte_or_escape (subst (λ p. Item i p b rest) at item)) [
-      | inl stands ↦ stands_for_backslash i c b is stands
-      | inr both ↦ never rest both.1
-    ]
+no_escaped_item {i = i} {b = b} pattern rest at is never item =
+    never rest (escape_inv (subst (λ p. Item i p b rest) at item) is)
+
+pub no_set_item : {i : Bool} {b c : ℕ} {more : List ℕ} (pattern rest : List ℕ) → pattern ≡ c ∷ more → c ≡ left_bracket
+    → ((r : List ℕ) → ¬ (StandsForByte i more b r)) → ¬ (Item i pattern b rest)
+no_set_item {i = i} {b = b} pattern rest at is never item =
+    never rest (set_inv (subst (λ p. Item i p b rest) at item) is)
 
 pub no_byte_item : {i : Bool} {b c : ℕ} {more : List ℕ} (pattern rest : List ℕ) → pattern ≡ c ∷ more → c ≢ backslash
-    → stands_for i c b ≡ false → ¬ (Item i pattern b rest)
-no_byte_item {i = i} {b = b} {c = c} pattern rest at is never item =
-    elim (byte_or_escape (subst (λ p. Item i p b rest) at item)) [
-      | inl stands ↦ true≢false (sym stands ∙ never)
-      | inr both ↦ is both.0
-    ]
+    → c ≢ left_bracket → stands_for i c b ≡ false → ¬ (Item i pattern b rest)
+no_byte_item {i = i} {b = b} pattern rest at plain closed never item =
+    true≢false (sym (byte_inv (subst (λ p. Item i p b rest) at item) plain closed) ∙ never)
 
 -- ---- patterns that do not begin with a star
 

@@ -8,6 +8,7 @@ pub mod File
 pub mod Listing
 pub mod Spelling
 pub mod Settings
+pub mod Set
 pub mod Pattern
 pub mod Path
 pub mod Include

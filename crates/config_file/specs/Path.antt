@@ -1,7 +1,7 @@
 -- The name of an included file.
 use Rattle.std.specs.Prelude.{◌≡◌, ℕ, Bool, true, false, not, ◌==◌, ◌-◌, take, length, List, [], ◌∷◌, ◌++◌, codes, Option, None, Some}
 use Rattle.std.specs.List.{suffix_len}
-use Rattle.config_file.specs.Pattern.{slash}
+use Rattle.config_file.specs.Set.{slash}
 use Rattle.config_file.specs.Include.{LacksFront}
 
 -- nothing, or a `/` and what is below

@@ -1,29 +1,17 @@
 -- Patterns of paths, as Git matches them.
 use Rattle.std.specs.Prelude.{◌≡◌, ◌≢◌, ℕ, Bool, true, false, not, if◌then◌else◌, ◌||◌, ◌&&◌, ◌==◌, List, [], ◌∷◌}
-use Rattle.std.specs.Char.{to_ascii_lowercase}
+use Rattle.config_file.specs.Bytes.{left_bracket, backslash}
 use Rattle.config_file.specs.Runs.{Run}
+use Rattle.config_file.specs.Set.{slash, folded, StandsForByte}
 
 abbrev pub star : ℕ
 star = 42
 
-abbrev pub slash : ℕ
-slash = 47
-
 abbrev pub question_mark : ℕ
 question_mark = 63
 
-abbrev pub left_bracket : ℕ
-left_bracket = 91
-
-abbrev pub backslash : ℕ
-backslash = 92
-
 abbrev pub is_star : ℕ → Bool
 is_star b = b == star
-
--- a byte as it is compared: in lower case if case does not count
-abbrev pub folded : Bool → ℕ → ℕ
-folded ignores_case b = if ignores_case then to_ascii_lowercase b else b
 
 -- whether a byte of a pattern stands for this byte: `?` for any but `/`, and one without a meaning of its own for itself
 abbrev pub stands_for : Bool → ℕ → ℕ → Bool
@@ -37,6 +25,8 @@ stands_for ignores_case c b =
 pub data Item (ignores_case : Bool) : List ℕ → ℕ → List ℕ → Type 0 where
   byte : {c b : ℕ} {rest : List ℕ} → stands_for ignores_case c b ≡ true → Item ignores_case (c ∷ rest) b rest
   escaped : {c e b : ℕ} {rest : List ℕ} → c ≡ backslash → e ≡ folded ignores_case b → Item ignores_case (c ∷ e ∷ rest) b rest
+  set : {c b : ℕ} {text rest : List ℕ} → c ≡ left_bracket → StandsForByte ignores_case text b rest
+      → Item ignores_case (c ∷ text) b rest
 
 -- the pattern is at its end, or a `/` is next
 abbrev pub ends_name : List ℕ → Bool

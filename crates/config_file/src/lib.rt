@@ -23,6 +23,7 @@ pub mod path;
 pub mod pattern;
 pub mod reader;
 pub mod section;
+mod set;
 pub mod settings;
 pub mod spelling;
 pub mod value;

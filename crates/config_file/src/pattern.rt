@@ -4,7 +4,9 @@ ghost use Rattle.std.specs.List.{prefix_len};
 ghost use Rattle.config_file.specs.Runs.{Run};
 ghost use Rattle.config_file.specs.Pattern as spec;
 ghost use Rattle.config_file.specs.Pattern.{Item, Matches, MatchesText, MatchesLater, MatchesStars};
-ghost use Rattle.config_file.specs.Pattern.{MatchesNoDirectory, is_star, folded};
+ghost use Rattle.config_file.specs.Pattern.{MatchesNoDirectory, is_star};
+
+use crate::set::{after_set, folded};
 
 /// The first byte of a text, and what follows it.
 fn split(text: &[u8]) -> Option<(u8, &[u8])>
@@ -21,17 +23,6 @@ fn is_at_end(text: &[u8]) -> bool
     ensures { IsTrue result ↔ (text.now ≡ []) }
 {
     text.is_empty()
-}
-
-/// A byte as it is compared: in lower case if case does not count.
-fn folded(byte: u8, ignores_case: bool) -> u8
-    ensures { result ≡ folded ignores_case byte }
-{
-    if ignores_case {
-        byte.to_ascii_lowercase()
-    } else {
-        byte
-    }
 }
 
 /// Whether a byte of a pattern stands for this byte.
@@ -54,7 +45,7 @@ fn after_byte(byte: u8, text: &[u8]) -> Option<&[u8]>
 }
 
 /// What follows the first item of the pattern, or `None` if that item does not match the byte.
-#[tactic(auto, using(crate::proofs::Patterns::byte_item, crate::proofs::Patterns::escaped_item, crate::proofs::Patterns::no_item, crate::proofs::Patterns::no_escaped_item, crate::proofs::Patterns::no_byte_item))]
+#[tactic(auto, using(crate::proofs::Patterns::byte_item, crate::proofs::Patterns::escaped_item, crate::proofs::Patterns::no_item, crate::proofs::Patterns::no_escaped_item, crate::proofs::Patterns::no_byte_item, crate::proofs::Patterns::set_item, crate::proofs::Patterns::no_set_item))]
 fn after_item(pattern: &[u8], byte: u8, ignores_case: bool) -> Option<&[u8]>
     ensures { MatchOption result ((rest : List ℕ) → ¬ (Item ignores_case pattern.now byte rest))
         (λ rest. Item ignores_case pattern.now byte rest.now) }
@@ -63,6 +54,9 @@ fn after_item(pattern: &[u8], byte: u8, ignores_case: bool) -> Option<&[u8]>
     if first == b'\\' {
         let escaped = folded(byte, ignores_case);
         return after_byte(escaped, rest);
+    }
+    if first == b'[' {
+        return after_set(rest, byte, ignores_case);
     }
     if stands_for(first, byte, ignores_case) {
         Some(rest)
@@ -125,6 +119,7 @@ pub fn matches(pattern: &[u8], text: &[u8], ignores_case: bool) -> bool
 }
 
 /// Whether the pattern matches the text, where a name starts or not.
+#[tactic(auto, using(crate::proofs::Patterns::item_shortens))]
 #[cycle(pattern)]
 fn matches_from(pattern: &[u8], text: &[u8], starts: bool, ignores_case: bool) -> bool
     ensures { IsTrue result ↔ (Matches ignores_case starts pattern.now text.now) }

@@ -1,0 +1,160 @@
+//! Sets of bytes in patterns, as `[a-z]` and `[!/]`.
+ghost use Rattle.std.specs.Prelude.{◌≡◌, ◌<◌, ◌≢◌, ◌∷◌, Bool, true, List, ℕ, IfSome, MatchOption, length, option_map};
+ghost use Rattle.std.specs.Int.{is_in_range};
+ghost use Rattle.config_file.specs.Set as spec;
+ghost use Rattle.config_file.specs.Set.{SetHas, StandsForByte};
+
+/// A byte as it is compared: in lower case if case does not count.
+pub(crate) fn folded(byte: u8, ignores_case: bool) -> u8
+    ensures { result ≡ spec.folded ignores_case byte }
+{
+    if ignores_case {
+        byte.to_ascii_lowercase()
+    } else {
+        byte
+    }
+}
+
+/// Whether the set is negated, and its members.
+fn opened(text: &[u8]) -> (bool, &[u8])
+    ensures { (result.0, result.1.now) ≡ spec.opened text.now }
+{
+    match text {
+        [b'!' | b'^', rest @ ..] => (true, rest),
+        _ => (false, text),
+    }
+}
+
+/// The first byte, and the rest.
+fn first_byte(text: &[u8]) -> Option<(u8, &[u8])>
+    ensures { option_map (λ p. (p.0, p.1.now)) result ≡ spec.first_byte text.now }
+{
+    match text {
+        [first, rest @ ..] => Some((*first, rest)),
+        [] => None,
+    }
+}
+
+/// Whether a byte ends the set or begins a class, such as `[:alpha:]`.
+fn is_no_member(byte: u8, rest: &[u8], starts: bool) -> bool
+    ensures { result ≡ spec.is_no_member starts byte rest.now }
+{
+    match rest {
+        [] => byte == b']' && !starts,
+        [next, ..] => byte == b']' && !starts || byte == b'[' && *next == b':',
+    }
+}
+
+/// A byte of a set, and the rest.
+fn set_byte(text: &[u8], starts: bool) -> Option<(u8, &[u8])>
+    ensures { option_map (λ p. (p.0, p.1.now)) result ≡ spec.set_byte starts text.now }
+{
+    match text {
+        [] => None,
+        [first, rest @ ..] => {
+            if *first == b'\\' {
+                return first_byte(rest);
+            }
+            if is_no_member(*first, rest, starts) {
+                return None;
+            }
+            Some((*first, rest))
+        }
+    }
+}
+
+/// The last byte of a range, after its `-`, and the rest.
+fn range_end(text: &[u8]) -> Option<(u8, &[u8])>
+    ensures { option_map (λ p. (p.0, p.1.now)) result ≡ spec.range_end text.now }
+{
+    match text {
+        [] => None,
+        [first, rest @ ..] => {
+            if *first == b'-' {
+                set_byte(rest, false)
+            } else {
+                None
+            }
+        }
+    }
+}
+
+/// Whether a range has the byte.
+fn range_has(first: u8, last: u8, byte: u8, ignores_case: bool) -> bool
+    ensures { result ≡ spec.range_has ignores_case first last byte }
+{
+    is_between(first, last, folded(byte, ignores_case))
+        || ignores_case && is_between(first, last, byte.to_ascii_uppercase())
+}
+
+/// Whether a byte is none before the first and none after the last.
+fn is_between(first: u8, last: u8, byte: u8) -> bool
+    ensures { result ≡ is_in_range first last byte }
+{
+    first <= byte && byte <= last
+}
+
+/// Whether the first member, which is a byte or a range, has the byte, and the rest.
+fn member(text: &[u8], starts: bool, byte: u8, ignores_case: bool) -> Option<(bool, &[u8])>
+    ensures is { option_map (λ p. (p.0, p.1.now)) result ≡ spec.member ignores_case byte starts text.now }
+    ensures shorter { IfSome result (λ p. length p.1.now < length text.now) }
+{
+    let (first, after) = set_byte(text, starts)?;
+    let is_here = first == folded(byte, ignores_case);
+    match range_end(after) {
+        Some((last, rest)) => Some((is_here || range_has(first, last, byte, ignores_case), rest)),
+        None => Some((is_here, after)),
+    }
+}
+
+/// What follows the end of the set, if it ends here.
+fn after_end(text: &[u8]) -> Option<&[u8]>
+    ensures { MatchOption result ((rest : List ℕ) → text.now ≢ 93 ∷ rest) (λ rest. text.now ≡ 93 ∷ rest.now) }
+{
+    match text {
+        [b']', rest @ ..] => Some(rest),
+        _ => None,
+    }
+}
+
+/// Whether one of the members up to `]` has the byte, and the rest, or `None` if they are no members of a set.
+#[tactic(auto, using(crate::proofs::Sets::goes_on_first, crate::proofs::Sets::goes_on_found, crate::proofs::Sets::goes_on_here, crate::proofs::Sets::set_closed, crate::proofs::Sets::no_first, crate::proofs::Sets::not_closed))]
+fn members(text: &[u8], byte: u8, ignores_case: bool) -> Option<(bool, &[u8])>
+    ensures { MatchOption result ((found : Bool) (rest : List ℕ) → ¬ (SetHas ignores_case byte true text.now found rest))
+        (λ p. SetHas ignores_case byte true text.now p.0 p.1.now) }
+{
+    let (mut found, mut rest) = member(text, true, byte, ignores_case)?;
+    'members: loop {
+        if let Some(after) = after_end(rest) {
+            return Some((found, after));
+        }
+        let (is_here, after) = member(rest, false, byte, ignores_case)?;
+        found = found || is_here;
+        rest = after;
+    }
+}
+
+/// Whether the set wants the byte, which one of its members has or not.
+fn is_wanted(found: bool, is_negated: bool) -> bool
+    ensures { result ≡ spec.is_wanted found is_negated }
+{
+    if is_negated { !found } else { found }
+}
+
+/// What follows the set, or `None` if it does not stand for the byte, or is no set.
+#[tactic(auto, using(crate::proofs::Sets::stands, crate::proofs::Sets::stands_not, crate::proofs::Sets::stands_for_no_slash))]
+pub(crate) fn after_set(text: &[u8], byte: u8, ignores_case: bool) -> Option<&[u8]>
+    ensures { MatchOption result ((rest : List ℕ) → ¬ (StandsForByte ignores_case text.now byte rest))
+        (λ rest. StandsForByte ignores_case text.now byte rest.now) }
+{
+    if byte == b'/' {
+        return None;
+    }
+    let (is_negated, inner) = opened(text);
+    let (found, rest) = members(inner, byte, ignores_case)?;
+    if is_wanted(found, is_negated) {
+        Some(rest)
+    } else {
+        None
+    }
+}
