@@ -71,22 +71,27 @@ module _ (rows : List Row) (options : Options) where
   }
 
 -- a part of a line was written
-pub part_written : {IsLine : List ℕ → Type 0} (x x' : Option (List ℕ)) (e : CheckError) (line : List ℕ) → IsWrite e → IsLine line
+pub part_written : (IsLine : List ℕ → Type 0) (x x' : Option (List ℕ)) (e : CheckError) (line : List ℕ) → IsWrite e → IsLine line
     → AppendsPart x x' line → WritesPart x x' IsLine e
-part_written x x' (Write e) line is line_is part = (line, line_is, part)
-part_written x x' (Memory e) line is line_is part = absurd is
+part_written IsLine x x' (Write e) line is line_is part = (line, line_is, part)
+part_written IsLine x x' (Memory e) line is line_is part = absurd is
 
-pub nothing_written : {IsLine : List ℕ → Type 0} (x : Option (List ℕ)) (e : CheckError) → IsMemory e → WritesPart x x IsLine e
-nothing_written x (Write e) is = absurd is
-nothing_written x (Memory e) is = refl
+take_next : {X : Type 0} (xs : List X) (i : ℕ) (d : X) → i < length xs → take (suc i) xs ≡ take i xs ++ get_or xs i d ∷ []
+take_next [] i d below = absurd (omega arith)
+take_next (x ∷ xs) zero d below = refl
+take_next (x ∷ xs) (suc i) d below = ap (λ l. x ∷ l) (take_next xs i d (omega arith))
 
-pub take_more : {X : Type 0} (xs : List X) (i : ℕ) (d : X) → i < length xs → take (i + 1) xs ≡ take i xs ++ get_or xs i d ∷ []
-take_more [] i d below = absurd (omega arith)
-take_more (x ∷ xs) zero d below = refl
-take_more (x ∷ xs) (suc i) d below = ap (λ l. x ∷ l) (take_more xs i d (omega arith))
+-- the item at this place
+pub take_more : {X : Type 0} (xs : List X) (i : ℕ) (x : X) → i < length xs → get_or xs i x ≡ x
+    → take (i + 1) xs ≡ take i xs ++ x ∷ []
+take_more xs i x below here =
+    let one : i + 1 ≡ suc i = omega arith in
+    ap (λ n. take n xs) one ∙ take_next xs i x below ∙ ap (λ y. take i xs ++ y ∷ []) here
 
-pub cut_at : {X : Type 0} (xs : List X) (i : ℕ) (d : X) → i < length xs → xs ≡ take i xs ++ get_or xs i d ∷ drop (suc i) xs
-cut_at xs i d below = sym (take-append-drop i xs) ∙ ap (λ l. take i xs ++ l) (drop-cons xs i d below)
+pub cut_at : {X : Type 0} (xs : List X) (i : ℕ) (x : X) → i < length xs → get_or xs i x ≡ x
+    → xs ≡ take i xs ++ x ∷ drop (suc i) xs
+cut_at xs i x below here =
+    sym (take-append-drop i xs) ∙ ap (λ l. take i xs ++ l) (drop-cons xs i x below) ∙ ap (λ y. take i xs ++ y ∷ drop (suc i) xs) here
 
 -- ---- counts
 

@@ -20,9 +20,9 @@ loop-setting-preserved g c =
     let counts = adds_one _ _ _ _ _ _ _ reported in
     let so_far = c.loop-setting.invariant in
     record {
-      so_far = subst (λ settings. ReportsAll c.args.rows.now c.args.options.now settings _ _ _)
-          (sym (take_more c.args.settings.now c.loop-setting.setting-index _ c.loop-setting-test.true))
-          (more _ _ _ _ _ _ _ _ _ so_far.so_far reported);
+      so_far = subst (λ settings. ReportsAll c.args.rows.now c.args.options.now settings (g.W.Write.contents c.args.writer.now) (g.W.Write.contents c.report.new.writer) c.report.new.self.counts)
+          (sym (take_more c.args.settings.now c.loop-setting.setting-index c.setting-item.result c.loop-setting-test.true (sym c.setting-item.is)))
+          (more c.args.rows.now c.args.options.now (take c.loop-setting.setting-index c.args.settings.now) c.setting-item.result _ (g.W.Write.contents c.loop-setting.writer) _ c.loop-setting.progress.counts _ so_far.so_far reported);
       counted = omega (arith, counts.0, so_far.counted);
       unknown = omega (arith, counts.0, counts.1, so_far.unknown);
       findings = omega (arith, counts.0, counts.2, so_far.findings);
@@ -33,4 +33,4 @@ returns-in_err-report-clause-err g c =
     let failed = c.in_err-report in
     passed_on (ReportsFirst _ _ _ _ _) _ _ c.from_residual.ensures.1
     (fails_here _ _ _ (drop (suc c.loop-setting.setting-index) c.args.settings.now) _ _ _ _ _ _ failed.field-0.0
-    (cut_at c.args.settings.now c.loop-setting.setting-index _ c.loop-setting-test.true) c.loop-setting.invariant.so_far failed.ensures.err)
+    (cut_at c.args.settings.now c.loop-setting.setting-index c.setting-item.result c.loop-setting-test.true (sym c.setting-item.is)) c.loop-setting.invariant.so_far failed.ensures.err)
