@@ -159,11 +159,13 @@ fn tell<W: Write>(
     };
     let mut line = Vec::new(alloc);
     push_refusal(&mut line, options, file, error).map_err(CheckError::Memory)?;
-    write_out(writer, &line).map_err(CheckError::Write)?;
-    Ok(Counts {
-        findings: counts.findings + 1,
-        ..counts
-    })
+    match write_out(writer, &line) {
+        Ok(()) => Ok(Counts {
+            findings: counts.findings + 1,
+            ..counts
+        }),
+        Err(error) => Err(CheckError::Write(error)),
+    }
 }
 
 /// The settings of a file, up to the line that Git cannot read if there is one, and why.
