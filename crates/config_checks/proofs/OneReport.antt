@@ -130,9 +130,11 @@ all_once name (e ∷ entries) (x ∷ a) (y ∷ b) clear p q =
 settings_once : (name text : List ℕ) (a b : List Setting) (e f : Option errors.Error) → HasSettings name text a e
     → HasSettings name text b f → (map facts a ≡ map facts b) × (e ≡ f)
 settings_once name text a b e f (entries, is, are) (entries', is', are') =
-    let read = one_reading text entries entries' e f is is' in
-    (all_once name entries a b (all_clear no_section is.reads) are
-        (subst (λ l. AllZip (IsSettingOf name) l b) (sym read.0) are'), read.1)
+    let read = one_reading text entries entries' e f is is' in (
+      all_once name entries a b (all_clear no_section is.reads) are
+          (subst (λ l. AllZip (IsSettingOf name) l b) (sym read.0) are'),
+      read.1,
+    )
 
 -- ---- a key and its row
 

@@ -31,6 +31,9 @@ returns-clause-err g c =
     let write : IfErr c.map_err-2.result IsWrite = search rules in
     err_with {R = ReportsPart _ _ _ _ _ _} _ (err_mapped _ _ c.map_err-2.ensures.variant c.write_out.ensures.err (λ part. part)) write
     (λ part e is. part_written (λ line. (s' : Counts) × ReportsSetting c.args.rows.now c.args.options.now c.args.setting.now c.args.self.now.counts line s')
-    _ _ e c.deref-2.result.now is (_, found c.in-Some.row.now c.in-Some-find.reason (subst (λ k. Decides c.args.rows.now k c.in-Some.row.now) c.deref.ensures.value c.in-Some.ensures)
-    (subst (λ v. HasFinding c.args.options.now.canonical c.in-Some.row.now v (Some c.in-Some-find.reason)) c.value_of.ensures c.in-Some-find.ensures)
-    (search rules) refl) part)
+    _ _ e c.deref-2.result.now is (
+      _,
+      found c.in-Some.row.now c.in-Some-find.reason (subst (λ k. Decides c.args.rows.now k c.in-Some.row.now) c.deref.ensures.value c.in-Some.ensures)
+          (subst (λ v. HasFinding c.args.options.now.canonical c.in-Some.row.now v (Some c.in-Some-find.reason)) c.value_of.ensures c.in-Some-find.ensures)
+          (search rules) refl,
+    ) part)
