@@ -1,6 +1,6 @@
 -- A file has one report.
-use Rattle.std.proofs.Common.{◌≡◌, ◌≢◌, ℕ, inl, inr, ◌+◌, ◌<◌, List, [], ◌∷◌, ◌++◌, Bool, map}
-use Rattle.std.proofs.Common.{Option, None, Some, refl, sym, ap, subst, ◌∙◌, arith, append_assoc, get_or, Bor, codes}
+use Rattle.std.proofs.Common.{◌≡◌, ◌≢◌, ℕ, inl, inr, ◌⊎◌, ◌+◌, ◌<◌, List, [], ◌∷◌, ◌++◌, Bool, map}
+use Rattle.std.proofs.Common.{Option, None, Some, refl, sym, ap, subst, ◌∙◌, arith, append_assoc, append-nil, get_or, Bor, codes}
 use Rattle.std.specs.Bool.{⊤}
 use Rattle.std.specs.Char.{to_ascii_lowercase}
 use Rattle.std.specs.List.{AllByRecursion, AllZip}
@@ -26,12 +26,13 @@ use Rattle.config_checks.specs.declared.reason.Reason.TheVariants.{NotCanonical,
 use Rattle.config_checks.specs.declared.reason.Severity.{Severity}
 use Rattle.config_checks.specs.declared.reason.Severity.TheVariants.{Error, Warning, Note}
 use Rattle.config_checks.specs.declared.check.Counts.{Counts}
+use Rattle.config_checks.specs.declared.check.CheckError.{CheckError}
 use Rattle.config_checks.specs.Keys.{IsWithout, IsKey, Covers, CoversBetween, between_text, dot}
 use Rattle.config_checks.specs.Rows.{Decides, IsUnknown}
 use Rattle.config_checks.specs.Reasons.{HasFinding, IsSameFinding, severity_of}
 use Rattle.config_checks.specs.Findings.{line_feed, shown, value_shown, severity_text, reason_text, no_word_text, painted}
 use Rattle.config_checks.specs.Report.{place, value_of, finding_line, ReportsSetting, unknown, right, found}
-use Rattle.config_checks.specs.Report.{Report, nothing, next, EndsReport, HasSettings, IsReport}
+use Rattle.config_checks.specs.Report.{Report, nothing, next, EndsReport, HasSettings, IsReport, BeginsReport}
 use Rattle.config_checks.proofs.KeyLemmas.{not_without}
 use Rattle.config_checks.proofs.OneFinding.{finding_once}
 use Rattle.gix_config_value.proofs.LineLemmas.{AllByRecursion-from_places}
@@ -126,6 +127,25 @@ all_once name (e ∷ entries) (x ∷ a) [] clear p q = absurd q
 all_once name (e ∷ entries) (x ∷ a) (y ∷ b) clear p q =
     let first = facts_once name e x y clear.0 p.0 q.0 in
     let others = all_once name entries a b clear.1 p.1 q.1 in λ i. first i ∷ others i
+
+-- the settings go on after the first ones, one for each of the entries that are left
+begin_once : (name : List ℕ) (before after : List Entry) (first all : List Setting) → AllByRecursion IsClear (before ++ after)
+    → AllZip (IsSettingOf name) before first → AllZip (IsSettingOf name) (before ++ after) all
+    → (others : List Setting) × (map facts all ≡ map facts first ++ map facts others) × AllZip (IsSettingOf name) after others
+begin_once name [] after [] all clear p q = (all, refl, q)
+begin_once name [] after (x ∷ first) all clear p q = absurd p
+begin_once name (e ∷ before) after [] all clear p q = absurd p
+begin_once name (e ∷ before) after (x ∷ first) [] clear p q = absurd q
+begin_once name (e ∷ before) after (x ∷ first) (y ∷ all) clear p q =
+    let one = facts_once name e y x clear.0 q.0 p.0 in
+    let (others, parts, are) = begin_once name before after first all clear.1 p.1 q.1 in
+    (others, λ i. one i ∷ parts i, are)
+
+nothing_after : (name : List ℕ) (after : List Entry) (others : List Setting) → after ≡ []
+    → AllZip (IsSettingOf name) after others → others ≡ []
+nothing_after name [] [] is are = refl
+nothing_after name [] (x ∷ others) is are = absurd are
+nothing_after name (e ∷ after) others is are = absurd (cc)
 
 settings_once : (name text : List ℕ) (a b : List Setting) (e f : Option errors.Error) → HasSettings name text a e
     → HasSettings name text b f → (map facts a ≡ map facts b) × (e ≡ f)
@@ -313,3 +333,66 @@ module _ (options : Options) where
         (subst (λ c. EndsReport options name p.error c q.last t) (sym reports.1)
         (subst (λ e. EndsReport options name e q.s q.last t) (sym read.1) q.ends)) in
         (p.parts ∙ (λ i. reports.0 i ++ ends.0 i) ∙ sym q.parts, ends.1)
+
+    no_front : (x y : List Facts) → [] ≡ x ++ y → x ≡ []
+    no_front [] y e = refl
+    no_front (f ∷ x) y e = absurd (cc)
+
+    last_of : (l : List Facts) → (l ≡ []) ⊎ ((front : List Facts) × (f : Facts) × (l ≡ front ++ f ∷ []))
+    last_of [] = inl refl
+    last_of (x ∷ l) = elim (last_of l) [
+      | inl none ↦ inr ([], x, ap (λ k. x ∷ k) none)
+      | inr some ↦ let (front, f, is) = some in inr (x ∷ front, f, ap (λ k. x ∷ k) is)
+    ]
+
+    -- the lines of the first settings begin those of all
+    lines_begin : {first all : List Setting} {p o : List ℕ} {s t : Counts} → Report rows options first p s
+        → Report rows options all o t → (others : List Facts) → map facts all ≡ map facts first ++ others
+        → (rest : List ℕ) × (o ≡ p ++ rest)
+    lines_begin {first = first} {p = p} report nothing others same =
+        let none = lines_once nothing report (sym (no_front (map facts first) others same)) in
+        ([], none.0 ∙ sym (append-nil p))
+    lines_begin {first = first} {p = p} report (next es o s e line s' before adds) others same = elim (last_of others) [
+      | inl none ↦
+          let whole = lines_once (next es o s e line s' before adds) report
+          (same ∙ ap (λ l. map facts first ++ l) none ∙ append-nil (map facts first)) in
+          ([], whole.0 ∙ sym (append-nil p))
+      | inr some ↦
+          let (front, f, is) = some in
+          let cut = one_more (map facts es) (map facts first ++ front) (facts e) f
+          (sym (facts_and es e) ∙ same ∙ ap (λ l. map facts first ++ l) is ∙ sym (append_assoc (map facts first) front (f ∷ []))) in
+          let (rest, parts) = lines_begin report before front cut.0 in
+          (rest ++ line, ap (λ l. l ++ line) parts ∙ append_assoc p rest line)
+    ]
+
+    join : (a missing lines rest last whole : List ℕ) → lines ≡ a ++ missing → whole ≡ (lines ++ rest) ++ last
+        → (more : List ℕ) × (whole ≡ a ++ more)
+    join a missing lines rest last whole e f =
+        (missing ++ (rest ++ last), f ∙ ap (λ l. (l ++ rest) ++ last) e ∙ append_assoc (a ++ missing) rest last
+        ∙ append_assoc a missing (rest ++ last))
+
+    -- what was written at an error begins the report
+    pub report_begins : (name text a b : List ℕ) (e : CheckError) (s : Counts) → BeginsReport rows options name text a e
+        → IsReport rows options name text b s → (more : List ℕ) × (b ≡ a ++ more)
+    report_begins name text a b e s p q =
+        let (entries, is, are) = q.of_file in
+        let first = p.of_file in
+        let read = one_reading text (first.before ++ first.after) entries first.error q.error first.is_file is in
+        let (others, parts, rest) = begin_once name first.before first.after p.first q.settings
+        (all_clear no_section first.is_file.reads) first.are (subst (λ l. AllZip (IsSettingOf name) l q.settings) (sym read.0) are) in
+        elim first.at_end [
+          | inl none ↦
+              let no_last = (subst (λ t. EndsReport options name t p.s p.last p.s') none p.ends).0 in
+              let (more, whole) = lines_begin p.report q.report (map facts others) parts in
+              join a p.missing p.lines more q.last b
+              (sym (append-nil p.lines) ∙ sym (ap (λ l. p.lines ++ l) no_last) ∙ p.parts)
+              (q.parts ∙ ap (λ l. l ++ q.last) whole)
+          | inr all ↦
+              let no_others = nothing_after name first.after others all.0 rest in
+              let reports = lines_once q.report p.report
+              (parts ∙ ap (λ l. map facts p.first ++ map facts l) no_others ∙ append-nil (map facts p.first)) in
+              let ends = ends_once name q.error q.s s p.s' q.last p.last q.ends
+              (subst (λ c. EndsReport options name q.error c p.last p.s') (sym reports.1)
+              (subst (λ t. EndsReport options name t p.s p.last p.s') (all.1 ∙ read.1) p.ends)) in
+              (p.missing, q.parts ∙ (λ i. reports.0 i ++ ends.0 i) ∙ p.parts)
+        ]
