@@ -1,7 +1,7 @@
 -- A check, setting by setting.
-use Rattle.std.proofs.Common.{◌≡◌, ◌+◌, ◌≤◌, ◌<◌, ◌^◌, ℕ, List, [], ◌∷◌, ◌++◌, Option, None, Some, refl, sym, inl, inr}
+use Rattle.std.proofs.Common.{◌≡◌, ◌+◌, ◌≤◌, ◌<◌, ℕ, List, [], ◌∷◌, ◌++◌, Option, None, refl, sym, inl, inr}
 use Rattle.std.proofs.Common.{ap, subst, ◌∙◌, append_assoc, append-nil, arith, Result, Ok, Err, take, drop, drop-cons, zero, suc, length}
-use Rattle.std.proofs.Common.{IfOk, IfErr, OnOk, OnErr, is_ok, IsErrAnd, take-append-drop, get_or}
+use Rattle.std.proofs.Common.{IfErr, OnOk, OnErr, is_ok, IsErrAnd, take-append-drop, get_or}
 use Rattle.std.specs.Io.KnownBytes.{Appends, Keeps}
 use Rattle.std.proofs.KnownBytes.{Appends-nil, Appends-trans, Appends-kept}
 use Rattle.config_file.specs.declared.errors.Error as errors
@@ -11,10 +11,10 @@ use Rattle.config_checks.specs.declared.row.Row.{Row}
 use Rattle.config_checks.specs.declared.check.Counts.{Counts}
 use Rattle.config_checks.specs.declared.check.CheckError.{CheckError}
 use Rattle.config_checks.specs.declared.check.CheckError.TheVariants.{Write, Memory}
-use Rattle.config_checks.specs.Report.{ReportsSetting, unknown, right, found, Report, nothing, next, EndsReport, MayLack}
+use Rattle.config_checks.specs.Report.{unknown, right, found, Report, nothing, next}
 use Rattle.config_checks.specs.Report.{HasSettings, HasFirst, Completes, Fails}
 use Rattle.config_checks.specs.Findings.{AppendsPart}
-use Rattle.config_checks.specs.Reading.Steps.{HasRoom, Reports, ReportsPart, ReportsAll, ReportsFirst, Tells, TellsPart}
+use Rattle.config_checks.specs.Reading.Steps.{Reports, ReportsPart, ReportsAll, ReportsFirst, Tells, TellsPart}
 use Rattle.config_checks.specs.Reading.Steps.{WritesPart, IsMemory, IsWrite}
 use Rattle.config_file.specs.File.{Entry, IsFile}
 use Rattle.config_file.specs.Settings.{IsSettingOf}

@@ -1,5 +1,5 @@
 -- A file has one report.
-use Rattle.std.proofs.Common.{◌≡◌, ◌≢◌, ℕ, inl, inr, ◌⊎◌, ◌+◌, ◌<◌, List, [], ◌∷◌, ◌++◌, Bool, map}
+use Rattle.std.proofs.Common.{◌≡◌, ◌≢◌, ℕ, inl, inr, ◌⊎◌, ◌<◌, List, [], ◌∷◌, ◌++◌, Bool, map}
 use Rattle.std.proofs.Common.{Option, None, Some, refl, sym, ap, subst, ◌∙◌, arith, append_assoc, append-nil, get_or, Bor, codes}
 use Rattle.std.specs.Bool.{⊤}
 use Rattle.std.specs.Char.{to_ascii_lowercase}
@@ -24,7 +24,7 @@ use Rattle.config_checks.specs.declared.key.Key.{Key}
 use Rattle.config_checks.specs.declared.reason.Reason.{Reason}
 use Rattle.config_checks.specs.declared.reason.Reason.TheVariants.{NotCanonical, NoWord}
 use Rattle.config_checks.specs.declared.reason.Severity.{Severity}
-use Rattle.config_checks.specs.declared.reason.Severity.TheVariants.{Error, Warning, Note}
+use Rattle.config_checks.specs.declared.reason.Severity.TheVariants.{Note}
 use Rattle.config_checks.specs.declared.check.Counts.{Counts}
 use Rattle.config_checks.specs.declared.check.CheckError.{CheckError}
 use Rattle.config_checks.specs.Keys.{IsWithout, IsKey, Covers, CoversBetween, between_text, dot}
@@ -367,9 +367,11 @@ module _ (options : Options) where
 
     join : (a missing lines rest last whole : List ℕ) → lines ≡ a ++ missing → whole ≡ (lines ++ rest) ++ last
         → (more : List ℕ) × (whole ≡ a ++ more)
-    join a missing lines rest last whole e f =
-        (missing ++ (rest ++ last), f ∙ ap (λ l. (l ++ rest) ++ last) e ∙ append_assoc (a ++ missing) rest last
-        ∙ append_assoc a missing (rest ++ last))
+    join a missing lines rest last whole e f = (
+      missing ++ (rest ++ last),
+      f ∙ ap (λ l. (l ++ rest) ++ last) e ∙ append_assoc (a ++ missing) rest last
+          ∙ append_assoc a missing (rest ++ last),
+    )
 
     -- what was written at an error begins the report
     pub report_begins : (name text a b : List ℕ) (e : CheckError) (s : Counts) → BeginsReport rows options name text a e

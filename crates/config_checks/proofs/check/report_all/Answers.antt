@@ -1,5 +1,4 @@
-use Rattle.std.proofs.Common.{◌≡◌, ◌+◌, ◌++◌, ◌∷◌, [], List, arith, sym, subst, take, drop, suc, get_or, rules}
-use Rattle.config_file.specs.declared.settings.Setting.{Setting}
+use Rattle.std.proofs.Common.{arith, sym, subst, take, drop, suc}
 use Rattle.config_checks.specs.Reading.Steps.{ReportsAll, ReportsFirst}
 use Rattle.config_checks.proofs.CheckLemmas.{start, more, fails_here, adds_one, take_more, cut_at, passed_on}
 use Rattle.config_checks.proofs.check.report_all.Goals as goal

@@ -1,7 +1,6 @@
-use Rattle.std.proofs.Common.{◌≡◌, IfErr, OnErr, None, List, ℕ, [], refl, rules, subst, option_copied, Option, Some}
+use Rattle.std.proofs.Common.{IfErr, None, [], refl, rules, subst, Some}
 use Rattle.std.proofs.KnownBytes.{Appends-nil}
 use Rattle.config_checks.specs.declared.check.Counts.{Counts}
-use Rattle.config_checks.specs.declared.reason.Reason.{Reason}
 use Rattle.config_checks.specs.Reading.Steps.{ReportsPart, IsWrite}
 use Rattle.config_checks.specs.Rows.{Decides}
 use Rattle.config_checks.specs.Reasons.{HasFinding}
