@@ -3,6 +3,5 @@ pub mod Kinds
 pub mod Reasons
 pub mod Rows
 pub mod Findings
-pub mod Entries
 pub mod Report
 pub mod Reading
