@@ -1,12 +1,9 @@
 -- Settings in a row, one more at a time.
 use Rattle.std.proofs.Common.{◌≡◌, ◌∙◌, ◌<◌, ◌≤◌, ◌+◌, ◌⊎◌, inl, inr, ◌++◌, ℕ, suc, List, [], ◌∷◌, None, length, take, drop, get_or, refl, sym, ap, subst, arith}
-use Rattle.std.specs.List.{AllZip}
 use Rattle.std.proofs.Math.Seq.{take-suc}
 use Rattle.std.proofs.lemmas.List.{append_assoc, append-nil, length-append}
-use Rattle.config_file.specs.File.{Entry, IsFile}
-use Rattle.config_file.specs.Settings.{IsSettingOf, Adds}
 use Rattle.config_file.specs.declared.settings.Setting.{Setting}
-use Rattle.gix_config_value_c.specs.Files.{setting_bytes, row_bytes, place_at, places_from, file_struct, PutsSettings, HasSettings}
+use Rattle.gix_config_value_c.specs.Files.{setting_bytes, row_bytes, place_at, places_from, file_struct, PutsSettings}
 use Rattle.gix_config_value_c.specs.Files.PutsSettings.{short, put}
 use Rattle.gix_config_value_c.specs.declared.files.GcvFile.{GcvFile}
 use Rattle.gix_config_value_c.specs.declared.files.GcvPlace.{GcvPlace}
@@ -62,8 +59,3 @@ put_of settings bytes row front places all back out size count b p s n fits also
     let bs : size ≡ length (row_bytes settings) = s ∙ ap length b in
     let ps : count ≡ length settings = n ∙ ap length p ∙ places_count 0 settings in
     put (omega (arith, bs, fits), omega (arith, ps, also)) (rw (f, b, bs) refl) (rw (g, p, ps) refl) (rw (bs, ps) refl) refl
-
-pub has_settings : (text : List ℕ) (old new settings : List Setting) → old ≡ [] → settings ≡ new
-    → (entries : List Entry) × IsFile text entries None × Adds [] entries old new → HasSettings text settings
-has_settings text old new settings none same (entries, is, adds) =
-    (entries, is, subst (λ s. AllZip (IsSettingOf []) entries s) (sym (same ∙ adds.1.0 ∙ ap (λ o. o ++ adds.0) none)) adds.1.1)

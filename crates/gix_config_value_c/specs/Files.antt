@@ -1,5 +1,5 @@
 -- Configuration files in C: keys and values in a row, each with NUL after it, and where they are.
-use Rattle.std.specs.Prelude.{◌≡◌, ◌≤◌, ◌<◌, ◌+◌, ◌⊎◌, ℕ, List, [], ◌∷◌, ◌++◌, length, drop, None, Some}
+use Rattle.std.specs.Prelude.{◌≡◌, ◌≤◌, ◌<◌, ◌+◌, ◌⊎◌, ℕ, List, [], ◌∷◌, ◌++◌, length, drop, Option, None, Some}
 use Rattle.std.specs.List.{AllZip}
 use Rattle.std.specs.Option.{option_map_or}
 use Rattle.config_file.specs.File.{Entry, IsFile}
@@ -62,9 +62,9 @@ pub data PutsSettings (settings : List Setting) (bytes bytes' : List ℕ) (place
   no_memory : bytes' ≡ bytes → places' ≡ places → out' ≡ out → status ≡ status_number statuses.NoMemory
       → PutsSettings settings bytes bytes' places places' out out' status
 
--- the text is a configuration file of these settings
-abbrev pub HasSettings : List ℕ → List Setting → Type 0
-HasSettings text settings = (entries : List Entry) × IsFile text entries None × AllZip (IsSettingOf []) entries settings
+-- the text has these settings up to its end, or up to this error
+abbrev pub HasSettings : List ℕ → Option Error → List Setting → Type 0
+HasSettings text error settings = (entries : List Entry) × IsFile text entries error × AllZip (IsSettingOf []) entries settings
 
 -- the status of a line that is refused
 abbrev pub fault_status : Fault → Status
@@ -74,10 +74,10 @@ fault_status Nul = statuses.Nul
 -- the settings of the text are put; or it is no configuration file, and the line is put
 pub data ReadsFile (text bytes bytes' : List ℕ) (places places' : List GcvPlace) (out out' : GcvFile)
     (status : ℕ) : Type 0 where
-  read : (settings : List Setting) → HasSettings text settings
+  read : (settings : List Setting) → HasSettings text None settings
       → PutsSettings settings bytes bytes' places places' out out' status
       → ReadsFile text bytes bytes' places places' out out' status
-  refused : (entries : List Entry) (error : Error) → IsFile text entries (Some error)
+  refused : (settings : List Setting) (error : Error) → HasSettings text (Some error) settings
       → bytes' ≡ bytes → places' ≡ places → out' ≡ file_struct 0 0 error.line
       → status ≡ status_number (fault_status error.fault)
       → ReadsFile text bytes bytes' places places' out out' status

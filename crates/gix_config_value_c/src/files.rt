@@ -2,11 +2,11 @@
 ghost use Rattle.std.specs.Prelude.{◌≡◌, ◌++◌, ◌∷◌, [], length, IfOk, OnOk};
 ghost use Rattle.std.specs.Option.{option_map_or};
 ghost use Rattle.gix_config_value_c.specs.Files.{ended, setting_bytes, row_bytes, place_at, places_from};
-ghost use Rattle.gix_config_value_c.specs.Files.{PutsSettings, ReadsFile, fault_status as status_of};
+ghost use Rattle.gix_config_value_c.specs.Files.{HasSettings, PutsSettings, ReadsFile, fault_status as status_of};
 ghost use Rattle.gix_config_value_c.specs.Numbers.{status_number};
 
 use crate::status::Status;
-use config_file::errors::Fault;
+use config_file::errors::{Error, Fault};
 use config_file::settings::{AddError, Setting, Settings};
 use std::alloc::{AllocError, Global};
 
@@ -41,6 +41,21 @@ pub struct GcvFile {
 struct Row {
     bytes: Vec<u8>,
     places: Vec<GcvPlace>,
+}
+
+/// The settings of a text, up to the line that is refused if there is one, and why.
+fn settings_of(
+    alloc: Global,
+    text: &[u8],
+) -> Result<(Settings<'static>, Option<Error>), AllocError>
+    ensures { IfOk result (λ read. HasSettings text.now read.1 read.0.entries.items) }
+{
+    let mut settings = Settings::new(alloc);
+    match settings.add_file(alloc, "", text) {
+        Ok(()) => Ok((settings, None)),
+        Err(AddError::Line { error, .. }) => Ok((settings, Some(error))),
+        Err(AddError::Memory(error)) => Err(error),
+    }
 }
 
 /// Appends a text and NUL.
@@ -158,10 +173,12 @@ pub extern "C" fn gcv_raw_read_file(
 ) -> u32
     ensures { ReadsFile text.now bytes.old bytes.new places.old places.new out.old out.new result }
 {
-    let mut settings = Settings::new(alloc);
-    match settings.add_file(alloc, "", text) {
-        Ok(()) => put_settings(alloc, &settings.entries, bytes, places, out),
-        Err(AddError::Line { error, .. }) => {
+    let Ok((settings, refused)) = settings_of(alloc, text) else {
+        return Status::NoMemory as u32;
+    };
+    match refused {
+        None => put_settings(alloc, &settings.entries, bytes, places, out),
+        Some(error) => {
             *out = GcvFile {
                 size: 0,
                 count: 0,
@@ -169,6 +186,5 @@ pub extern "C" fn gcv_raw_read_file(
             };
             fault_status(error.fault)
         }
-        Err(AddError::Memory(_)) => Status::NoMemory as u32,
     }
 }
