@@ -383,12 +383,12 @@ static void parsed(void)
 /* Each status has a text of its own, and other numbers have one together. */
 static void status_texts(void)
 {
-    const char *unknown = gcv_status_text((gcv_status)(GCV_NO_MEMORY + 1));
+    const char *unknown = gcv_status_text((gcv_status)(GCV_NUL + 1));
     count(strcmp(unknown, "unknown status") == 0 && gcv_status_text((gcv_status)UINT32_MAX) == unknown, unknown);
-    for (uint32_t status = GCV_OK; status <= GCV_NO_MEMORY; status++) {
+    for (uint32_t status = GCV_OK; status <= GCV_NUL; status++) {
         const char *text = gcv_status_text((gcv_status)status);
         int differs = strlen(text) > 0;
-        for (uint32_t other = status + 1; other <= GCV_NO_MEMORY + 1; other++) {
+        for (uint32_t other = status + 1; other <= GCV_NUL + 1; other++) {
             differs = differs && strcmp(text, gcv_status_text((gcv_status)other)) != 0;
         }
         count(differs, text);
