@@ -1,5 +1,5 @@
 -- Configuration files in C: keys and values in a row, each with NUL after it, and where they are.
-use Rattle.std.specs.Prelude.{◌≡◌, ◌≤◌, ◌<◌, ◌+◌, ◌⊎◌, ℕ, List, [], ◌∷◌, ◌++◌, length, drop, Option, None, Some}
+use Rattle.std.specs.Prelude.{◌≡◌, ◌≤◌, ◌+◌, ℕ, List, [], ◌∷◌, ◌++◌, length, drop, Option, None, Some}
 use Rattle.std.specs.List.{AllZip}
 use Rattle.std.specs.Option.{option_map_or}
 use Rattle.config_file.specs.File.{Entry, IsFile}
@@ -29,7 +29,12 @@ row_bytes (s ∷ more) = setting_bytes s ++ row_bytes more
 
 -- where a setting is whose key begins here
 abbrev pub place_at : ℕ → Setting → GcvPlace
-place_at start s = record { key = start; value = start + length (ended s.key.items); line = s.line; has_value = option_map_or (λ v. 1) s.value 0 }
+place_at start s = record {
+  key = start;
+  value = start + length (ended s.key.items);
+  line = s.line;
+  has_value = option_map_or (λ v. 1) s.value 0;
+}
 
 -- where settings are in a row that begins here
 abbrev pub places_from : ℕ → List Setting → List GcvPlace
@@ -45,10 +50,11 @@ sizes settings = file_struct (length (row_bytes settings)) (length settings) 0
 
 -- both arrays have room for the settings
 abbrev pub HasRoom : List Setting → List ℕ → List GcvPlace → Type 0
-HasRoom settings bytes places = (length (row_bytes settings) ≤ length bytes) × (length settings ≤ length places)
+HasRoom settings bytes places =
+    (length (row_bytes settings) ≤ length bytes) × (length settings ≤ length places)
 
--- the settings are at the front of both arrays; or one of these is too short and both are left alone, or memory is
--- refused and all is left alone
+-- the settings are at the front of both arrays; or one of these is too short and both are left alone, or
+-- memory is refused and all is left alone
 pub data PutsSettings (settings : List Setting) (bytes bytes' : List ℕ) (places places' : List GcvPlace)
     (out out' : GcvFile) (status : ℕ) : Type 0 where
   put : HasRoom settings bytes places
@@ -64,7 +70,8 @@ pub data PutsSettings (settings : List Setting) (bytes bytes' : List ℕ) (place
 
 -- the text has these settings up to its end, or up to this error
 abbrev pub HasSettings : List ℕ → Option Error → List Setting → Type 0
-HasSettings text error settings = (entries : List Entry) × IsFile text entries error × AllZip (IsSettingOf []) entries settings
+HasSettings text error settings =
+    (entries : List Entry) × IsFile text entries error × AllZip (IsSettingOf []) entries settings
 
 -- the status of a line that is refused
 abbrev pub fault_status : Fault → Status

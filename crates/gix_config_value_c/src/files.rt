@@ -2,7 +2,8 @@
 ghost use Rattle.std.specs.Prelude.{◌≡◌, ◌++◌, ◌∷◌, [], length, IfOk, OnOk};
 ghost use Rattle.std.specs.Option.{option_map_or};
 ghost use Rattle.gix_config_value_c.specs.Files.{ended, setting_bytes, row_bytes, place_at, places_from};
-ghost use Rattle.gix_config_value_c.specs.Files.{HasSettings, PutsSettings, ReadsFile, fault_status as status_of};
+ghost use Rattle.gix_config_value_c.specs.Files.{HasSettings, PutsSettings, ReadsFile};
+ghost use Rattle.gix_config_value_c.specs.Files.{fault_status as status_of};
 ghost use Rattle.gix_config_value_c.specs.Numbers.{status_number};
 
 use crate::status::Status;
@@ -85,7 +86,8 @@ fn push_value(bytes: &mut Vec<u8>, value: &Option<Vec<u8>>) -> Result<u32, Alloc
 impl Row {
     /// Appends a setting.
     fn push(&mut self, setting: &Setting<'_>) -> Result<(), AllocError>
-        ensures bytes { OnOk result (self.new.bytes.items ≡ self.old.bytes.items ++ setting_bytes setting.now) }
+        ensures bytes { OnOk result (self.new.bytes.items
+            ≡ self.old.bytes.items ++ setting_bytes setting.now) }
         ensures places { OnOk result (self.new.places.items
             ≡ self.old.places.items ++ place_at (length self.old.bytes.items) setting.now ∷ []) }
     {
