@@ -45,10 +45,7 @@ struct Row {
 }
 
 /// The settings of a text, up to the line that is refused if there is one, and why.
-fn settings_of(
-    alloc: Global,
-    text: &[u8],
-) -> Result<(Settings<'static>, Option<Error>), AllocError>
+fn settings_of(alloc: Global, text: &[u8]) -> Result<(Settings<'static>, Option<Error>), AllocError>
     ensures { IfOk result (λ read. HasSettings text.now read.1 read.0.entries.items) }
 {
     let mut settings = Settings::new(alloc);
