@@ -5,4 +5,5 @@ pub mod Rows
 pub mod Findings
 pub mod Entries
 pub mod Report
+pub mod Suggestions
 pub mod Reading
