@@ -1,7 +1,7 @@
 -- The edits between the keys of rows and a key, and the nearest row.
 use Rattle.std.proofs.Common.{◌≡◌, ◌+◌, ◌<◌, ◌≤◌, ℕ, List, length, take, Result, Ok, Err, IfOk, MatchOption, Option}
-use Rattle.std.proofs.Common.{None, Some, Bor, refl, sym, ◌∙◌, ap, subst, arith, get_or}
-use Rattle.std.proofs.Common.{Bool, true, false, is_some}
+use Rattle.std.proofs.Common.{None, Some, Bor, refl, sym, ◌∙◌, subst, arith}
+use Rattle.std.proofs.Common.{true, false, is_some}
 use Rattle.std.proofs.lemmas.Bool.{false≢true, true≢false}
 use Rattle.std.proofs.lemmas.List.{take_all}
 use Rattle.std.proofs.lemmas.List.Elements.{All-more}
@@ -10,10 +10,9 @@ use Rattle.std.specs.Prelude.{slice_index_or}
 use Rattle.config_text.specs.SameWord.{SameWord}
 use Rattle.config_checks.specs.declared.key.Key.{Key}
 use Rattle.config_checks.specs.declared.row.Row.{Row}
-use Rattle.config_checks.specs.Keys.{IsKey}
 use Rattle.config_checks.specs.Rows.{Decides, IsUnknown}
-use Rattle.config_checks.specs.Suggestions.{FillsKey, IsUnknownKey, IsPassed, IsOwn}
-use Rattle.config_checks.specs.Suggestions.IsPassed.{known, foreign}
+use Rattle.config_checks.specs.Suggestions.{IsPassed}
+use Rattle.config_checks.specs.Suggestions.IsPassed.{known}
 use Rattle.config_checks.specs.Suggestions.{EditsAfter, OnePartEdits, BetweenEdits, IsFirstAt, IsFar, IsNearest}
 use Rattle.config_checks.specs.Suggestions.EditsAfter.{in_last, in_between}
 use Rattle.config_checks.specs.Suggestions.OnePartEdits.{in_rest, in_section}

@@ -1,6 +1,6 @@
-use Rattle.std.proofs.Common.{◌≡◌, ℕ, sym, arith, subst, MatchOption}
+use Rattle.std.proofs.Common.{ℕ, sym, arith, subst, MatchOption}
 use Rattle.config_checks.specs.Suggestions.{OnePartEdits}
-use Rattle.config_checks.proofs.SuggestionLemmas.{At, IsBest, passes, keeps, betters, whole}
+use Rattle.config_checks.proofs.SuggestionLemmas.{At, passes, keeps, betters, whole}
 use Rattle.config_checks.proofs.suggestion.nearest.Goals.{in-Some+then-edits-least, in-Some+else-edits-least, in_default}
 use Rattle.config_checks.proofs.suggestion.nearest.Goals as goal
 

@@ -1,4 +1,4 @@
-use Rattle.std.proofs.Common.{◌≡◌, ◌∙◌, sym, subst, MatchOption, IsTrue, rules}
+use Rattle.std.proofs.Common.{◌∙◌, sym, subst, MatchOption, IsTrue, rules}
 use Rattle.config_checks.specs.Suggestions.{IsFar, IsNearest}
 use Rattle.config_checks.specs.Suggestions.IsPassed.{foreign}
 use Rattle.config_checks.proofs.SuggestionLemmas.{known_passes, unknown_by}
