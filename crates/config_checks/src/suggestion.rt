@@ -2,7 +2,8 @@
 ghost use Rattle.std.specs.Prelude.{◌≡◌, ◌++◌, ◌↔◌, ℕ, IsTrue, MatchOption, IfOk, OnOk, OnErr, Some};
 ghost use Rattle.config_checks.specs.Findings.{AppendsPart};
 ghost use Rattle.config_checks.specs.Suggestions.{edits, BetweenEdits, CoversLast, EditsAfter, SectionEdits};
-ghost use Rattle.config_checks.specs.Suggestions.{OnePartEdits, IsFar, IsNearest, Fills, FillsBetween, FillsKey, IsShared, IsOwn};
+ghost use Rattle.config_checks.specs.Suggestions.{OnePartEdits, IsFar, IsNearest, Fills, FillsBetween};
+ghost use Rattle.config_checks.specs.Suggestions.{FillsKey, IsShared, IsOwn};
 ghost use Rattle.config_checks.specs.Suggestions.{HasSection, IsPassed, IsUnknownKey, dotted, between_shown};
 ghost use Rattle.config_checks.specs.Suggestions.{after_shown, key_shown, asked, unknown_text};
 
@@ -72,7 +73,7 @@ fn section_edits(alloc: Global, row: &[u8], section: &[u8]) -> Result<Option<usi
     }
 }
 
-/// How many edits lead from the key of a row to a key, if they differ in one part alone, and in no more than one byte of
+/// How many edits lead from the key of a row to a key, if they differ in one part alone: at most one, if it is
 /// the section.
 fn one_part_edits(alloc: Global, row: &Key<'_>, key: &Key<'_>) -> Result<Option<usize>, AllocError>
     ensures { IfOk result (λ r. MatchOption r ((n : ℕ) → ¬ (OnePartEdits row.now key.now n))
@@ -136,8 +137,8 @@ fn filled_key<'k>(row: &Key<'k>, key: &Key<'k>) -> Key<'k>
     }
 }
 
-/// Whether a section also has settings that the rows do not have: those of Git for Windows and of credential helpers,
-/// what git-gui stores, what people note of themselves, and the advice of later Gits.
+/// Whether a section also has settings that the rows do not have: those of Git for Windows and of credential
+/// helpers, what git-gui stores, what people note of themselves, and the advice of later Gits.
 fn is_shared(section: &[u8]) -> bool
     ensures { IsTrue result ↔ IsShared section.now }
 {
@@ -173,9 +174,10 @@ pub struct UnknownKey<'k> {
     pub nearest: Option<Key<'k>>,
 }
 
-/// A key that is misspelt: no row covers it, and it is near a row's key, or it has no part between dots and a section in
-/// which only the rows have settings. Near are keys that differ in one part: in the section by one edit, or by at most
-/// two between the dots or in the last part. `None` for any other key. An error if there was no memory.
+/// A key that is misspelt: no row covers it, and it is near a row's key, or it has no part between dots and a
+/// section in which only the rows have settings. Near are keys that differ in one part: in the section by one
+/// edit, or by at most two between the dots or in the last part. `None` for any other key. An error if there was
+/// no memory.
 pub fn unknown_key<'k>(
     alloc: Global,
     rows: &[Row<'k>],
