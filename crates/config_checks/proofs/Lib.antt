@@ -1,6 +1,7 @@
 mod KeyLemmas
 mod WordLemmas
 mod ShownLemmas
+mod SuggestionLemmas
 mod WriteLemmas
 mod CheckLemmas
 mod TableLemmas

@@ -4,4 +4,5 @@ pub mod Reasons
 pub mod Rows
 pub mod Findings
 pub mod Report
+pub mod Suggestions
 pub mod Reading

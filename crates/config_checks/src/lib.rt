@@ -10,4 +10,5 @@ pub mod laws;
 pub mod options;
 pub mod reason;
 pub mod row;
+pub mod suggestion;
 pub mod table;
