@@ -8,7 +8,7 @@ import rows
 from checking import arguments, by_plain_reader
 
 ENTRIES_OF_A_FILE = 1000
-TINY_FILES = 3000
+TINY_FILES = 300
 SECONDS_FOR_A_LARGE_FILE = 5
 SECONDS_BETWEEN_PIECES = 0.0005
 LARGE_VALUE = 3_000_000

@@ -329,11 +329,12 @@ def shown(text):
 NAME, BLANK = re.compile(rb"[A-Za-z0-9.-]*"), re.compile(rb"[ \t\r]*")
 KEY = re.compile(rb"([A-Za-z][A-Za-z0-9-]*)[ \t]*")
 END = re.compile(rb"\r?\n|\Z")
+BYTE_ORDER_MARK = re.compile(rb"\xef\xbb?")
 ESCAPES = {b"n": b"\n", b"t": b"\t", b"b": b"\b", b'"': b'"', b"\\": b"\\"}
 
 
 class Stopped(Exception):
-    """The place at which Git reads no further."""
+    """The place at which Git reads no further, and whether Git tells one line more than its."""
 
 
 def header(data, at):
@@ -344,16 +345,16 @@ def header(data, at):
         return name[0].lower() + b".", at + 1
     blanks = BLANK.match(data, at)
     if not blanks[0] or data[blanks.end():blanks.end() + 1] != b'"':
-        raise Stopped(blanks.end())
+        raise Stopped(blanks.end(), at == len(data))
     at, subsection = blanks.end() + 1, b""
     while data[at:at + 1] != b'"':
         at += data[at:at + 1] == b"\\"
         if data[at:at + 1] in (b"", b"\n", b"\0"):
-            raise Stopped(at)
+            raise Stopped(at, False)
         subsection += data[at:at + 1]
         at += 1
     if data[at + 1:at + 2] != b"]":
-        raise Stopped(at + 1)
+        raise Stopped(at + 1, END.match(data, at + 1) is not None)
     return name[0].lower() + b"." + subsection + b".", at + 2
 
 
@@ -363,7 +364,7 @@ def value_at(data, at):
     while True:
         byte = data[at:at + 1]
         if byte == b"\0" or is_quoted and byte in (b"", b"\n"):
-            raise Stopped(at)
+            raise Stopped(at, False)
         if not is_quoted and byte in (b"", b"\n", b"#", b";"):
             return b"".join(text), at
         if not is_quoted and byte in b" \t\r":
@@ -382,12 +383,12 @@ def value_at(data, at):
         if byte == b"\\":
             at += 1
             if data[at:at + 1] not in ESCAPES:
-                raise Stopped(at)
+                raise Stopped(at, at == len(data))
             text.append(ESCAPES[data[at:at + 1]])
         elif byte == b'"':
             is_quoted = not is_quoted
         elif is_quoted and data[at:at + 2] == b"\r\n":
-            raise Stopped(at + 1)
+            raise Stopped(at + 1, False)
         else:
             text.append(byte)
         at += 1
@@ -398,7 +399,7 @@ def line_of(data, at):
 
 
 def entries(data):
-    """The line, the key and the value of each entry, and the place at which Git reads no further, if there is one."""
+    """The line, the key and the value of each entry, and the line at which Git stops, if it does, and why."""
     found, front, at = [], b"", 3 if data.startswith(b"\xef\xbb\xbf") else 0
     try:
         while at < len(data):
@@ -410,7 +411,9 @@ def entries(data):
             elif data[at:at + 1] == b"[":
                 front, at = header(data, at)
             elif key is None:
-                raise Stopped(at)
+                mark = BYTE_ORDER_MARK.match(data) if at == 0 else None
+                # a mark that is not whole begins no item
+                raise Stopped(at, mark is not None and END.match(data, mark.end()) is not None)
             elif data[key.end():key.end() + 1] == b"=":
                 value, at = value_at(data, key.end() + 1)
                 found.append((line_of(data, at), front + key[1].lower(), value))
@@ -418,9 +421,10 @@ def entries(data):
                 at = key.end()
                 found.append((line_of(data, at), front + key[1].lower(), None))
             else:
-                raise Stopped(key.end())
+                raise Stopped(key.end(), False)
     except Stopped as stopped:
-        return found, stopped.args[0]
+        at, is_more = stopped.args
+        return found, (line_of(data, at) + is_more, NUL if data[at:at + 1] == b"\0" else BAD_LINE)
     return found, None
 
 
@@ -433,7 +437,7 @@ def finding(line, key, value, why, name=b"-"):
 
 def findings(rows, data, canonical=False):
     """The output for standard input, and the counts: entries, judged ones, unknown keys and findings."""
-    found, stop = entries(data)
+    found, stopped = entries(data)
     judged, lines = 0, []
     for line, key, value in found:
         row = row_for(rows, key)
@@ -441,7 +445,6 @@ def findings(rows, data, canonical=False):
         why = None if row is None else reason(row, value, canonical)
         if why is not None:
             lines.append(finding(line, shown(key), None if value is None else shown(value), why))
-    if stop is not None:
-        fault = NUL if data[stop:stop + 1] == b"\0" else BAD_LINE
-        lines.append(b"-:%d: error: %s\n" % (line_of(data, stop), fault))
+    if stopped is not None:
+        lines.append(b"-:%d: error: %s\n" % stopped)
     return b"".join(lines), (len(found), judged, len(found) - judged, len(lines))
