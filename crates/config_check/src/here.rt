@@ -41,7 +41,7 @@ fn is_on(rt: &HostRuntime, name: &str) -> io::Result<bool> {
     }
 }
 
-/// A name in a folder. One that begins with `/` keeps as it is; the empty folder is the current one.
+/// A name in a folder: one that begins with `/` stays as it is, and the empty folder is the current one.
 fn inside(alloc: Global, folder: &str, name: &str) -> io::Result<String> {
     Ok(if folder.is_empty() || name.starts_with('/') {
         format!(in alloc; "{name}")?
@@ -77,7 +77,12 @@ fn xdg_file(rt: &HostRuntime) -> io::Result<Option<String>> {
 }
 
 /// Adds a file that exists.
-fn add(rt: &HostRuntime, files: &mut Vec<File>, name: Option<String>, depth: usize) -> io::Result<()> {
+fn add(
+    rt: &HostRuntime,
+    files: &mut Vec<File>,
+    name: Option<String>,
+    depth: usize,
+) -> io::Result<()> {
     let Some(name) = name else {
         return Ok(());
     };
@@ -94,7 +99,12 @@ fn add_global(rt: &HostRuntime, files: &mut Vec<File>) -> io::Result<()> {
     }
     add(rt, files, xdg_file(rt)?, 0)?;
     match variable(rt, "HOME")? {
-        Some(home) => add(rt, files, Some(format!(in rt.alloc(); "{home}/.gitconfig")?), 0),
+        Some(home) => add(
+            rt,
+            files,
+            Some(format!(in rt.alloc(); "{home}/.gitconfig")?),
+            0,
+        ),
         None => Ok(()),
     }
 }
@@ -125,9 +135,11 @@ fn common_folder(rt: &HostRuntime, git_dir: &str) -> io::Result<String> {
 fn is_git_dir(rt: &HostRuntime, folder: &str) -> io::Result<bool> {
     let alloc = rt.alloc();
     let common = common_folder(rt, folder)?;
-    Ok(Path::new(&inside(alloc, folder, "HEAD")?).exists(rt)
-        && Path::new(&inside(alloc, &common, "objects")?).is_dir(rt)
-        && Path::new(&inside(alloc, &common, "refs")?).is_dir(rt))
+    Ok(
+        Path::new(&inside(alloc, folder, "HEAD")?).exists(rt)
+            && Path::new(&inside(alloc, &common, "objects")?).is_dir(rt)
+            && Path::new(&inside(alloc, &common, "refs")?).is_dir(rt),
+    )
 }
 
 /// The git directory that a path names: itself, or that of its line `gitdir: ..`.
@@ -199,7 +211,12 @@ fn add_repository(rt: &HostRuntime, files: &mut Vec<File>) -> io::Result<()> {
     let has_more = has_worktree_files(rt, &file)?;
     add(rt, files, Some(file), 0)?;
     if has_more {
-        add(rt, files, Some(inside(alloc, &git_dir, "config.worktree")?), 0)?;
+        add(
+            rt,
+            files,
+            Some(inside(alloc, &git_dir, "config.worktree")?),
+            0,
+        )?;
     }
     Ok(())
 }
@@ -214,12 +231,23 @@ pub fn files(rt: &HostRuntime) -> io::Result<Vec<File>> {
 }
 
 /// The name of the file that a value includes, or `None` if its folder is not known or it is not UTF-8.
-fn name_of(alloc: Global, home: Option<&str>, file: &str, value: &[u8]) -> io::Result<Option<String>> {
+fn name_of(
+    alloc: Global,
+    home: Option<&str>,
+    file: &str,
+    value: &[u8],
+) -> io::Result<Option<String>> {
     let home = match home {
         Some(home) => Some(home.as_bytes()),
         None => None,
     };
-    let Some(parts) = expand(value, Directories { home, install_dir: None }) else {
+    let Some(parts) = expand(
+        value,
+        Directories {
+            home,
+            install_dir: None,
+        },
+    ) else {
         return Ok(None);
     };
     let mut path = parts.directory.to_vec(alloc)?;
@@ -230,8 +258,13 @@ fn name_of(alloc: Global, home: Option<&str>, file: &str, value: &[u8]) -> io::R
     }
 }
 
-/// Adds the files that a file with this text includes, whatever their conditions, each once.
-pub fn add_included(rt: &HostRuntime, files: &mut Vec<File>, index: usize, text: &[u8]) -> io::Result<()> {
+/// Adds the files that a file with this text includes, whatever their conditions, each once, as deep as Git goes.
+pub fn add_included(
+    rt: &HostRuntime,
+    files: &mut Vec<File>,
+    index: usize,
+    text: &[u8],
+) -> io::Result<()> {
     let alloc = rt.alloc();
     let depth = files[index].depth + 1;
     if depth > MAX_DEPTH {

@@ -36,7 +36,9 @@ fn option<'a>(alloc: Global, name: &'a str, value: &'a str, help: &'a str) -> Ar
 fn command<'a>(alloc: Global) -> Result<Command<'a>, AllocError> {
     Command::new(alloc, "config_check")
         .version("0.1.0")
-        .about("Reports what is wrong in Git configuration files: those named, or those that Git reads here")
+        .about(
+            "Reports what is wrong in Git configuration files: those named, or those that Git reads here",
+        )
         .arg(
             Arg::new(alloc, "file")
                 .value_name("FILE")
@@ -153,7 +155,11 @@ struct Checker<'c, 't> {
 
 impl Checker<'_, '_> {
     /// Checks a file, and adds its counts. Returns its text, or `None` if it cannot be read, which is reported.
-    fn check(&self, file: &str, outcome: &mut Outcome) -> Result<Option<Vec<u8>>, Failure<'static>> {
+    fn check(
+        &self,
+        file: &str,
+        outcome: &mut Outcome,
+    ) -> Result<Option<Vec<u8>>, Failure<'static>> {
         let text = match read_text(self.rt, file) {
             Ok(text) => text,
             Err(error) => {
@@ -163,7 +169,14 @@ impl Checker<'_, '_> {
             }
         };
         let alloc = self.rt.alloc();
-        match check_file(alloc, self.rows, &self.options, file, &text, &mut self.rt.stdout()) {
+        match check_file(
+            alloc,
+            self.rows,
+            &self.options,
+            file,
+            &text,
+            &mut self.rt.stdout(),
+        ) {
             Ok(counts) => outcome.add(counts),
             Err(CheckError::Write(error)) => return Err(Failure::Write(error)),
             Err(CheckError::Memory(error)) => return Err(Failure::Memory(error)),
