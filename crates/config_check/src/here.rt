@@ -258,7 +258,8 @@ fn name_of(
     }
 }
 
-/// Adds the files that a file with this text includes, whatever their conditions, each once, as deep as Git goes.
+/// Adds the files that a file with this text includes, whatever their conditions, each once. It goes as deep
+/// as Git.
 pub fn add_included(
     rt: &HostRuntime,
     files: &mut Vec<File>,

@@ -154,7 +154,7 @@ struct Checker<'c, 't> {
 }
 
 impl Checker<'_, '_> {
-    /// Checks a file, and adds its counts. Returns its text, or `None` if it cannot be read, which is reported.
+    /// Checks a file, and adds its counts. Returns its text, or `None` if it cannot be read: it reports that.
     fn check(
         &self,
         file: &str,

@@ -11,8 +11,8 @@ WRONG = "[gc]\n\tauto = wrong\n"
 PATH = "[include]\n\tpath = %s\n"
 # the variables, and the folder in which both run
 CASES = [
-    ({}, "plain"), ({}, "work"), ({}, "work/deep/er"), ({}, "work/.git"), ({}, "linked"), ({}, "linked/deep"), ({}, "bare.git"),
-    ({}, "bare.git/refs"), ({}, "tree"), ({}, "module"),
+    ({}, "plain"), ({}, "work"), ({}, "work/deep/er"), ({}, "work/.git"), ({}, "linked"), ({}, "linked/deep"),
+    ({}, "bare.git"), ({}, "bare.git/refs"), ({}, "tree"), ({}, "module"),
     ({"GIT_CONFIG_NOSYSTEM": "yes"}, "work"), ({"GIT_CONFIG_NOSYSTEM": "0"}, "work"),
     ({"GIT_CONFIG_SYSTEM": "{0}/missing"}, "work"), ({"GIT_CONFIG_GLOBAL": "{0}/more"}, "work"),
     ({"GIT_CONFIG_GLOBAL": "{0}/missing"}, "work"), ({"GIT_CONFIG_GLOBAL": ""}, "plain"),
@@ -73,8 +73,8 @@ def included(group, program, home, known):
     for name, text in texts.items():
         (folder / name).write_text(text)
     known = {**known, "GIT_CONFIG_NOSYSTEM": "1", "GIT_CONFIG_GLOBAL": str(folder / "first")}
-    wanted = [str(folder / "first"), str(folder / "a"), str(home / "home/b"), str(folder / "c"), *(str(folder / name) for name in deep[:10])]
-    group.expect("included files", wanted, by_program(program, home / "plain", known))
+    wanted = [str(folder / name) for name in ("first", "a", "../home/b", "c", *deep[:10])]
+    group.expect("included files", list(map(os.path.realpath, wanted)), by_program(program, home / "plain", known))
 
 
 def check(group, program):
@@ -84,7 +84,8 @@ def check(group, program):
         return
     with tempfile.TemporaryDirectory() as name:
         home = pathlib.Path(os.path.realpath(name))
-        plain = {"PATH": os.environ["PATH"], "LC_ALL": "C", "HOME": f"{home}/home", "GIT_CONFIG_SYSTEM": f"{home}/system",
+        plain = {"PATH": os.environ["PATH"], "LC_ALL": "C", "HOME": f"{home}/home",
+                 "GIT_CONFIG_SYSTEM": f"{home}/system",
                  **{f"GIT_{who}_{what}": "x@x" for who in ("AUTHOR", "COMMITTER") for what in ("NAME", "EMAIL")}}
         subprocess.run(["sh", "-ec", MADE], cwd=home, env=plain, check=True)
         spoil(home)

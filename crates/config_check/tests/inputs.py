@@ -12,7 +12,8 @@ TINY_FILES = 300
 SECONDS_FOR_A_LARGE_FILE = 5
 SECONDS_BETWEEN_PIECES = 0.0005
 LARGE_VALUE = 3_000_000
-SHORT = (b"\xef\xbb\xbfint\n[test]\r\n\tbool = maybe # yes\n\tint;\n int = 2g\n[middle \"a.\\\"b\\\\\"] last = 1\\\n 2 \\t\\\"\n"
+SHORT = (b"\xef\xbb\xbfint\n[test]\r\n\tbool = maybe # yes\n\tint;\n int = 2g\n"
+         b"[middle \"a.\\\"b\\\\\"] last = 1\\\n 2 \\t\\\"\n"
          b"[ \"x\"]y\n[test]bool=\"a # \\\n\xe2\x82\"  b \n\tword = \xf0\x9f\x98\x80\x1b\\")
 
 

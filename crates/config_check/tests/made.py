@@ -1,4 +1,6 @@
 """Files that are made: of the keys and values of rows.py, whole, cut and mutated."""
+import re
+
 import plain_reader
 import rows
 
@@ -9,7 +11,6 @@ PIECES = [b"\xc2\x85", b"\xef\xbb\xbf", b"\xe2\x82", b"\xff", b"\xc3\xa9", b"\xe
           b"2147483648", b"9223372036854775808", b"8589934592", b":(optional)", b"always", b"Never", b"\0\0"]
 ESCAPES = {b"\\": b"\\\\", b'"': b'\\"', b"\n": b"\\n", b"\t": b"\\t", b"\b": b"\\b"}
 MARKS = [b"[", b"]", b'"', b"\\", b"=", b"#", b";", b"\n", b"\r\n", b"\0", b"\\\n", b"\xef\xbb\xbf"]
-
 
 
 def keys():
@@ -35,15 +36,15 @@ VALUES = [value for values in VALUES_BY_KEY.values() for value in values if valu
 ROWS = plain_reader.rows_of(rows.SETTINGS)
 
 
-def escaped(text, escapes):
-    return b"".join(escapes.get(bytes([byte]), bytes([byte])) for byte in text)
+def escaped(text):
+    return re.sub(rb'[\\"\n\t\b]', lambda match: ESCAPES[match[0]], text)
 
 
 def line_of(key, value):
     """The line of a file that sets a key, as Git lists it, to a value; a NUL stays as it is."""
     first, middle, last = plain_reader.key_of(key)
-    quoted = b"" if middle is None else b' "%s"' % escaped(middle, {one: ESCAPES[one] for one in (b"\\", b'"')})
-    return b"[%s%s] %s%s\n" % (first, quoted, last, b"" if value is None else b' = "%s"' % escaped(value, ESCAPES))
+    quoted = b"" if middle is None else b' "%s"' % re.sub(rb'([\\"])', rb"\\\1", middle)
+    return b"[%s%s] %s%s\n" % (first, quoted, last, b"" if value is None else b' = "%s"' % escaped(value))
 
 
 def mutated(draw, text):

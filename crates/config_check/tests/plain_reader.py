@@ -346,16 +346,16 @@ def header(data, at):
     blanks = BLANK.match(data, at)
     if not blanks[0] or data[blanks.end():blanks.end() + 1] != b'"':
         raise Stopped(blanks.end(), at == len(data))
-    at, subsection = blanks.end() + 1, b""
+    at, subsection = blanks.end() + 1, []
     while data[at:at + 1] != b'"':
         at += data[at:at + 1] == b"\\"
         if data[at:at + 1] in (b"", b"\n", b"\0"):
             raise Stopped(at, False)
-        subsection += data[at:at + 1]
+        subsection.append(data[at:at + 1])
         at += 1
     if data[at + 1:at + 2] != b"]":
         raise Stopped(at + 1, END.match(data, at + 1) is not None)
-    return name[0].lower() + b"." + subsection + b".", at + 2
+    return name[0].lower() + b"." + b"".join(subsection) + b".", at + 2
 
 
 def value_at(data, at):
