@@ -248,7 +248,7 @@ def ask(stored, keys):
     ANSWERS.write_text("".join(f"{line}\n" for line in lines), encoding="utf-8")
 
 
-# what a verdict of config_check says that Git does, by how the reason of its line begins
+# what a verdict of config_check says that Git does, by the severity of its line
 VERDICTS = {b"error": "dies", b"warning": "warns"}
 # a question whose answer differs from the verdict, and the kind of its row
 Case = collections.namedtuple("Case", "question kind ours git")
@@ -280,14 +280,17 @@ def kinds():
 
 
 def verdicts(program, questions):
-    """What Git does with each question by config_check."""
-    texts = [question.key + ("" if question.value is None else f"\n{question.value}") for question in questions]
-    run_of = subprocess.run([program], input="".join(f"{text}\0" for text in texts).encode(), stdout=subprocess.PIPE,
+    """What Git does with each question by config_check, or None for a row that no command reads: a file cannot name
+    each of those."""
+    asked = [question for question in questions if question.command != "-"]
+    file = "".join(entry(question.key, question.value) for question in asked)
+    run_of = subprocess.run([program, "-"], input=file.encode(errors="surrogateescape"), stdout=subprocess.PIPE,
                             stderr=subprocess.DEVNULL, check=False)
-    found = ["takes"] * len(questions)
+    found = dict.fromkeys(questions) | dict.fromkeys(asked, "takes")
     for line in run_of.stdout.splitlines():
-        number, *_, reason = line.split(b"\t")
-        found[int(number) - 1] = VERDICTS[reason.split(b":")[0]]
+        _, number, severity, _ = line.split(b":", 3)
+        # each question takes two lines, of which the second has its key
+        found[asked[int(number) // 2 - 1]] = VERDICTS[severity.strip()]
     return found
 
 
@@ -295,7 +298,8 @@ def compare(program):
     """Counts what agrees or differs in one class, and what does not; each row and each class has to be seen."""
     stored, kind_of, seen = read(), kinds(), collections.Counter()
     failed = [f"no question of {key}" for key in sorted(set(kind_of) - {question.row for question in stored})]
-    for (question, told), ours in zip(stored.items(), verdicts(program, stored)):
+    for question, ours in verdicts(program, stored).items():
+        told = stored[question]
         case = Case(question, kind_of.get(question.row), ours, told.split(":")[0])
         found = [name for name, rule in CLASSES.items() if rule(case)] if case.git not in (ours, "unread") else []
         if case.git not in (ours, "unread") and len(found) != 1:

@@ -43,6 +43,10 @@ const char *gcv_status_text(gcv_status status)
         return "the buffer is too short";
     case GCV_NO_MEMORY:
         return "memory was refused, or the path is too long";
+    case GCV_BAD_LINE:
+        return "a line of the file is invalid";
+    case GCV_NUL:
+        return "the file has a NUL outside a comment";
     }
     return "unknown status";
 }

@@ -1,20 +1,19 @@
-//! Reports the settings whose values Git does not document, of those that `git config --list --null` prints.
+//! Reports what is wrong in Git configuration files.
 #![tactic(auto)]
 
+mod here;
+
 use clap::{Arg, ArgAction, ArgMatches, Command};
-use config_checks::check::{CheckError, Summary, check};
+use config_checks::check::{CheckError, Counts, check_file};
 use config_checks::git::SETTINGS;
 use config_checks::options::Options;
 use config_checks::row::Row;
 use config_checks::table::{BadRow, read_rows};
 use std::alloc::{AllocError, Global};
-use std::io::{self, BufReader, ErrorKind, IsTerminal};
+use std::io::{self, ErrorKind, IsTerminal, Read};
 use std::process::ExitCode;
 use std::{env, fs};
 use thiserror::Error;
-
-/// The most bytes that one read takes.
-const READ: usize = 65536;
 
 /// An argument without a value.
 fn flag<'a>(alloc: Global, name: &'a str, help: &'a str) -> Arg<'a> {
@@ -38,19 +37,14 @@ fn command<'a>(alloc: Global) -> Result<Command<'a>, AllocError> {
     Command::new(alloc, "config_check")
         .version("0.1.0")
         .about(
-            "Reports the settings whose values are none that Git documents: \
-            git config --list --null | config_check",
+            "Reports what is wrong in Git configuration files: those named, or those that Git reads here",
         )
-        .arg(flag(
-            alloc,
-            "show-scope",
-            "A scope stands before each entry, as `git config --show-scope` puts it there",
-        ))?
-        .arg(flag(
-            alloc,
-            "show-origin",
-            "An origin stands before each entry, as `git config --show-origin` puts it there",
-        ))?
+        .arg(
+            Arg::new(alloc, "file")
+                .value_name("FILE")
+                .action(ArgAction::Append)
+                .help("A configuration file, or - for standard input"),
+        )?
         .arg(flag(
             alloc,
             "canonical",
@@ -74,14 +68,14 @@ enum Failure<'m> {
     File { file: &'m str, error: io::Error },
     #[error("{file}:{}: {}", .bad.line, .bad.fault)]
     Row { file: &'m str, bad: BadRow },
-    #[error("cannot read: {0}")]
-    Read(io::Error),
+    #[error("cannot find the files that Git reads here: {0}")]
+    Here(io::Error),
     #[error("cannot write: {0}")]
     Write(io::Error),
     #[error("no memory")]
     Memory(AllocError),
-    #[error("the last entry is cut off")]
-    CutOff,
+    #[error("Git reads no file here: name one")]
+    NoFile,
 }
 
 impl Failure<'_> {
@@ -112,27 +106,125 @@ fn add_rows<'m, 't>(
     read_rows(alloc, text, rows).map_err(|bad| Failure::Row { file, bad })
 }
 
-/// Checks standard input by these rows.
-fn check_input<'m>(
-    rt: &HostRuntime,
-    rows: &[Row<'_>],
-    options: &Options,
-) -> Result<Summary, Failure<'m>> {
-    let alloc = rt.alloc();
-    let mut reader = match BufReader::with_capacity(alloc, READ, rt.stdin()) {
-        Ok(reader) => reader,
-        Err(error) => return Err(Failure::Read(error)),
-    };
-    match check(alloc, rows, options, &mut reader, &mut rt.stdout()) {
-        Ok(summary) => Ok(summary),
-        Err(CheckError::Read(error)) => Err(Failure::Read(error)),
-        Err(CheckError::Write(error)) => Err(Failure::Write(error)),
-        Err(CheckError::Memory(error)) => Err(Failure::Memory(error)),
+/// The text of a file, or of standard input.
+fn read_text(rt: &HostRuntime, file: &str) -> io::Result<Vec<u8>> {
+    if file != "-" {
+        return fs::read(rt, file);
+    }
+    let mut text = Vec::new(rt.alloc());
+    rt.stdin().read_to_end(&mut text)?;
+    Ok(text)
+}
+
+/// What the files so far have.
+#[derive(Clone, Copy, Default)]
+struct Outcome {
+    counts: Counts,
+    is_unread: bool,
+}
+
+impl Outcome {
+    /// Adds the counts of a file.
+    fn add(&mut self, counts: Counts) {
+        self.counts = Counts {
+            entries: self.counts.entries.saturating_add(counts.entries),
+            unknown: self.counts.unknown.saturating_add(counts.unknown),
+            findings: self.counts.findings.saturating_add(counts.findings),
+        };
+    }
+
+    /// The exit status.
+    fn status(&self) -> u8 {
+        if self.is_unread {
+            2
+        } else if self.counts.findings > 0 {
+            1
+        } else {
+            0
+        }
     }
 }
 
-/// Checks standard input by the rows of a file, if one is named, and the built-in ones. Returns the exit
-/// status: 1 if there are findings, and 0 otherwise.
+/// How files are checked.
+#[derive(Clone, Copy)]
+struct Checker<'c, 't> {
+    rt: &'c HostRuntime,
+    rows: &'c [Row<'t>],
+    options: Options,
+}
+
+impl Checker<'_, '_> {
+    /// Checks a file, and adds its counts. Returns its text, or `None` if it cannot be read: it reports that.
+    fn check(
+        &self,
+        file: &str,
+        outcome: &mut Outcome,
+    ) -> Result<Option<Vec<u8>>, Failure<'static>> {
+        let text = match read_text(self.rt, file) {
+            Ok(text) => text,
+            Err(error) => {
+                outcome.is_unread = true;
+                let _ = eprintln!(self.rt; "config_check: {file}: {error}");
+                return Ok(None);
+            }
+        };
+        let alloc = self.rt.alloc();
+        match check_file(
+            alloc,
+            self.rows,
+            &self.options,
+            file,
+            &text,
+            &mut self.rt.stdout(),
+        ) {
+            Ok(counts) => outcome.add(counts),
+            Err(CheckError::Write(error)) => return Err(Failure::Write(error)),
+            Err(CheckError::Memory(error)) => return Err(Failure::Memory(error)),
+        }
+        Ok(Some(text))
+    }
+}
+
+/// Checks the files that Git reads here.
+fn check_here(checker: &Checker<'_, '_>, outcome: &mut Outcome) -> Result<(), Failure<'static>> {
+    let mut files = match here::files(checker.rt) {
+        Ok(files) => files,
+        Err(error) => return Err(Failure::Here(error)),
+    };
+    if files.is_empty() {
+        return Err(Failure::NoFile);
+    }
+    let mut next = 0;
+    while next < files.len() {
+        let text = checker.check(&files[next].name, outcome)?;
+        if let Some(text) = text {
+            if let Err(error) = here::add_included(checker.rt, &mut files, next, &text) {
+                return Err(Failure::Here(error));
+            }
+        }
+        next += 1;
+    }
+    Ok(())
+}
+
+/// Checks the files that are named, or those that Git reads here.
+fn check_all(checker: &Checker<'_, '_>, files: Option<&[&str]>) -> Result<u8, Failure<'static>> {
+    let mut outcome = Outcome::default();
+    match files {
+        Some(files) => {
+            for file in files {
+                checker.check(*file, &mut outcome)?;
+            }
+        }
+        None => check_here(checker, &mut outcome)?,
+    }
+    match eprintln!(checker.rt; "config_check: {}", outcome.counts) {
+        Ok(()) => Ok(outcome.status()),
+        Err(error) => Err(Failure::Write(error)),
+    }
+}
+
+/// Checks the files by the rows of a file, if one is named, and the built-in ones. Returns the exit status.
 fn run<'m>(rt: &HostRuntime, matches: &ArgMatches<'m>) -> Result<u8, Failure<'m>> {
     let alloc = rt.alloc();
     let file = matches.get_str("settings");
@@ -148,19 +240,15 @@ fn run<'m>(rt: &HostRuntime, matches: &ArgMatches<'m>) -> Result<u8, Failure<'m>
         &mut rows,
     )?;
     let options = Options {
-        scope: matches.get_flag("show-scope"),
-        origin: matches.get_flag("show-origin"),
         canonical: matches.get_flag("canonical"),
         color: rt.stdout().is_terminal(),
     };
-    let summary = check_input(rt, &rows, &options)?;
-    if let Err(error) = eprintln!(rt; "config_check: {summary}") {
-        return Err(Failure::Write(error));
-    }
-    if summary.is_cut_off {
-        return Err(Failure::CutOff);
-    }
-    Ok(if summary.counts.findings == 0 { 0 } else { 1 })
+    let checker = Checker {
+        rt,
+        rows: &rows,
+        options,
+    };
+    check_all(&checker, matches.get_strs("file"))
 }
 
 /// The exit status of an outcome. Prints its failure on standard error.

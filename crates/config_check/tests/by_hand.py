@@ -1,28 +1,26 @@
 """Single entries, keys, rows and arguments, against the tables of rows.py."""
 import re
 
+import made
 import rows
-from checking import CANNOT, Ended, arguments, cut_off, ended, with_errors_cut
+from checking import CANNOT, Ended, arguments, ended, summary, with_errors_cut
+from plain_reader import finding, key_of
 
 ROWS = 10_000
 WRONG_USE = re.compile(rb"[Uu]sage|error")
 
 
-def entry_of(key, value):
-    return key if value is None else key + b"\n" + value
-
-
-def finding(number, key, value, reason):
-    """The line of a finding; key and value as they are shown."""
-    return b"%d\t%s\t%s\t%s\n" % (number, key, value or b"", reason)
+def listed(key):
+    """A key as Git lists it."""
+    return b".".join(part for part in key_of(key) if part is not None)
 
 
 def expect_entries(group, program, how, entries):
     """Entries, each with its key and its value as they are shown, and its reason or None.
 
-    All are one input; where this fails, each is asked alone.
+    All are one file, a line each; where this fails, each is asked alone.
     """
-    data = b"".join(entry + b"\0" for entry, _, _, _ in entries)
+    data = b"".join(entry for entry, _, _, _ in entries)
     output = b"".join(finding(number, key, value, reason)
                       for number, (_, key, value, reason) in enumerate(entries, 1) if reason is not None)
     count = len(entries)
@@ -40,7 +38,7 @@ def expect_entries(group, program, how, entries):
 
 def expect_values(group, program, how, key, values, reason):
     """Values that are shown as they are, and have one reason."""
-    expect_entries(group, program, how, [(entry_of(key, value), key, value, reason) for value in values])
+    expect_entries(group, program, how, [(made.line_of(key, value), key, value, reason) for value in values])
 
 
 def values(group, program):
@@ -55,7 +53,7 @@ def values(group, program):
     for key, spellings in rows.SPELLINGS:
         expect_values(group, program, how, key, spellings, None)
         expect_entries(group, program, canonical, [
-            (entry_of(key, value), key, value, b"note: should be " + text) for value, text in spellings.items()])
+            (made.line_of(key, value), key, value, b"note: should be " + text) for value, text in spellings.items()])
     for key, accepted in rows.CANONICAL:
         expect_values(group, program, canonical, key, accepted, None)
 
@@ -65,45 +63,51 @@ def escapes(group, program):
     how = arguments(program.settings(rows.SETTINGS))
     key = b"test.word"
     expect_entries(group, program, how, [
-        (entry_of(key, value), key, shown, rows.NO_WORD) for value, shown in rows.SHOWN])
+        (made.line_of(key, value), key, shown, rows.NO_WORD) for value, shown in rows.SHOWN])
     expect_entries(group, program, how, [
-        (entry_of(key, value), key, shown, reason) for key, value, shown, reason in rows.SHOWN_OF_KINDS])
+        (made.line_of(key, value), key, shown, reason) for key, value, shown, reason in rows.SHOWN_OF_KINDS])
     expect_entries(group, program, how, [
-        (entry_of(key, value), key, value, None) for key, value in rows.UNSHOWN_ACCEPTED])
+        (made.line_of(key, value), key, value, None) for key, value in rows.UNSHOWN_ACCEPTED])
 
 
 def keys(group, program):
     """Which row a key belongs to, if to any; the value is no integer."""
     how = arguments(program.settings(rows.SETTINGS))
     expect_entries(group, program, how, [
-        (entry_of(key, b"x"), shown or key, b"x", rows.INTEGER_FAULT) for key, shown in rows.KNOWN_KEYS])
+        (made.line_of(key, b"x"), shown or listed(key), b"x", rows.INTEGER_FAULT) for key, shown in rows.KNOWN_KEYS])
     for key in rows.UNKNOWN_KEYS:
-        entry = entry_of(key, b"x")
-        group.expect(entry, ended(b"", (1, 0, 1, 0)), program.run(how, entry + b"\0"))
+        entry = made.line_of(key, b"x")
+        group.expect(entry, ended(b"", (1, 0, 1, 0)), program.run(how, entry))
     expect_entries(group, program, how, [
-        (entry_of(key, value), key, value, reason) for key, value, reason in rows.FIRST_ROWS])
+        (made.line_of(key, value), listed(key), value, reason) for key, value, reason in rows.FIRST_ROWS])
 
 
-def fields(group, program):
-    """Scopes and origins, and what is cut off at the end."""
+def files(group, program):
+    """Whole files, some of which Git cannot read."""
     how = arguments(program.settings(rows.SETTINGS))
-    for wanted, table in ((ended, rows.FIELDS), (cut_off, rows.CUT_OFF)):
-        for more, data, output, counts in table:
-            group.expect((more, data), wanted(output, counts), program.run([*how, *more], data))
+    for data, output, counts in rows.FILES:
+        group.expect(data, ended(output, counts), program.run(how, data))
+    names = [program.settings(b"[test]\n\tint = x\n"), str(program.folder / "missing"), program.settings(b"test\n=")]
+    first, missing, last = (name.encode() for name in names)
+    output = finding(2, b"test.int", b"x", rows.INTEGER_FAULT, first) + last + b":2: " + rows.BAD_LINE
+    came = program.run([*how[:-1], *names])
+    group.expect("a file that is missing", (2, output, True, summary((2, 1, 1, 2))),
+                 (came.status, came.output, came.errors.startswith(b"config_check: " + missing + b": "),
+                  b"".join(came.errors.splitlines(True)[1:])))
 
 
 def built_in(group, program):
     """Rows of the program itself, and others that win over them."""
     for key, value, reason in rows.BUILT_IN:
-        entry = entry_of(key, value)
-        wanted = b"" if reason is None else finding(1, key, value, reason)[:-1]
-        came = program.run([], entry + b"\0")
+        entry = made.line_of(key, value)
+        wanted = b"" if reason is None else finding(1, listed(key), value, reason)[:-1]
+        came = program.run(["-"], entry)
         is_line = came.output.count(b"\n") == 1
         group.expect(entry, ended(wanted, (1, 1, 0, 1 if wanted else 0)),
                      came._replace(output=came.output[:len(wanted)]) if is_line else came)
     how = arguments(program.settings(rows.OWN_SETTINGS))
     expect_entries(group, program, how, [
-        (entry_of(key, value), key, value, reason) for key, value, reason in rows.OWN_ROWS])
+        (made.line_of(key, value), listed(key), value, reason) for key, value, reason in rows.OWN_ROWS])
 
 
 def settings_files(group, program):
@@ -111,14 +115,14 @@ def settings_files(group, program):
     for text, line, fault in rows.BAD_ROWS:
         file = program.settings(text)
         told = f"config_check: {file}:{line}: ".encode() + fault + b"\n"
-        group.expect(text, Ended(2, b"", told), program.run(["--settings", file], b"test.x\n1\0"))
+        group.expect(text, Ended(2, b"", told), program.run(["--settings", file, "-"], b"[test]x=1\n"))
     for text in rows.GOOD_ROWS:
-        came = program.run(["--settings", program.settings(text)], b"other.x\0")
+        came = program.run(arguments(program.settings(text)), b"[other]x")
         group.expect(text, ended(b"", (1, 0, 1, 0)), came)
     text = b"".join(b"filler.key-%d bool\n" % number for number in range(ROWS)) + b"test.x int\n"
     expect_values(group, program, arguments(program.settings(text)), b"test.x", [b"yes"], rows.INTEGER_FAULT)
     for file in (str(program.folder / "missing"), str(program.folder)):
-        came = program.run(["--settings", file], b"test.x\n1\0")
+        came = program.run(["--settings", file, "-"], b"[test]x=1\n")
         group.expect(["--settings", file], Ended(2, b"", CANNOT), with_errors_cut(came, CANNOT))
 
 
@@ -132,10 +136,10 @@ def wrong_and_other_arguments(group, program):
         is_said = came.errors.startswith(CANNOT + b"read the arguments: ") and came.errors.count(b"\n") == 1
         group.expect((more, came.errors), (2, b"", True), (came.status, came.output, is_said))
     for more in (["--help"], ["--version"]):
-        came = program.run(more, b"core.bare\nmaybe\0")
+        came = program.run(more, b"")
         group.expect(more, (0, True, b""), (came.status, came.output.endswith(b"\n"), came.errors))
 
 
 def check(group, program):
-    for part in (values, escapes, keys, fields, built_in, settings_files, wrong_and_other_arguments):
+    for part in (values, escapes, keys, files, built_in, settings_files, wrong_and_other_arguments):
         part(group, program)

@@ -10,8 +10,8 @@ import plain_reader
 SECONDS = 120
 FAULTS_SHOWN = 10
 BYTES_SHOWN = 300
-CUT_OFF = b"config_check: the last entry is cut off\n"
 CANNOT = b"config_check: cannot "
+UNREAD = b"config_check: -: "
 
 # how a run of the program ended
 Ended = collections.namedtuple("Ended", "status output errors")
@@ -56,25 +56,18 @@ def summary(counts):
 
 
 def ended(output, counts):
-    """How a run over a whole input has to end."""
+    """How a run over files that can be read has to end."""
     return Ended(1 if output else 0, output, summary(counts))
 
 
-def cut_off(output, counts):
-    """How a run over an input that is cut off has to end."""
-    return Ended(2, output, summary(counts) + CUT_OFF)
+def by_plain_reader(rows, data, canonical=False):
+    """How a run over standard input has to end by the plain reader."""
+    return ended(*plain_reader.findings(rows, data, canonical))
 
 
-def by_plain_reader(rows, data, **how):
-    """How a run has to end by the plain reader."""
-    output, counts, status = plain_reader.findings(rows, data, **how)
-    return Ended(status, output, counts + b"\n" + (CUT_OFF if status == 2 else b""))
-
-
-def arguments(settings, scope=False, origin=False, canonical=False):
-    """The arguments for a file of settings and the choices."""
-    chosen = {"--show-scope": scope, "--show-origin": origin, "--canonical": canonical}
-    return ["--settings", settings, *(name for name, is_chosen in chosen.items() if is_chosen)]
+def arguments(settings, canonical=False):
+    """The arguments for a file of settings and standard input."""
+    return ["--settings", settings, *(["--canonical"] if canonical else []), "-"]
 
 
 def with_errors_cut(came, beginning):

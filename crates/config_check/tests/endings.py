@@ -6,19 +6,20 @@ import resource
 import tempfile
 
 import rows
-from checking import CANNOT, Ended, arguments, run, summary
+from checking import CANNOT, UNREAD, Ended, arguments, run, summary
+from plain_reader import finding
 
 FULL = pathlib.Path("/dev/full")
-FINDING = b"test.bool\nmaybe\0"
+FINDING = b"[test] bool = maybe\n"
 MANY = 200_000
 # more than the addresses that a process has, in bytes
 LONG, ADDRESSES = 20_000_000, 16_000_000
 RED, PLAIN = b"\x1b[31m", b"\x1b[m"
 
 
-def expect_cannot(group, what, came):
+def expect_cannot(group, what, came, front=CANNOT):
     """Nothing was written, and a line says what could not be read or written."""
-    is_said = any(line.startswith(CANNOT) and line.endswith(b"\n") for line in came.errors.splitlines(True))
+    is_said = any(line.startswith(front) and line.endswith(b"\n") for line in came.errors.splitlines(True))
     group.expect((what, came.errors), (2, b"", True), (came.status, came.output or b"", is_said))
 
 
@@ -32,7 +33,7 @@ def closed_pipe(group, program, how):
         group.expect("a pipe that nothing reads", Ended(2, None, b""), came)
     shell = ["sh", "-c", '{ "$@"; echo "status $?" >&2; } | head -c 10', "sh", program.path, *how]
     came = run(shell, FINDING * MANY)
-    group.expect("a pipe that is closed early", Ended(0, b"1\ttest.boo", b"status 2\n"), came)
+    group.expect("a pipe that is closed early", Ended(0, b"-:1: error", b"status 2\n"), came)
 
 
 def full_device(group, program, how):
@@ -51,18 +52,18 @@ def full_device(group, program, how):
 
 def closed_files(group, program, how):
     """Standard input or output is closed, or standard input is a folder."""
-    for redirection in ("<&-", ">&-"):
+    for redirection, front in (("<&-", UNREAD), (">&-", CANNOT)):
         shell = ["sh", "-c", f'exec "$@" {redirection}', "sh", program.path, *how]
         came = run(shell, FINDING)
-        expect_cannot(group, redirection, came)
+        expect_cannot(group, redirection, came, front)
     folder = os.open(program.folder, os.O_RDONLY)
     came = program.run(how, stdin=folder)
     os.close(folder)
-    expect_cannot(group, "a folder", came)
+    expect_cannot(group, "a folder", came, UNREAD)
 
 
 def memory(group, program, how):
-    """There is no memory for an entry that is read: the lines of those before it are written."""
+    """There is no memory for a file."""
     if b"__asan_init" in pathlib.Path(program.path).read_bytes():
         group.skip("the end of memory", "a checked build needs more addresses to start")
         return
@@ -70,14 +71,13 @@ def memory(group, program, how):
     def starve():
         resource.setrlimit(resource.RLIMIT_AS, (ADDRESSES, ADDRESSES))
 
-    line = b"1\ttest.bool\tmaybe\t" + rows.BOOLEAN_FAULT + b"\n"
     with tempfile.TemporaryFile() as entries:
-        entries.write(FINDING + b"test.bool\n" + b"1" * LONG + b"\0")
+        entries.write(FINDING + b"1" * LONG)
         entries.seek(0)
         came = program.run(how, stdin=entries, preexec_fn=starve)
-    is_said = came.errors.startswith(CANNOT + b"read: ") and came.errors.count(b"\n") == 1
-    group.expect(("no memory", came.errors), (2, line, True), (came.status, came.output, is_said))
+    expect_cannot(group, "no memory", came, UNREAD)
     came = program.run(how, FINDING, preexec_fn=starve)
+    line = finding(1, b"test.bool", b"maybe", rows.BOOLEAN_FAULT)
     group.expect("memory enough", Ended(1, line, summary((1, 1, 0, 1))), came)
 
 
@@ -95,22 +95,21 @@ def written_on_terminal(terminal):
 
 
 def terminal(group, program, how):
-    """The reason is red on a terminal, and nowhere else."""
+    """The severity is red on a terminal, and nowhere else."""
     environment = dict(os.environ, TERM="xterm")
     environment.pop("NO_COLOR", None)
-    first, second = b"1\ttest.bool\tmaybe\t", b"2\ttest.bool\t\\x1b[31m\t"
-    data = FINDING + b"test.bool\n\x1b[31m\0"
+    data = FINDING + b'[test] bool = "\x1b[31m"\nx\0'
+    lines = [finding(1, b"test.bool", b"maybe", rows.BOOLEAN_FAULT),
+             finding(2, b"test.bool", b"\\x1b[31m", rows.BOOLEAN_FAULT), b"-:3: " + rows.NUL]
     ours, programs = pty.openpty()
     came = program.run(how, data, stdout=programs, env=environment)
     os.close(programs)
     output = written_on_terminal(ours).replace(b"\r\n", b"\n")
     os.close(ours)
-    red = RED + rows.BOOLEAN_FAULT + PLAIN + b"\n"
-    came = came._replace(output=output)
-    group.expect("a terminal", Ended(1, first + red + second + red, summary((2, 2, 0, 2))), came)
-    plain = rows.BOOLEAN_FAULT + b"\n"
-    came = program.run(how, data, env=environment)
-    group.expect("a pipe", Ended(1, first + plain + second + plain, summary((2, 2, 0, 2))), came)
+    red = b"".join(lines).replace(b" error: ", b" " + RED + b"error: " + PLAIN)
+    counts = summary((2, 2, 0, 3))
+    group.expect("a terminal", Ended(1, red, counts), came._replace(output=output))
+    group.expect("a pipe", Ended(1, b"".join(lines), counts), program.run(how, data, env=environment))
 
 
 def check(group, program):

@@ -11,6 +11,7 @@ import tempfile
 import made
 import rows
 from checking import arguments
+from plain_reader import finding, shown
 
 sys.path.append(str(pathlib.Path(__file__).resolve().parents[3] / "compare"))
 
@@ -78,11 +79,12 @@ def in_terms_of_git(asked, canonical):
 
 def canonical_texts(program, how, key, values):
     """The canonical text of each value, by what the program reports of them; None where it is wrong."""
-    data = b"".join(key + b"\n" + value + b"\0" for value in values)
+    data = b"".join(made.line_of(key, value) for value in values)
     found = list(values)
-    for line in program.run(how, data).output.splitlines():
-        number, _, _, reason = line.split(b"\t")
-        found[int(number) - 1] = reason.removeprefix(SHOULD_BE) if reason.startswith(SHOULD_BE) else None
+    for line in program.run(how, data).output.splitlines(True):
+        number = int(line.split(b":")[1])
+        front = finding(number, key, shown(values[number - 1]), SHOULD_BE)[:-1]
+        found[number - 1] = line.removeprefix(front)[:-1] if line.startswith(front) else None
     return found
 
 

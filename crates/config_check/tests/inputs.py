@@ -1,5 +1,4 @@
-"""Whole inputs, compared with the plain reader: cut at every byte, large, and mutated."""
-import itertools
+"""Whole files, compared with the plain reader: cut at every byte, large, and mutated."""
 import os
 import threading
 import time
@@ -8,38 +7,28 @@ import made
 import rows
 from checking import arguments, by_plain_reader
 
-ENTRIES_OF_AN_INPUT = 1000
-TINY_INPUTS = 300
-SECONDS_FOR_A_LARGE_INPUT = 5
+ENTRIES_OF_A_FILE = 1000
+TINY_FILES = 300
+SECONDS_FOR_A_LARGE_FILE = 5
 SECONDS_BETWEEN_PIECES = 0.0005
-# beside what a program may read at once
-SIZES = [(1 << bits) + more for bits in (9, 12, 13, 15, 16, 17) for more in (-2, -1, 0, 1)]
 LARGE_VALUE = 3_000_000
-SHORT_INPUT = [
-    (b"local", b"file:.git/config", b"test.bool\nmaybe"), (b"command", b"command line:", b"test.int"),
-    (b"", b"a\\\xe2\x82", b"middle.a.b.last\n2g\n"), (b"global", b"", b""), (b"x", b"y", b"test.bool"),
-    (b"local", b"file:\xc3\xa9", b"test.word\n\xf0\x9f\x98\x80\x1b"),
-]
+SHORT = (b"\xef\xbb\xbfint\n[test]\r\n\tbool = maybe # yes\n\tint;\n int = 2g\n"
+         b"[middle \"a.\\\"b\\\\\"] last = 1\\\n 2 \\t\\\"\n"
+         b"[ \"x\"]y\n[test]bool=\"a # \\\n\xe2\x82\"  b \n\tword = \xf0\x9f\x98\x80\x1b\\")
 
 
 def compare(group, program, how, data, **chosen):
-    """One input, by the program and by the plain reader."""
+    """One file, by the program and by the plain reader."""
     wanted = by_plain_reader(made.ROWS, data, **chosen)
-    return group.expect((how[2:], data), wanted, program.run(how, data))
+    return group.expect((how[2:-1], data), wanted, program.run(how, data))
 
 
 def cut(group, program):
-    """A short input, cut at every byte, with and without fields."""
-    settings = program.settings(rows.SETTINGS)
-    for scope, origin, canonical in made.WAYS:
-        if canonical:
-            continue
-        is_there = (scope, origin, True)
-        texts = [text for entry in SHORT_INPUT for text in itertools.compress(entry, is_there)]
-        data = b"".join(text + b"\0" for text in texts)
-        how = arguments(settings, scope, origin)
-        for end in range(len(data) + 1):
-            compare(group, program, how, data[:end], scope=scope, origin=origin)
+    """A short file, cut at every byte, and with each byte left out or changed."""
+    how = arguments(program.settings(rows.SETTINGS))
+    for end in range(len(SHORT) + 1):
+        for more in (SHORT[:end], SHORT[:end] + SHORT[end + 1:], SHORT[:end] + b"\0" + SHORT[end + 1:]):
+            compare(group, program, how, more)
 
 
 def large(group, program, draw, count):
@@ -52,17 +41,13 @@ def large(group, program, draw, count):
     seconds = time.monotonic() - before
     group.expect(f"{count} entries", wanted, came)
     took = f"{seconds:.1f} s for {count:,} entries"
-    group.expect(took, True, seconds < SECONDS_FOR_A_LARGE_INPUT)
+    group.expect(took, True, seconds < SECONDS_FOR_A_LARGE_FILE)
     group.notes.append(took)
     long = [b"x" * LARGE_VALUE, b"\xe2\x82\xac\xff\\" * (LARGE_VALUE // 5)]
     for text in [b"", *long]:
-        compare(group, program, how, b"test.word\n" + text + b"\0test.bool\nmaybe\0", canonical=True)
-        compare(group, program, how, b"middle." + text + b".last\nx\0test.bool\nmaybe\0", canonical=True)
-        compare(group, program, how, text + b"\0test.bool\nmaybe\0", canonical=True)
-    for size in SIZES:
-        head = b"test.word\n"
-        for tail in (b"", b"\0", b"\xe2\x82\xac\0test.bool\n\xe2\x82\xac\0"):
-            compare(group, program, how, head + b"x" * (size - len(head)) + tail, canonical=True)
+        for key, value in ((b"test.word", text), (b"middle." + text + b".last", b"x"), (b"x.y", text)):
+            data = made.line_of(key, value) + made.line_of(b"test.bool", b"maybe")
+            compare(group, program, how, data, canonical=True)
 
 
 def run_in_pieces(program, how, data, size):
@@ -87,21 +72,20 @@ def run_in_pieces(program, how, data, size):
 
 
 def pieces(group, program, draw):
-    """Inputs that arrive byte by byte, or in small pieces."""
+    """Files that arrive byte by byte, or in small pieces."""
     how = arguments(program.settings(rows.SETTINGS), canonical=True)
     for size, count in ((1, 20), (2, 20), (3, 20), (7, 100), (100, 1000)):
-        data = made.many(draw, count, False, False)
+        data = made.many(draw, count)
         wanted = by_plain_reader(made.ROWS, data, canonical=True)
         group.expect((size, data), wanted, run_in_pieces(program, how, data, size))
 
 
 def mutated(group, program, draw, count):
-    """So many mutated entries, in a few large inputs, and tiny inputs whose structure is mutated too."""
+    """So many mutated entries, in a few large files, and tiny files whose text is mutated too."""
     settings = program.settings(rows.SETTINGS)
-    sizes = [min(ENTRIES_OF_AN_INPUT, count - at) for at in range(0, count, ENTRIES_OF_AN_INPUT)]
-    for size in sizes + [None] * TINY_INPUTS:
-        scope, origin, canonical = draw.choice(made.WAYS)
-        data = made.tiny(draw) if size is None else made.many(draw, size, scope, origin)
-        how = arguments(settings, scope, origin, canonical)
-        compare(group, program, how, data, scope=scope, origin=origin, canonical=canonical)
+    sizes = [min(ENTRIES_OF_A_FILE, count - at) for at in range(0, count, ENTRIES_OF_A_FILE)]
+    for size in sizes + [None] * TINY_FILES:
+        canonical = draw.choice((False, True))
+        data = made.tiny(draw) if size is None else made.many(draw, size)
+        compare(group, program, arguments(settings, canonical), data, canonical=canonical)
     group.notes.append(f"{count:,} entries")

@@ -1,5 +1,5 @@
-"""Inputs that are made: of the keys and values of rows.py, whole, cut and mutated."""
-import itertools
+"""Files that are made: of the keys and values of rows.py, whole, cut and mutated."""
+import re
 
 import plain_reader
 import rows
@@ -9,10 +9,8 @@ SEPARATORS = [b"\0", b"\n", b".", b" ", b"\t", b"\\", b"-", b"+", b"#", b"*", b"
 PIECES = [b"\xc2\x85", b"\xef\xbb\xbf", b"\xe2\x82", b"\xff", b"\xc3\xa9", b"\xed\xa0\x80", b"\xe3\x80\x80",
           b"0x", b"0b", b"k", b"M", b"g", b"no", b"no-", b"bright", b"bold", b"red", b"true", b"00",
           b"2147483648", b"9223372036854775808", b"8589934592", b":(optional)", b"always", b"Never", b"\0\0"]
-SCOPES = [b"local", b"global", b"system", b"command", b"worktree", b"", b"a\tb", b"\xff"]
-ORIGINS = [b"file:.git/config", b"file:/home/u/.gitconfig", b"command line:", b"", b"file:\\\n",
-           b"file:\xc2\x85"]
-WAYS = list(itertools.product((False, True), repeat=3))
+ESCAPES = {b"\\": b"\\\\", b'"': b'\\"', b"\n": b"\\n", b"\t": b"\\t", b"\b": b"\\b"}
+MARKS = [b"[", b"]", b'"', b"\\", b"=", b"#", b";", b"\n", b"\r\n", b"\0", b"\\\n", b"\xef\xbb\xbf"]
 
 
 def keys():
@@ -36,6 +34,17 @@ KEYS = keys()
 VALUES_BY_KEY = values_by_key()
 VALUES = [value for values in VALUES_BY_KEY.values() for value in values if value is not None]
 ROWS = plain_reader.rows_of(rows.SETTINGS)
+
+
+def escaped(text):
+    return re.sub(rb'[\\"\n\t\b]', lambda match: ESCAPES[match[0]], text)
+
+
+def line_of(key, value):
+    """The line of a file that sets a key, as Git lists it, to a value; a NUL stays as it is."""
+    first, middle, last = plain_reader.key_of(key)
+    quoted = b"" if middle is None else b' "%s"' % re.sub(rb'([\\"])', rb"\\\1", middle)
+    return b"[%s%s] %s%s\n" % (first, quoted, last, b"" if value is None else b' = "%s"' % escaped(value))
 
 
 def mutated(draw, text):
@@ -62,52 +71,33 @@ def mutated(draw, text):
 
 
 def entry(draw):
-    """An entry with a key and a value of the tables that fit together, or not."""
+    """A key and a value of the tables that fit together, or not."""
     key = draw.choice(list(VALUES_BY_KEY) if draw.randrange(3) else KEYS)
-    value = draw.choice(VALUES_BY_KEY.get(key, VALUES) if draw.randrange(3) else VALUES)
-    return key if value is None else key + b"\n" + value
+    return key, draw.choice(VALUES_BY_KEY.get(key, VALUES) if draw.randrange(3) else VALUES)
 
 
-def mutated_entry(draw):
-    """An entry of which the key, the value, or the whole is changed, or nothing."""
-    key, line_feed, value = entry(draw).partition(b"\n")
-    way = draw.randrange(8)
-    if way == 0:
-        return mutated(draw, key) + line_feed + value
-    if way == 1:
-        return mutated(draw, key + line_feed + value)
-    return key + line_feed + (mutated(draw, value) if way < 7 else value)
+def mutated_line(draw):
+    """The line of an entry whose value is changed, or of no change."""
+    key, value = entry(draw)
+    if value is not None and draw.randrange(4):
+        value = mutated(draw, value).replace(b"\0", b"")
+    return line_of(key, value)
 
 
-def fields(draw, scope, origin):
-    """The fields before an entry, each with its NUL."""
-    chosen = [draw.choice(SCOPES)] * scope + [draw.choice(ORIGINS)] * origin
-    return b"".join(mutated(draw, one) + b"\0" if draw.randrange(20) == 0 else one + b"\0" for one in chosen)
-
-
-def many(draw, count, scope, origin):
-    """An input of so many mutated entries, of a few more or less where a NUL was put in or taken out."""
-    return b"".join(fields(draw, scope, origin) + mutated_entry(draw) + b"\0" for _ in range(count))
+def many(draw, count):
+    """A file of so many mutated entries."""
+    return b"".join(mutated_line(draw) for _ in range(count))
 
 
 def tiny(draw):
-    """An input of a few entries, whose structure is changed: fields and NULs are missing or added."""
-    scope, origin = draw.choice(WAYS)[:2]
-    data = bytearray(many(draw, draw.randrange(1, 7), scope, origin))
+    """A file of a few entries, whose text is changed too."""
+    text = bytearray(many(draw, draw.randrange(1, 7)))
     for _ in range(draw.choice((0, 1, 1, 2, 3))):
-        at = draw.choice([0, len(data), *(at for at, byte in enumerate(data) if byte == 0)])
-        way = draw.randrange(4)
-        if way == 0:
-            del data[at:at + 1]
-        elif way == 1:
-            data[at:at] = b"\0"
-        elif way == 2:
-            data[at:at] = draw.choice(KEYS) + draw.choice((b"", b"\0", b"\n\0"))
-        else:
-            del data[at:]
-    return bytes(data)
+        at = draw.randrange(len(text) + 1)
+        text[at:at + draw.randrange(2)] = draw.choice(MARKS)
+    return bytes(text) if draw.randrange(3) else mutated(draw, bytes(text))
 
 
 def whole(draw, count):
-    """An input of entries of the tables, unchanged."""
-    return b"".join(entry(draw) + b"\0" for _ in range(count))
+    """A file of entries of the tables, unchanged."""
+    return b"".join(line_of(*entry(draw)) for _ in range(count))

@@ -1,6 +1,6 @@
-"""A second, plain reader of the input of config_check, from docs/CHECKING.md and docs/GRAMMAR.md alone.
+"""A second, plain reader of the files of config_check, from docs/CHECKING.md and docs/GRAMMAR.md alone.
 
-`findings` gives what the program has to write and its status. Nothing here is meant to be fast.
+`findings` gives what the program has to write and its counts. Nothing here is meant to be fast.
 """
 import collections
 import re
@@ -11,6 +11,9 @@ INTEGER_FAULT = (b"Integers needs to be positive or negative numbers"
                  b" which may have a suffix like 1k, 42, or 50G")
 OVERFLOW_FAULT = b"integer suffix multiplication overflows `i64`"
 COLOR_FAULT = b"Colors are specific color values and their attributes, like 'brightred', or 'blue'"
+
+BAD_LINE = b"Git cannot read this line, and reads nothing of the file"
+NUL = b"a NUL byte outside a comment"
 
 # a key, cut at its first and at its last dot; where they are one dot, there is no middle
 Key = collections.namedtuple("Key", "first middle last")
@@ -323,28 +326,125 @@ def shown(text):
     return UNSHOWN.sub(character_shown, text.decode(errors="surrogateescape")).encode()
 
 
-def entries(data, fields):
-    """The entries, each behind its fields, and whether something is cut off at the end."""
-    *ended, rest = data.split(b"\0")
-    texts = ended + [rest] if rest else ended
-    size = fields + 1
-    whole = len(texts) // size * size
-    return [texts[at:at + size] for at in range(0, whole, size)], bool(rest) or whole < len(texts)
+NAME, BLANK = re.compile(rb"[A-Za-z0-9.-]*"), re.compile(rb"[ \t\r]*")
+KEY = re.compile(rb"([A-Za-z][A-Za-z0-9-]*)[ \t]*")
+END = re.compile(rb"\r?\n|\Z")
+BYTE_ORDER_MARK = re.compile(rb"\xef\xbb?")
+ESCAPES = {b"n": b"\n", b"t": b"\t", b"b": b"\b", b'"': b'"', b"\\": b"\\"}
 
 
-def findings(rows, data, scope=False, origin=False, canonical=False):
-    """The output, the line of counts, and the status for an input."""
-    found, is_cut_off = entries(data, scope + origin)
-    judged, lines = 0, []
-    for number, (*fields, entry) in enumerate(found, 1):
-        key, line_feed, value = entry.partition(b"\n")
-        row = row_for(rows, key)
-        if row is None:
+class Stopped(Exception):
+    """The place at which Git reads no further, and whether Git tells one line more than its."""
+
+
+def header(data, at):
+    """What the keys of a section begin with, and the place after its header."""
+    name = NAME.match(data, at + 1)
+    at = name.end()
+    if data[at:at + 1] == b"]" and name[0]:
+        return name[0].lower() + b".", at + 1
+    blanks = BLANK.match(data, at)
+    if not blanks[0] or data[blanks.end():blanks.end() + 1] != b'"':
+        raise Stopped(blanks.end(), at == len(data))
+    at, subsection = blanks.end() + 1, []
+    while data[at:at + 1] != b'"':
+        at += data[at:at + 1] == b"\\"
+        if data[at:at + 1] in (b"", b"\n", b"\0"):
+            raise Stopped(at, False)
+        subsection.append(data[at:at + 1])
+        at += 1
+    if data[at + 1:at + 2] != b"]":
+        raise Stopped(at + 1, END.match(data, at + 1) is not None)
+    return name[0].lower() + b"." + b"".join(subsection) + b".", at + 2
+
+
+def value_at(data, at):
+    """The text of a value, and the place after it."""
+    text, blanks, is_quoted = [], b"", False
+    while True:
+        byte = data[at:at + 1]
+        if byte == b"\0" or is_quoted and byte in (b"", b"\n"):
+            raise Stopped(at, False)
+        if not is_quoted and byte in (b"", b"\n", b"#", b";"):
+            return b"".join(text), at
+        if not is_quoted and byte in b" \t\r":
+            blanks += b" " if text else b""
+            at += 1
             continue
-        judged += 1
-        why = reason(row, value if line_feed else None, canonical)
+        if blanks:
+            text.append(blanks)
+            blanks = b""
+        end = END.match(data, at + 1)
+        if byte == b"\\" and end and (end[0] or not is_quoted):
+            at = end.end()
+            if not end[0]:
+                return b"".join(text), at + 1
+            continue
+        if byte == b"\\":
+            at += 1
+            if data[at:at + 1] not in ESCAPES:
+                raise Stopped(at, at == len(data))
+            text.append(ESCAPES[data[at:at + 1]])
+        elif byte == b'"':
+            is_quoted = not is_quoted
+        elif is_quoted and data[at:at + 2] == b"\r\n":
+            raise Stopped(at + 1, False)
+        else:
+            text.append(byte)
+        at += 1
+
+
+def line_of(data, at):
+    return data.count(b"\n", 0, at) + 1 + (at > len(data))
+
+
+def entries(data):
+    """The line, the key and the value of each entry, and the line at which Git stops, if it does, and why."""
+    found, front, at = [], b"", 3 if data.startswith(b"\xef\xbb\xbf") else 0
+    try:
+        while at < len(data):
+            key = KEY.match(data, at)
+            if data[at:at + 1] in b" \t\r\n":
+                at += 1
+            elif data[at:at + 1] in b"#;":
+                at = (data.find(b"\n", at) + 1 or len(data) + 1) - 1
+            elif data[at:at + 1] == b"[":
+                front, at = header(data, at)
+            elif key is None:
+                mark = BYTE_ORDER_MARK.match(data) if at == 0 else None
+                # a mark that is not whole begins no item
+                raise Stopped(at, mark is not None and END.match(data, mark.end()) is not None)
+            elif data[key.end():key.end() + 1] == b"=":
+                value, at = value_at(data, key.end() + 1)
+                found.append((line_of(data, at), front + key[1].lower(), value))
+            elif END.match(data, key.end()):
+                at = key.end()
+                found.append((line_of(data, at), front + key[1].lower(), None))
+            else:
+                raise Stopped(key.end(), False)
+    except Stopped as stopped:
+        at, is_more = stopped.args
+        return found, (line_of(data, at) + is_more, NUL if data[at:at + 1] == b"\0" else BAD_LINE)
+    return found, None
+
+
+def finding(line, key, value, why, name=b"-"):
+    """The line of a finding; its key and its value are shown already."""
+    severity, _, text = why.partition(b": ")
+    quoted = b"" if value is None else b"'%s': " % value
+    return b"%s:%d: %s: %s: %s%s\n" % (name, line, severity, key, quoted, text)
+
+
+def findings(rows, data, canonical=False):
+    """The output for standard input, and the counts: entries, judged ones, unknown keys and findings."""
+    found, stopped = entries(data)
+    judged, lines = 0, []
+    for line, key, value in found:
+        row = row_for(rows, key)
+        judged += row is not None
+        why = None if row is None else reason(row, value, canonical)
         if why is not None:
-            lines.append(b"\t".join([b"%d" % number, *map(shown, [*fields, key, value]), why]) + b"\n")
-    counts = len(found), judged, len(found) - judged, len(lines)
-    summary = b"config_check: %d entries, %d judged, %d unknown keys, %d findings" % counts
-    return b"".join(lines), summary, 2 if is_cut_off else 1 if lines else 0
+            lines.append(finding(line, shown(key), None if value is None else shown(value), why))
+    if stopped is not None:
+        lines.append(b"-:%d: error: %s\n" % stopped)
+    return b"".join(lines), (len(found), judged, len(found) - judged, len(lines))

@@ -3,7 +3,7 @@
 
 The groups run next to each other. It prints what failed, a line for each group as it ends, the
 classes of differences from Git, and last 'N passed, M failed'. The run is the same for the same seed
-and numbers of mutated entries and of those of a large input. Without Git or its manual, what needs it
+and numbers of mutated entries and of those of a large file. Without Git or its manual, what needs it
 says so and counts nothing.
 """
 import argparse
@@ -16,9 +16,9 @@ import tempfile
 import by_hand
 import endings
 import git_types
+import here
 import inputs
 import page
-import repository
 from checking import Group, Program
 
 
@@ -30,12 +30,12 @@ def groups(program, seed, count, large):
     return [
         ("the pages of Git", page.check),
         ("rows, keys and arguments", lambda group: by_hand.check(group, program)),
-        ("inputs that are cut off", lambda group: inputs.cut(group, program)),
-        ("inputs that arrive in pieces", lambda group: inputs.pieces(group, program, draw())),
-        ("a repository", lambda group: repository.check(group, program)),
+        ("files that are cut off", lambda group: inputs.cut(group, program)),
+        ("files that arrive in pieces", lambda group: inputs.pieces(group, program, draw())),
+        ("the files that Git reads here", lambda group: here.check(group, program)),
         ("the types of Git", lambda group: git_types.check(group, program, draw())),
-        ("large inputs", lambda group: inputs.large(group, program, draw(), large)),
-        ("mutated inputs", lambda group: inputs.mutated(group, program, draw(), count)),
+        ("large files", lambda group: inputs.large(group, program, draw(), large)),
+        ("mutated files", lambda group: inputs.mutated(group, program, draw(), count)),
         ("closed and full outputs, and a terminal", lambda group: endings.check(group, program)),
     ]
 

@@ -1,288 +1,270 @@
--- A check, entry by entry.
-use Rattle.std.proofs.Common.{◌≡◌, ◌≢◌, ◌+◌, ◌≤◌, ℕ, List, [], ◌∷◌, ◌++◌, flat_map, true, false, Option, refl, sym}
-use Rattle.std.proofs.Common.{ap, subst, ◌∙◌, append_assoc, append-nil, arith, inl, inr, Result, Ok, Err}
-use Rattle.std.proofs.Common.{IfOk, IfErr, OnOk, OnErr, is_ok, IsErrAnd, Bool}
-use Rattle.std.specs.Io.KnownBytes.{Consumes, Keeps}
-use Rattle.std.proofs.KnownBytes.{Consumes-nil, Consumes-trans, Appends-nil, Appends-trans, Appends-kept}
-use Rattle.std.proofs.lemmas.List.Elements.{All-append, All-cons}
-use Rattle.std.proofs.lemmas.Grind.{flat_map-append}
-use Rattle.std.specs.List.{All}
-use Rattle.std.specs.declared.io.Error.{Error}
+-- A check, setting by setting.
+use Rattle.std.proofs.Common.{◌≡◌, ◌+◌, ◌≤◌, ◌<◌, ℕ, List, [], ◌∷◌, ◌++◌, Option, None, refl, sym, inl, inr}
+use Rattle.std.proofs.Common.{ap, subst, ◌∙◌, append_assoc, append-nil, arith, Result, Ok, Err, take, drop, drop-cons, zero, suc, length}
+use Rattle.std.proofs.Common.{IfErr, OnOk, OnErr, is_ok, IsErrAnd, take-append-drop, get_or}
+use Rattle.std.specs.Io.KnownBytes.{Appends, Keeps}
+use Rattle.std.proofs.KnownBytes.{Appends-nil, Appends-trans, Appends-kept}
+use Rattle.config_file.specs.declared.errors.Error as errors
+use Rattle.config_file.specs.declared.settings.Setting.{Setting}
 use Rattle.config_checks.specs.declared.options.Options.{Options}
 use Rattle.config_checks.specs.declared.row.Row.{Row}
 use Rattle.config_checks.specs.declared.check.Counts.{Counts}
-use Rattle.config_checks.specs.declared.check.Summary.{Summary}
 use Rattle.config_checks.specs.declared.check.CheckError.{CheckError}
-use Rattle.config_checks.specs.declared.check.CheckError.TheVariants.{Read, Write, Memory}
-use Rattle.config_checks.specs.declared.entry.EntryEnd.{EntryEnd}
-use Rattle.config_checks.specs.declared.entry.EntryEnd.TheVariants.{Nul, CutOff, CutBefore, Nothing}
-use Rattle.config_checks.specs.Entries.{Entry, IsEntry, IsCut, IsBegun, whole, cut_off, cut_before}
-use Rattle.config_checks.specs.Entries.{entry_bytes}
-use Rattle.config_checks.specs.Report.{unknown, right, found, Report, nothing, next, Completes, Fails}
-use Rattle.config_checks.specs.Report.{WritesAfter, AreRead, BeginsReport, LacksLastLine}
-use Rattle.config_checks.specs.Reading.Fields.{ReadsEntry, BreaksEntry}
-use Rattle.config_checks.specs.Reading.Steps.{IsCheckedTo, Reports, ReportsPart, MayWrite, IsWrite}
-use Rattle.config_checks.proofs.EntryLemmas.{ends_both, without_none, no_field}
+use Rattle.config_checks.specs.declared.check.CheckError.TheVariants.{Write, Memory}
+use Rattle.config_checks.specs.Report.{unknown, right, found, Report, nothing, next}
+use Rattle.config_checks.specs.Report.{HasSettings, HasFirst, Completes, Fails}
+use Rattle.config_checks.specs.Findings.{AppendsPart}
+use Rattle.config_checks.specs.Reading.Steps.{Reports, ReportsPart, ReportsAll, ReportsFirst, Tells, TellsPart}
+use Rattle.config_checks.specs.Reading.Steps.{WritesPart, IsMemory, IsWrite}
+use Rattle.config_file.specs.File.{Entry, IsFile}
+use Rattle.config_file.specs.Settings.{IsSettingOf}
+use Rattle.std.specs.List.{AllZip}
+use Rattle.config_file.proofs.EachReading.{each_is_read}
 
 module _ (rows : List Row) (options : Options) where
-  no_entries : All (IsEntry options) []
-  no_entries k d below = absurd (omega arith)
+  nothing_counted : (s : Counts) → s.entries ≡ 0 → s.unknown ≡ 0 → s.findings ≡ 0 → Report rows options [] [] s
+  nothing_counted s none none_unknown none_found =
+      subst (Report rows options [] []) (sym (ap (λ a. record { entries = a; unknown = s.unknown; findings = s.findings }) none
+      ∙ ap (λ b. record { entries = 0; unknown = b; findings = s.findings }) none_unknown
+      ∙ ap (λ c. record { entries = 0; unknown = 0; findings = c }) none_found)) nothing
 
-  nothing_counted : (a b c : ℕ) → a ≡ 0 → b ≡ 0 → c ≡ 0
-      → Report rows options [] [] (record { entries = a; unknown = b; findings = c })
-  nothing_counted a b c none_a none_b none_c = rw (none_a, none_b, none_c) nothing
+  -- nothing is reported yet
+  pub start : (w : Option (List ℕ)) (s : Counts) → s.entries ≡ 0 → s.unknown ≡ 0 → s.findings ≡ 0
+      → ReportsAll rows options [] w w s
+  start w s none none_unknown none_found = ([], Appends-nil w, nothing_counted s none none_unknown none_found)
 
-  -- nothing was read yet
-  pub start : (u w : Option (List ℕ)) (s : Counts) → s.entries ≡ 0 → s.unknown ≡ 0 → s.findings ≡ 0
-      → IsCheckedTo rows options u u w w s
-  start u w s entries none_unknown findings = record {
-    input = [];
-    output = [];
-    entries = [];
-    consumed = Consumes-nil u;
-    cut = record { joined = refl; each = no_entries };
-    appended = Appends-nil w;
-    report = nothing_counted s.entries s.unknown s.findings entries none_unknown findings;
+  -- one more setting
+  pub more : (settings : List Setting) (setting : Setting) (w x x' : Option (List ℕ)) (s s' : Counts)
+      → ReportsAll rows options settings w x s → Reports rows options setting s s' x x'
+      → ReportsAll rows options (settings ++ setting ∷ []) w x' s'
+  more settings setting w x x' s s' (lines, appended, report) (line, adds, after) =
+      (lines ++ line, Appends-trans w x x' lines line appended after, next settings lines s setting line s' report adds)
+
+  -- the line of one more setting failed
+  pub fails_here : (settings others : List Setting) (setting : Setting) (all : List Setting) (w x x' : Option (List ℕ)) (s : Counts)
+      (e : CheckError) → all ≡ settings ++ setting ∷ others
+      → ReportsAll rows options settings w x s → ReportsPart rows options setting s x x' e
+      → ReportsFirst rows options all w x' e
+  fails_here settings others setting all w x x' s (Write e) cut (lines, appended, report) (line, (s', adds), part) = record {
+    output = lines ++ part.written;
+    appended = Appends-trans w x x' lines part.written appended part.appended;
+    first = settings ++ setting ∷ [];
+    others = others;
+    cut = cut ∙ sym (append_assoc settings (setting ∷ []) others);
+    missing = part.missing;
+    s = s';
+    report =
+        let whole = ap (λ l. lines ++ l) part.parts ∙ sym (append_assoc lines part.written part.missing) in
+        subst (λ l. Report rows options (settings ++ setting ∷ []) l s') whole (next settings lines s setting line s' report adds);
+    lacks = tt;
+  }
+  fails_here settings others setting all w x x' s (Memory e) cut (lines, appended, report) same = record {
+    output = lines;
+    appended = subst (λ c. Appends w c lines) (sym same) appended;
+    first = settings;
+    others = setting ∷ others;
+    cut = cut;
+    missing = [];
+    s = s;
+    report = subst (λ l. Report rows options settings l s) (sym (append-nil lines)) report;
+    lacks = refl;
   }
 
-  one_more : (entries : List Entry) (entry : Entry) → All (IsEntry options) entries → IsEntry options entry
-      → All (IsEntry options) (entries ++ entry ∷ [])
-  one_more entries entry each is =
-      All-append (IsEntry options) entries (entry ∷ []) each (All-cons (IsEntry options) entry [] is no_entries)
+-- a part of a line was written
+pub part_written : (IsLine : List ℕ → Type 0) (x x' : Option (List ℕ)) (e : CheckError) (line : List ℕ) → IsWrite e → IsLine line
+    → AppendsPart x x' line → WritesPart x x' IsLine e
+part_written IsLine x x' (Write e) line is line_is part = (line, line_is, part)
+part_written IsLine x x' (Memory e) line is line_is part = absurd is
 
-  joined_more : (input : List ℕ) (entries : List Entry) (entry : Entry)
-      → input ≡ flat_map (entry_bytes options) entries ++ []
-      → input ++ entry_bytes options entry ≡ flat_map (entry_bytes options) (entries ++ entry ∷ []) ++ []
-  joined_more input entries entry joined =
-      let bytes = flat_map (entry_bytes options) in
-      ap (λ l. l ++ entry_bytes options entry) (joined ∙ append-nil (bytes entries))
-      ∙ sym (append-nil (bytes (entries ++ entry ∷ [])) ∙ flat_map-append (entry_bytes options) entries (entry ∷ [])
-      ∙ ap (λ l. bytes entries ++ l) (append-nil (entry_bytes options entry)))
+take_next : {X : Type 0} (xs : List X) (i : ℕ) (d : X) → i < length xs → take (suc i) xs ≡ take i xs ++ get_or xs i d ∷ []
+take_next [] i d below = absurd (omega arith)
+take_next (x ∷ xs) zero d below = refl
+take_next (x ∷ xs) (suc i) d below = ap (λ l. x ∷ l) (take_next xs i d (omega arith))
 
-  -- one more entry
-  pub more : (u v v' w x x' : Option (List ℕ)) (entry : Entry) (s s' : Counts)
-      → IsCheckedTo rows options u v w x s
-      → ReadsEntry options v v' entry Nul → Reports rows options entry s s' x x'
-      → IsCheckedTo rows options u v' w x' s'
-  more u v v' w x x' entry s s' so_far read judged = record {
-    input = so_far.input ++ entry_bytes options entry;
-    output = so_far.output ++ judged.line;
-    entries = so_far.entries ++ entry ∷ [];
-    consumed = Consumes-trans u v v' _ _ so_far.consumed read.0;
-    cut = record { joined = joined_more so_far.input so_far.entries entry so_far.cut.joined; each = one_more so_far.entries entry so_far.cut.each read.1 };
-    appended = Appends-trans w x x' _ _ so_far.appended judged.appended;
-    report = next so_far.entries so_far.output s entry judged.key judged.value judged.line s' so_far.report judged.setting judged.adds;
-  }
+-- the item at this place
+pub take_more : {X : Type 0} (xs : List X) (i : ℕ) (x : X) → i < length xs → get_or xs i x ≡ x
+    → take (i + 1) xs ≡ take i xs ++ x ∷ []
+take_more xs i x below here =
+    let one : i + 1 ≡ suc i = omega arith in
+    ap (λ n. take n xs) one ∙ take_next xs i x below ∙ ap (λ y. take i xs ++ y ∷ []) here
 
-  -- what was read so far, and then a rest
-  with_rest : (input : List ℕ) (entries : List Entry) (rest : List ℕ) → IsCut options input entries []
-      → IsCut options (input ++ rest) entries rest
-  with_rest input entries rest cut = record {
-    joined = ap (λ l. l ++ rest) (cut.joined ∙ append-nil (flat_map (entry_bytes options) entries));
-    each = cut.each;
-  }
-
-  -- ---- the input has ended
-
-  pub ends_whole : (u v v' w x x' : Option (List ℕ)) (entry : Entry) (s : Counts) (r : Summary)
-      → IsCheckedTo rows options u v w x s
-      → ReadsEntry options v v' entry Nothing → Keeps x x' → r.counts ≡ s → r.is_cut_off ≡ false
-      → Completes rows options u v' w x' r
-  ends_whole u v v' w x x' entry s r so_far read kept counts is = record {
-    input = so_far.input ++ [];
-    output = so_far.output;
-    consumed = Consumes-trans u v v' _ _ so_far.consumed read.0;
-    at_end = ends_both u v v' so_far.input so_far.consumed read.1;
-    appended = Appends-kept w x x' _ so_far.appended kept;
-    report = record {
-      entries = so_far.entries;
-      whole = whole (with_rest so_far.input so_far.entries [] so_far.cut) is;
-      lines = rw counts so_far.report;
-    };
-  }
-
-  pub ends_before : (u v v' w x x' : Option (List ℕ)) (entry : Entry) (s : Counts) (r : Summary)
-      → IsCheckedTo rows options u v w x s
-      → ReadsEntry options v v' entry CutBefore → Keeps x x' → r.counts ≡ s → r.is_cut_off ≡ true
-      → Completes rows options u v' w x' r
-  ends_before u v v' w x x' entry s r so_far read kept counts is = record {
-    input = so_far.input ++ read.0;
-    output = so_far.output;
-    consumed = Consumes-trans u v v' _ _ so_far.consumed read.1;
-    at_end = ends_both u v v' so_far.input so_far.consumed read.2;
-    appended = Appends-kept w x x' _ so_far.appended kept;
-    report = record {
-      entries = so_far.entries;
-      whole = cut_before read.0 (with_rest so_far.input so_far.entries read.0 so_far.cut) read.3 is;
-      lines = rw counts so_far.report;
-    };
-  }
-
-  pub ends_cut_off : (u v v' w x x' x'' : Option (List ℕ)) (entry : Entry) (s s' : Counts) (r : Summary)
-      → IsCheckedTo rows options u v w x s
-      → ReadsEntry options v v' entry CutOff → Reports rows options entry s s' x x' → Keeps x' x''
-      → r.counts ≡ s' → r.is_cut_off ≡ true
-      → Completes rows options u v' w x'' r
-  ends_cut_off u v v' w x x' x'' entry s s' r so_far read judged kept counts is = record {
-    input = so_far.input ++ read.0;
-    output = so_far.output ++ judged.line;
-    consumed = Consumes-trans u v v' _ _ so_far.consumed read.1;
-    at_end = ends_both u v v' so_far.input so_far.consumed read.2;
-    appended = Appends-kept w x' x'' _ (Appends-trans w x x' _ _ so_far.appended judged.appended) kept;
-    report = record {
-      entries = so_far.entries ++ entry ∷ [];
-      whole = cut_off so_far.entries entry read.0 (with_rest so_far.input so_far.entries read.0 so_far.cut) read.3 refl is;
-      lines = rw counts (next so_far.entries so_far.output s entry judged.key judged.value judged.line s' so_far.report judged.setting judged.adds);
-    };
-  }
-
-  -- ---- something failed
-
-  -- a flush, at the end of the input
-  pub fails_at_end : (u v w x : Option (List ℕ)) (r : Summary) (e : CheckError)
-      → Completes rows options u v w x r → IsWrite e
-      → Fails rows options u v w x e
-  fails_at_end u v w x r (Read e) complete write = absurd write
-  fails_at_end u v w x r (Memory e) complete write = absurd write
-  fails_at_end u v w x r (Write e) complete write = record {
-    input = complete.input;
-    output = complete.output;
-    entries = complete.report.entries;
-    consumed = complete.consumed;
-    appended = complete.appended;
-    read = inr (r.is_cut_off, complete.at_end, complete.report.whole);
-    written = record {
-      s = r.counts;
-      missing = [];
-      report = subst (λ l. Report rows options complete.report.entries l r.counts) (sym (append-nil complete.output)) complete.report.lines;
-    };
-  }
-
-  -- the flush at the end, after which the check is complete or has failed
-  pub ended : {u v w x : Option (List ℕ)} (s : Counts) (is_cut_off : Bool)
-      → ((m : Summary) → m.counts ≡ s → m.is_cut_off ≡ is_cut_off → Completes rows options u v w x m)
-      → (r : Result Summary CheckError) → IfOk r (λ m. m.counts ≡ s) → IfOk r (λ m. m.is_cut_off ≡ is_cut_off)
-      → IfOk r (Completes rows options u v w x)
-  ended s is_cut_off complete (Ok m) counts is = complete m counts is
-  ended s is_cut_off complete (Err e) counts is = tt
-
-  pub end_failed : {u v w x : Option (List ℕ)} (s : Counts) (is_cut_off : Bool)
-      → ((m : Summary) → m.counts ≡ s → m.is_cut_off ≡ is_cut_off → Completes rows options u v w x m)
-      → (r : Result Summary CheckError) → IfErr r IsWrite → IfErr r (Fails rows options u v w x)
-  end_failed s is_cut_off complete (Ok m) write = tt
-  end_failed s is_cut_off complete (Err e) write =
-      fails_at_end _ _ _ _ _ e (complete (record { counts = s; is_cut_off = is_cut_off }) refl refl) write
-
-  -- a read
-  pub fails_reading : (u v v' w x : Option (List ℕ)) (s : Counts) (e : Error)
-      → IsCheckedTo rows options u v w x s → BreaksEntry options v v'
-      → Fails rows options u v' w x (Read e)
-  fails_reading u v v' w x s e so_far broken = record {
-    input = so_far.input ++ broken.0;
-    output = so_far.output;
-    entries = so_far.entries;
-    consumed = Consumes-trans u v v' _ _ so_far.consumed broken.1;
-    appended = so_far.appended;
-    read = inl (broken.0, with_rest so_far.input so_far.entries broken.0 so_far.cut, broken.2);
-    written = (s, so_far.report);
-  }
-
-  -- nothing of one more entry was read
-  nothing_begun : IsBegun options []
-  nothing_begun = record {
-    entry = record { scope = []; origin = []; setting = [] };
-    is_entry =
-        record { scope = no_field options.scope; origin = no_field options.origin; setting = without_none };
-    missing = entry_bytes options (record { scope = []; origin = []; setting = [] });
-    parts = refl;
-  }
-
-  pub breaks_nowhere : (v : Option (List ℕ)) → BreaksEntry options v v
-  breaks_nowhere v = ([], Consumes-nil v, nothing_begun)
-
-  -- the line of an entry
-  module _ (u v v' w x x' : Option (List ℕ)) (entry : Entry) (s : Counts) (so_far : IsCheckedTo rows options u v w x s) where
-    module _ (e : CheckError) (broken : ReportsPart rows options entry s x x' e) where
-      with_line : Report rows options (so_far.entries ++ entry ∷ []) (so_far.output ++ broken.line) broken.after
-      with_line =
-          next so_far.entries so_far.output s entry broken.key broken.value broken.line broken.after so_far.report broken.setting broken.adds
-
-      begun : BeginsReport rows options (so_far.entries ++ entry ∷ []) (so_far.output ++ broken.part.written)
-      begun = record {
-        s = broken.after;
-        missing = broken.part.missing;
-        report =
-            let all = ap (λ l. so_far.output ++ l) broken.part.parts ∙ sym (append_assoc so_far.output broken.part.written broken.part.missing) in
-            subst (λ l. Report rows options (so_far.entries ++ entry ∷ []) l broken.after) all with_line;
-      }
-
-      lacking : (broken.part.written ≡ []) × (broken.line ≢ [])
-          → LacksLastLine rows options (so_far.entries ++ entry ∷ []) (so_far.output ++ broken.part.written)
-      lacking allowed =
-          let same = ap (λ l. so_far.output ++ l) allowed.0 ∙ append-nil so_far.output in
-          subst (LacksLastLine rows options (so_far.entries ++ entry ∷ [])) (sym same) (record {
-            before = so_far.entries;
-            last = entry;
-            line = broken.line;
-            s = s;
-            s' = broken.after;
-            parts = refl;
-            report = so_far.report;
-            whole = with_line;
-            some = allowed.1;
-          })
-
-    written_after : (e : CheckError) (broken : ReportsPart rows options entry s x x' e)
-        → WritesAfter e rows options (so_far.entries ++ entry ∷ []) (so_far.output ++ broken.part.written)
-    written_after (Read e) broken = absurd broken.allowed
-    written_after (Write e) broken = begun (Write e) broken
-    written_after (Memory e) broken = lacking (Memory e) broken broken.allowed
-
-    module _ (e : CheckError) (broken : ReportsPart rows options entry s x x' e) where
-      fails_writing : (rest : List ℕ) → Consumes v v' rest
-          → AreRead options u v' (so_far.input ++ rest) (so_far.entries ++ entry ∷ [])
-          → Fails rows options u v' w x' e
-      fails_writing rest consumed read = record {
-        input = so_far.input ++ rest;
-        output = so_far.output ++ broken.part.written;
-        entries = so_far.entries ++ entry ∷ [];
-        consumed = Consumes-trans u v v' _ _ so_far.consumed consumed;
-        appended = Appends-trans w x x' _ _ so_far.appended broken.part.appended;
-        read = read;
-        written = written_after e broken;
-      }
-
-      pub fails_whole : ReadsEntry options v v' entry Nul → Fails rows options u v' w x' e
-      fails_whole read = fails_writing (entry_bytes options entry) read.0 (inl (
-        [],
-        record {
-          joined = joined_more so_far.input so_far.entries entry so_far.cut.joined;
-          each = one_more so_far.entries entry so_far.cut.each read.1;
-        },
-        nothing_begun,
-      ))
-
-      pub fails_cut_off : ReadsEntry options v v' entry CutOff → Fails rows options u v' w x' e
-      fails_cut_off read = fails_writing read.0 read.1
-          (inr (true, ends_both u v v' so_far.input so_far.consumed read.2, cut_off so_far.entries entry read.0 (with_rest so_far.input so_far.entries read.0 so_far.cut) read.3 refl refl))
+pub cut_at : {X : Type 0} (xs : List X) (i : ℕ) (x : X) → i < length xs → get_or xs i x ≡ x
+    → xs ≡ take i xs ++ x ∷ drop (suc i) xs
+cut_at xs i x below here =
+    sym (take-append-drop i xs) ∙ ap (λ l. take i xs ++ l) (drop-cons xs i x below) ∙ ap (λ y. take i xs ++ y ∷ drop (suc i) xs) here
 
 -- ---- counts
 
-pub adds_one : (rows : List Row) (options : Options) (entry : Entry) (s s' : Counts) (x x' : Option (List ℕ))
-    → Reports rows options entry s s' x x'
+pub adds_one : (rows : List Row) (options : Options) (setting : Setting) (s s' : Counts) (x x' : Option (List ℕ))
+    → Reports rows options setting s s' x x'
     → (s'.entries ≡ s.entries + 1) × (s'.unknown ≤ s.unknown + 1) × (s'.findings ≤ s.findings + 1)
-adds_one rows options entry s s' x x' judged = elim judged.adds [
+adds_one rows options setting s s' x x' (line, adds, appended) = elim adds [
   | unknown is none after ↦ rw after (refl, omega arith, omega arith)
   | right row decides is none after ↦ rw after (refl, omega arith, omega arith)
   | found row reason decides is line after ↦ rw after (refl, omega arith, omega arith)
 ]
 
--- ---- results
+-- ---- a file
 
--- how an entry ended, by its name
-pub read_to : (options : Options) (v v' : Option (List ℕ)) (entry : Entry) {end named : EntryEnd} → end ≡ named
-    → ReadsEntry options v v' entry end → ReadsEntry options v v' entry named
-read_to options v v' entry is read = subst (ReadsEntry options v v' entry) is read
+module _ (rows : List Row) (options : Options) (file text : List ℕ) where
+  all_first : (settings : List Setting) (error : Option errors.Error) → HasSettings file text settings error
+      → HasFirst file text settings error
+  all_first settings error (entries, is_file, are) = record {
+    before = entries;
+    after = [];
+    error = error;
+    is_file = subst (λ es. IsFile text es error) (sym (append-nil entries)) is_file;
+    are = are;
+    at_end = inr (refl, refl);
+  }
+
+  cut_zip : (entries : List Entry) (first others settings : List Setting) → AllZip (IsSettingOf file) entries settings
+      → settings ≡ first ++ others
+      → (before after : List Entry) × (entries ≡ before ++ after) × AllZip (IsSettingOf file) before first
+  cut_zip entries [] others settings are cut = ([], entries, refl, tt)
+  cut_zip [] (x ∷ first) others [] are cut = absurd (cc)
+  cut_zip [] (x ∷ first) others (y ∷ settings) are cut = absurd are
+  cut_zip (e ∷ entries) (x ∷ first) others [] are cut = absurd are
+  cut_zip (e ∷ entries) (x ∷ first) others (y ∷ settings) are cut =
+      let (before, after, parts, all) = cut_zip entries first others settings are.1 (cc) in
+      let same : y ≡ x = cc in
+      (e ∷ before, after, ap (λ l. e ∷ l) parts, (subst (IsSettingOf file e) same are.0, all))
+
+  some_first : (settings first others : List Setting) (error : Option errors.Error) → HasSettings file text settings error
+      → settings ≡ first ++ others → HasFirst file text first None
+  some_first settings first others error (entries, is_file, are) cut =
+      let (before, after, parts, all) = cut_zip entries first others settings are cut in
+      record { before = before; after = after; error = error; is_file = subst (λ es. IsFile text es error) parts is_file; are = all; at_end = inl refl }
+
+  -- no settings were read
+  pub fails_reading : (w : Option (List ℕ)) (e : CheckError) → IsMemory e → Fails rows options file text w w e
+  fails_reading w (Write e) is = absurd is
+  fails_reading w (Memory e) is =
+      let (entries, error, is_file) = each_is_read text in (
+        [],
+        Appends-nil w,
+        record {
+          first = [];
+          told = None;
+          of_file = record { before = []; after = entries; error = error; is_file = is_file; are = tt; at_end = inl refl };
+          lines = [];
+          s = record { entries = 0; unknown = 0; findings = 0 };
+          report = nothing;
+          last = [];
+          s' = record { entries = 0; unknown = 0; findings = 0 };
+          ends = (refl, refl);
+          missing = [];
+          parts = refl;
+          lacks = refl;
+        },
+      )
+
+  module _ (settings : List Setting) (error : Option errors.Error) (read : HasSettings file text settings error)
+      (w : Option (List ℕ)) where
+    -- the line of a setting failed
+    pub fails_within : (x : Option (List ℕ)) (e : CheckError) → ReportsFirst rows options settings w x e
+        → Fails rows options file text w x e
+    fails_within x e part = (
+      part.output,
+      part.appended,
+      record {
+        first = part.first;
+        told = None;
+        of_file = some_first settings part.first part.others error read part.cut;
+        lines = part.output ++ part.missing;
+        s = part.s;
+        report = part.report;
+        last = [];
+        s' = part.s;
+        ends = (refl, refl);
+        missing = part.missing;
+        parts = append-nil (part.output ++ part.missing);
+        lacks = part.lacks;
+      },
+    )
+
+    module _ (x : Option (List ℕ)) (s : Counts) (all : ReportsAll rows options settings w x s) where
+      -- the line of the refused file failed
+      pub fails_telling : (x' : Option (List ℕ)) (e : CheckError) → TellsPart options file error s x x' e
+          → Fails rows options file text w x' e
+      fails_telling x' (Write e) (line, (s', ends), part) = (
+        all.0 ++ part.written,
+        Appends-trans w x x' all.0 part.written all.1 part.appended,
+        record {
+          first = settings;
+          told = error;
+          of_file = all_first settings error read;
+          lines = all.0;
+          s = s;
+          report = all.2;
+          last = line;
+          s' = s';
+          ends = ends;
+          missing = part.missing;
+          parts = ap (λ l. all.0 ++ l) part.parts ∙ sym (append_assoc all.0 part.written part.missing);
+          lacks = tt;
+        },
+      )
+      fails_telling x' (Memory e) same = (
+        all.0,
+        subst (λ c. Appends w c all.0) (sym same) all.1,
+        record {
+          first = settings;
+          told = None;
+          of_file = some_first settings settings [] error read (sym (append-nil settings));
+          lines = all.0;
+          s = s;
+          report = all.2;
+          last = [];
+          s' = s;
+          ends = (refl, refl);
+          missing = [];
+          parts = refl;
+          lacks = refl;
+        },
+      )
+
+      module _ (y z : Option (List ℕ)) (s' : Counts) (told : Tells options file error s s' x y) (kept : Keeps y z) where
+        -- the flush failed
+        pub fails_flushing : (e : CheckError) → IsWrite e → Fails rows options file text w z e
+        fails_flushing (Memory e) is = absurd is
+        fails_flushing (Write e) is = (
+          all.0 ++ told.0,
+          Appends-kept w y z _ (Appends-trans w x y all.0 told.0 all.1 told.2) kept,
+          record {
+            first = settings;
+            told = error;
+            of_file = all_first settings error read;
+            lines = all.0;
+            s = s;
+            report = all.2;
+            last = told.0;
+            s' = s';
+            ends = told.1;
+            missing = [];
+            parts = sym (append-nil (all.0 ++ told.0));
+            lacks = tt;
+          },
+        )
+
+        pub completes : Completes rows options file text w z s'
+        completes = (
+          all.0 ++ told.0,
+          Appends-kept w y z _ (Appends-trans w x y all.0 told.0 all.1 told.2) kept,
+          record {
+            settings = settings;
+            error = error;
+            of_file = read;
+            lines = all.0;
+            s = s;
+            report = all.2;
+            last = told.0;
+            ends = told.1;
+            parts = refl;
+          },
+        )
+
+-- ---- results
 
 -- what holds of an error that `?` passes on
 pub passed_on : {T E : Type 0} (Q : E → Type 0) (r : Result T E) (e : E) → IsErrAnd r (λ d. d ≡ e) → Q e
@@ -313,18 +295,3 @@ pub err_with : {T E P : Type 0} {Q R : E → Type 0} (r : Result T E) → OnErr 
     → (P → (e : E) → Q e → R e) → IfErr r R
 err_with (Ok v) p q so = tt
 err_with (Err e) p q so = so p e q
-
-abbrev pub IsMemory : CheckError → Type 0
-IsMemory (Read e) = ⊥
-IsMemory (Write e) = ⊥
-IsMemory (Memory e) = Unit {0}
-
-pub nothing_at_memory : (e : CheckError) (line : List ℕ) → IsMemory e → line ≢ [] → MayWrite e line []
-nothing_at_memory (Read e) line is some = absurd is
-nothing_at_memory (Write e) line is some = absurd is
-nothing_at_memory (Memory e) line is some = (refl, some)
-
-pub any_at_write : (e : CheckError) (line written : List ℕ) → IsWrite e → MayWrite e line written
-any_at_write (Read e) line written is = absurd is
-any_at_write (Write e) line written is = tt
-any_at_write (Memory e) line written is = absurd is

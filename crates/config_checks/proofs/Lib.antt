@@ -1,8 +1,7 @@
 mod KeyLemmas
 mod WordLemmas
 mod ShownLemmas
-mod FieldLemmas
-mod EntryLemmas
+mod SuggestionLemmas
 mod WriteLemmas
 mod CheckLemmas
 mod TableLemmas

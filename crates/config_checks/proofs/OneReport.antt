@@ -1,34 +1,42 @@
--- An input has one list of entries, and one report.
-use Rattle.std.proofs.Common.{◌≡◌, ◌≢◌, ℕ, suc, inl, inr, ◌+◌, ◌<◌, List, [], ◌∷◌, ◌++◌, Bool, true, false}
-use Rattle.std.proofs.Common.{Option, None, Some, refl, sym, ap, subst, ◌∙◌, arith, flat_map, append_assoc}
-use Rattle.std.proofs.Common.{append-nil, get_or, Bor, codes, if◌then◌else◌}
-use Rattle.std.specs.List.{All, AllByRecursion}
+-- A file has one report.
+use Rattle.std.proofs.Common.{◌≡◌, ◌≢◌, ℕ, inl, inr, ◌⊎◌, ◌<◌, List, [], ◌∷◌, ◌++◌, Bool, map}
+use Rattle.std.proofs.Common.{Option, None, Some, refl, sym, ap, subst, ◌∙◌, arith, append_assoc, append-nil, get_or, Bor, codes}
+use Rattle.std.specs.Bool.{⊤}
+use Rattle.std.specs.Char.{to_ascii_lowercase}
+use Rattle.std.specs.List.{AllByRecursion, AllZip}
 use Rattle.std.proofs.lemmas.List.{get_or-take, get_or_default, length-take}
 use Rattle.config_text.specs.SameWord.{SameWord}
+use Rattle.config_file.specs.declared.errors.Error as errors
+use Rattle.config_file.specs.declared.settings.Setting.{Setting}
+use Rattle.config_file.specs.Header as header
+use Rattle.config_file.specs.Header.{Section, Header}
+use Rattle.config_file.specs.Value as value
+use Rattle.config_file.specs.Value.{Ending, outside, at_backslash, SpellsValue}
+use Rattle.config_file.specs.Listing as listing
+use Rattle.config_file.specs.Listing.{IsListed}
+use Rattle.config_file.specs.File as file
+use Rattle.config_file.specs.File.{Entry, TakesEntry, Reads}
+use Rattle.config_file.specs.Settings.{IsSettingOf, IsValueOf}
+use Rattle.config_file.proofs.OneReading.{one_reading}
 use Rattle.config_checks.specs.declared.options.Options.{Options}
 use Rattle.config_checks.specs.declared.row.Row.{Row}
 use Rattle.config_checks.specs.declared.key.Key.{Key}
 use Rattle.config_checks.specs.declared.reason.Reason.{Reason}
 use Rattle.config_checks.specs.declared.reason.Reason.TheVariants.{NotCanonical, NoWord}
-use Rattle.config_checks.specs.declared.reason.Severity.TheVariants.{Error, Warning}
+use Rattle.config_checks.specs.declared.reason.Severity.{Severity}
+use Rattle.config_checks.specs.declared.reason.Severity.TheVariants.{Note}
 use Rattle.config_checks.specs.declared.check.Counts.{Counts}
-use Rattle.config_checks.specs.declared.check.Summary.{Summary}
 use Rattle.config_checks.specs.declared.check.CheckError.{CheckError}
-use Rattle.config_checks.specs.declared.check.CheckError.TheVariants.{Read, Write, Memory}
 use Rattle.config_checks.specs.Keys.{IsWithout, IsKey, Covers, CoversBetween, between_text, dot}
 use Rattle.config_checks.specs.Rows.{Decides, IsUnknown}
 use Rattle.config_checks.specs.Reasons.{HasFinding, IsSameFinding, severity_of}
-use Rattle.config_checks.specs.Findings.{severity_text, reason_text, no_word_text, painted}
-use Rattle.config_checks.specs.Entries.{Entry, IsField, IsEntry, IsCut, IsCutOff, IsCutBefore, IsInput, whole}
-use Rattle.config_checks.specs.Entries.{cut_off, cut_before, IsSetting, nul, line_feed, shown_field, head}
-use Rattle.config_checks.specs.Entries.{entry_bytes}
-use Rattle.config_checks.specs.Report.{ReportsEntry, unknown, right, found, Report, nothing, next, finding_line}
-use Rattle.config_checks.specs.Report.{front_shown, setting_shown, IsReport, WritesAfter, AgreeAfter}
+use Rattle.config_checks.specs.Findings.{line_feed, shown, value_shown, severity_text, reason_text, no_word_text, painted}
+use Rattle.config_checks.specs.Report.{place, value_of, finding_line, ReportsSetting, unknown, right, found}
+use Rattle.config_checks.specs.Report.{Report, nothing, next, EndsReport, HasSettings, IsReport, BeginsReport}
 use Rattle.config_checks.proofs.KeyLemmas.{not_without}
-use Rattle.config_checks.proofs.EntryLemmas.{without_none, no_field}
 use Rattle.config_checks.proofs.OneFinding.{finding_once}
 use Rattle.gix_config_value.proofs.LineLemmas.{AllByRecursion-from_places}
-use Rattle.gix_config_value.proofs.OneAnswer.{begin_each_other, first_cut as line_cut}
+use Rattle.gix_config_value.proofs.OneAnswer.{first_cut as line_cut}
 
 -- ---- where a byte first and last stands
 
@@ -50,180 +58,105 @@ last_cut byte (c ∷ a) (d ∷ b) x y u w e =
 regroup : (byte : ℕ) (a x : List ℕ) → (a ++ byte ∷ []) ++ x ≡ a ++ byte ∷ x
 regroup byte a x = append_assoc a (byte ∷ []) x
 
--- ---- the entries of an input
+-- ---- the settings of a file
 
-field_cut : (is_shown : Bool) (a b x y : List ℕ) → IsField is_shown a → IsField is_shown b
-    → shown_field is_shown a ++ x ≡ shown_field is_shown b ++ y → (a ≡ b) × (x ≡ y)
-field_cut true a b x y u w e = first_cut nul a b x y u w (sym (regroup nul a x) ∙ e ∙ regroup nul b y)
-field_cut false a b x y u w e = (u ∙ sym w, e)
+-- each entry of a file has a key as Git lists it, and a text if it has a value
+abbrev HasListed : Option Section → Type 0
+HasListed section = (key : List ℕ) → (listed : List ℕ) × IsListed section key listed
 
-module _ (options : Options) where
-  record SameHead (a b : Entry) (x y : List ℕ) : Type 0 where
-    scope : a.scope ≡ b.scope
-    origin : a.origin ≡ b.origin
-    rest : x ≡ y
+abbrev HasText : Option (List ℕ) → Type 0
+HasText None = ⊤
+HasText (Some raw) = (text : List ℕ) × (ending : Ending) × SpellsValue raw text ending
 
-  head_cut : (a b : Entry) (x y : List ℕ) → IsEntry options a → IsEntry options b
-      → head options a ++ x ≡ head options b ++ y → SameHead a b x y
-  head_cut a b x y u w e =
-      let origin_a = shown_field options.origin a.origin in let origin_b = shown_field options.origin b.origin in
-      let first = field_cut options.scope a.scope b.scope (origin_a ++ x) (origin_b ++ y) u.scope w.scope
-      (sym (append_assoc (shown_field options.scope a.scope) origin_a x) ∙ e ∙ append_assoc (shown_field options.scope b.scope) origin_b y) in
-      let second = field_cut options.origin a.origin b.origin x y u.origin w.origin first.1 in
-      record { scope = first.0; origin = second.0; rest = second.1 }
+abbrev IsClear : Entry → Type 0
+IsClear entry = ((listed : List ℕ) × IsListed entry.section entry.key listed) × HasText entry.value
 
-  same_entry : (a b : Entry) → a.scope ≡ b.scope → a.origin ≡ b.origin → a.setting ≡ b.setting → a ≡ b
-  same_entry a b scope origin setting =
-      ap (λ s. record { scope = s; origin = a.origin; setting = a.setting }) scope
-      ∙ ap (λ o. record { scope = b.scope; origin = o; setting = a.setting }) origin
-      ∙ ap (λ t. record { scope = b.scope; origin = b.origin; setting = t }) setting
+no_section : (key : List ℕ) → (listed : List ℕ) × IsListed None key listed
+no_section key = (map to_ascii_lowercase key, listing.alone)
 
-  entry_front : (a : Entry) (x : List ℕ) → entry_bytes options a ++ x ≡ head options a ++ (a.setting ++ nul ∷ x)
-  entry_front a x =
-      append_assoc (head options a) (a.setting ++ nul ∷ []) x ∙ ap (λ l. head options a ++ l) (regroup nul a.setting x)
+header_listed : {text rest : List ℕ} {next : Section} → Header text next rest → (key : List ℕ)
+    → (listed : List ℕ) × IsListed (Some next) key listed
+header_listed (header.plain run some is) key = (_, listing.in_section listing.plain)
+header_listed (header.quoted opens (header.closes taken is)) key =
+    let (text, spells) = taken.is_subsection in (_, listing.in_section (listing.quoted spells))
 
-  entry_cut : (a b : Entry) (x y : List ℕ) → IsEntry options a → IsEntry options b
-      → entry_bytes options a ++ x ≡ entry_bytes options b ++ y → (a ≡ b) × (x ≡ y)
-  entry_cut a b x y u w e =
-      let heads = head_cut a b (a.setting ++ nul ∷ x) (b.setting ++ nul ∷ y) u w (sym (entry_front a x) ∙ e ∙ entry_front b y) in
-      let settings = first_cut nul a.setting b.setting x y u.setting w.setting heads.rest in
-      (same_entry a b heads.scope heads.origin settings.0, settings.1)
+entry_text : {text key rest : List ℕ} {raw : Option (List ℕ)} {lines : ℕ} → TakesEntry text key raw lines rest → HasText raw
+entry_text (file.alone taken end) = tt
+entry_text (file.valued taken is (value.closed {value = text} joined spells ends)) = (text, outside, spells)
+entry_text (file.valued taken is (value.open_end {value = text} spells)) = (text, at_backslash, spells)
 
-  -- no whole entry begins a rest: it ends before the NUL of its setting
-  record IsLeft (rest : List ℕ) : Type 0 where
-    entry : Entry
-    is_entry : IsEntry options entry
-    begun : List ℕ
-    missing : List ℕ
-    without : IsWithout nul begun
-    parts : head options entry ++ begun ≡ rest ++ missing
+all_clear : {section : Option Section} {line : ℕ} {text : List ℕ} {entries : List Entry} {error : Option errors.Error}
+    → HasListed section → Reads section line text entries error → AllByRecursion IsClear entries
+all_clear listed file.ends = tt
+all_clear listed (file.blank is reads) = all_clear listed reads
+all_clear listed (file.line_end is reads) = all_clear listed reads
+all_clear listed (file.comment is run reads) = all_clear listed reads
+all_clear listed (file.header is taken reads) = all_clear (header_listed taken) reads
+all_clear listed (file.entry {key = key} is taken reads) = ((listed key, entry_text taken), all_clear listed reads)
+all_clear listed (file.header_refused is stops) = tt
+all_clear listed (file.entry_refused is stops) = tt
+all_clear listed (file.no_item is) = tt
 
-  not_whole : (rest : List ℕ) → IsLeft rest → (b : Entry) → IsEntry options b → (x : List ℕ)
-      → rest ≢ entry_bytes options b ++ x
-  not_whole rest left b is x e =
-      let all = left.parts ∙ ap (λ l. l ++ left.missing) e ∙ append_assoc (entry_bytes options b) x left.missing
-      ∙ entry_front b (x ++ left.missing) in
-      not_without nul left.begun b.setting (x ++ left.missing)
-      (head_cut left.entry b left.begun (b.setting ++ nul ∷ (x ++ left.missing)) left.is_entry is all).rest left.without
+-- what a report has of a setting: its file, line, key and value
+abbrev Facts : Type 0
+Facts = List ℕ × ℕ × List ℕ × Option (List ℕ)
 
-  nothing_left : IsLeft []
-  nothing_left =
-      let none : Entry = record { scope = []; origin = []; setting = [] } in
-      record {
-        entry = none;
-        is_entry =
-            record { scope = no_field options.scope; origin = no_field options.origin; setting = without_none };
-        begun = [];
-        missing = head options none ++ [];
-        without = without_none;
-        parts = refl;
-      }
+abbrev facts : Setting → Facts
+facts setting = (setting.file.now, setting.line, setting.key.items, value_of setting)
 
-  cut_off_left : (rest : List ℕ) (last : Entry) → IsCutOff options rest last → IsLeft rest
-  cut_off_left rest last is = record {
-    entry = last;
-    is_entry = is.entry;
-    begun = last.setting;
-    missing = [];
-    without = is.entry.setting;
-    parts = sym is.parts ∙ sym (append-nil rest);
-  }
+value_once : (raw a b : Option (List ℕ)) → HasText raw → IsValueOf raw a → IsValueOf raw b → a ≡ b
+value_once None a b has p q = p ∙ sym q
+value_once (Some raw) a b (text, ending, spells) p q = p text ending spells ∙ sym (q text ending spells)
 
-  cut_before_left : (rest : List ℕ) → IsCutBefore options rest → IsLeft rest
-  cut_before_left rest is = record {
-    entry = is.entry;
-    is_entry = is.is_entry;
-    begun = [];
-    missing = is.missing;
-    without = without_none;
-    parts = append-nil (head options is.entry) ∙ is.parts;
-  }
+facts_once : (name : List ℕ) (entry : Entry) (a b : Setting) → IsClear entry → IsSettingOf name entry a
+    → IsSettingOf name entry b → facts a ≡ facts b
+facts_once name entry a b ((listed, is), has) p q =
+    let files = p.file ∙ sym q.file in
+    let lines = p.line ∙ sym q.line in
+    let keys = p.key listed is ∙ sym (q.key listed is) in
+    let values = value_once entry.value (value_of a) (value_of b) has p.value q.value in
+    λ i. (files i, lines i, keys i, values i)
 
-  all_first : (a : Entry) (xs : List Entry) → All (IsEntry options) (a ∷ xs) → IsEntry options a
-  all_first a xs all = all 0 a (omega arith)
+all_once : (name : List ℕ) (entries : List Entry) (a b : List Setting) → AllByRecursion IsClear entries
+    → AllZip (IsSettingOf name) entries a → AllZip (IsSettingOf name) entries b → map facts a ≡ map facts b
+all_once name [] [] [] clear p q = refl
+all_once name [] (x ∷ a) b clear p q = absurd p
+all_once name [] [] (y ∷ b) clear p q = absurd q
+all_once name (e ∷ entries) [] b clear p q = absurd p
+all_once name (e ∷ entries) (x ∷ a) [] clear p q = absurd q
+all_once name (e ∷ entries) (x ∷ a) (y ∷ b) clear p q =
+    let first = facts_once name e x y clear.0 p.0 q.0 in
+    let others = all_once name entries a b clear.1 p.1 q.1 in λ i. first i ∷ others i
 
-  all_rest : (a : Entry) (xs : List Entry) → All (IsEntry options) (a ∷ xs) → All (IsEntry options) xs
-  all_rest a xs all k d below = all (suc k) d (omega arith)
+-- the settings go on after the first ones, one for each of the entries that are left
+begin_once : (name : List ℕ) (before after : List Entry) (first all : List Setting) → AllByRecursion IsClear (before ++ after)
+    → AllZip (IsSettingOf name) before first → AllZip (IsSettingOf name) (before ++ after) all
+    → (others : List Setting) × (map facts all ≡ map facts first ++ map facts others) × AllZip (IsSettingOf name) after others
+begin_once name [] after [] all clear p q = (all, refl, q)
+begin_once name [] after (x ∷ first) all clear p q = absurd p
+begin_once name (e ∷ before) after [] all clear p q = absurd p
+begin_once name (e ∷ before) after (x ∷ first) [] clear p q = absurd q
+begin_once name (e ∷ before) after (x ∷ first) (y ∷ all) clear p q =
+    let one = facts_once name e y x clear.0 q.0 p.0 in
+    let (others, parts, are) = begin_once name before after first all clear.1 p.1 q.1 in
+    (others, λ i. one i ∷ parts i, are)
 
-  abbrev bytes : List Entry → List ℕ
-  bytes entries = flat_map (entry_bytes options) entries
+nothing_after : (name : List ℕ) (after : List Entry) (others : List Setting) → after ≡ []
+    → AllZip (IsSettingOf name) after others → others ≡ []
+nothing_after name [] [] is are = refl
+nothing_after name [] (x ∷ others) is are = absurd are
+nothing_after name (e ∷ after) others is are = absurd (cc)
 
-  cut_once : (xs ys : List Entry) (x y : List ℕ) → IsLeft x → IsLeft y → All (IsEntry options) xs
-      → All (IsEntry options) ys → bytes xs ++ x ≡ bytes ys ++ y → (xs ≡ ys) × (x ≡ y)
-  cut_once [] [] x y l m u w e = (refl, e)
-  cut_once [] (b ∷ ys) x y l m u w e =
-      absurd (not_whole x l b (all_first b ys w) (bytes ys ++ y) (e ∙ append_assoc (entry_bytes options b) (bytes ys) y))
-  cut_once (a ∷ xs) [] x y l m u w e =
-      absurd (not_whole y m a (all_first a xs u) (bytes xs ++ x) (sym e ∙ append_assoc (entry_bytes options a) (bytes xs) x))
-  cut_once (a ∷ xs) (b ∷ ys) x y l m u w e =
-      let first = entry_cut a b (bytes xs ++ x) (bytes ys ++ y) (all_first a xs u) (all_first b ys w)
-      (sym (append_assoc (entry_bytes options a) (bytes xs) x) ∙ e ∙ append_assoc (entry_bytes options b) (bytes ys) y) in
-      let others = cut_once xs ys x y l m (all_rest a xs u) (all_rest b ys w) first.1 in
-      (let one = first.0 in let more = others.0 in cc, others.1)
+settings_once : (name text : List ℕ) (a b : List Setting) (e f : Option errors.Error) → HasSettings name text a e
+    → HasSettings name text b f → (map facts a ≡ map facts b) × (e ≡ f)
+settings_once name text a b e f (entries, is, are) (entries', is', are') =
+    let read = one_reading text entries entries' e f is is' in (
+      all_once name entries a b (all_clear no_section is.reads) are
+          (subst (λ l. AllZip (IsSettingOf name) l b) (sym read.0) are'),
+      read.1,
+    )
 
-  module _ (input : List ℕ) where
-    same_cut : (xs ys : List Entry) (x y : List ℕ) → IsLeft x → IsLeft y → IsCut options input xs x
-        → IsCut options input ys y → (xs ≡ ys) × (x ≡ y)
-    same_cut xs ys x y l m p q = cut_once xs ys x y l m p.each q.each (sym p.joined ∙ q.joined)
-
-    some_front : (x y : List ℕ) → [] ≡ x ++ y → x ≡ []
-    some_front [] y e = refl
-    some_front (b ∷ x) y e = absurd (cc)
-
-    -- a setting that was cut off is not empty
-    not_cut_off : (rest : List ℕ) (last : Entry) → IsCutOff options rest last → ¬ (IsCutBefore options rest)
-    not_cut_off rest last is before = is.some (some_front last.setting before.missing
-        (head_cut before.entry last [] (last.setting ++ before.missing) before.is_entry is.entry
-        (append-nil (head options before.entry) ∙ before.parts ∙ ap (λ l. l ++ before.missing) is.parts ∙ append_assoc (head options last) last.setting before.missing)).rest)
-
-    some_rest : (last : Entry) → ¬ (IsCutOff options [] last)
-    some_rest last is = is.some (some_back (head options last) last.setting is.parts)
-      where
-        some_back : (x y : List ℕ) → [] ≡ x ++ y → y ≡ []
-        some_back [] y e = sym e
-        some_back (b ∷ x) y e = absurd (cc)
-
-    same_last : (rest : List ℕ) (a b : Entry) → IsCutOff options rest a → IsCutOff options rest b → a ≡ b
-    same_last rest a b p q =
-        let heads = head_cut a b a.setting b.setting p.entry q.entry (sym p.parts ∙ q.parts) in
-        same_entry a b heads.scope heads.origin heads.rest
-
-    pub entries_once : (xs ys : List Entry) (x y : Bool) → IsInput options input xs x
-        → IsInput options input ys y → (xs ≡ ys) × (x ≡ y)
-    entries_once xs ys x y (whole p is) (whole q is') =
-        ((same_cut xs ys [] [] nothing_left nothing_left p q).0, is ∙ sym is')
-    entries_once xs ys x y (whole p is) (cut_off before last rest q off last_is is') =
-        let same = same_cut xs before [] rest nothing_left (cut_off_left rest last off) p q in
-        absurd (some_rest last (subst (λ l. IsCutOff options l last) (sym same.1) off))
-    entries_once xs ys x y (whole p is) (cut_before rest q before is') =
-        absurd (before.some (sym (same_cut xs ys [] rest nothing_left (cut_before_left rest before) p q).1))
-    entries_once xs ys x y (cut_off before last rest p off last_is is) (whole q is') =
-        let same = same_cut before ys rest [] (cut_off_left rest last off) nothing_left p q in
-        absurd (some_rest last (subst (λ l. IsCutOff options l last) same.1 off))
-    entries_once xs ys x y (cut_off before last rest p off last_is is) (cut_off before' last' rest' q off' last_is' is') =
-        let same = same_cut before before' rest rest' (cut_off_left rest last off) (cut_off_left rest' last' off') p q in
-        let one = same_last rest last last' off (subst (λ l. IsCutOff options l last') (sym same.1) off') in
-        (let more = same.0 in cc, is ∙ sym is')
-    entries_once xs ys x y (cut_off before last rest p off last_is is) (cut_before rest' q before' is') =
-        let same = same_cut before ys rest rest' (cut_off_left rest last off) (cut_before_left rest' before') p q in
-        absurd (not_cut_off rest last off (subst (IsCutBefore options) (sym same.1) before'))
-    entries_once xs ys x y (cut_before rest p before is) (whole q is') =
-        absurd (before.some (same_cut xs ys rest [] (cut_before_left rest before) nothing_left p q).1)
-    entries_once xs ys x y (cut_before rest p before is) (cut_off before' last rest' q off last_is is') =
-        let same = same_cut xs before' rest rest' (cut_before_left rest before) (cut_off_left rest' last off) p q in
-        absurd (not_cut_off rest last (subst (λ l. IsCutOff options l last) (sym same.1) off) before)
-    entries_once xs ys x y (cut_before rest p before is) (cut_before rest' q before' is') =
-        ((same_cut xs ys rest rest' (cut_before_left rest before) (cut_before_left rest' before') p q).0, is ∙ sym is')
-
--- ---- a setting, its key and its row
-
-setting_once : (setting key key' : List ℕ) (value value' : Option (List ℕ)) → IsSetting setting key value
-    → IsSetting setting key' value' → (key ≡ key') × (value ≡ value')
-setting_once setting key key' None None p q = (sym p.0 ∙ q.0, refl)
-setting_once setting key key' None (Some v) p q = absurd (not_without line_feed key key' v (sym p.0 ∙ q.0) p.1)
-setting_once setting key key' (Some v) None p q = absurd (not_without line_feed key' key v (sym q.0 ∙ p.0) q.1)
-setting_once setting key key' (Some v) (Some w) p q =
-    let cut = first_cut line_feed key key' v w p.1 q.1 (sym p.0 ∙ q.0) in (cut.0, ap Some cut.1)
+-- ---- a key and its row
 
 -- the same texts stand between
 abbrev SameBetween : Option (Bor (List ℕ)) → Option (Bor (List ℕ)) → Type 0
@@ -298,98 +231,170 @@ module _ (rows : List Row) (t : List ℕ) where
 no_finding : (reason : Reason) → ¬ (IsSameFinding None (Some reason))
 no_finding reason same = absurd (cc)
 
--- how a finding is shown, by whether Git goes on
-abbrev judgment : (goes_on : Bool) → Reason → List ℕ
-judgment goes_on reason = severity_text (severity_of goes_on reason) ++ reason_text reason
+module _ (options : Options) where
+  -- the line of a setting with these facts
+  abbrev line_of : Facts → Severity → List ℕ → List ℕ
+  line_of f severity text = place f.0 f.1 ++ painted options.color (severity_text severity)
+      ++ (shown f.2 ++ codes ": " ++ value_shown f.3) ++ text ++ line_feed ∷ []
 
-same_text : (goes_on : Bool) (a b : Reason) → IsSameFinding (Some a) (Some b) → judgment goes_on a ≡ judgment goes_on b
-same_text goes_on (NotCanonical c) (NotCanonical d) same = ap (λ l. codes "note: " ++ (codes "should be " ++ l)) same
-same_text goes_on (NoWord l) (NoWord m) same =
-    ap (λ list. severity_text (if goes_on then Warning else Error) ++ no_word_text list) same
-same_text goes_on a b same = let is : a ≡ b = cc in ap (judgment goes_on) is
+  same_line : (f : Facts) (goes_on : Bool) (a b : Reason) → IsSameFinding (Some a) (Some b)
+      → line_of f (severity_of goes_on a) (reason_text a) ≡ line_of f (severity_of goes_on b) (reason_text b)
+  same_line f goes_on (NotCanonical c) (NotCanonical d) same = ap (λ l. line_of f Note (codes "should be " ++ l)) same
+  same_line f goes_on (NoWord l) (NoWord m) same =
+      ap (λ list. line_of f (severity_of goes_on (NoWord l)) (no_word_text list)) same
+  same_line f goes_on a b same =
+      let is : a ≡ b = cc in ap (λ r. line_of f (severity_of goes_on r) (reason_text r)) is
 
-module _ (rows : List Row) (options : Options) where
-  entry_once : (entry : Entry) (key : List ℕ) (value : Option (List ℕ)) (s : Counts) (line line' : List ℕ)
-      (t t' : Counts) → ReportsEntry rows options entry key value s line t
-      → ReportsEntry rows options entry key value s line' t' → (line ≡ line') × (t ≡ t')
-  entry_once entry key value s line line' t t' (unknown u none is) (unknown u' none' is') =
-      (none ∙ sym none', is ∙ sym is')
-  entry_once entry key value s line line' t t' (unknown u none is) (right row decides good none' is') =
-      absurd (known_once rows key row decides u)
-  entry_once entry key value s line line' t t' (unknown u none is) (found row reason decides bad shown is') =
-      absurd (known_once rows key row decides u)
-  entry_once entry key value s line line' t t' (right row decides good none is) (unknown u none' is') =
-      absurd (known_once rows key row decides u)
-  entry_once entry key value s line line' t t' (right row decides good none is) (right row' decides' good' none' is') =
-      (none ∙ sym none', is ∙ sym is')
-  entry_once entry key value s line line' t t' (right row decides good none is) (found row' reason decides' bad shown is') =
-      let same = row_once rows key row' row decides' decides in
-      absurd (no_finding reason (finding_once options.canonical row value None (Some reason) good
-      (subst (λ r. HasFinding options.canonical r value (Some reason)) same bad)))
-  entry_once entry key value s line line' t t' (found row reason decides bad shown is) (unknown u none is') =
-      absurd (known_once rows key row decides u)
-  entry_once entry key value s line line' t t' (found row reason decides bad shown is) (right row' decides' good none is') =
-      let same = row_once rows key row row' decides decides' in
-      absurd (no_finding reason (finding_once options.canonical row' value None (Some reason) good
-      (subst (λ r. HasFinding options.canonical r value (Some reason)) same bad)))
-  entry_once entry key value s line line' t t' (found row reason decides bad shown is) (found row' reason' decides' bad' shown' is') =
-      let same = row_once rows key row' row decides' decides in
-      let text = same_text row.goes_on reason reason' (finding_once options.canonical row value (Some reason) (Some reason') bad
-      (subst (λ r. HasFinding options.canonical r value (Some reason')) same bad')) in
-      let written = subst (λ r. line' ≡ finding_line options (s.entries + 1) entry key value (severity_of r.goes_on reason') reason') same shown' in (
-        shown ∙ ap (λ l. front_shown options (s.entries + 1) entry ++ setting_shown key value ++ painted options.color l ++ line_feed ∷ []) text
-            ∙ sym written,
-        is ∙ sym is',
-      )
+  module _ (rows : List Row) where
+    -- a setting with the same facts is reported in the same way
+    moved : (a b : Setting) (s s' : Counts) (line : List ℕ) → facts b ≡ facts a → ReportsSetting rows options b s line s'
+        → ReportsSetting rows options a s line s'
+    moved a b s s' line same (unknown u none is) = unknown (subst (IsUnknown rows) (ap (λ f. f.2) same) u) none is
+    moved a b s s' line same (right row decides good none is) =
+        right row (subst (λ k. Decides rows k row) (ap (λ f. f.2) same) decides)
+        (subst (λ v. HasFinding options.canonical row v None) (ap (λ f. f.3) same) good) none is
+    moved a b s s' line same (found row reason decides bad shown is) =
+        found row reason (subst (λ k. Decides rows k row) (ap (λ f. f.2) same) decides)
+        (subst (λ v. HasFinding options.canonical row v (Some reason)) (ap (λ f. f.3) same) bad)
+        (shown ∙ ap (λ f. line_of f (severity_of row.goes_on reason) (reason_text reason)) same) is
 
-  no_more : (es : List Entry) (e : Entry) → [] ≢ es ++ e ∷ []
-  no_more [] e same = absurd (cc)
-  no_more (x ∷ es) e same = absurd (cc)
+    setting_once : (setting : Setting) (s : Counts) (line line' : List ℕ) (t t' : Counts)
+        → ReportsSetting rows options setting s line t → ReportsSetting rows options setting s line' t'
+        → (line ≡ line') × (t ≡ t')
+    setting_once setting s line line' t t' (unknown u none is) (unknown u' none' is') = (none ∙ sym none', is ∙ sym is')
+    setting_once setting s line line' t t' (unknown u none is) (right row decides good none' is') =
+        absurd (known_once rows setting.key.items row decides u)
+    setting_once setting s line line' t t' (unknown u none is) (found row reason decides bad shown is') =
+        absurd (known_once rows setting.key.items row decides u)
+    setting_once setting s line line' t t' (right row decides good none is) (unknown u none' is') =
+        absurd (known_once rows setting.key.items row decides u)
+    setting_once setting s line line' t t' (right row decides good none is) (right row' decides' good' none' is') =
+        (none ∙ sym none', is ∙ sym is')
+    setting_once setting s line line' t t' (right row decides good none is) (found row' reason decides' bad shown is') =
+        let same = row_once rows setting.key.items row' row decides' decides in
+        absurd (no_finding reason (finding_once options.canonical row (value_of setting) None (Some reason) good
+        (subst (λ r. HasFinding options.canonical r (value_of setting) (Some reason)) same bad)))
+    setting_once setting s line line' t t' (found row reason decides bad shown is) (unknown u none is') =
+        absurd (known_once rows setting.key.items row decides u)
+    setting_once setting s line line' t t' (found row reason decides bad shown is) (right row' decides' good none is') =
+        let same = row_once rows setting.key.items row row' decides decides' in
+        absurd (no_finding reason (finding_once options.canonical row' (value_of setting) None (Some reason) good
+        (subst (λ r. HasFinding options.canonical r (value_of setting) (Some reason)) same bad)))
+    setting_once setting s line line' t t' (found row reason decides bad shown is)
+        (found row' reason' decides' bad' shown' is') =
+        let same = row_once rows setting.key.items row' row decides' decides in
+        let text = same_line (facts setting) row.goes_on reason reason'
+        (finding_once options.canonical row (value_of setting) (Some reason) (Some reason') bad
+        (subst (λ r. HasFinding options.canonical r (value_of setting) (Some reason')) same bad')) in
+        let written = subst (λ r. line' ≡ finding_line options setting (severity_of r.goes_on reason') reason') same shown' in
+        (shown ∙ text ∙ sym written, is ∙ sym is')
 
-  one_more : (es fs : List Entry) (e f : Entry) → es ++ e ∷ [] ≡ fs ++ f ∷ [] → (es ≡ fs) × (e ≡ f)
-  one_more [] [] e f same = (refl, cc)
-  one_more [] (y ∷ fs) e f same = absurd (no_more fs f (cc))
-  one_more (x ∷ es) [] e f same = absurd (no_more es e (cc))
-  one_more (x ∷ es) (y ∷ fs) e f same =
-      let rest = one_more es fs e f (cc) in (let more = rest.0 in cc, rest.1)
+    facts_and : (es : List Setting) (e : Setting) → map facts (es ++ e ∷ []) ≡ map facts es ++ facts e ∷ []
+    facts_and [] e = refl
+    facts_and (x ∷ es) e = ap (λ l. facts x ∷ l) (facts_and es e)
 
-  module _ (e f : Entry) (k l : List ℕ) (v w : Option (List ℕ)) (s t : Counts) (same_entry : f ≡ e) (same_counts : t ≡ s) where
-    adds_once : (line line' : List ℕ) (s' t' : Counts) → IsSetting e.setting k v → IsSetting f.setting l w
-        → ReportsEntry rows options e k v s line s' → ReportsEntry rows options f l w t line' t'
-        → (line ≡ line') × (s' ≡ t')
-    adds_once line line' s' t' p q a b =
-        let same = setting_once e.setting l k w v (subst (λ x. IsSetting x.setting l w) same_entry q) p in
-        entry_once e k v s line line' s' t' a
-        (subst (λ x. ReportsEntry rows options x k v s line' t') same_entry
-        (subst (λ x. ReportsEntry rows options f x v s line' t') same.0
-        (subst (λ x. ReportsEntry rows options f l x s line' t') same.1
-        (subst (λ x. ReportsEntry rows options f l w x line' t') same_counts b))))
+    no_more : (es : List Facts) (e : Facts) → [] ≢ es ++ e ∷ []
+    no_more [] e same = absurd (cc)
+    no_more (x ∷ es) e same = absurd (cc)
 
-  pub report_once : {es fs : List Entry} {o p : List ℕ} {s t : Counts} → Report rows options es o s
-      → Report rows options fs p t → es ≡ fs → (o ≡ p) × (s ≡ t)
-  report_once nothing nothing same = (refl, refl)
-  report_once nothing (next fs p t f l w line t' before setting adds) same = absurd (no_more fs f same)
-  report_once (next es o s e k v line s' before setting adds) nothing same = absurd (no_more es e (sym same))
-  report_once (next es o s e k v line s' before setting adds) (next fs p t f l w line' t' before' setting' adds') same =
-      let cut = one_more es fs e f same in
-      let earlier = report_once before before' cut.0 in
-      let last = adds_once e f k l v w s t (sym cut.1) (sym earlier.1) line line' s' t' setting setting' adds adds' in
-      (let first = earlier.0 in let second = last.0 in cc, last.1)
+    one_more : (es fs : List Facts) (e f : Facts) → es ++ e ∷ [] ≡ fs ++ f ∷ [] → (es ≡ fs) × (e ≡ f)
+    one_more [] [] e f same = (refl, cc)
+    one_more [] (y ∷ fs) e f same = absurd (no_more fs f (cc))
+    one_more (x ∷ es) [] e f same = absurd (no_more es e (cc))
+    one_more (x ∷ es) (y ∷ fs) e f same =
+        let rest = one_more es fs e f (cc) in (let more = rest.0 in cc, rest.1)
 
-  pub input_report : (input o p : List ℕ) (s t : Summary) → IsReport rows options input o s
-      → IsReport rows options input p t → (o ≡ p) × (s ≡ t)
-  input_report input o p s t a b =
-      let entries = entries_once options input a.entries b.entries s.is_cut_off t.is_cut_off a.whole b.whole in
-      let reports = report_once a.lines b.lines entries.0 in (
-        reports.0,
-        ap (λ c. record { counts = c; is_cut_off = s.is_cut_off }) reports.1
-            ∙ ap (λ c. record { counts = t.counts; is_cut_off = c }) entries.1,
-      )
+    lines_once : {es fs : List Setting} {o p : List ℕ} {s t : Counts} → Report rows options es o s
+        → Report rows options fs p t → map facts es ≡ map facts fs → (o ≡ p) × (s ≡ t)
+    lines_once nothing nothing same = (refl, refl)
+    lines_once nothing (next fs p t f line t' before adds) same =
+        absurd (no_more (map facts fs) (facts f) (same ∙ facts_and fs f))
+    lines_once (next es o s e line s' before adds) nothing same =
+        absurd (no_more (map facts es) (facts e) (sym same ∙ facts_and es e))
+    lines_once (next es o s e line s' before adds) (next fs p t f line' t' before' adds') same =
+        let cut = one_more (map facts es) (map facts fs) (facts e) (facts f)
+        (sym (facts_and es e) ∙ same ∙ facts_and fs f) in
+        let earlier = lines_once before before' cut.0 in
+        let last = setting_once e s line line' s' t' adds (moved e f s t' line' (sym cut.1)
+        (subst (λ c. ReportsSetting rows options f c line' t') (sym earlier.1) adds')) in
+        (let first = earlier.0 in let second = last.0 in cc, last.1)
 
-  pub agree_after : (e : CheckError) (entries : List Entry) (o p : List ℕ) → WritesAfter e rows options entries o
-      → WritesAfter e rows options entries p → AgreeAfter e o p
-  agree_after (Read e) entries o p a b = (report_once a.1 b.1 refl).0
-  agree_after (Write e) entries o p a b =
-      begin_each_other o p a.missing b.missing (report_once a.report b.report refl).0
-  agree_after (Memory e) entries o p a b =
-      (report_once a.report b.report (one_more a.before b.before a.last b.last (sym a.parts ∙ b.parts)).0).0
+    ends_once : (name : List ℕ) (error : Option errors.Error) (s t t' : Counts) (last last' : List ℕ)
+        → EndsReport options name error s last t → EndsReport options name error s last' t' → (last ≡ last') × (t ≡ t')
+    ends_once name None s t t' last last' p q = (p.0 ∙ sym q.0, p.1 ∙ sym q.1)
+    ends_once name (Some error) s t t' last last' p q = (p.0 ∙ sym q.0, p.1 ∙ sym q.1)
+
+    pub report_once : (name text a b : List ℕ) (s t : Counts) → IsReport rows options name text a s
+        → IsReport rows options name text b t → (a ≡ b) × (s ≡ t)
+    report_once name text a b s t p q =
+        let read = settings_once name text p.settings q.settings p.error q.error p.of_file q.of_file in
+        let reports = lines_once p.report q.report read.0 in
+        let ends = ends_once name p.error p.s s t p.last q.last p.ends
+        (subst (λ c. EndsReport options name p.error c q.last t) (sym reports.1)
+        (subst (λ e. EndsReport options name e q.s q.last t) (sym read.1) q.ends)) in
+        (p.parts ∙ (λ i. reports.0 i ++ ends.0 i) ∙ sym q.parts, ends.1)
+
+    no_front : (x y : List Facts) → [] ≡ x ++ y → x ≡ []
+    no_front [] y e = refl
+    no_front (f ∷ x) y e = absurd (cc)
+
+    last_of : (l : List Facts) → (l ≡ []) ⊎ ((front : List Facts) × (f : Facts) × (l ≡ front ++ f ∷ []))
+    last_of [] = inl refl
+    last_of (x ∷ l) = elim (last_of l) [
+      | inl none ↦ inr ([], x, ap (λ k. x ∷ k) none)
+      | inr some ↦ let (front, f, is) = some in inr (x ∷ front, f, ap (λ k. x ∷ k) is)
+    ]
+
+    -- the lines of the first settings begin those of all
+    lines_begin : {first all : List Setting} {p o : List ℕ} {s t : Counts} → Report rows options first p s
+        → Report rows options all o t → (others : List Facts) → map facts all ≡ map facts first ++ others
+        → (rest : List ℕ) × (o ≡ p ++ rest)
+    lines_begin {first = first} {p = p} report nothing others same =
+        let none = lines_once nothing report (sym (no_front (map facts first) others same)) in
+        ([], none.0 ∙ sym (append-nil p))
+    lines_begin {first = first} {p = p} report (next es o s e line s' before adds) others same = elim (last_of others) [
+      | inl none ↦
+          let whole = lines_once (next es o s e line s' before adds) report
+          (same ∙ ap (λ l. map facts first ++ l) none ∙ append-nil (map facts first)) in
+          ([], whole.0 ∙ sym (append-nil p))
+      | inr some ↦
+          let (front, f, is) = some in
+          let cut = one_more (map facts es) (map facts first ++ front) (facts e) f
+          (sym (facts_and es e) ∙ same ∙ ap (λ l. map facts first ++ l) is ∙ sym (append_assoc (map facts first) front (f ∷ []))) in
+          let (rest, parts) = lines_begin report before front cut.0 in
+          (rest ++ line, ap (λ l. l ++ line) parts ∙ append_assoc p rest line)
+    ]
+
+    join : (a missing lines rest last whole : List ℕ) → lines ≡ a ++ missing → whole ≡ (lines ++ rest) ++ last
+        → (more : List ℕ) × (whole ≡ a ++ more)
+    join a missing lines rest last whole e f = (
+      missing ++ (rest ++ last),
+      f ∙ ap (λ l. (l ++ rest) ++ last) e ∙ append_assoc (a ++ missing) rest last
+          ∙ append_assoc a missing (rest ++ last),
+    )
+
+    -- what was written at an error begins the report
+    pub report_begins : (name text a b : List ℕ) (e : CheckError) (s : Counts) → BeginsReport rows options name text a e
+        → IsReport rows options name text b s → (more : List ℕ) × (b ≡ a ++ more)
+    report_begins name text a b e s p q =
+        let (entries, is, are) = q.of_file in
+        let first = p.of_file in
+        let read = one_reading text (first.before ++ first.after) entries first.error q.error first.is_file is in
+        let (others, parts, rest) = begin_once name first.before first.after p.first q.settings
+        (all_clear no_section first.is_file.reads) first.are (subst (λ l. AllZip (IsSettingOf name) l q.settings) (sym read.0) are) in
+        elim first.at_end [
+          | inl none ↦
+              let no_last = (subst (λ t. EndsReport options name t p.s p.last p.s') none p.ends).0 in
+              let (more, whole) = lines_begin p.report q.report (map facts others) parts in
+              join a p.missing p.lines more q.last b
+              (sym (append-nil p.lines) ∙ sym (ap (λ l. p.lines ++ l) no_last) ∙ p.parts)
+              (q.parts ∙ ap (λ l. l ++ q.last) whole)
+          | inr all ↦
+              let no_others = nothing_after name first.after others all.0 rest in
+              let reports = lines_once q.report p.report
+              (parts ∙ ap (λ l. map facts p.first ++ map facts l) no_others ∙ append-nil (map facts p.first)) in
+              let ends = ends_once name q.error q.s s p.s' q.last p.last q.ends
+              (subst (λ c. EndsReport options name q.error c p.last p.s') (sym reports.1)
+              (subst (λ t. EndsReport options name t p.s p.last p.s') (all.1 ∙ read.1) p.ends)) in
+              (p.missing, q.parts ∙ (λ i. reports.0 i ++ ends.0 i) ∙ p.parts)
+        ]

@@ -1,6 +1,6 @@
 -- Bytes, write by write.
 use Rattle.std.proofs.Common.{◌≡◌, ℕ, List, [], ◌++◌, Option, refl, sym, ap, subst, ◌∙◌, append_assoc}
-use Rattle.std.proofs.Common.{append-nil, flat_map, take, drop, take-append-drop, drop-cons, suc, ◌<◌, length, get_or}
+use Rattle.std.proofs.Common.{append-nil, flat_map, take, drop, take-append-drop, drop-cons, suc, ◌<◌, length, get_or, Result, Ok, Err, OnErr}
 use Rattle.std.proofs.lemmas.Grind.{flat_map-append}
 use Rattle.std.specs.Io.KnownBytes.{Appends}
 use Rattle.std.proofs.KnownBytes.{Appends-nil, Appends-trans}
@@ -90,3 +90,7 @@ part_before u w front back part = record {
   appended = part.appended;
   parts = ap (λ l. l ++ back) part.parts ∙ append_assoc part.written part.missing back;
 }
+
+pub on_err : {V E : Type 0} (r : Result V E) (P : Type 0) → P → OnErr r P
+on_err (Ok v) P p = tt
+on_err (Err e) P p = p

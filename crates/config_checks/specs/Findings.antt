@@ -100,15 +100,15 @@ severity_text Error = codes "error: "
 severity_text Warning = codes "warning: "
 severity_text Note = codes "note: "
 
--- ---- the line
+-- ---- parts of the line
 
-abbrev pub tab : ℕ
-tab = 9
+abbrev pub line_feed : ℕ
+line_feed = 10
 
--- a value, and nothing where there is none
+-- a value in quotes, and nothing where there is none
 abbrev pub value_shown : Option (List ℕ) → List ℕ
 value_shown None = []
-value_shown (Some t) = shown t
+value_shown (Some t) = codes "'" ++ shown t ++ codes "': "
 
 -- in red, where colors are wanted
 abbrev pub painted : Bool → List ℕ → List ℕ

@@ -3,6 +3,6 @@ pub mod Kinds
 pub mod Reasons
 pub mod Rows
 pub mod Findings
-pub mod Entries
 pub mod Report
+pub mod Suggestions
 pub mod Reading

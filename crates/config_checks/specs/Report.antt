@@ -1,142 +1,144 @@
--- What a check writes: a line for each finding, in the order of the entries.
-use Rattle.std.specs.Prelude.{◌≡◌, ◌≢◌, ◌⊎◌, ℕ, ◌+◌, ◌-◌, codes, List, [], ◌∷◌, ◌++◌, Bool, Option, None}
-use Rattle.std.specs.Prelude.{Some, if◌then◌else◌}
+-- What a check of a file writes: a line for each finding, in the order of the entries.
+use Rattle.std.specs.Prelude.{◌≡◌, ◌⊎◌, ⊤, ℕ, ◌+◌, ◌-◌, codes, List, [], ◌∷◌, ◌++◌, Option, None, Some, option_map}
 use Rattle.std.specs.Fmt.{decimal}
-use Rattle.std.specs.Io.KnownBytes.{Consumes, Appends}
-use Rattle.gix_config_value.specs.Answers.{OneBegins}
+use Rattle.std.specs.List.{AllZip}
+use Rattle.std.specs.Io.KnownBytes.{Appends}
+use Rattle.config_file.specs.declared.errors.Error as errors
+use Rattle.config_file.specs.declared.errors.Fault.{Fault}
+use Rattle.config_file.specs.declared.errors.Fault.TheVariants.{BadLine, Nul}
+use Rattle.config_file.specs.declared.settings.Setting.{Setting}
+use Rattle.config_file.specs.File.{Entry, IsFile}
+use Rattle.config_file.specs.Settings.{IsSettingOf}
 use Rattle.config_checks.specs.declared.options.Options.{Options}
 use Rattle.config_checks.specs.declared.row.Row.{Row}
 use Rattle.config_checks.specs.declared.reason.Reason.{Reason}
 use Rattle.config_checks.specs.declared.reason.Severity.{Severity}
+use Rattle.config_checks.specs.declared.reason.Severity.TheVariants.{Error}
 use Rattle.config_checks.specs.declared.check.Counts.{Counts}
-use Rattle.config_checks.specs.declared.check.Summary.{Summary}
 use Rattle.config_checks.specs.declared.check.CheckError.{CheckError}
-use Rattle.config_checks.specs.declared.check.CheckError.TheVariants.{Read, Write, Memory}
+use Rattle.config_checks.specs.declared.check.CheckError.TheVariants.{Write, Memory}
 use Rattle.config_checks.specs.Rows.{Decides, IsUnknown}
 use Rattle.config_checks.specs.Reasons.{HasFinding, severity_of}
-use Rattle.config_checks.specs.Findings.{tab, shown, value_shown, painted, severity_text, reason_text}
-use Rattle.config_checks.specs.Entries.{Entry, IsCut, IsBegun, IsInput, IsSetting, EndsKnown, line_feed}
+use Rattle.config_checks.specs.Findings.{line_feed, shown, value_shown, painted, severity_text, reason_text}
 
 -- ---- a line
 
--- a field before a key, with a tab after it, if it is shown
-abbrev pub field_shown : Bool → List ℕ → List ℕ
-field_shown is_shown field = if is_shown then shown field ++ tab ∷ [] else []
+-- a file, and a line of it
+abbrev pub place : List ℕ → ℕ → List ℕ
+place file line = shown file ++ codes ":" ++ decimal line ++ codes ": "
 
--- the number of the entry, and the fields before its setting
-abbrev pub front_shown : Options → ℕ → Entry → List ℕ
-front_shown options number entry =
-    (decimal number ++ tab ∷ []) ++ field_shown options.scope entry.scope ++ field_shown options.origin entry.origin
+-- the value of a setting, if it has one
+abbrev pub value_of : Setting → Option (List ℕ)
+value_of setting = option_map (λ value. value.items) setting.value
 
-abbrev pub setting_shown : List ℕ → Option (List ℕ) → List ℕ
-setting_shown key value = (shown key ++ tab ∷ []) ++ value_shown value ++ tab ∷ []
+abbrev pub setting_shown : Setting → List ℕ
+setting_shown setting = shown setting.key.items ++ codes ": " ++ value_shown (value_of setting)
 
-abbrev pub finding_line : Options → ℕ → Entry → List ℕ → Option (List ℕ) → Severity → Reason → List ℕ
-finding_line options number entry key value severity reason =
-    front_shown options number entry ++ setting_shown key value
-    ++ painted options.color (severity_text severity ++ reason_text reason) ++ line_feed ∷ []
+abbrev pub finding_line : Options → Setting → Severity → Reason → List ℕ
+finding_line options setting severity reason =
+    place setting.file.now setting.line ++ painted options.color (severity_text severity)
+    ++ setting_shown setting ++ reason_text reason ++ line_feed ∷ []
+
+-- what is said of a file that is refused
+abbrev pub fault_text : Fault → List ℕ
+fault_text BadLine = codes "Git cannot read this line, and reads nothing of the file"
+fault_text Nul = codes "a NUL byte outside a comment"
+
+abbrev pub refused_line : Options → List ℕ → errors.Error → List ℕ
+refused_line options file error =
+    place file error.line ++ painted options.color (severity_text Error) ++ fault_text error.fault ++ line_feed ∷ []
 
 -- ---- the report
 
--- the line of an entry with this key and this value, empty if nothing is wrong, and the counts before and
--- after the entry
-pub data ReportsEntry (rows : List Row) (options : Options) (entry : Entry) (key : List ℕ) (value : Option (List ℕ))
-    (s : Counts) (line : List ℕ) (s' : Counts) : Type 0 where
-  unknown : IsUnknown rows key → line ≡ []
+-- the line of a setting, empty if nothing is wrong, and the counts before and after it
+pub data ReportsSetting (rows : List Row) (options : Options) (setting : Setting) (s : Counts) (line : List ℕ) (s' : Counts)
+    : Type 0 where
+  unknown : IsUnknown rows setting.key.items → line ≡ []
       → s' ≡ record s { entries = s.entries + 1; unknown = s.unknown + 1 }
-      → ReportsEntry rows options entry key value s line s'
-  right : (row : Row) → Decides rows key row → HasFinding options.canonical row value None → line ≡ []
-      → s' ≡ record s { entries = s.entries + 1 } → ReportsEntry rows options entry key value s line s'
-  found : (row : Row) (reason : Reason) → Decides rows key row
-      → HasFinding options.canonical row value (Some reason)
-      → line ≡ finding_line options (s.entries + 1) entry key value (severity_of row.goes_on reason) reason
+      → ReportsSetting rows options setting s line s'
+  right : (row : Row) → Decides rows setting.key.items row
+      → HasFinding options.canonical row (value_of setting) None → line ≡ []
+      → s' ≡ record s { entries = s.entries + 1 } → ReportsSetting rows options setting s line s'
+  found : (row : Row) (reason : Reason) → Decides rows setting.key.items row
+      → HasFinding options.canonical row (value_of setting) (Some reason)
+      → line ≡ finding_line options setting (severity_of row.goes_on reason) reason
       → s' ≡ record s { entries = s.entries + 1; findings = s.findings + 1 }
-      → ReportsEntry rows options entry key value s line s'
+      → ReportsSetting rows options setting s line s'
 
--- the lines of these entries, one after the other, and their counts
-pub data Report (rows : List Row) (options : Options) : List Entry → List ℕ → Counts → Type 0 where
+-- the lines of these settings, one after the other, and their counts
+pub data Report (rows : List Row) (options : Options) : List Setting → List ℕ → Counts → Type 0 where
   nothing : Report rows options [] [] (record { entries = 0; unknown = 0; findings = 0 })
-  next : (entries : List Entry) (output : List ℕ) (s : Counts) (entry : Entry) (key : List ℕ)
-      (value : Option (List ℕ)) (line : List ℕ) (s' : Counts)
-      → Report rows options entries output s → IsSetting entry.setting key value
-      → ReportsEntry rows options entry key value s line s'
-      → Report rows options (entries ++ entry ∷ []) (output ++ line) s'
+  next : (settings : List Setting) (lines : List ℕ) (s : Counts) (setting : Setting) (line : List ℕ) (s' : Counts)
+      → Report rows options settings lines s → ReportsSetting rows options setting s line s'
+      → Report rows options (settings ++ setting ∷ []) (lines ++ line) s'
 
--- the lines of all entries of an input, and what is said of them at its end
-pub record IsReport (rows : List Row) (options : Options) (input output : List ℕ) (s : Summary) : Type 0 where
-  pub entries : List Entry
-  pub whole : IsInput options input entries s.is_cut_off
-  pub lines : Report rows options entries output s.counts
+-- the line of a refused file, which is a finding too; nothing where the file is read to its end
+abbrev pub EndsReport : Options → List ℕ → Option errors.Error → Counts → List ℕ → Counts → Type 0
+EndsReport options file None s last s' = (last ≡ []) × (s' ≡ s)
+EndsReport options file (Some error) s last s' =
+    (last ≡ refused_line options file error) × (s' ≡ record s { findings = s.findings + 1 })
+
+-- the file of this name and text has these settings up to its end, or up to this error
+abbrev pub HasSettings : List ℕ → List ℕ → List Setting → Option errors.Error → Type 0
+HasSettings file text settings error =
+    (entries : List Entry) × IsFile text entries error × AllZip (IsSettingOf file) entries settings
+
+-- the lines of a file, and its counts
+pub record IsReport (rows : List Row) (options : Options) (file text output : List ℕ) (s' : Counts) : Type 0 where
+  pub settings : List Setting
+  pub error : Option errors.Error
+  pub of_file : HasSettings file text settings error
+  pub lines : List ℕ
+  pub s : Counts
+  pub report : Report rows options settings lines s
+  pub last : List ℕ
+  pub ends : EndsReport options file error s last s'
+  pub parts : output ≡ lines ++ last
 
 -- how the counts are shown
-abbrev pub summary_shown : Summary → List ℕ
-summary_shown s =
-    decimal s.counts.entries ++ (codes " entries, "
-    ++ (decimal (s.counts.entries - s.counts.unknown) ++ (codes " judged, "
-    ++ (decimal s.counts.unknown ++ (codes " unknown keys, "
-    ++ (decimal s.counts.findings ++ codes " findings"))))))
+abbrev pub counts_shown : Counts → List ℕ
+counts_shown s =
+    decimal s.entries ++ (codes " entries, "
+    ++ (decimal (s.entries - s.unknown) ++ (codes " judged, "
+    ++ (decimal s.unknown ++ (codes " unknown keys, "
+    ++ (decimal s.findings ++ codes " findings"))))))
 
--- ---- what a check did to its reader and its writer
+-- ---- what a check did to its writer
 
--- `unread` and `left` are what the reader had left before and after, `contents` and `contents'` what the
--- writer held: the reader was read to its end, and what was written is the report of what was read
-pub record Completes (rows : List Row) (options : Options) (unread left contents contents' : Option (List ℕ))
-    (s : Summary) : Type 0 where
-  pub input : List ℕ
-  pub output : List ℕ
-  pub consumed : Consumes unread left input
-  pub at_end : EndsKnown unread left
-  pub appended : Appends contents contents' output
-  pub report : IsReport rows options input output s
+-- `contents` and `contents'` are what the writer held before and after
+abbrev pub Completes : List Row → Options → List ℕ → List ℕ → Option (List ℕ) → Option (List ℕ) → Counts → Type 0
+Completes rows options file text contents contents' s =
+    (output : List ℕ) × Appends contents contents' output × IsReport rows options file text output s
 
--- some entries were read, and what was written begins their lines
-pub record BeginsReport (rows : List Row) (options : Options) (entries : List Entry) (output : List ℕ)
-    : Type 0 where
-  pub s : Counts
-  pub missing : List ℕ
-  pub report : Report rows options entries (output ++ missing) s
-
--- the entries that were read: all that were read whole or, at the end of the input, all of it
-abbrev pub AreRead : Options → Option (List ℕ) → Option (List ℕ) → List ℕ → List Entry → Type 0
-AreRead options unread left input entries =
-    ((rest : List ℕ) × IsCut options input entries rest × IsBegun options rest)
-    ⊎ ((is_cut_off : Bool) × EndsKnown unread left × IsInput options input entries is_cut_off)
-
--- the lines of all entries but the last one, which has a line too
-pub record LacksLastLine (rows : List Row) (options : Options) (entries : List Entry) (output : List ℕ)
-    : Type 0 where
+-- the file has these first settings; its error counts as told only after all of them
+pub record HasFirst (file text : List ℕ) (first : List Setting) (told : Option errors.Error) : Type 0 where
   pub before : List Entry
-  pub last : Entry
-  pub line : List ℕ
+  pub after : List Entry
+  pub error : Option errors.Error
+  pub is_file : IsFile text (before ++ after) error
+  pub are : AllZip (IsSettingOf file) before first
+  pub at_end : (told ≡ None) ⊎ ((after ≡ []) × (told ≡ error))
+
+-- what a failed write may have left out; if memory runs out, only whole lines are written
+abbrev pub MayLack : CheckError → List ℕ → Type 0
+MayLack (Write e) missing = ⊤
+MayLack (Memory e) missing = missing ≡ []
+
+-- what was written begins the lines of the first settings
+pub record BeginsReport (rows : List Row) (options : Options) (file text output : List ℕ) (e : CheckError) : Type 0 where
+  pub first : List Setting
+  pub told : Option errors.Error
+  pub of_file : HasFirst file text first told
+  pub lines : List ℕ
   pub s : Counts
+  pub report : Report rows options first lines s
+  pub last : List ℕ
   pub s' : Counts
-  pub parts : entries ≡ before ++ last ∷ []
-  pub report : Report rows options before output s
-  pub whole : Report rows options entries (output ++ line) s'
-  pub some : line ≢ []
+  pub ends : EndsReport options file told s last s'
+  pub missing : List ℕ
+  pub parts : lines ++ last ≡ output ++ missing
+  pub lacks : MayLack e missing
 
--- after a failed read the lines of all entries that were read are written, after a failed write a beginning of
--- them; and where there was no memory for the line of the last one, the lines of all others
-abbrev pub WritesAfter : CheckError → List Row → Options → List Entry → List ℕ → Type 0
-WritesAfter (Read e) rows options entries output = (s : Counts) × Report rows options entries output s
-WritesAfter (Write e) rows options entries output = BeginsReport rows options entries output
-WritesAfter (Memory e) rows options entries output = LacksLastLine rows options entries output
-
-pub record Fails (rows : List Row) (options : Options) (unread left contents contents' : Option (List ℕ))
-    (e : CheckError) : Type 0 where
-  pub input : List ℕ
-  pub output : List ℕ
-  pub entries : List Entry
-  pub consumed : Consumes unread left input
-  pub appended : Appends contents contents' output
-  pub read : AreRead options unread left input entries
-  pub written : WritesAfter e rows options entries output
-
--- ---- two checks
-
--- what two checks wrote that read the same entries and ended with this error: the same, but for a failed write,
--- after which one of them may have come further
-abbrev pub AgreeAfter : CheckError → List ℕ → List ℕ → Type 0
-AgreeAfter (Read e) a b = a ≡ b
-AgreeAfter (Write e) a b = OneBegins a b
-AgreeAfter (Memory e) a b = a ≡ b
+abbrev pub Fails : List Row → Options → List ℕ → List ℕ → Option (List ℕ) → Option (List ℕ) → CheckError → Type 0
+Fails rows options file text contents contents' e =
+    (output : List ℕ) × Appends contents contents' output × BeginsReport rows options file text output e

@@ -1,28 +1,27 @@
-//! The check of all settings that Git would read.
-ghost use Rattle.std.specs.Prelude.{◌≡◌, ℕ, List, ◌++◌, Some, OnOk, OnErr, IfOk, IfErr};
+//! The check of the settings of a file.
+ghost use Rattle.std.specs.Prelude.{◌≡◌, ◌+◌, ◌<◌, ◌^◌, ◌++◌, ℕ, List, [], OnOk, OnErr, IfOk, IfErr, Some};
 ghost use Rattle.std.specs.Io.KnownBytes.{Appends, Keeps};
-ghost use Rattle.config_checks.specs.Report.{summary_shown, Completes, Fails, IsReport};
-ghost use Rattle.config_checks.specs.Reading.Fields.{entry_of};
+ghost use Rattle.config_checks.specs.Report.{counts_shown, Completes, Fails, HasSettings};
 ghost use Rattle.config_checks.specs.Findings.{AppendsPart};
-ghost use Rattle.config_checks.specs.Reading.Steps.{HasRoom, Reports, ReportsPart, IsWrite};
+ghost use Rattle.config_checks.specs.Reading.Steps.{HasRoom, Reports, ReportsPart, Tells, TellsPart};
+ghost use Rattle.config_checks.specs.Reading.Steps.{ReportsAll, ReportsFirst, IsMemory, IsWrite};
 
-use crate::entry::{Buffers, EntryEnd};
-use crate::finding::Finding;
+use crate::finding::{Finding, push_refusal, value_of};
 use crate::options::Options;
 use crate::reason::find;
 use crate::row::{Row, row_for};
+use config_file::errors::Error;
+use config_file::settings::{AddError, Setting, Settings};
 use std::alloc::{AllocError, Global};
 use std::fmt;
-use std::io::{self, BufRead, ErrorKind, Write};
+use std::io::{self, ErrorKind, Write};
 
-/// Why a check ended before the end of its input.
+/// Why a check ended before the end of its file.
 #[derive(Drop)]
 pub enum CheckError {
-    /// A read failed, or the input had not ended after 18446744073709551615 entries.
-    Read(io::Error),
     /// A write or the flush at the end failed, or a write took no byte.
     Write(io::Error),
-    /// There was no memory for the line of a finding.
+    /// There was no memory for the settings, or for the line of a finding.
     Memory(AllocError),
 }
 
@@ -33,29 +32,20 @@ pub struct Counts {
     pub entries: u64,
     /// The entries that no row covers.
     pub unknown: u64,
-    /// The findings, at most one for each entry.
+    /// The findings: at most one for each entry, and one for a line that Git cannot read.
     pub findings: u64,
 }
 
-/// The result of a whole check.
-#[derive(Clone, Copy)]
-pub struct Summary {
-    /// The counts of the whole input.
-    pub counts: Counts,
-    /// Whether the input ended within an entry.
-    pub is_cut_off: bool,
-}
+impl fmt::Display for Counts {
+    ghost output = { λ s. Some (counts_shown s) };
 
-impl fmt::Display for Summary {
-    ghost output = { λ s. Some (summary_shown s) };
-
-    /// Writes the line of counts that ends a run of `config_check`.
+    /// Writes the counts as the last line of `config_check` has them.
     fn fmt<W: fmt::Write>(&self, f: &mut fmt::Formatter<W>) -> fmt::Result {
         let Counts {
             entries,
             unknown,
             findings,
-        } = self.counts;
+        } = *self;
         let judged = entries.saturating_sub(unknown);
         write!(
             f,
@@ -89,35 +79,31 @@ struct Progress {
 }
 
 impl Progress {
-    /// Counts an entry, and writes its line if something is wrong with it.
+    /// Counts a setting, and writes its line if something is wrong with it.
     fn report<W: Write>(
         &mut self,
         rows: &[Row<'_>],
         options: &Options,
-        entry: &Buffers,
+        setting: &Setting<'_>,
         writer: &mut W,
     ) -> Result<(), CheckError>
         requires { HasRoom self.old.counts }
-        ensures ok { OnOk result (Reports rows.now options.now (entry_of entry.now)
+        ensures ok { OnOk result (Reports rows.now options.now setting.now
             self.old.counts self.new.counts (W.contents writer.old) (W.contents writer.new)) }
-        ensures err { IfErr result (ReportsPart rows.now options.now (entry_of entry.now)
+        ensures err { IfErr result (ReportsPart rows.now options.now setting.now
             self.old.counts (W.contents writer.old) (W.contents writer.new)) }
     {
         self.counts.entries += 1;
-        let (key, value) = entry.setting();
-        let Some(row) = row_for(rows, key) else {
+        let Some(row) = row_for(rows, &setting.key) else {
             self.counts.unknown += 1;
             return Ok(());
         };
-        let Some(reason) = find(row, value, options.canonical) else {
+        let Some(reason) = find(row, value_of(setting), options.canonical) else {
             return Ok(());
         };
         self.counts.findings += 1;
         let finding = Finding {
-            number: self.counts.entries,
-            entry,
-            key,
-            value,
+            setting,
             severity: reason.severity(row.goes_on),
             reason,
         };
@@ -127,104 +113,129 @@ impl Progress {
             .map_err(CheckError::Memory)?;
         write_out(writer, &self.line).map_err(CheckError::Write)
     }
-
-    /// Flushes the writer, and gives the summary.
-    fn end<W: Write>(&self, writer: &mut W, is_cut_off: bool) -> Result<Summary, CheckError>
-        ensures counts { IfOk result (λ s. s.counts ≡ self.now.counts) }
-        ensures cut_off { IfOk result (λ s. s.is_cut_off ≡ is_cut_off) }
-        ensures kept { Keeps (W.contents writer.old) (W.contents writer.new) }
-        ensures write { IfErr result IsWrite }
-    {
-        writer.flush().map_err(CheckError::Write)?;
-        Ok(Summary {
-            counts: self.counts,
-            is_cut_off,
-        })
-    }
 }
 
-/// Checks all entries of an input, and writes a line for each finding, in the order of the entries. The
-/// summary counts the entries, those that no row covers, and the lines, and says whether the input ended
-/// within an entry. A last entry without its NUL is checked too, if its setting is not empty.
-///
-/// Errors:
-/// - `Read`: a read failed, or the input has not ended after 18446744073709551615 entries. The lines of all
-///   entries that were read whole are then written.
-/// - `Write`: a write or the flush at the end failed, or a write took no byte.
-/// - `Memory`: there was no memory for the line of an entry. The lines of all entries before it are then
-///   written.
-///
-/// After `Write`, what was written is a beginning of the lines.
-///
-/// The clauses are about readers whose bytes the prover knows, and writers whose contents it knows. It knows
-/// neither for standard input and output: for them the clauses say what `check` does with any reader and any
-/// writer.
-pub fn check<R: BufRead, W: Write>(
+/// Writes the lines of settings, and returns their counts.
+fn report_all<W: Write>(
     alloc: Global,
     rows: &[Row<'_>],
     options: &Options,
-    reader: &mut R,
+    settings: &[Setting<'_>],
     writer: &mut W,
-) -> Result<Summary, CheckError>
-    ensures completes { IfOk result (Completes rows.now options.now
-        (R.remaining reader.old) (R.remaining reader.new) (W.contents writer.old) (W.contents writer.new)) }
-    ensures fails { IfErr result (Fails rows.now options.now
-        (R.remaining reader.old) (R.remaining reader.new) (W.contents writer.old) (W.contents writer.new)) }
+) -> Result<Counts, CheckError>
+    ensures ok { IfOk result (ReportsAll rows.now options.now settings.now
+        (W.contents writer.old) (W.contents writer.new)) }
+    ensures err { IfErr result (ReportsFirst rows.now options.now settings.now
+        (W.contents writer.old) (W.contents writer.new)) }
+    ensures room { IfOk result (λ counts. counts.findings + 1 < 2 ^ 64) }
 {
-    let mut entry = Buffers::new(alloc);
     let mut progress = Progress {
         counts: Counts::default(),
         line: Vec::new(alloc),
     };
-    for _ in 0..u64::MAX {
-        match entry.read(options, reader) {
-            Ok(EntryEnd::Nul) => progress.report(rows, options, &entry, writer)?,
-            Ok(EntryEnd::CutOff) => {
-                progress.report(rows, options, &entry, writer)?;
-                return progress.end(writer, true);
-            }
-            Ok(EntryEnd::CutBefore) => return progress.end(writer, true),
-            Ok(EntryEnd::Nothing) => return progress.end(writer, false),
-            Err(error) => return Err(CheckError::Read(error)),
-        }
+    for setting in settings {
+        progress.report(rows, options, setting, writer)?;
     }
-    Err(CheckError::Read(io::Error::from(ErrorKind::Other)))
+    Ok(progress.counts)
 }
 
-/// Checks an input in memory, as [`check`] does, and appends the lines to `out`. Each error of `check` is
-/// returned as out of memory: no clause says so, but a slice is always read. Then `out` is as it was.
+/// Writes the line of a file that is refused, if it is, and counts it.
+fn tell<W: Write>(
+    alloc: Global,
+    options: &Options,
+    file: &str,
+    refused: Option<Error>,
+    counts: Counts,
+    writer: &mut W,
+) -> Result<Counts, CheckError>
+    requires { counts.findings + 1 < 2 ^ 64 }
+    ensures ok { IfOk result (λ after. Tells options.now file.now refused counts after
+        (W.contents writer.old) (W.contents writer.new)) }
+    ensures err { IfErr result (TellsPart options.now file.now refused counts
+        (W.contents writer.old) (W.contents writer.new)) }
+{
+    let Some(error) = refused else {
+        return Ok(counts);
+    };
+    let mut line = Vec::new(alloc);
+    push_refusal(&mut line, options, file, error).map_err(CheckError::Memory)?;
+    match write_out(writer, &line) {
+        Ok(()) => Ok(Counts {
+            findings: counts.findings + 1,
+            ..counts
+        }),
+        Err(error) => Err(CheckError::Write(error)),
+    }
+}
+
+/// The settings of a file, up to the line that Git cannot read if there is one, and why.
+fn settings_of<'a>(
+    alloc: Global,
+    file: &'a str,
+    text: &[u8],
+) -> Result<(Settings<'a>, Option<Error>), CheckError>
+    ensures ok { IfOk result (λ read. HasSettings file.now text.now read.0.entries.items read.1) }
+    ensures err { IfErr result IsMemory }
+{
+    let mut settings = Settings::new(alloc);
+    match settings.add_file(alloc, file, text) {
+        Ok(()) => Ok((settings, None)),
+        Err(AddError::Line { error, .. }) => Ok((settings, Some(error))),
+        Err(AddError::Memory(error)) => Err(CheckError::Memory(error)),
+    }
+}
+
+/// Flushes a writer.
+fn flush<W: Write>(writer: &mut W) -> Result<(), CheckError>
+    ensures kept { Keeps (W.contents writer.old) (W.contents writer.new) }
+    ensures write { IfErr result IsWrite }
+{
+    writer.flush().map_err(CheckError::Write)
+}
+
+/// Checks a file of this name and this text. It writes a line for each finding, in the order of the entries,
+/// and returns the counts. A line that Git cannot read is a finding too, and the last one.
+///
+/// Errors:
+/// - `Write`: a write or the flush at the end failed, or a write took no byte. What was written is a beginning
+///   of the lines.
+/// - `Memory`: there was no memory for the settings or for a line. What was written are whole lines, the first.
+///
+/// The clauses are about writers whose contents the prover knows. It does not know them for standard output: for
+/// it the clauses say what `check_file` does with any writer.
 ///
 /// ```rust
-/// use config_checks::check::check_over;
+/// use config_checks::check::check_file;
 /// use config_checks::options::Options;
 /// use config_checks::table::read_rows;
 ///
 /// let mut rows = Vec::new(alloc);
 /// assert!(rt; read_rows(alloc, b"push.default word nothing current", &mut rows).is_ok());
-/// let options = Options { scope: false, origin: false, canonical: false, color: false };
+/// let options = Options { canonical: false, color: false };
 /// let mut out = Vec::new(alloc);
-/// let summary = check_over(alloc, &rows, &options, b"push.default\nmaybe\0", &mut out)?;
-/// assert_eq!(rt; summary.counts.findings, 1);
-/// assert_eq!(rt; out.as_slice(), b"1\tpush.default\tmaybe\terror: not one of: nothing, current\n".as_slice());
+/// let counts = match check_file(alloc, &rows, &options, "f", b"[push]\ndefault = maybe", &mut out) {
+///     Ok(counts) => counts,
+///     Err(_) => return Err(AllocError),
+/// };
+/// assert_eq!(rt; counts.findings, 1);
+/// assert_eq!(rt; out.as_slice(), b"f:2: error: push.default: 'maybe': not one of: nothing, current\n".as_slice());
 /// ```
-pub fn check_over(
+pub fn check_file<W: Write>(
     alloc: Global,
     rows: &[Row<'_>],
     options: &Options,
-    input: &[u8],
-    out: &mut Vec<u8>,
-) -> Result<Summary, AllocError>
-    ensures report { IfOk result (λ summary. (lines : List ℕ) × (out.new.items ≡ out.old.items ++ lines)
-        × IsReport rows.now options.now input.now lines summary) }
-    ensures unchanged { OnErr result (out.new.items ≡ out.old.items) }
+    file: &str,
+    text: &[u8],
+    writer: &mut W,
+) -> Result<Counts, CheckError>
+    ensures completes { IfOk result (Completes rows.now options.now file.now text.now
+        (W.contents writer.old) (W.contents writer.new)) }
+    ensures fails { IfErr result (Fails rows.now options.now file.now text.now
+        (W.contents writer.old) (W.contents writer.new)) }
 {
-    let length = out.len();
-    let mut reader = input;
-    match check(alloc, rows, options, &mut reader, out) {
-        Ok(summary) => Ok(summary),
-        Err(_) => {
-            out.truncate(length);
-            Err(AllocError)
-        }
-    }
+    let (settings, refused) = settings_of(alloc, file, text)?;
+    let counts = report_all(alloc, rows, options, &settings.entries, writer)?;
+    let counts = tell(alloc, options, file, refused, counts, writer)?;
+    flush(writer)?;
+    Ok(counts)
 }

@@ -7,14 +7,14 @@ ghost use Rattle.config_checks.specs.Findings.{hex, is_control, piece_shown, sho
 ghost use Rattle.config_checks.specs.Findings.{range_text, words_text, no_word_front, no_word_text};
 ghost use Rattle.config_checks.specs.Findings.{reason_text, severity_text, painted};
 ghost use Rattle.config_checks.specs.Findings.{AppendsPart};
-ghost use Rattle.config_checks.specs.Reading.Fields.{entry_of};
-ghost use Rattle.config_checks.specs.Report.{field_shown, front_shown, setting_shown, finding_line};
+ghost use Rattle.config_checks.specs.Report.{place, value_of, setting_shown, finding_line, fault_text, refused_line};
 
-use crate::entry::Buffers;
 use crate::kind::{Form, WordList};
 use crate::options::Options;
 use crate::reason::{Reason, Severity};
 use bstr::decode_utf8;
+use config_file::errors::{Error, Fault};
+use config_file::settings::Setting;
 use gix_config_value::integer::Amount;
 use itoa::Buffer;
 use std::alloc::AllocError;
@@ -189,95 +189,102 @@ fn severity_text(severity: Severity) -> &'static str
     }
 }
 
-/// Appends how bad a finding is, and its reason.
-fn push_judgment(
-    out: &mut Vec<u8>,
-    severity: Severity,
-    reason: &Reason<'_, '_>,
-) -> Result<(), AllocError>
-    ensures { OnOk result (out.new.items ≡ out.old.items ++ severity_text severity ++ reason_text reason.now) }
+/// Appends how bad a finding is, in red if colors are wanted.
+fn push_severity(line: &mut Vec<u8>, color: bool, severity: Severity) -> Result<(), AllocError>
+    ensures { OnOk result (line.new.items ≡ line.old.items ++ painted color (severity_text severity)) }
 {
-    out.extend_from_slice(severity_text(severity).as_bytes())?;
-    push_reason(out, reason)
-}
-
-/// Appends a field and a tab, if the field is shown.
-fn push_field(line: &mut Vec<u8>, is_shown: bool, field: &[u8]) -> Result<(), AllocError>
-    ensures { OnOk result (line.new.items ≡ line.old.items ++ field_shown is_shown field.now) }
-{
-    if is_shown {
-        push_shown(line, field)?;
-        line.extend_from_slice(b"\t")?;
+    if !color {
+        return line.extend_from_slice(severity_text(severity).as_bytes());
     }
-    Ok(())
+    line.extend_from_slice(b"\x1b[31m")?;
+    line.extend_from_slice(severity_text(severity).as_bytes())?;
+    line.extend_from_slice(b"\x1b[m")
 }
 
-/// Appends a value, if there is one.
+/// Appends a file, and a line of it.
+fn push_place(line: &mut Vec<u8>, file: &str, number: usize) -> Result<(), AllocError>
+    ensures { OnOk result (line.new.items ≡ line.old.items ++ place file.now number) }
+{
+    push_shown(line, file.as_bytes())?;
+    line.extend_from_slice(b":")?;
+    line.extend_from_slice(Buffer::new().format(number).as_bytes())?;
+    line.extend_from_slice(b": ")
+}
+
+/// Appends a value in quotes, if there is one.
 fn push_value(line: &mut Vec<u8>, value: Option<&[u8]>) -> Result<(), AllocError>
     ensures { OnOk result (line.new.items ≡ line.old.items ++ value_shown (option_copied value.entry)) }
 {
-    match value {
-        Some(value) => push_shown(line, value),
-        None => Ok(()),
-    }
+    let Some(value) = value else {
+        return Ok(());
+    };
+    line.extend_from_slice(b"'")?;
+    push_shown(line, value)?;
+    line.extend_from_slice(b"': ")
 }
 
-/// An entry, and what is wrong with it.
+/// A setting, and what is wrong with it.
 #[derive(Clone, Copy)]
 pub(crate) struct Finding<'e, 't> {
-    pub number: u64,
-    pub entry: &'e Buffers,
-    pub key: &'e [u8],
-    pub value: Option<&'e [u8]>,
+    pub setting: &'e Setting<'e>,
     pub severity: Severity,
     pub reason: Reason<'e, 't>,
 }
 
 impl Finding<'_, '_> {
-    /// Appends the number of the entry and the fields before its setting.
-    fn push_front(&self, line: &mut Vec<u8>, options: &Options) -> Result<(), AllocError>
-        ensures { OnOk result (line.new.items ≡ line.old.items
-            ++ front_shown options.now self.now.number (entry_of self.now.entry.now)) }
-    {
-        line.extend_from_slice(Buffer::new().format(self.number).as_bytes())?;
-        line.extend_from_slice(b"\t")?;
-        push_field(line, options.scope, &self.entry.scope)?;
-        push_field(line, options.origin, &self.entry.origin)
-    }
-
     /// Appends the key and the value.
     fn push_setting(&self, line: &mut Vec<u8>) -> Result<(), AllocError>
-        ensures { OnOk result (line.new.items ≡ line.old.items
-            ++ setting_shown self.now.key.now (option_copied self.now.value)) }
+        ensures { OnOk result (line.new.items ≡ line.old.items ++ setting_shown self.now.setting.now) }
     {
-        push_shown(line, self.key)?;
-        line.extend_from_slice(b"\t")?;
-        push_value(line, self.value)?;
-        line.extend_from_slice(b"\t")
-    }
-
-    /// Appends how bad it is and the reason, in red if colors are wanted.
-    fn push_painted_judgment(&self, line: &mut Vec<u8>, color: bool) -> Result<(), AllocError>
-        ensures { OnOk result (line.new.items ≡ line.old.items
-            ++ painted color (severity_text self.now.severity ++ reason_text self.now.reason)) }
-    {
-        if !color {
-            return push_judgment(line, self.severity, &self.reason);
-        }
-        line.extend_from_slice(b"\x1b[31m")?;
-        push_judgment(line, self.severity, &self.reason)?;
-        line.extend_from_slice(b"\x1b[m")
+        push_shown(line, &self.setting.key)?;
+        line.extend_from_slice(b": ")?;
+        push_value(line, value_of(self.setting))
     }
 
     /// Appends the line of this finding.
     pub(crate) fn push_to(&self, line: &mut Vec<u8>, options: &Options) -> Result<(), AllocError>
         ensures { OnOk result (line.new.items ≡ line.old.items
-            ++ finding_line options.now self.now.number (entry_of self.now.entry.now) self.now.key.now
-            (option_copied self.now.value) self.now.severity self.now.reason) }
+            ++ finding_line options.now self.now.setting.now self.now.severity self.now.reason) }
     {
-        self.push_front(line, options)?;
+        push_place(line, self.setting.file, self.setting.line)?;
+        push_severity(line, options.color, self.severity)?;
         self.push_setting(line)?;
-        self.push_painted_judgment(line, options.color)?;
+        push_reason(line, &self.reason)?;
         line.extend_from_slice(b"\n")
     }
+}
+
+/// The value of a setting, if it has one.
+pub(crate) fn value_of<'s>(setting: &'s Setting<'_>) -> Option<&'s [u8]>
+    ensures { option_copied result ≡ value_of setting.now }
+{
+    match &setting.value {
+        Some(value) => Some(value.as_slice()),
+        None => None,
+    }
+}
+
+/// What is said of a file that is refused.
+fn fault_text(fault: Fault) -> &'static str
+    ensures { result.now ≡ fault_text fault }
+{
+    match fault {
+        Fault::BadLine => "Git cannot read this line, and reads nothing of the file",
+        Fault::Nul => "a NUL byte outside a comment",
+    }
+}
+
+/// Appends the line of a file that is refused.
+pub(crate) fn push_refusal(
+    line: &mut Vec<u8>,
+    options: &Options,
+    file: &str,
+    error: Error,
+) -> Result<(), AllocError>
+    ensures { OnOk result (line.new.items ≡ line.old.items ++ refused_line options.now file.now error) }
+{
+    push_place(line, file, error.line)?;
+    push_severity(line, options.color, Severity::Error)?;
+    line.extend_from_slice(fault_text(error.fault).as_bytes())?;
+    line.extend_from_slice(b"\n")
 }

@@ -7,7 +7,7 @@ ghost use Rattle.config_checks.specs.declared.key.Key as key;
 use bstr::ByteSlice;
 
 /// What covers any text in the key of a row.
-const ANY: &[u8] = b"*";
+pub(crate) const ANY: &[u8] = b"*";
 
 /// The key of a setting, as `core.bare` or `branch.main.rebase`, or of a row, as `branch.*.rebase`.
 #[derive(Clone, Copy)]
@@ -48,7 +48,7 @@ pub(crate) fn is_same_word(row: &[u8], text: &[u8]) -> bool
 }
 
 /// Whether the part of a row between its dots covers that of a key.
-fn covers_between(row: Option<&[u8]>, between: Option<&[u8]>) -> bool
+pub(crate) fn covers_between(row: Option<&[u8]>, between: Option<&[u8]>) -> bool
     ensures { IsTrue result ↔ CoversBetween row.entry between.entry }
 {
     match (row, between) {

@@ -1,14 +1,13 @@
 //! Laws over the definitions, each the contract of a function that does nothing: a setting has one finding,
-//! and an input one report.
-ghost use Rattle.std.specs.Prelude.{◌≡◌, ℕ, List, Bool, Option};
+//! and a file one report.
+ghost use Rattle.std.specs.Prelude.{◌≡◌, ◌++◌, ℕ, List, Bool, Option};
 ghost use Rattle.config_checks.specs.declared.reason.Reason.{Reason};
 ghost use Rattle.config_checks.specs.declared.options.Options.{Options};
 ghost use Rattle.config_checks.specs.declared.row.Row.{Row};
-ghost use Rattle.config_checks.specs.declared.check.Summary.{Summary};
+ghost use Rattle.config_checks.specs.declared.check.Counts.{Counts};
 ghost use Rattle.config_checks.specs.declared.check.CheckError.{CheckError};
-ghost use Rattle.config_checks.specs.Entries.{Entry};
 ghost use Rattle.config_checks.specs.Reasons.{HasReason, HasFinding, IsSameFinding};
-ghost use Rattle.config_checks.specs.Report.{IsReport, WritesAfter, AgreeAfter};
+ghost use Rattle.config_checks.specs.Report.{BeginsReport, IsReport};
 
 /// A value of a setting has one reason why it is wrong, or it has no reason.
 pub fn one_reason()
@@ -23,12 +22,12 @@ pub fn one_finding()
         → IsSameFinding a b }
 {}
 
-/// An input has one report. Two checks that read the same entries and ended with the same error wrote the
-/// same. Only after a failed write one of them may have written more.
+/// A file has one report: two checks of the same name and text, with the same rows and options, that do not
+/// fail write the same and return the same counts. What a check that fails wrote begins that report.
 pub fn one_report()
-    ensures one { (rows : List Row) (options : Options) (input a b : List ℕ) (s t : Summary)
-        → IsReport rows options input a s → IsReport rows options input b t → (a ≡ b) × (s ≡ t) }
-    ensures failed { (rows : List Row) (options : Options) (entries : List Entry) (a b : List ℕ)
-        (e : CheckError) → WritesAfter e rows options entries a → WritesAfter e rows options entries b
-        → AgreeAfter e a b }
+    ensures one { (rows : List Row) (options : Options) (file text a b : List ℕ) (s t : Counts)
+        → IsReport rows options file text a s → IsReport rows options file text b t → (a ≡ b) × (s ≡ t) }
+    ensures begins { (rows : List Row) (options : Options) (file text a b : List ℕ) (e : CheckError) (s : Counts)
+        → BeginsReport rows options file text a e → IsReport rows options file text b s
+        → (more : List ℕ) × (b ≡ a ++ more) }
 {}

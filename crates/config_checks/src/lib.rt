@@ -1,8 +1,7 @@
-//! What is wrong in the settings that Git would read.
+//! What is wrong in configuration files.
 #![tactic(auto)]
 
 pub mod check;
-mod entry;
 pub mod finding;
 pub mod git;
 pub mod key;
@@ -11,4 +10,5 @@ pub mod laws;
 pub mod options;
 pub mod reason;
 pub mod row;
+pub mod suggestion;
 pub mod table;

@@ -81,7 +81,9 @@ typedef GCV_ENUM(gcv_status) {
     GCV_NOT_UTF8 = 11,      /* a directory or the passwd text is no UTF-8 */
     GCV_BAD_LENGTHS = 12,   /* the lengths are not those of names and texts that fill the bytes */
     GCV_SHORT_BUFFER = 13,  /* the buffer is shorter than the text */
-    GCV_NO_MEMORY = 14      /* memory was refused, or a path stands for more than there can be */
+    GCV_NO_MEMORY = 14,     /* memory was refused, or a path stands for more than there can be */
+    GCV_BAD_LINE = 15,      /* a line of a file is invalid */
+    GCV_NUL = 16            /* a file has a NUL outside a comment */
 } gcv_status;
 
 /* The kinds of values. */
@@ -197,6 +199,21 @@ typedef struct gcv_entry {
     size_t length;
 } gcv_entry;
 
+/* Where a setting of a file is among the bytes of all its settings, in which NUL ends each text. */
+typedef struct gcv_place {
+    size_t key;         /* where its key begins */
+    size_t value;       /* where its value begins, after the key's NUL */
+    size_t line;        /* the line of its entry, from 1 */
+    uint32_t has_value; /* 1 if it has a value, and 0 if its key stands alone */
+} gcv_place;
+
+/* What the settings of a file take, or the line on which it is refused. */
+typedef struct gcv_file {
+    size_t size;  /* how many bytes the keys and the values take */
+    size_t count; /* how many settings there are */
+    size_t line;  /* the line of a refusal, from 1, and otherwise 0 */
+} gcv_file;
+
 /* The library has these structs with this layout, and a compiler with another one is refused. */
 #if defined(__cplusplus) && __cplusplus >= 201103L
 #define GCV_ASSERT(fact) static_assert(fact, #fact)
@@ -223,7 +240,34 @@ GCV_ASSERT(offsetof(gcv_entry, index) == 0);
 GCV_ASSERT(offsetof(gcv_entry, start) == 8);
 GCV_ASSERT(offsetof(gcv_entry, length) == 16);
 GCV_ASSERT(sizeof(gcv_entry) == 24);
+GCV_ASSERT(offsetof(gcv_place, key) == 0);
+GCV_ASSERT(offsetof(gcv_place, value) == 8);
+GCV_ASSERT(offsetof(gcv_place, line) == 16);
+GCV_ASSERT(offsetof(gcv_place, has_value) == 24);
+GCV_ASSERT(sizeof(gcv_place) == 32);
+GCV_ASSERT(offsetof(gcv_file, size) == 0);
+GCV_ASSERT(offsetof(gcv_file, count) == 8);
+GCV_ASSERT(offsetof(gcv_file, line) == 16);
+GCV_ASSERT(sizeof(gcv_file) == 24);
 #undef GCV_ASSERT
+
+/* The settings of files in order, in two arrays of the caller. With `size` and `count` 0 there are no settings yet. */
+typedef struct gcv_settings {
+    char *bytes;
+    size_t capacity; /* of `bytes` */
+    size_t size;     /* how many bytes are in use */
+    gcv_place *places;
+    size_t room;  /* how many places the array has */
+    size_t count; /* how many of them are in use */
+} gcv_settings;
+
+/* A setting. Its key is as Git lists it: the section and the last part in lower case, the subsection as it is. NUL ends
+ * both texts; a key without `=` has a null value, and not an empty one. They stay as long as the caller's bytes. */
+typedef struct gcv_setting {
+    const char *key;
+    const char *value;
+    size_t line; /* the line of its entry, from 1 */
+} gcv_setting;
 
 /* What a path may refer to. What is null is not there, whatever its length; all 0 refers to nothing. */
 typedef struct gcv_context {
@@ -301,6 +345,8 @@ gcv_status gcv_raw_same(gcv_kind kind, const char *first, size_t first_length, c
 gcv_status gcv_raw_compose(const gcv_color *first, const gcv_color *second, gcv_color *out);
 gcv_status gcv_raw_lookup(gcv_kind kind, const char *bytes, size_t bytes_length, const size_t *lengths,
                           size_t lengths_count, const char *name, size_t name_length, gcv_entry *out);
+gcv_status gcv_raw_read_file(const char *text, size_t length, char *bytes, size_t capacity, gcv_place *places,
+                             size_t room, gcv_file *out);
 void gcv_raw_cut_mark(const char *text, size_t length, uint32_t *optional, size_t *start);
 gcv_status gcv_raw_interpolate(const char *text, size_t length, uint32_t has_install_dir, const char *install_dir,
                                size_t install_dir_length, uint32_t has_home, const char *home, size_t home_length,
@@ -506,6 +552,69 @@ GCV_RETURNS((8)) gcv_lookup(gcv_kind kind, const char *bytes, size_t bytes_lengt
     size_t none[1] = {0};
     return gcv_raw_lookup(kind, gcv_bytes(bytes, bytes_length), bytes_length, lengths_count == 0 ? none : lengths,
                           lengths_count, gcv_bytes(name, name_length), name_length, out);
+}
+
+/* Files. */
+
+/* Appends the settings of a configuration file with this text, which decide over those before, and puts into `*out` how
+ * many bytes and places they take.
+ *
+ * GCV_SHORT_BUFFER if one of the arrays has less left than `*out` says. GCV_BAD_LINE or GCV_NUL if Git reads no file
+ * with this text: then `*out` has the line, and 0 for the rest. Unless the call returns GCV_OK, the settings are as they
+ * were. It takes memory from malloc and gives it back; GCV_NO_MEMORY if it is refused, and then `*out` is as it was. */
+GCV_RETURNS((1, 4)) gcv_add_file(gcv_settings *GCV_RESTRICT settings, const char *text, size_t length,
+                                 gcv_file *GCV_RESTRICT out)
+{
+    char no_bytes[1] = {0};
+    gcv_place no_places[1] = {{0, 0, 0, 0}};
+    size_t capacity = settings->capacity - settings->size;
+    size_t room = settings->room - settings->count;
+    gcv_status status = gcv_raw_read_file(gcv_bytes(text, length), length,
+                                          capacity == 0 ? no_bytes : settings->bytes + settings->size, capacity,
+                                          room == 0 ? no_places : settings->places + settings->count, room, out);
+    if (status == GCV_OK) {
+        size_t end = settings->count + out->count;
+        for (; settings->count < end; settings->count++) {
+            settings->places[settings->count].key += settings->size;
+            settings->places[settings->count].value += settings->size;
+        }
+        settings->size += out->size;
+    }
+    return status;
+}
+
+/* Puts the setting of this index, from 0, and adds 1 to the index. GCV_ABSENT after the last setting. */
+GCV_RETURNS((1, 2, 3)) gcv_next_setting(const gcv_settings *settings, size_t *GCV_RESTRICT index,
+                                        gcv_setting *GCV_RESTRICT out)
+{
+    const gcv_place *place;
+    if (*index >= settings->count) {
+        return GCV_ABSENT;
+    }
+    place = &settings->places[(*index)++];
+    out->key = settings->bytes + place->key;
+    out->value = place->has_value == 1 ? settings->bytes + place->value : NULL;
+    out->line = place->line;
+    return GCV_OK;
+}
+
+/* Puts the last setting of exactly this key, which ends with NUL: that setting decides. gcv_parse_bool and its like read
+ * its value. GCV_ABSENT if no setting has the key. */
+GCV_RETURNS((1, 2, 3)) gcv_lookup_setting(const gcv_settings *settings, const char *key,
+                                          gcv_setting *GCV_RESTRICT out)
+{
+    size_t index = settings->count;
+    while (index > 0) {
+        const char *listed = settings->bytes + settings->places[--index].key;
+        size_t same = 0;
+        while (listed[same] != '\0' && listed[same] == key[same]) {
+            same++;
+        }
+        if (listed[same] == key[same]) {
+            return gcv_next_setting(settings, &index, out);
+        }
+    }
+    return GCV_ABSENT;
 }
 
 /* Paths. */

@@ -7,4 +7,5 @@ pub mod OneComposition
 pub mod OneEntry
 pub mod OnePath
 pub mod OneText
+pub mod Rows
 pub mod StructsApart

@@ -32,7 +32,8 @@ abbrev all_statuses : List Status
 all_statuses =
     statuses.Ok ∷ statuses.Refused ∷ statuses.Overflow ∷ statuses.NoText ∷ statuses.TooManyNames ∷ statuses.Absent
     ∷ statuses.UnknownKind ∷ statuses.UnknownFault ∷ statuses.BadSuffix ∷ statuses.BadName ∷ statuses.BadFlag
-    ∷ statuses.NotUtf8 ∷ statuses.BadLengths ∷ statuses.ShortBuffer ∷ statuses.NoMemory ∷ []
+    ∷ statuses.NotUtf8 ∷ statuses.BadLengths ∷ statuses.ShortBuffer ∷ statuses.NoMemory
+    ∷ statuses.BadLine ∷ statuses.Nul ∷ []
 
 pub statuses_apart : TellsApart status_number
 statuses_apart = told_apart status_number (λ n. slice_get all_statuses n) again where

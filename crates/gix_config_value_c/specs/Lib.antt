@@ -8,6 +8,7 @@ pub mod Texts
 pub mod Colors
 pub mod Json
 pub mod Settings
+pub mod Files
 pub mod Paths
 pub mod Answers
 pub mod Reading

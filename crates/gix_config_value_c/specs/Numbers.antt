@@ -31,6 +31,8 @@ status_number statuses.NotUtf8 = 11
 status_number statuses.BadLengths = 12
 status_number statuses.ShortBuffer = 13
 status_number statuses.NoMemory = 14
+status_number statuses.BadLine = 15
+status_number statuses.Nul = 16
 
 -- a kind
 abbrev pub kind_number : Kind → ℕ

@@ -8,6 +8,7 @@
 mod buffer;
 mod colors;
 mod faults;
+mod files;
 mod json;
 pub mod laws;
 mod numbers;

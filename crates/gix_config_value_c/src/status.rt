@@ -33,4 +33,8 @@ pub enum Status {
     ShortBuffer = 13,
     /// Memory was refused, or a path stands for more than there can be.
     NoMemory = 14,
+    /// A line of a file is invalid.
+    BadLine = 15,
+    /// A file has a NUL outside a comment.
+    Nul = 16,
 }

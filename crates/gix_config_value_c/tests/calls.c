@@ -1,7 +1,7 @@
-/* Each status of each call on bad input, with what is left alone; lookups, compositions and the texts of faults. */
+/* Each status of each call on bad input, with what is left alone; lookups, compositions, files and the texts of faults. */
 #include "guarded.h"
 
-static area buffer_area;
+static area buffer_area, text_area;
 
 /* A number, and the text that it stands for. */
 typedef struct word {
@@ -383,12 +383,12 @@ static void parsed(void)
 /* Each status has a text of its own, and other numbers have one together. */
 static void status_texts(void)
 {
-    const char *unknown = gcv_status_text((gcv_status)(GCV_NO_MEMORY + 1));
+    const char *unknown = gcv_status_text((gcv_status)(GCV_NUL + 1));
     count(strcmp(unknown, "unknown status") == 0 && gcv_status_text((gcv_status)UINT32_MAX) == unknown, unknown);
-    for (uint32_t status = GCV_OK; status <= GCV_NO_MEMORY; status++) {
+    for (uint32_t status = GCV_OK; status <= GCV_NUL; status++) {
         const char *text = gcv_status_text((gcv_status)status);
         int differs = strlen(text) > 0;
-        for (uint32_t other = status + 1; other <= GCV_NO_MEMORY + 1; other++) {
+        for (uint32_t other = status + 1; other <= GCV_NUL + 1; other++) {
             differs = differs && strcmp(text, gcv_status_text((gcv_status)other)) != 0;
         }
         count(differs, text);
@@ -462,9 +462,105 @@ static void words(void)
     }
 }
 
+/* Two files, what Git lists for them, and the lines that it tells. */
+static const char user[] = "[Core]\n\tBare\n[remote \"Up.Stream\"]\n\turl = \"a;b\" \\\n c ; d\n\tEmpty =\n[core]\n\tlimit = 10m\n";
+static const char own[] = "[core] limit = 0x10k\n# \n[color \"a\\\"b\"]\n\tui = bold red\n\tbare = no\n[core]\n\tbare";
+static const gcv_setting listed[] = {{"core.bare", NULL, 2},
+                                     {"remote.Up.Stream.url", "a;b  c", 5},
+                                     {"remote.Up.Stream.empty", "", 6},
+                                     {"core.limit", "10m", 8},
+                                     {"core.limit", "0x10k", 1},
+                                     {"color.a\"b.ui", "bold red", 4},
+                                     {"color.a\"b.bare", "no", 5},
+                                     {"core.bare", NULL, 7}};
+
+/* Adds a file whose text ends at the page: this status, this many bytes and settings, and this line. */
+static int adds(gcv_settings *settings, const char *text, size_t length, gcv_status status, size_t size, size_t count_of, size_t line)
+{
+    gcv_settings before = *settings;
+    gcv_file file = {UNTOUCHED, UNTOUCHED, UNTOUCHED};
+    size_t added = status == GCV_OK;
+    HOLDS(gcv_add_file(settings, lent(text_area, text, length), length, &file) == status);
+    HOLDS(file.size == size && file.count == count_of && file.line == line);
+    HOLDS(settings->size == before.size + added * size && settings->count == before.count + added * count_of);
+    return is_untouched(buffer_area, settings->capacity, settings->size);
+}
+
+/* Both files, in arrays with just the room that they take. */
+static int adds_both(gcv_settings *settings)
+{
+    size_t sizes[2] = {0, 0}, index = 0;
+    gcv_setting setting;
+    for (size_t at = 0; at < 8; at++) {
+        sizes[at / 4] += strlen(listed[at].key) + 1 + (listed[at].value ? strlen(listed[at].value) + 1 : 0);
+    }
+    for (settings->capacity = 0; settings->capacity < sizes[0]; settings->capacity++) {
+        settings->bytes = settings->capacity == 0 ? NULL : (char *)buffer_area.end - settings->capacity;
+        HOLDS(adds(settings, user, sizeof user - 1, GCV_SHORT_BUFFER, sizes[0], 4, 0));
+    }
+    settings->capacity = sizes[0] + sizes[1];
+    settings->bytes = (char *)buffer_area.end - settings->capacity;
+    for (settings->room = 0; settings->room < 4; settings->room++) {
+        HOLDS(adds(settings, user, sizeof user - 1, GCV_SHORT_BUFFER, sizes[0], 4, 0));
+    }
+    HOLDS(adds(settings, user, sizeof user - 1, GCV_OK, sizes[0], 4, 0));
+    HOLDS(adds(settings, own, sizeof own - 1, GCV_SHORT_BUFFER, sizes[1], 4, 0));
+    settings->room = 8;
+    HOLDS(adds(settings, own, sizeof own - 1, GCV_OK, sizes[1], 4, 0));
+    while (gcv_next_setting(settings, &index, &setting) == GCV_OK) {
+        const gcv_setting *wanted = &listed[index - 1];
+        HOLDS(strcmp(setting.key, wanted->key) == 0 && setting.line == wanted->line);
+        HOLDS(wanted->value ? setting.value && strcmp(setting.value, wanted->value) == 0 : !setting.value);
+    }
+    HOLDS(index == 8);
+    return 1;
+}
+
+static void files(void)
+{
+    static const struct {
+        const char *text;
+        size_t length;
+        gcv_status status;
+        size_t line;
+    } rows[] = {{NULL, 0, GCV_OK, 0},
+                {"[core]\n\tbare = \"no\n", 19, GCV_BAD_LINE, 2},
+                {"[core]\n\n1 = 2\n", 14, GCV_BAD_LINE, 3},
+                {"[a]\nb = c\\x\n", 12, GCV_BAD_LINE, 2},
+                {"[a]\nb = c\0d\n", 12, GCV_NUL, 2}};
+    gcv_place places[8];
+    gcv_settings settings = {NULL, 0, 0, places, 0, 0};
+    gcv_setting setting = {NULL, NULL, UNTOUCHED};
+    gcv_color color;
+    int64_t limit = 0;
+    int is_bare = 0;
+    memset(buffer_area.end - buffer_area.size, PATTERN, buffer_area.size);
+    count(adds_both(&settings), "two files");
+    for (size_t at = 0; at < sizeof rows / sizeof rows[0]; at++) {
+        count(adds(&settings, rows[at].text, rows[at].length, rows[at].status, 0, 0, rows[at].line), "a file without settings");
+    }
+    static const char *const absent[] = {"core.bar", "core.bares", "Core.bare", ""};
+    for (size_t at = 0; at < 4; at++) {
+        count(gcv_lookup_setting(&settings, absent[at], &setting) == GCV_ABSENT && setting.line == UNTOUCHED, absent[at]);
+    }
+    count(gcv_lookup_setting(&settings, "core.limit", &setting) == GCV_OK && gcv_parse_int64(setting.value, &limit, NULL) == GCV_OK &&
+              limit == 16384 && setting.line == 1,
+          "the later file decides");
+    count(gcv_lookup_setting(&settings, "core.bare", &setting) == GCV_OK && gcv_parse_bool(setting.value, &is_bare, NULL) == GCV_OK &&
+              is_bare == 1 && gcv_parse_int64(setting.value, &limit, NULL) == GCV_REFUSED,
+          "a key alone is true, and no number");
+    count(gcv_lookup_setting(&settings, "remote.Up.Stream.empty", &setting) == GCV_OK &&
+              gcv_parse_bool(setting.value, &is_bare, NULL) == GCV_OK && is_bare == 0,
+          "an empty value is false");
+    count(gcv_lookup_setting(&settings, "color.a\"b.ui", &setting) == GCV_OK && gcv_parse_color(setting.value, &color, NULL) == GCV_OK &&
+              color.foreground.tag == GCV_RED && color.attributes == GCV_BOLD,
+          "a color of a subsection");
+}
+
 int main(void)
 {
     buffer_area = new_area(4096);
+    text_area = new_area(4096);
     bad_numbers();
     bad_names();
     shown_sets();
@@ -479,5 +575,6 @@ int main(void)
     escape_sequences();
     fields();
     words();
+    files();
     return finish();
 }

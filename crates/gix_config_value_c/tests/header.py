@@ -67,7 +67,7 @@ ZEROS = ("GCV_FAULT_NONE", "GCV_NO_SUFFIX", "GCV_NO_NAME")
 OTHER_NAMES = {"GCV_FAULT_ILL_FORMED_WHOLE": "GCV_FAULT_ILL_FORMED_PATH"}
 # the types of C for those of Rattle, and their sizes
 TYPES = {"i64": "int64_t", "u32": "uint32_t", "u8": "uint8_t", "usize": "size_t"}
-TYPES |= {f"Gcv{name.title()}": f"gcv_{name}" for name in ("integer", "name", "color", "entry")}
+TYPES |= {f"Gcv{name.title()}": f"gcv_{name}" for name in ("integer", "name", "color", "entry", "place", "file")}
 # the enums of C are numbers of 32 bits, and a text is of chars
 NUMBERED = re.compile(r"\bgcv_(status|kind|fault|suffix|tag)\b")
 SIZES = {"int64_t": (8, 8), "uint32_t": (4, 4), "uint8_t": (1, 1), "size_t": (8, 8)}

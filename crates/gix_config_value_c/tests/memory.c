@@ -104,6 +104,23 @@ static gcv_status normalize(const void *state, char *buffer, size_t capacity, si
     return gcv_normalize(GCV_INTEGER, "0x10k", 5, buffer, capacity, size);
 }
 
+/* A file of one key, which is the text. */
+static gcv_status add_file(const void *state, char *buffer, size_t capacity, size_t *size)
+{
+    char bytes[] = "?.?";
+    gcv_place places[1];
+    gcv_settings settings = {bytes, sizeof bytes, 0, places, 1, 0};
+    gcv_file file = {UNTOUCHED, UNTOUCHED, UNTOUCHED};
+    (void)state;
+    gcv_status status = gcv_add_file(&settings, "[a]\nb", 5, &file);
+    if (status != GCV_OK) {
+        return file.size == UNTOUCHED && settings.count == 0 && strcmp(bytes, "?.?") == 0 ? status : UNTOUCHED;
+    }
+    *size = file.size - 1;
+    memcpy(buffer, bytes, capacity);
+    return status;
+}
+
 /* How often the call asks for memory; with each request refused in turn it writes nothing, and gives back what it took.
  * */
 static int asks(writer call, const char *text, unsigned long wanted)
@@ -137,5 +154,6 @@ int main(void)
     count(asks(interpolate_with, "/home/u/file", 1), "interpolate_with");
     count(asks(read_and_show, "red bold", 0), "read_color and show_color");
     count(asks(normalize, "16k", 0), "normalize");
+    count(asks(add_file, "a.b", 4), "add_file");
     return finish();
 }

@@ -1,14 +1,15 @@
 -- How far a check has come.
-use Rattle.std.specs.Prelude.{◌≡◌, ◌≢◌, ℕ, ◌+◌, ◌^◌, ◌<◌, ◌≤◌, List, [], Option}
-use Rattle.std.specs.Io.KnownBytes.{Consumes, Appends}
+use Rattle.std.specs.Prelude.{◌≡◌, ⊤, ℕ, ◌+◌, ◌^◌, ◌<◌, ◌≤◌, List, ◌++◌, Option}
+use Rattle.std.specs.Io.KnownBytes.{Appends}
+use Rattle.config_file.specs.declared.errors.Error as errors
+use Rattle.config_file.specs.declared.settings.Setting.{Setting}
 use Rattle.config_checks.specs.declared.options.Options.{Options}
 use Rattle.config_checks.specs.declared.row.Row.{Row}
 use Rattle.config_checks.specs.declared.check.Counts.{Counts}
 use Rattle.config_checks.specs.declared.check.CheckError.{CheckError}
-use Rattle.config_checks.specs.declared.check.CheckError.TheVariants.{Read, Write, Memory}
-use Rattle.config_checks.specs.Entries.{Entry, IsCut, IsSetting}
+use Rattle.config_checks.specs.declared.check.CheckError.TheVariants.{Write, Memory}
 use Rattle.config_checks.specs.Findings.{AppendsPart}
-use Rattle.config_checks.specs.Report.{ReportsEntry, Report}
+use Rattle.config_checks.specs.Report.{ReportsSetting, Report, EndsReport, MayLack}
 
 -- each count fits, and leaves room for one more
 pub record HasRoom (s : Counts) : Type 0 where
@@ -16,47 +17,52 @@ pub record HasRoom (s : Counts) : Type 0 where
   pub unknown : s.unknown ≤ s.entries
   pub findings : s.findings ≤ s.entries
 
--- an entry was counted, and its line written
-pub record Reports (rows : List Row) (options : Options) (entry : Entry) (s s' : Counts)
-    (contents contents' : Option (List ℕ)) : Type 0 where
-  pub key : List ℕ
-  pub value : Option (List ℕ)
-  pub line : List ℕ
-  pub setting : IsSetting entry.setting key value
-  pub adds : ReportsEntry rows options entry key value s line s'
-  pub appended : Appends contents contents' line
+-- a setting was counted, and its line written
+abbrev pub Reports : List Row → Options → Setting → Counts → Counts → Option (List ℕ) → Option (List ℕ) → Type 0
+Reports rows options setting s s' contents contents' =
+    (line : List ℕ) × ReportsSetting rows options setting s line s' × Appends contents contents' line
 
--- how much of a line is written at an error: nothing of one where there was no memory for it
-abbrev pub MayWrite : CheckError → (line written : List ℕ) → Type 0
-MayWrite (Read e) line written = ⊥
-MayWrite (Write e) line written = Unit {0}
-MayWrite (Memory e) line written = (written ≡ []) × (line ≢ [])
+-- at an error a beginning of a line is written, and nothing of it if memory ran out
+abbrev pub WritesPart : Option (List ℕ) → Option (List ℕ) → (List ℕ → Type 0) → CheckError → Type 0
+WritesPart contents contents' IsLine (Write e) = (line : List ℕ) × IsLine line × AppendsPart contents contents' line
+WritesPart contents contents' IsLine (Memory e) = contents' ≡ contents
 
--- an entry was counted, and a beginning of its line written
-pub record ReportsPart (rows : List Row) (options : Options) (entry : Entry) (s : Counts)
+abbrev pub ReportsPart : List Row → Options → Setting → Counts → Option (List ℕ) → Option (List ℕ) → CheckError → Type 0
+ReportsPart rows options setting s contents contents' e =
+    WritesPart contents contents' (λ line. (s' : Counts) × ReportsSetting rows options setting s line s') e
+
+-- the line of a refused file was written, if the file is refused
+abbrev pub Tells : Options → List ℕ → Option errors.Error → Counts → Counts → Option (List ℕ) → Option (List ℕ) → Type 0
+Tells options file error s s' contents contents' =
+    (line : List ℕ) × EndsReport options file error s line s' × Appends contents contents' line
+
+abbrev pub TellsPart : Options → List ℕ → Option errors.Error → Counts → Option (List ℕ) → Option (List ℕ) → CheckError → Type 0
+TellsPart options file error s contents contents' e =
+    WritesPart contents contents' (λ line. (s' : Counts) × EndsReport options file error s line s') e
+
+-- the lines of settings were written
+abbrev pub ReportsAll : List Row → Options → List Setting → Option (List ℕ) → Option (List ℕ) → Counts → Type 0
+ReportsAll rows options settings contents contents' s =
+    (lines : List ℕ) × Appends contents contents' lines × Report rows options settings lines s
+
+-- what was written begins the lines of the first settings
+pub record ReportsFirst (rows : List Row) (options : Options) (settings : List Setting)
     (contents contents' : Option (List ℕ)) (e : CheckError) : Type 0 where
-  pub key : List ℕ
-  pub value : Option (List ℕ)
-  pub line : List ℕ
-  pub after : Counts
-  pub setting : IsSetting entry.setting key value
-  pub adds : ReportsEntry rows options entry key value s line after
-  pub part : AppendsPart contents contents' line
-  pub allowed : MayWrite e line part.written
-
--- a fault of writing
-abbrev pub IsWrite : CheckError → Type 0
-IsWrite (Read e) = ⊥
-IsWrite (Write e) = Unit {0}
-IsWrite (Memory e) = ⊥
-
--- the entries that were read so far, and their lines, which were written
-pub record IsCheckedTo (rows : List Row) (options : Options) (unread left contents contents' : Option (List ℕ))
-    (s : Counts) : Type 0 where
-  pub input : List ℕ
   pub output : List ℕ
-  pub entries : List Entry
-  pub consumed : Consumes unread left input
-  pub cut : IsCut options input entries []
   pub appended : Appends contents contents' output
-  pub report : Report rows options entries output s
+  pub first : List Setting
+  pub others : List Setting
+  pub cut : settings ≡ first ++ others
+  pub missing : List ℕ
+  pub s : Counts
+  pub report : Report rows options first (output ++ missing) s
+  pub lacks : MayLack e missing
+
+-- which error it is
+abbrev pub IsMemory : CheckError → Type 0
+IsMemory (Write e) = ⊥
+IsMemory (Memory e) = ⊤
+
+abbrev pub IsWrite : CheckError → Type 0
+IsWrite (Write e) = ⊤
+IsWrite (Memory e) = ⊥

@@ -1,6 +1,6 @@
 use Rattle.std.proofs.Common.{Some, ◌∙◌}
 use Rattle.config_checks.specs.Findings.{AppendsPart, hex}
-use Rattle.config_checks.proofs.EntryLemmas.{on_err}
+use Rattle.config_checks.proofs.WriteLemmas.{on_err}
 use Rattle.config_checks.proofs.WriteLemmas.{part_of_list}
 use Rattle.config_checks.proofs.finding.push_hex.Goals as goal
 

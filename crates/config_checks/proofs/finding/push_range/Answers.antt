@@ -1,7 +1,7 @@
 use Rattle.std.proofs.Common.{Some, refl, codes, ◌++◌}
 use Rattle.std.specs.Fmt.{signed_decimal}
 use Rattle.config_checks.specs.Findings.{AppendsPart}
-use Rattle.config_checks.proofs.EntryLemmas.{on_err}
+use Rattle.config_checks.proofs.WriteLemmas.{on_err}
 use Rattle.config_checks.proofs.CheckLemmas.{err_mapped}
 use Rattle.config_checks.proofs.WriteLemmas.{part_before, part_after}
 use Rattle.config_checks.proofs.finding.push_range.Goals as goal

@@ -1,6 +1,6 @@
 use Rattle.std.proofs.Common.{Some}
 use Rattle.config_checks.specs.Findings.{AppendsPart}
-use Rattle.config_checks.proofs.EntryLemmas.{on_err}
+use Rattle.config_checks.proofs.WriteLemmas.{on_err}
 use Rattle.config_checks.proofs.WriteLemmas.{nothing_written, written_more, part_more, written_all}
 use Rattle.config_checks.proofs.ShownLemmas.{none_shown}
 use Rattle.config_checks.proofs.finding.push_shown.Goals as goal

@@ -1,6 +1,6 @@
 use Rattle.std.proofs.Common.{Some, codes, ◌++◌, ◌-◌, ◌∙◌, sym, subst, take, drop, length}
 use Rattle.config_checks.specs.Findings.{AppendsPart, shown}
-use Rattle.config_checks.proofs.EntryLemmas.{on_err}
+use Rattle.config_checks.proofs.WriteLemmas.{on_err}
 use Rattle.config_checks.proofs.WriteLemmas.{part_after, part_of_list, part_in_list}
 use Rattle.config_checks.proofs.ShownLemmas.{words_cut}
 use Rattle.config_checks.proofs.finding.push_words.Goals as goal

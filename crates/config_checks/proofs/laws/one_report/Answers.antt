@@ -1,5 +1,5 @@
-use Rattle.config_checks.proofs.OneReport.{input_report, agree_after}
+use Rattle.config_checks.proofs.OneReport.{report_once, report_begins}
 use Rattle.config_checks.proofs.laws.one_report.Goals as goal
 
 pub returns : goal.returns
-returns c = record { one = input_report; failed = λ rows options entries a b e. agree_after rows options e entries a b }
+returns c = record { one = λ rows options. report_once options rows; begins = λ rows options. report_begins options rows }

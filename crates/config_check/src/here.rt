@@ -1,0 +1,293 @@
+//! The files that Git reads where the program runs, and those that they include.
+
+use config_file::include::Condition;
+use config_file::path::{Directories, expand, included_name};
+use config_file::reader::Entries;
+use config_file::settings::Settings;
+use config_file::walk::MAX_DEPTH;
+use gix_config_value::Boolean;
+use gix_config_value::canonical::TryRead;
+use std::alloc::{AllocError, Global};
+use std::env::{self, VarError};
+use std::fs;
+use std::io::{self, ErrorKind};
+use std::path::Path;
+
+/// A file, and how many includes lead to it.
+#[derive(Drop)]
+pub struct File {
+    pub name: String,
+    pub depth: usize,
+}
+
+/// The value of an environment variable.
+fn variable(rt: &HostRuntime, name: &str) -> io::Result<Option<String>> {
+    match env::var(rt, name) {
+        Ok(value) => Ok(Some(value)),
+        Err(VarError::NotPresent) => Ok(None),
+        Err(VarError::NotUnicode) => Err(io::Error::from(ErrorKind::InvalidData)),
+        Err(VarError::OutOfMemory) => Err(io::Error::from(AllocError)),
+    }
+}
+
+/// Whether an environment variable is set to true.
+fn is_on(rt: &HostRuntime, name: &str) -> io::Result<bool> {
+    let Some(value) = variable(rt, name)? else {
+        return Ok(false);
+    };
+    match Boolean::try_read(value.as_bytes()) {
+        Ok(boolean) => Ok(boolean.0),
+        Err(_) => Ok(false),
+    }
+}
+
+/// A name in a folder: one that begins with `/` stays as it is, and the empty folder is the current one.
+fn inside(alloc: Global, folder: &str, name: &str) -> io::Result<String> {
+    Ok(if folder.is_empty() || name.starts_with('/') {
+        format!(in alloc; "{name}")?
+    } else if folder.ends_with('/') {
+        format!(in alloc; "{folder}{name}")?
+    } else {
+        format!(in alloc; "{folder}/{name}")?
+    })
+}
+
+/// The system's file, if it is read.
+fn system_file(rt: &HostRuntime) -> io::Result<Option<String>> {
+    if is_on(rt, "GIT_CONFIG_NOSYSTEM")? {
+        return Ok(None);
+    }
+    match variable(rt, "GIT_CONFIG_SYSTEM")? {
+        Some(file) => Ok(Some(file)),
+        None => Ok(Some(format!(in rt.alloc(); "/etc/gitconfig")?)),
+    }
+}
+
+/// The file in the user's folder of configuration.
+fn xdg_file(rt: &HostRuntime) -> io::Result<Option<String>> {
+    if let Some(folder) = variable(rt, "XDG_CONFIG_HOME")? {
+        if !folder.is_empty() {
+            return Ok(Some(inside(rt.alloc(), &folder, "git/config")?));
+        }
+    }
+    match variable(rt, "HOME")? {
+        Some(home) => Ok(Some(format!(in rt.alloc(); "{home}/.config/git/config")?)),
+        None => Ok(None),
+    }
+}
+
+/// Adds a file that exists.
+fn add(
+    rt: &HostRuntime,
+    files: &mut Vec<File>,
+    name: Option<String>,
+    depth: usize,
+) -> io::Result<()> {
+    let Some(name) = name else {
+        return Ok(());
+    };
+    if Path::new(&name).exists(rt) {
+        files.push(File { name, depth })?;
+    }
+    Ok(())
+}
+
+/// Adds the files of the user.
+fn add_global(rt: &HostRuntime, files: &mut Vec<File>) -> io::Result<()> {
+    if let Some(file) = variable(rt, "GIT_CONFIG_GLOBAL")? {
+        return add(rt, files, Some(file), 0);
+    }
+    add(rt, files, xdg_file(rt)?, 0)?;
+    match variable(rt, "HOME")? {
+        Some(home) => add(
+            rt,
+            files,
+            Some(format!(in rt.alloc(); "{home}/.gitconfig")?),
+            0,
+        ),
+        None => Ok(()),
+    }
+}
+
+/// The text of a file of one line, without the ends of its lines.
+fn line_of(rt: &HostRuntime, file: &str) -> io::Result<Option<String>> {
+    let text = match fs::read_to_string(rt, file) {
+        Ok(text) => text,
+        Err(_) => return Ok(None),
+    };
+    let line = text.trim_end_matches(&['\n', '\r']);
+    Ok(Some(format!(in rt.alloc(); "{line}")?))
+}
+
+/// The folder that the worktrees of a git directory share.
+fn common_folder(rt: &HostRuntime, git_dir: &str) -> io::Result<String> {
+    if let Some(folder) = variable(rt, "GIT_COMMON_DIR")? {
+        return Ok(folder);
+    }
+    let file = inside(rt.alloc(), git_dir, "commondir")?;
+    match line_of(rt, &file)? {
+        Some(folder) => inside(rt.alloc(), git_dir, &folder),
+        None => Ok(format!(in rt.alloc(); "{git_dir}")?),
+    }
+}
+
+/// Whether this is a git directory: it has HEAD, and objects and refs, which worktrees share.
+fn is_git_dir(rt: &HostRuntime, folder: &str) -> io::Result<bool> {
+    let alloc = rt.alloc();
+    let common = common_folder(rt, folder)?;
+    Ok(
+        Path::new(&inside(alloc, folder, "HEAD")?).exists(rt)
+            && Path::new(&inside(alloc, &common, "objects")?).is_dir(rt)
+            && Path::new(&inside(alloc, &common, "refs")?).is_dir(rt),
+    )
+}
+
+/// The git directory that a path names: itself, or that of its line `gitdir: ..`.
+fn linked(rt: &HostRuntime, folder: &str, path: String) -> io::Result<String> {
+    if !Path::new(&path).is_file(rt) {
+        return Ok(path);
+    }
+    let Some(line) = line_of(rt, &path)? else {
+        return Ok(path);
+    };
+    match line.as_str().strip_prefix("gitdir: ") {
+        Some(git_dir) => inside(rt.alloc(), folder, git_dir),
+        None => Ok(path),
+    }
+}
+
+/// The git directory of a folder, if it has one or is one.
+fn git_dir_in(rt: &HostRuntime, folder: &str) -> io::Result<Option<String>> {
+    let alloc = rt.alloc();
+    let git_dir = linked(rt, folder, inside(alloc, folder, ".git")?)?;
+    if is_git_dir(rt, &git_dir)? {
+        return Ok(Some(git_dir));
+    }
+    if is_git_dir(rt, folder)? {
+        return Ok(Some(format!(in alloc; "{folder}")?));
+    }
+    Ok(None)
+}
+
+/// The git directory: GIT_DIR, or the first from the current folder upwards.
+fn find_git_dir(rt: &HostRuntime) -> io::Result<Option<String>> {
+    if let Some(git_dir) = variable(rt, "GIT_DIR")? {
+        return Ok(Some(linked(rt, "", git_dir)?));
+    }
+    if let Some(git_dir) = git_dir_in(rt, "")? {
+        return Ok(Some(git_dir));
+    }
+    let mut folder = env::current_dir(rt)?;
+    while folder.pop() {
+        if let Some(git_dir) = git_dir_in(rt, folder.as_path().as_str())? {
+            return Ok(Some(git_dir));
+        }
+    }
+    Ok(None)
+}
+
+/// Whether a repository's file says that each worktree has a file of its own.
+fn has_worktree_files(rt: &HostRuntime, file: &str) -> io::Result<bool> {
+    let alloc = rt.alloc();
+    let text = match fs::read(rt, file) {
+        Ok(text) => text,
+        Err(_) => return Ok(false),
+    };
+    let mut settings = Settings::new(alloc);
+    let _ = settings.add_file(alloc, file, &text);
+    match settings.get::<Boolean>(b"extensions", None, b"worktreeConfig") {
+        Ok(Some(boolean)) => Ok(boolean.0),
+        _ => Ok(false),
+    }
+}
+
+/// Adds the files of the repository.
+fn add_repository(rt: &HostRuntime, files: &mut Vec<File>) -> io::Result<()> {
+    let Some(git_dir) = find_git_dir(rt)? else {
+        return Ok(());
+    };
+    let alloc = rt.alloc();
+    let file = inside(alloc, &common_folder(rt, &git_dir)?, "config")?;
+    let has_more = has_worktree_files(rt, &file)?;
+    add(rt, files, Some(file), 0)?;
+    if has_more {
+        add(
+            rt,
+            files,
+            Some(inside(alloc, &git_dir, "config.worktree")?),
+            0,
+        )?;
+    }
+    Ok(())
+}
+
+/// The files that Git reads here, in its order.
+pub fn files(rt: &HostRuntime) -> io::Result<Vec<File>> {
+    let mut files = Vec::new(rt.alloc());
+    add(rt, &mut files, system_file(rt)?, 0)?;
+    add_global(rt, &mut files)?;
+    add_repository(rt, &mut files)?;
+    Ok(files)
+}
+
+/// The name of the file that a value includes, or `None` if its folder is not known or it is not UTF-8.
+fn name_of(
+    alloc: Global,
+    home: Option<&str>,
+    file: &str,
+    value: &[u8],
+) -> io::Result<Option<String>> {
+    let home = match home {
+        Some(home) => Some(home.as_bytes()),
+        None => None,
+    };
+    let Some(parts) = expand(
+        value,
+        Directories {
+            home,
+            install_dir: None,
+        },
+    ) else {
+        return Ok(None);
+    };
+    let mut path = parts.directory.to_vec(alloc)?;
+    path.extend_from_slice(parts.rest)?;
+    match String::from_utf8(included_name(alloc, file.as_bytes(), &path)?) {
+        Ok(name) => Ok(Some(name)),
+        Err(_) => Ok(None),
+    }
+}
+
+/// Adds the files that a file with this text includes, whatever their conditions, each once. It goes as deep
+/// as Git.
+pub fn add_included(
+    rt: &HostRuntime,
+    files: &mut Vec<File>,
+    index: usize,
+    text: &[u8],
+) -> io::Result<()> {
+    let alloc = rt.alloc();
+    let depth = files[index].depth + 1;
+    if depth > MAX_DEPTH {
+        return Ok(());
+    }
+    let home = variable(rt, "HOME")?;
+    for entry in Entries::new(text) {
+        let Ok(entry) = entry else {
+            return Ok(());
+        };
+        let key = entry.key_text(alloc)?;
+        let (Some(_), Some(value)) = (Condition::of_key(&key), &entry.value) else {
+            continue;
+        };
+        let value = value.to_vec(alloc)?;
+        let name = name_of(alloc, home.as_deref(), &files[index].name, &value)?;
+        let Some(name) = name else {
+            continue;
+        };
+        if !files.iter().any(|file| file.name == name) {
+            add(rt, files, Some(name), depth)?;
+        }
+    }
+    Ok(())
+}

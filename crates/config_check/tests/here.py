@@ -1,0 +1,99 @@
+"""The files that are read without an argument, compared with those that `git config --list --show-origin` names."""
+import os
+import pathlib
+import shutil
+import subprocess
+import tempfile
+
+from checking import Ended, run
+
+WRONG = "[gc]\n\tauto = wrong\n"
+PATH = "[include]\n\tpath = %s\n"
+# the variables, and the folder in which both run
+CASES = [
+    ({}, "plain"), ({}, "work"), ({}, "work/deep/er"), ({}, "work/.git"), ({}, "linked"), ({}, "linked/deep"),
+    ({}, "bare.git"), ({}, "bare.git/refs"), ({}, "tree"), ({}, "module"),
+    ({"GIT_CONFIG_NOSYSTEM": "yes"}, "work"), ({"GIT_CONFIG_NOSYSTEM": "0"}, "work"),
+    ({"GIT_CONFIG_SYSTEM": "{0}/missing"}, "work"), ({"GIT_CONFIG_GLOBAL": "{0}/more"}, "work"),
+    ({"GIT_CONFIG_GLOBAL": "{0}/missing"}, "work"), ({"GIT_CONFIG_GLOBAL": ""}, "plain"),
+    ({"XDG_CONFIG_HOME": "{0}/xdg"}, "plain"), ({"XDG_CONFIG_HOME": ""}, "plain"), ({"HOME": "{0}/other"}, "plain"),
+    ({"GIT_DIR": "{0}/bare.git"}, "work"), ({"GIT_DIR": "../work/.git"}, "plain"), ({"GIT_DIR": ".git"}, "module"),
+    ({"GIT_DIR": "{0}/tree/.git"}, "plain"), ({"GIT_DIR": "{0}/work/.git/worktrees/tree"}, "plain"),
+    ({"GIT_COMMON_DIR": "{0}/work/.git", "GIT_DIR": "{0}/work/.git/worktrees/tree"}, "plain"),
+]
+MADE = r"""
+git init -q work; git -C work commit -q --allow-empty -m x; mkdir -p work/deep/er plain other xdg/git home/.config/git
+git init -q --bare bare.git; mkdir -p linked/deep; git init -q --separate-git-dir=apart linked
+git -C work worktree add -q ../tree; git -C work config extensions.worktreeConfig true
+git -C tree config --worktree core.x tree; git -C work config --worktree core.x work
+git init -q module; mv module/.git held; echo "gitdir: ../held" > module/.git
+"""
+
+
+def files_of(folder, output):
+    """The files that these lines name, each once, in order, by their real paths."""
+    return list(dict.fromkeys(os.path.realpath(folder / name) for name in output))
+
+
+def by_git(git, folder, known):
+    """Git names a file by its place from the top of the worktree, if there is one."""
+    top = subprocess.run([git, "rev-parse", "--show-toplevel"], cwd=folder, env=known, check=False,
+                         stdout=subprocess.PIPE, stderr=subprocess.DEVNULL).stdout.decode().rstrip("\n")
+    said = subprocess.run([git, "config", "--list", "--show-origin", "--null"], cwd=folder, env=known, check=False,
+                          stdout=subprocess.PIPE, stderr=subprocess.PIPE)
+    origins = said.stdout.decode().split("\0")[:-1:2]
+    return files_of(folder / top, [origin.removeprefix("file:") for origin in origins if origin.startswith("file:")])
+
+
+def by_program(program, folder, known):
+    """Each of the files has a value that is wrong."""
+    came = run([program.path], cwd=folder, env=known)
+    return files_of(folder, [line.split(":")[0] for line in came.output.decode().splitlines()])
+
+
+def spoil(home):
+    """Puts a wrong value into each file of the folder that Git may read."""
+    for name in ("system", "more", "home/.gitconfig", "home/.config/git/config", "xdg/git/config", "other/.gitconfig",
+                 "work/.git/config", "work/.git/config.worktree", "bare.git/config", "apart/config", "held/config",
+                 "work/.git/worktrees/tree/config.worktree"):
+        with open(home / name, "a", encoding="utf-8") as file:
+            file.write(WRONG)
+
+
+def included(group, program, home, known):
+    """Included files, each once and whatever the condition; a cycle, one that is missing, no value, and the depth."""
+    folder = home / "includes"
+    folder.mkdir()
+    deep = [f"deep-{number}" for number in range(12)]
+    for name, next_name in zip(deep, deep[1:] + ["missing"]):
+        (folder / name).write_text(WRONG + PATH % next_name)
+    texts = {"first": "[include]\n\tpath = a\n\tpath = ~/b\n\tpath = missing\n\tpath = a\n\tpath\n"
+                      "[includeIf \"onbranch:none\"]\n\tpath = c\n" + PATH % "deep-0",
+             "a": WRONG + PATH % "first", "c": WRONG + PATH % "a", "../home/b": WRONG}
+    for name, text in texts.items():
+        (folder / name).write_text(text)
+    known = {**known, "GIT_CONFIG_NOSYSTEM": "1", "GIT_CONFIG_GLOBAL": str(folder / "first")}
+    wanted = [str(folder / name) for name in ("first", "a", "../home/b", "c", *deep[:10])]
+    group.expect("included files", list(map(os.path.realpath, wanted)), by_program(program, home / "plain", known))
+
+
+def check(group, program):
+    git = shutil.which("git")
+    if git is None:
+        group.skip("all", "no git is installed")
+        return
+    with tempfile.TemporaryDirectory() as name:
+        home = pathlib.Path(os.path.realpath(name))
+        plain = {"PATH": os.environ["PATH"], "LC_ALL": "C", "HOME": f"{home}/home",
+                 "GIT_CONFIG_SYSTEM": f"{home}/system",
+                 **{f"GIT_{who}_{what}": "x@x" for who in ("AUTHOR", "COMMITTER") for what in ("NAME", "EMAIL")}}
+        subprocess.run(["sh", "-ec", MADE], cwd=home, env=plain, check=True)
+        spoil(home)
+        for more, folder in CASES:
+            known = {**plain, **{key: value.format(home) for key, value in more.items()}}
+            wanted = by_git(git, home / folder, known)
+            group.expect((more, folder), wanted, by_program(program, home / folder, known))
+        included(group, program, home, plain)
+        known = {"PATH": plain["PATH"], "HOME": f"{home}/plain", "GIT_CONFIG_NOSYSTEM": "1"}
+        told = b"config_check: Git reads no file here: name one\n"
+        group.expect("no file", Ended(2, b"", told), run([program.path], cwd=home / "plain", env=known))

@@ -1,0 +1,41 @@
+use Rattle.std.proofs.Common.{◌∙◌, sym, subst, MatchOption, IsTrue, rules}
+use Rattle.config_checks.specs.Suggestions.{IsFar, IsNearest}
+use Rattle.config_checks.specs.Suggestions.IsPassed.{foreign}
+use Rattle.config_checks.proofs.SuggestionLemmas.{known_passes, unknown_by}
+use Rattle.config_checks.proofs.suggestion.unknown_key.Goals as goal
+
+pub returns-then-is_some : goal.returns-then-is_some
+returns-then-is_some c = known_passes _ _ c.row_for.result c.row_for.ensures (sym c.is_some.ensures ∙ c.if-is_some.true)
+
+pub returns-in-Some-2 : goal.returns-in-Some-2
+returns-in-Some-2 c = record {
+  key = c.in-Some.key;
+  is_key = c.in-Some.ensures;
+  unknown = unknown_by _ _ c.row_for.result c.row_for.ensures (sym c.is_some.ensures ∙ c.if-is_some.false);
+  suggests = (
+    c.in-Some-2.row.now,
+    subst (λ r. MatchOption r (IsFar c.args.rows.now c.in-Some.key) (λ row. IsNearest c.args.rows.now c.in-Some.key row.now))
+        c.in-Some-2.is c.in_ok-row.ensures,
+    c.filled_key.ensures,
+  );
+}
+
+pub returns-in-None : goal.returns-in-None
+returns-in-None c = record {
+  key = c.in-Some.key;
+  is_key = c.in-Some.ensures;
+  unknown = unknown_by _ _ c.row_for.result c.row_for.ensures (sym c.is_some.ensures ∙ c.if-is_some.false);
+  suggests = (
+    subst (λ r. MatchOption r (IsFar c.args.rows.now c.in-Some.key) (λ row. IsNearest c.args.rows.now c.in-Some.key row.now))
+        c.in-None.is c.in_ok-row.ensures,
+    c.is_own.ensures.0 c.if-is_own.true,
+  );
+}
+
+pub returns-in-None-2 : goal.returns-in-None-2
+returns-in-None-2 c =
+    let wrong : ¬ (IsTrue c.is_own.result) = search rules in
+    foreign c.in-Some.key c.in-Some.ensures
+    (subst (λ r. MatchOption r (IsFar c.args.rows.now c.in-Some.key) (λ row. IsNearest c.args.rows.now c.in-Some.key row.now))
+    c.in-None.is c.in_ok-row.ensures)
+    (λ own. wrong (c.is_own.ensures.1 own))
