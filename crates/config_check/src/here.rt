@@ -5,29 +5,18 @@ use config_file::path::{Directories, expand, included_name};
 use config_file::reader::Entries;
 use config_file::settings::Settings;
 use config_file::walk::MAX_DEPTH;
+use config_here::{common_folder, find_git_dir, inside, variable};
 use gix_config_value::Boolean;
 use gix_config_value::canonical::TryRead;
-use std::alloc::{AllocError, Global};
-use std::env::{self, VarError};
-use std::fs;
-use std::io::{self, ErrorKind};
+use std::alloc::Global;
 use std::path::Path;
+use std::{fs, io};
 
 /// A file, and how many includes lead to it.
 #[derive(Drop)]
 pub struct File {
     pub name: String,
     pub depth: usize,
-}
-
-/// The value of an environment variable.
-fn variable(rt: &HostRuntime, name: &str) -> io::Result<Option<String>> {
-    match env::var(rt, name) {
-        Ok(value) => Ok(Some(value)),
-        Err(VarError::NotPresent) => Ok(None),
-        Err(VarError::NotUnicode) => Err(io::Error::from(ErrorKind::InvalidData)),
-        Err(VarError::OutOfMemory) => Err(io::Error::from(AllocError)),
-    }
 }
 
 /// Whether an environment variable is set to true.
@@ -39,17 +28,6 @@ fn is_on(rt: &HostRuntime, name: &str) -> io::Result<bool> {
         Ok(boolean) => Ok(boolean.0),
         Err(_) => Ok(false),
     }
-}
-
-/// A name in a folder: one that begins with `/` stays as it is, and the empty folder is the current one.
-fn inside(alloc: Global, folder: &str, name: &str) -> io::Result<String> {
-    Ok(if folder.is_empty() || name.starts_with('/') {
-        format!(in alloc; "{name}")?
-    } else if folder.ends_with('/') {
-        format!(in alloc; "{folder}{name}")?
-    } else {
-        format!(in alloc; "{folder}/{name}")?
-    })
 }
 
 /// The system's file, if it is read.
@@ -107,83 +85,6 @@ fn add_global(rt: &HostRuntime, files: &mut Vec<File>) -> io::Result<()> {
         ),
         None => Ok(()),
     }
-}
-
-/// The text of a file of one line, without the ends of its lines.
-fn line_of(rt: &HostRuntime, file: &str) -> io::Result<Option<String>> {
-    let text = match fs::read_to_string(rt, file) {
-        Ok(text) => text,
-        Err(_) => return Ok(None),
-    };
-    let line = text.trim_end_matches(&['\n', '\r']);
-    Ok(Some(format!(in rt.alloc(); "{line}")?))
-}
-
-/// The folder that the worktrees of a git directory share.
-fn common_folder(rt: &HostRuntime, git_dir: &str) -> io::Result<String> {
-    if let Some(folder) = variable(rt, "GIT_COMMON_DIR")? {
-        return Ok(folder);
-    }
-    let file = inside(rt.alloc(), git_dir, "commondir")?;
-    match line_of(rt, &file)? {
-        Some(folder) => inside(rt.alloc(), git_dir, &folder),
-        None => Ok(format!(in rt.alloc(); "{git_dir}")?),
-    }
-}
-
-/// Whether this is a git directory: it has HEAD, and objects and refs, which worktrees share.
-fn is_git_dir(rt: &HostRuntime, folder: &str) -> io::Result<bool> {
-    let alloc = rt.alloc();
-    let common = common_folder(rt, folder)?;
-    Ok(
-        Path::new(&inside(alloc, folder, "HEAD")?).exists(rt)
-            && Path::new(&inside(alloc, &common, "objects")?).is_dir(rt)
-            && Path::new(&inside(alloc, &common, "refs")?).is_dir(rt),
-    )
-}
-
-/// The git directory that a path names: itself, or that of its line `gitdir: ..`.
-fn linked(rt: &HostRuntime, folder: &str, path: String) -> io::Result<String> {
-    if !Path::new(&path).is_file(rt) {
-        return Ok(path);
-    }
-    let Some(line) = line_of(rt, &path)? else {
-        return Ok(path);
-    };
-    match line.as_str().strip_prefix("gitdir: ") {
-        Some(git_dir) => inside(rt.alloc(), folder, git_dir),
-        None => Ok(path),
-    }
-}
-
-/// The git directory of a folder, if it has one or is one.
-fn git_dir_in(rt: &HostRuntime, folder: &str) -> io::Result<Option<String>> {
-    let alloc = rt.alloc();
-    let git_dir = linked(rt, folder, inside(alloc, folder, ".git")?)?;
-    if is_git_dir(rt, &git_dir)? {
-        return Ok(Some(git_dir));
-    }
-    if is_git_dir(rt, folder)? {
-        return Ok(Some(format!(in alloc; "{folder}")?));
-    }
-    Ok(None)
-}
-
-/// The git directory: GIT_DIR, or the first from the current folder upwards.
-fn find_git_dir(rt: &HostRuntime) -> io::Result<Option<String>> {
-    if let Some(git_dir) = variable(rt, "GIT_DIR")? {
-        return Ok(Some(linked(rt, "", git_dir)?));
-    }
-    if let Some(git_dir) = git_dir_in(rt, "")? {
-        return Ok(Some(git_dir));
-    }
-    let mut folder = env::current_dir(rt)?;
-    while folder.pop() {
-        if let Some(git_dir) = git_dir_in(rt, folder.as_path().as_str())? {
-            return Ok(Some(git_dir));
-        }
-    }
-    Ok(None)
 }
 
 /// Whether a repository's file says that each worktree has a file of its own.

@@ -1,9 +1,12 @@
 -- How errors are shown.
-use Rattle.std.specs.Prelude.{ℕ, List, ◌++◌, codes}
+use Rattle.std.specs.Prelude.{ℕ, List, ◌++◌, codes, encode_utf8_all}
 use Rattle.std.specs.Fmt.{decimal}
+use Rattle.bstr.specs.Utf8.{lossy_chars}
 use Rattle.config_file.specs.declared.errors.Fault.{Fault}
 use Rattle.config_file.specs.declared.errors.Fault.TheVariants.{BadLine, Nul}
 use Rattle.config_file.specs.declared.errors.Error.{Error}
+use Rattle.config_file.specs.declared.walk.WalkError.{WalkError}
+use Rattle.config_file.specs.declared.walk.WalkError.TheVariants.{Line, MissingValue, UnknownDirectory, Unreadable, TooDeep, Unread, Memory}
 
 -- why a text is refused, in words
 abbrev pub fault_text : Fault → List ℕ
@@ -13,3 +16,22 @@ fault_text Nul = codes "a NUL byte outside a comment"
 -- `LINE: reason`
 abbrev pub error_shown : Error → List ℕ
 error_shown error = decimal error.line ++ codes ": " ++ fault_text error.fault
+
+-- a name with U+FFFD for what is no UTF-8
+abbrev pub name_shown : List ℕ → List ℕ
+name_shown name = encode_utf8_all (lossy_chars name)
+
+-- `FILE:LINE`, and what follows
+abbrev pub shown_at : List ℕ → ℕ → List ℕ → List ℕ
+shown_at file line reason = name_shown file ++ codes ":" ++ decimal line ++ reason
+
+-- why a walk stops, in words after its place
+abbrev pub walk_error_shown : WalkError → List ℕ
+walk_error_shown (Line file error) = name_shown file.now ++ codes ":" ++ error_shown error
+walk_error_shown (MissingValue file line) = shown_at file.now line (codes ": an include has no value")
+walk_error_shown (UnknownDirectory file line) =
+    shown_at file.now line (codes ": the path of an include begins with an unknown directory")
+walk_error_shown (Unreadable file line) = shown_at file.now line (codes ": the included file cannot be read")
+walk_error_shown (TooDeep file line) = shown_at file.now line (codes ": files include each other too deep")
+walk_error_shown (Unread name) = name_shown name.items ++ codes ": not read"
+walk_error_shown (Memory _) = codes "no memory"

@@ -91,26 +91,6 @@ impl fmt::Display for AddError<'_> {
 
 impl error::Error for AddError<'_> {}
 
-/// The setting of an entry of a file.
-fn read_setting<'a>(
-    alloc: Global,
-    file: &'a str,
-    entry: &Entry<'_>,
-) -> Result<Setting<'a>, AllocError>
-    ensures { IfOk result (IsSettingOf file.now (entry_of entry.now)) }
-{
-    let value = match &entry.value {
-        Some(value) => Some(value.to_vec(alloc)?),
-        None => None,
-    };
-    Ok(Setting {
-        file,
-        line: entry.line,
-        key: entry.key_text(alloc)?,
-        value,
-    })
-}
-
 /// What follows the front in lower case, or `None` if the text begins otherwise.
 fn strip_lower<'t>(text: &'t [u8], front: &[u8]) -> Option<&'t [u8]>
     ensures { MatchOption result ((rest : List ℕ) → text.now ≢ str_to_ascii_lowercase front.now ++ rest)
@@ -157,6 +137,22 @@ fn after_stem<'t>(listed: &'t [u8], section: &[u8], subsection: Option<&[u8]>) -
 }
 
 impl<'a> Setting<'a> {
+    /// The setting of an entry of a file. Fails only if memory runs out.
+    pub fn of_entry(alloc: Global, file: &'a str, entry: &Entry<'_>) -> Result<Self, AllocError>
+        ensures { IfOk result (IsSettingOf file.now (entry_of entry.now)) }
+    {
+        let value = match &entry.value {
+            Some(value) => Some(value.to_vec(alloc)?),
+            None => None,
+        };
+        Ok(Self {
+            file,
+            line: entry.line,
+            key: entry.key_text(alloc)?,
+            value,
+        })
+    }
+
     /// The text for a reader: `true` if the key stands alone.
     pub fn text(&self) -> &[u8]
         ensures { result.now ≡ text_of self.now }
@@ -263,7 +259,7 @@ impl<'a> Settings<'a> {
                 Ok(entry) => entry,
                 Err(error) => return Err(AddError::Line { file, error }),
             };
-            let setting = match read_setting(alloc, file, &entry) {
+            let setting = match Setting::of_entry(alloc, file, &entry) {
                 Ok(setting) => setting,
                 Err(error) => return Err(AddError::Memory(error)),
             };

@@ -3,13 +3,17 @@ ghost use Rattle.std.specs.Prelude.{◌≡◌, ◌≢◌, ◌++◌, ◌↔◌, I
 ghost use Rattle.config_file.specs.Walk.{Holds, Follows, HasFile, IsNameOf, IsInclude, Walks, WalksFile, AddsNamed, Adds};
 ghost use Rattle.config_file.specs.Path.{BeginsUnknown};
 ghost use Rattle.config_file.specs.Views.{entry_of};
+ghost use Rattle.config_file.specs.Errors.{walk_error_shown};
+ghost use Rattle.std.specs.Prelude.{Some};
 
 use crate::entry::Entry;
 use crate::errors::Error as FileError;
 use crate::include::{Condition, Repository};
 use crate::path::{Directories, expand, included_name, joined};
 use crate::reader::Entries;
+use bstr::BStr;
 use std::alloc::{AllocError, Global};
+use std::{error, fmt};
 
 /// What is known of a file.
 #[derive(Clone, Copy)]
@@ -154,7 +158,7 @@ pub fn include_of(
 }
 
 /// Why a walk stops.
-#[derive(Drop)]
+#[derive(Debug, Drop)]
 pub enum WalkError<'a> {
     /// A line of a file is invalid.
     Line { file: &'a [u8], error: FileError },
@@ -171,6 +175,45 @@ pub enum WalkError<'a> {
     /// Memory was refused.
     Memory(AllocError),
 }
+
+impl fmt::Display for WalkError<'_> {
+    ghost output = { λ error. Some (walk_error_shown error) };
+
+    /// Writes `FILE:LINE: reason`.
+    fn fmt<W: fmt::Write>(&self, f: &mut fmt::Formatter<W>) -> fmt::Result {
+        match self {
+            WalkError::Line { file, error } => write!(f, "{}:{error}", BStr::new(file)),
+            WalkError::MissingValue { file, line } => {
+                write!(f, "{}:{line}: an include has no value", BStr::new(file))
+            }
+            WalkError::UnknownDirectory { file, line } => {
+                write!(
+                    f,
+                    "{}:{line}: the path of an include begins with an unknown directory",
+                    BStr::new(file)
+                )
+            }
+            WalkError::Unreadable { file, line } => {
+                write!(
+                    f,
+                    "{}:{line}: the included file cannot be read",
+                    BStr::new(file)
+                )
+            }
+            WalkError::TooDeep { file, line } => {
+                write!(
+                    f,
+                    "{}:{line}: files include each other too deep",
+                    BStr::new(file)
+                )
+            }
+            WalkError::Unread(name) => write!(f, "{}: not read", BStr::new(name)),
+            WalkError::Memory(_) => f.write_str("no memory"),
+        }
+    }
+}
+
+impl error::Error for WalkError<'_> {}
 
 /// How deep Git follows includes.
 pub const MAX_DEPTH: usize = 10;

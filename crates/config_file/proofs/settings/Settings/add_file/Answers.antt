@@ -9,12 +9,12 @@ loop-entry-preserved c =
     let gives = rw c.in-Ok.is at c.in-Some.ensures.steps in (
       entries ++ entry_of c.in-Ok.entry ∷ [],
       λ left error h. file_more c.args.text.now entries left (entry_of c.in-Ok.entry) error (reads (entry_of c.in-Ok.entry ∷ left) error (gives left error h)),
-      adds_more c.args.file.now entries (entry_of c.in-Ok.entry) c.args.self.now.entries.items _ c.push.new.self.items c.in-Ok-read_setting.setting adds
-          c.in-Ok-read_setting.ensures (search rules),
+      adds_more c.args.file.now entries (entry_of c.in-Ok.entry) c.args.self.now.entries.items _ c.push.new.self.items c.in-Ok-of_entry.setting adds
+          c.in-Ok-of_entry.ensures (search rules),
     )
 
-pub returns-in-Err-read_setting : goal.returns-in-Err-read_setting
-returns-in-Err-read_setting c =
+pub returns-in-Err-of_entry : goal.returns-in-Err-of_entry
+returns-in-Err-of_entry c =
     let (entries, reads, adds) = c.loop-entry.invariant in
     (entries, first_of c.args.text.now entries c.loop-entry.entry-iterator reads, adds)
 

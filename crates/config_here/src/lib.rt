@@ -1,0 +1,175 @@
+//! Where a program runs: its environment, and the repository that it is in.
+#![tactic(auto)]
+
+use std::alloc::{AllocError, Global};
+use std::env::{self, VarError};
+use std::fs;
+use std::io::{self, ErrorKind};
+use std::path::Path;
+
+/// The value of an environment variable. Fails if it is not UTF-8.
+pub fn variable(rt: &HostRuntime, name: &str) -> io::Result<Option<String>> {
+    match env::var(rt, name) {
+        Ok(value) => Ok(Some(value)),
+        Err(VarError::NotPresent) => Ok(None),
+        Err(VarError::NotUnicode) => Err(io::Error::from(ErrorKind::InvalidData)),
+        Err(VarError::OutOfMemory) => Err(io::Error::from(AllocError)),
+    }
+}
+
+/// A name in a folder: one that begins with `/` stays as it is, and the empty folder is the current one.
+pub fn inside(alloc: Global, folder: &str, name: &str) -> io::Result<String> {
+    Ok(if folder.is_empty() || name.starts_with('/') {
+        format!(in alloc; "{name}")?
+    } else if folder.ends_with('/') {
+        format!(in alloc; "{folder}{name}")?
+    } else {
+        format!(in alloc; "{folder}/{name}")?
+    })
+}
+
+/// The text of a file of one line, without the ends of its lines.
+fn line_of(rt: &HostRuntime, file: &str) -> io::Result<Option<String>> {
+    let text = match fs::read_to_string(rt, file) {
+        Ok(text) => text,
+        Err(_) => return Ok(None),
+    };
+    let line = text.trim_end_matches(&['\n', '\r']);
+    Ok(Some(format!(in rt.alloc(); "{line}")?))
+}
+
+/// The folder that the worktrees of a git directory share.
+pub fn common_folder(rt: &HostRuntime, git_dir: &str) -> io::Result<String> {
+    if let Some(folder) = variable(rt, "GIT_COMMON_DIR")? {
+        return Ok(folder);
+    }
+    let file = inside(rt.alloc(), git_dir, "commondir")?;
+    match line_of(rt, &file)? {
+        Some(folder) => inside(rt.alloc(), git_dir, &folder),
+        None => Ok(format!(in rt.alloc(); "{git_dir}")?),
+    }
+}
+
+/// Whether this is a git directory: it has HEAD, and objects and refs, which worktrees share.
+fn is_git_dir(rt: &HostRuntime, folder: &str) -> io::Result<bool> {
+    let alloc = rt.alloc();
+    let common = common_folder(rt, folder)?;
+    Ok(
+        Path::new(&inside(alloc, folder, "HEAD")?).exists(rt)
+            && Path::new(&inside(alloc, &common, "objects")?).is_dir(rt)
+            && Path::new(&inside(alloc, &common, "refs")?).is_dir(rt),
+    )
+}
+
+/// The git directory that a path names: itself, or that of its line `gitdir: ..`.
+fn linked(rt: &HostRuntime, folder: &str, path: String) -> io::Result<String> {
+    if !Path::new(&path).is_file(rt) {
+        return Ok(path);
+    }
+    let Some(line) = line_of(rt, &path)? else {
+        return Ok(path);
+    };
+    match line.as_str().strip_prefix("gitdir: ") {
+        Some(git_dir) => inside(rt.alloc(), folder, git_dir),
+        None => Ok(path),
+    }
+}
+
+/// The git directory of a folder, if it has one or is one.
+fn git_dir_in(rt: &HostRuntime, folder: &str) -> io::Result<Option<String>> {
+    let alloc = rt.alloc();
+    let git_dir = linked(rt, folder, inside(alloc, folder, ".git")?)?;
+    if is_git_dir(rt, &git_dir)? {
+        return Ok(Some(git_dir));
+    }
+    if is_git_dir(rt, folder)? {
+        return Ok(Some(format!(in alloc; "{folder}")?));
+    }
+    Ok(None)
+}
+
+/// The git directory: GIT_DIR, or the first from the current folder upwards. It may be relative to that folder.
+pub fn find_git_dir(rt: &HostRuntime) -> io::Result<Option<String>> {
+    if let Some(git_dir) = variable(rt, "GIT_DIR")? {
+        return Ok(Some(linked(rt, "", git_dir)?));
+    }
+    if let Some(git_dir) = git_dir_in(rt, "")? {
+        return Ok(Some(git_dir));
+    }
+    let mut folder = env::current_dir(rt)?;
+    while folder.pop() {
+        if let Some(git_dir) = git_dir_in(rt, folder.as_path().as_str())? {
+            return Ok(Some(git_dir));
+        }
+    }
+    Ok(None)
+}
+
+/// The repository that a program runs in, as conditions of includes ask about it.
+#[derive(Drop)]
+pub struct Repository {
+    /// The absolute path of the git directory, with its links resolved.
+    pub real_git_dir: String,
+    /// The same, with its links kept.
+    pub git_dir: String,
+    /// The name of the branch without `refs/heads/`, or `None` if HEAD is detached.
+    pub branch: Option<String>,
+}
+
+/// A path with its links resolved, or `None` if it does not exist.
+pub fn real_path(rt: &HostRuntime, path: &str) -> io::Result<Option<String>> {
+    match fs::canonicalize(rt, path) {
+        Ok(real) => Ok(Some(format!(in rt.alloc(); "{}", real.as_path().as_str())?)),
+        Err(_) => Ok(None),
+    }
+}
+
+/// The current folder, with the links that the shell followed to it.
+fn current_folder(rt: &HostRuntime) -> io::Result<String> {
+    let real = env::current_dir(rt)?;
+    let real = real.as_path().as_str();
+    if let Some(named) = variable(rt, "PWD")? {
+        if let Some(same) = real_path(rt, &named)? {
+            if named.starts_with('/') && same.as_str() == real {
+                return Ok(named);
+            }
+        }
+    }
+    Ok(format!(in rt.alloc(); "{real}")?)
+}
+
+/// The branch that HEAD of a git directory names.
+fn branch_of(rt: &HostRuntime, git_dir: &str) -> io::Result<Option<String>> {
+    let alloc = rt.alloc();
+    let Some(line) = line_of(rt, &inside(alloc, git_dir, "HEAD")?)? else {
+        return Ok(None);
+    };
+    let Some(name) = line.as_str().strip_prefix("ref:") else {
+        return Ok(None);
+    };
+    match name.trim().strip_prefix("refs/heads/") {
+        Some(branch) => Ok(Some(format!(in alloc; "{branch}")?)),
+        None => Ok(None),
+    }
+}
+
+/// The repository that the program runs in, or `None` if it runs in no repository.
+pub fn find_repository(rt: &HostRuntime) -> io::Result<Option<Repository>> {
+    let Some(found) = find_git_dir(rt)? else {
+        return Ok(None);
+    };
+    let folder = current_folder(rt)?;
+    let git_dir = if found.is_empty() {
+        folder
+    } else {
+        inside(rt.alloc(), &folder, &found)?
+    };
+    let Some(real_git_dir) = real_path(rt, &git_dir)? else {
+        return Ok(None);
+    };
+    Ok(Some(Repository {
+        real_git_dir,
+        branch: branch_of(rt, &git_dir)?,
+        git_dir,
+    }))
+}
