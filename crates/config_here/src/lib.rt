@@ -97,7 +97,10 @@ pub fn find_git_dir(rt: &HostRuntime) -> io::Result<Option<String>> {
         return Ok(Some(git_dir));
     }
     let mut folder = env::current_dir(rt)?;
-    while folder.pop() {
+    for _ in 0..u64::MAX {
+        if !folder.pop() {
+            break;
+        }
         if let Some(git_dir) = git_dir_in(rt, folder.as_path().as_str())? {
             return Ok(Some(git_dir));
         }
