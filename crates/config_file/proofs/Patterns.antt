@@ -6,52 +6,14 @@ use Rattle.std.specs.List.{prefix_len, list_all}
 use Rattle.config_file.specs.Runs.{Run, StopsRun}
 use Rattle.config_file.specs.Bytes.{left_bracket, backslash}
 use Rattle.config_file.specs.Set.{slash, folded, StandsForByte}
-use Rattle.config_file.proofs.Sets.{rest_unique, set_shortens}
+use Rattle.config_file.proofs.OneRun.{run_only}
+use Rattle.config_file.proofs.Sets.{rest_unique, set_shortens, longer}
 use Rattle.config_file.specs.Pattern.{star, is_star, stands_for, crosses, is_passed}
 use Rattle.config_file.specs.Pattern.{Item, byte, escaped, set, Passes, Matches, MatchesLater, MatchesStars, MatchesNoDirectory, LacksStar}
 use Rattle.config_file.specs.Pattern.{ends, one, stars, no_directory, no_more, passes}
 
--- the front that `prefix_len` counts is the longest run
-pub run_split : (test : ℕ → Bool) (text : List ℕ) → Run test text (take (prefix_len test text) text) (drop (prefix_len test text) text)
-run_split test [] = record { joined = refl; pass = refl; longest = tt }
-run_split test (b ∷ text) =
-    elim (cases_Bool (test b)) [
-      | inl pass ↦ let more = run_split test text in
-          let next : 1 + prefix_len test text ≡ suc (prefix_len test text) = omega arith in
-          rw (pass, next) (record { joined = ap (◌∷◌ b) more.joined; pass = rw pass more.pass; longest = more.longest })
-      | inr fail ↦ rw fail (record { joined = refl; pass = refl; longest = fail })
-    ]
-
-both_true : (a b : Bool) → (a && b) ≡ true → (a ≡ true) × (b ≡ true)
-both_true true b e = (refl, e)
-both_true false b e = absurd (true≢false (sym e))
-
-stops_here : (test : ℕ → Bool) (b : ℕ) (rest r : List ℕ) → r ≡ b ∷ rest → StopsRun test r → test b ≡ false
-stops_here test b rest r e stops = subst (λ x. StopsRun test x) e stops
-
-unique : (test : ℕ → Bool) (a r a2 r2 : List ℕ) → a ++ r ≡ a2 ++ r2 → list_all test a ≡ true → list_all test a2 ≡ true
-    → StopsRun test r → StopsRun test r2 → (a ≡ a2) × (r ≡ r2)
-unique test [] r [] r2 e p p2 s s2 = (refl, e)
-unique test [] r (b ∷ a2) r2 e p p2 s s2 =
-    absurd (true≢false (sym ((both_true (test b) (list_all test a2) p2).0) ∙ stops_here test b (a2 ++ r2) r e s))
-unique test (b ∷ a) r [] r2 e p p2 s s2 =
-    absurd (true≢false (sym ((both_true (test b) (list_all test a) p).0) ∙ stops_here test b (a ++ r) r2 (sym e) s2))
-unique test (b ∷ a) r (b2 ∷ a2) r2 e p p2 s s2 =
-    let tail = unique test a r a2 r2 (ap (drop 1) e) ((both_true (test b) (list_all test a) p).1)
-    ((both_true (test b2) (list_all test a2) p2).1) s s2 in
-    let head : b ≡ b2 = ap (λ l. get_or l 0 0) e in
-    (rw (head, tail.0) refl, tail.1)
-
--- a text has one longest run
-run_unique : (test : ℕ → Bool) (text a r a2 r2 : List ℕ) → Run test text a r → Run test text a2 r2 → (a ≡ a2) × (r ≡ r2)
-run_unique test text a r a2 r2 run run2 = unique test a r a2 r2 (sym run.joined ∙ run2.joined) run.pass run2.pass run.longest run2.longest
-
-append_longer : (a r : List ℕ) → length r ≤ length (a ++ r)
-append_longer [] r = omega arith
-append_longer (b ∷ a) r = let more = append_longer a r in omega arith
-
 pub run_shortens : {test : ℕ → Bool} {text a r : List ℕ} → Run test text a r → length r ≤ length text
-run_shortens {a = a} {r = r} run = rw run.joined (append_longer a r)
+run_shortens {a = a} {r = r} run = rw run.joined (longer a r)
 
 -- ---- items
 
@@ -165,10 +127,10 @@ stars_inv : {i starts : Bool} {pattern more rest text : List ℕ} → Run is_sta
     → MatchesNoDirectory i (crosses starts more rest) rest text ⊎ MatchesLater i (crosses starts more rest) rest text
 stars_inv run (one rest item match) = absurd (no_star_item item)
 stars_inv {pattern = pattern} {more = more} {rest = rest} run (stars more2 rest2 left is run2 passed match) =
-    let same = run_unique is_star pattern more rest more2 rest2 run run2 in
+    let same = run_only run run2 in
     rw (same.0, same.1) (inr (left, passed, match))
 stars_inv {pattern = pattern} {more = more} {rest = rest} run (no_directory more2 rest2 is run2 crossing match) =
-    let same = run_unique is_star pattern more rest more2 (slash ∷ rest2) run run2 in
+    let same = run_only run run2 in
     rw (same.0, same.1) (inl (rest2, crossing, refl, match))
 
 pub stars_no_directory : {i starts : Bool} {pattern more text : List ℕ} (rest : List ℕ) → Run is_star pattern more rest

@@ -1,5 +1,5 @@
 -- The bytes of a configuration file.
-use Rattle.std.specs.Prelude.{◌≡◌, ℕ, Bool, true, false, not, ◌&&◌, ◌||◌, ◌==◌, ◌⊎◌, List, [], ◌∷◌, ⊤}
+use Rattle.std.specs.Prelude.{◌≡◌, ◌≢◌, ℕ, Bool, true, false, not, ◌&&◌, ◌||◌, ◌==◌, ◌⊎◌, List, [], ◌∷◌, ◌++◌, ⊤}
 use Rattle.std.specs.Char.{is_ascii_alphanumeric}
 
 abbrev pub backspace : ℕ
@@ -91,3 +91,7 @@ abbrev pub IsAtLineEnd : List ℕ → Type 0
 IsAtLineEnd [] = ⊤
 IsAtLineEnd (a ∷ []) = a ≡ line_feed
 IsAtLineEnd (a ∷ b ∷ rest) = (a ≡ line_feed) ⊎ ((a ≡ carriage_return) × (b ≡ line_feed))
+
+-- a text that does not begin with this
+abbrev pub LacksFront : List ℕ → List ℕ → Type 0
+LacksFront front text = (rest : List ℕ) → text ≢ front ++ rest

@@ -4,11 +4,8 @@ use Rattle.std.specs.List.{ends_with, starts_with}
 use Rattle.config_file.specs.declared.include.Condition.{Condition}
 use Rattle.config_file.specs.declared.include.Condition.TheVariants.{Always, GitDir, GitDirIgnoringCase, OnBranch, HasRemoteUrl, Unknown}
 use Rattle.config_file.specs.declared.include.Repository.{Repository}
+use Rattle.config_file.specs.Bytes.{LacksFront}
 use Rattle.config_file.specs.Pattern.{MatchesText}
-
--- a text that does not begin with this
-abbrev pub LacksFront : List ℕ → List ℕ → Type 0
-LacksFront front text = (rest : List ℕ) → text ≢ front ++ rest
 
 -- what a condition is by its text; any other text is an unknown condition
 abbrev pub Names : List ℕ → Condition → Type 0

@@ -2,7 +2,7 @@
 use Rattle.std.specs.Prelude.{◌≡◌, ℕ, Bool, true, false, not, ◌==◌, ◌-◌, take, length, List, [], ◌∷◌, ◌++◌, codes, Option, None, Some}
 use Rattle.std.specs.List.{suffix_len}
 use Rattle.config_file.specs.Set.{slash}
-use Rattle.config_file.specs.Include.{LacksFront}
+use Rattle.config_file.specs.Bytes.{LacksFront}
 
 -- nothing, or a `/` and what is below
 abbrev pub is_rest : List ℕ → Bool

@@ -1,14 +1,14 @@
 -- Sets of bytes in patterns, after their `[`.
-use Rattle.std.specs.Prelude.{◌≡◌, ◌≢◌, ℕ, Bool, true, false, not, if◌then◌else◌, ◌||◌, ◌&&◌, ◌==◌, List, [], ◌∷◌, Option, Some, None}
-use Rattle.std.specs.Char.{to_ascii_lowercase, to_ascii_uppercase}
+use Rattle.std.specs.Prelude.{◌≡◌, ◌≢◌, ℕ, Bool, true, false, not, if◌then◌else◌, ◌||◌, ◌&&◌, ◌==◌, List, [], ◌∷◌, ◌++◌, codes, Option, Some, None}
+use Rattle.std.specs.Char.{to_ascii_lowercase, to_ascii_uppercase, is_ascii_alphanumeric, is_ascii_alphabetic, is_ascii_digit}
+use Rattle.std.specs.Char.{is_ascii_control, is_ascii_graphic, is_ascii_punctuation, is_ascii_hexdigit, is_ascii_lowercase, is_ascii_uppercase}
 use Rattle.std.specs.Int.{is_in_range}
-use Rattle.config_file.specs.Bytes.{dash, left_bracket, right_bracket, backslash}
+use Rattle.std.specs.Str.{bytes_eq}
+use Rattle.config_file.specs.Bytes.{space, line_feed, dash, left_bracket, right_bracket, backslash, is_blank, is_space}
+use Rattle.config_file.specs.Runs.{Run}
 
 abbrev pub slash : ℕ
 slash = 47
-
-abbrev pub colon : ℕ
-colon = 58
 
 -- a byte as it is compared: in lower case if case does not count
 abbrev pub folded : Bool → ℕ → ℕ
@@ -28,16 +28,11 @@ abbrev pub first_byte : List ℕ → Option (ℕ × List ℕ)
 first_byte [] = None
 first_byte (c ∷ rest) = Some (c, rest)
 
--- `]` ends a set unless it is its first byte, and no class such as `[:alpha:]` is read
-abbrev pub is_no_member : Bool → ℕ → List ℕ → Bool
-is_no_member starts c [] = c == right_bracket && not starts
-is_no_member starts c (d ∷ rest) = (c == right_bracket && not starts) || (c == left_bracket && d == colon)
-
--- a byte of a set, or the byte after a backslash, and the rest
+-- a byte of a set, or the byte after a backslash, and the rest; `]` ends a set unless it is its first byte
 abbrev pub set_byte : Bool → List ℕ → Option (ℕ × List ℕ)
 set_byte starts [] = None
 set_byte starts (c ∷ rest) =
-    if c == backslash then first_byte rest else if is_no_member starts c rest then None else Some (c, rest)
+    if c == backslash then first_byte rest else if c == right_bracket && not starts then None else Some (c, rest)
 
 -- the last byte of a range, after its `-`, and the rest
 abbrev pub range_end : List ℕ → Option (ℕ × List ℕ)
@@ -55,19 +50,59 @@ range_or_byte ignores_case b c after None = (c == folded ignores_case b, after)
 range_or_byte ignores_case b c after (Some (last, rest)) =
     (c == folded ignores_case b || range_has ignores_case c last b, rest)
 
-abbrev pub member_from : Bool → ℕ → Option (ℕ × List ℕ) → Option (Bool × List ℕ)
-member_from ignores_case b None = None
-member_from ignores_case b (Some (c, after)) = Some (range_or_byte ignores_case b c after (range_end after))
+abbrev pub byte_from : Bool → ℕ → Option (ℕ × List ℕ) → Option (Bool × List ℕ)
+byte_from ignores_case b None = None
+byte_from ignores_case b (Some (c, after)) = Some (range_or_byte ignores_case b c after (range_end after))
 
--- whether the first member, which is a byte or a range, has the byte, and the rest
-abbrev pub member : Bool → ℕ → Bool → List ℕ → Option (Bool × List ℕ)
-member ignores_case b starts text = member_from ignores_case b (set_byte starts text)
+-- whether the byte or the range that comes first has the byte, and the rest
+abbrev pub byte_or_range : Bool → ℕ → Bool → List ℕ → Option (Bool × List ℕ)
+byte_or_range ignores_case b starts text = byte_from ignores_case b (set_byte starts text)
+
+-- the classes of POSIX by their names; white space is what Git takes for it, and without case a lower or upper one is any letter
+unfoldable pub classes : Bool → List (List ℕ × (ℕ → Bool))
+classes ignores_case =
+    (codes "alnum", is_ascii_alphanumeric)
+    ∷ (codes "alpha", is_ascii_alphabetic)
+    ∷ (codes "blank", is_space)
+    ∷ (codes "cntrl", is_ascii_control)
+    ∷ (codes "digit", is_ascii_digit)
+    ∷ (codes "graph", is_ascii_graphic)
+    ∷ (codes "lower", λ b. is_ascii_lowercase b || (ignores_case && is_ascii_uppercase b))
+    ∷ (codes "print", λ b. b == space || is_ascii_graphic b)
+    ∷ (codes "punct", is_ascii_punctuation)
+    ∷ (codes "space", λ b. is_blank b || b == line_feed)
+    ∷ (codes "upper", λ b. is_ascii_uppercase b || (ignores_case && is_ascii_lowercase b))
+    ∷ (codes "xdigit", is_ascii_hexdigit)
+    ∷ []
+
+-- whether the class of this name has the byte, if there is one
+abbrev pub named_has : List (List ℕ × (ℕ → Bool)) → List ℕ → ℕ → Option Bool
+named_has [] name b = None
+named_has ((word, has) ∷ rows) name b = if bytes_eq name word then Some (has b) else named_has rows name b
+
+abbrev pub class_has : Bool → List ℕ → ℕ → Option Bool
+class_has ignores_case name b = named_has (classes ignores_case) name b
+
+abbrev pub is_unclosed : ℕ → Bool
+is_unclosed b = not (b == right_bracket)
+
+-- a class, `[:NAME:]`, and the rest; the first `]` after `[:` ends it
+pub record IsClass (text name rest : List ℕ) : Type 0 where
+  pub inner : List ℕ
+  pub opened : text ≡ codes "[:" ++ inner
+  pub closed : Run is_unclosed inner (name ++ codes ":") (right_bracket ∷ rest)
+
+-- whether the first member has the byte, and the rest; it is a class, or a byte or a range
+pub data Member (ignores_case : Bool) (b : ℕ) (starts : Bool) (text : List ℕ) (has : Bool) (rest : List ℕ) : Type 0 where
+  class : (name : List ℕ) → IsClass text name rest → class_has ignores_case name b ≡ Some has → Member ignores_case b starts text has rest
+  plain : ((name after : List ℕ) → ¬ (IsClass text name after)) → byte_or_range ignores_case b starts text ≡ Some (has, rest)
+      → Member ignores_case b starts text has rest
 
 -- At its start or later, the set goes on with members and `]`: whether one of them has the byte, and the rest.
 pub data SetHas (ignores_case : Bool) (b : ℕ) : Bool → List ℕ → Bool → List ℕ → Type 0 where
   closes : {c : ℕ} {rest : List ℕ} → c ≡ right_bracket → SetHas ignores_case b false (c ∷ rest) false rest
   has : {starts all : Bool} {text rest : List ℕ} (here found : Bool) (after : List ℕ)
-      → member ignores_case b starts text ≡ Some (here, after) → SetHas ignores_case b false after found rest
+      → Member ignores_case b starts text here after → SetHas ignores_case b false after found rest
       → all ≡ (here || found)
       → SetHas ignores_case b starts text all rest
 

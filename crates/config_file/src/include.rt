@@ -1,8 +1,9 @@
 //! The entries that include a file: their conditions.
 ghost use Rattle.std.specs.Prelude.{◌≡◌, ◌≢◌, ◌↔◌, ◌++◌, IsTrue, IfOk, OnOk, MatchOption, List, ℕ, option_map, codes};
 ghost use Rattle.config_file.specs.Include as spec;
-ghost use Rattle.config_file.specs.Include.{LacksFront, Names, Includes, IncludesNone, IsConditional, IsGitDir, IsOnBranch};
+ghost use Rattle.config_file.specs.Include.{Names, Includes, IncludesNone, IsConditional, IsGitDir, IsOnBranch};
 
+use crate::bytes::{strip, strip_end};
 use crate::pattern::matches;
 use std::alloc::{AllocError, Global};
 
@@ -32,20 +33,6 @@ pub struct Repository<'r> {
     pub git_dir: &'r [u8],
     /// The name of the branch without `refs/heads/`, or `None` if HEAD is detached.
     pub branch: Option<&'r [u8]>,
-}
-
-/// What follows the front, or `None` if the text begins otherwise.
-pub(crate) fn strip<'t>(text: &'t [u8], front: &[u8]) -> Option<&'t [u8]>
-    ensures { MatchOption result (LacksFront front.now text.now) (λ rest. text.now ≡ front.now ++ rest.now) }
-{
-    text.strip_prefix(front)
-}
-
-/// What precedes the end, or `None` if the text ends otherwise.
-fn strip_end<'t>(text: &'t [u8], end: &[u8]) -> Option<&'t [u8]>
-    ensures { MatchOption result ((front : List ℕ) → text.now ≢ front ++ end.now) (λ front. text.now ≡ front.now ++ end.now) }
-{
-    text.strip_suffix(end)
 }
 
 /// The text of the condition in a key.

@@ -4,7 +4,7 @@ ghost use Rattle.config_file.specs.Path as spec;
 ghost use Rattle.config_file.specs.Path.{Expands, BeginsUnknown, IsIncludedName, is_no_slash};
 ghost use Rattle.std.specs.List.{suffix_len};
 
-use crate::include::strip;
+use crate::bytes::strip;
 use std::alloc::{AllocError, Global};
 
 /// The directories that a path may begin with.

@@ -1,8 +1,13 @@
 //! Sets of bytes in patterns, as `[a-z]` and `[!/]`.
-ghost use Rattle.std.specs.Prelude.{◌≡◌, ◌<◌, ◌≢◌, ◌∷◌, Bool, true, List, ℕ, IfSome, MatchOption, length, option_map};
+ghost use Rattle.std.specs.Prelude.{◌≡◌, ◌<◌, ◌≤◌, ◌≢◌, ◌∷◌, Bool, true, List, ℕ, IfSome, MatchOption, length, option_map};
 ghost use Rattle.std.specs.Int.{is_in_range};
+ghost use Rattle.std.specs.List.{prefix_len};
+ghost use Rattle.config_file.specs.Runs.{Run};
 ghost use Rattle.config_file.specs.Set as spec;
-ghost use Rattle.config_file.specs.Set.{SetHas, StandsForByte};
+ghost use Rattle.config_file.specs.Set.{IsClass, Member, SetHas, StandsForByte, is_unclosed};
+
+use crate::bytes::{is_blank, strip, strip_end};
+use config_text::words::equals;
 
 /// A byte as it is compared: in lower case if case does not count.
 pub(crate) fn folded(byte: u8, ignores_case: bool) -> u8
@@ -35,16 +40,6 @@ fn first_byte(text: &[u8]) -> Option<(u8, &[u8])>
     }
 }
 
-/// Whether a byte ends the set or begins a class, such as `[:alpha:]`.
-fn is_no_member(byte: u8, rest: &[u8], starts: bool) -> bool
-    ensures { result ≡ spec.is_no_member starts byte rest.now }
-{
-    match rest {
-        [] => byte == b']' && !starts,
-        [next, ..] => byte == b']' && !starts || byte == b'[' && *next == b':',
-    }
-}
-
 /// A byte of a set, and the rest.
 fn set_byte(text: &[u8], starts: bool) -> Option<(u8, &[u8])>
     ensures { option_map (λ p. (p.0, p.1.now)) result ≡ spec.set_byte starts text.now }
@@ -55,7 +50,7 @@ fn set_byte(text: &[u8], starts: bool) -> Option<(u8, &[u8])>
             if *first == b'\\' {
                 return first_byte(rest);
             }
-            if is_no_member(*first, rest, starts) {
+            if *first == b']' && !starts {
                 return None;
             }
             Some((*first, rest))
@@ -94,10 +89,9 @@ fn is_between(first: u8, last: u8, byte: u8) -> bool
     first <= byte && byte <= last
 }
 
-/// Whether the first member, which is a byte or a range, has the byte, and the rest.
-fn member(text: &[u8], starts: bool, byte: u8, ignores_case: bool) -> Option<(bool, &[u8])>
-    ensures is { option_map (λ p. (p.0, p.1.now)) result ≡ spec.member ignores_case byte starts text.now }
-    ensures shorter { IfSome result (λ p. length p.1.now < length text.now) }
+/// Whether the byte or the range that comes first has the byte, and the rest.
+fn byte_or_range(text: &[u8], starts: bool, byte: u8, ignores_case: bool) -> Option<(bool, &[u8])>
+    ensures { option_map (λ p. (p.0, p.1.now)) result ≡ spec.byte_or_range ignores_case byte starts text.now }
 {
     let (first, after) = set_byte(text, starts)?;
     let is_here = first == folded(byte, ignores_case);
@@ -117,8 +111,88 @@ fn after_end(text: &[u8]) -> Option<&[u8]>
     }
 }
 
+/// Whether the class of this name has the byte, or `None` if there is no such class.
+#[tactic(auto, unfolding(crate::specs::Set::classes))]
+fn class_has(name: &[u8], byte: u8, ignores_case: bool) -> Option<bool>
+    ensures { result ≡ spec.class_has ignores_case name.now byte }
+{
+    if equals(name, b"alnum") {
+        Some(byte.is_ascii_alphanumeric())
+    } else if equals(name, b"alpha") {
+        Some(byte.is_ascii_alphabetic())
+    } else if equals(name, b"blank") {
+        Some(byte == b' ' || byte == b'\t')
+    } else if equals(name, b"cntrl") {
+        Some(byte.is_ascii_control())
+    } else if equals(name, b"digit") {
+        Some(byte.is_ascii_digit())
+    } else if equals(name, b"graph") {
+        Some(byte.is_ascii_graphic())
+    } else if equals(name, b"lower") {
+        Some(byte.is_ascii_lowercase() || ignores_case && byte.is_ascii_uppercase())
+    } else if equals(name, b"print") {
+        Some(byte == b' ' || byte.is_ascii_graphic())
+    } else if equals(name, b"punct") {
+        Some(byte.is_ascii_punctuation())
+    } else if equals(name, b"space") {
+        Some(is_blank(byte) || byte == b'\n')
+    } else if equals(name, b"upper") {
+        Some(byte.is_ascii_uppercase() || ignores_case && byte.is_ascii_lowercase())
+    } else if equals(name, b"xdigit") {
+        Some(byte.is_ascii_hexdigit())
+    } else {
+        None
+    }
+}
+
+/// How many bytes precede the first `]`.
+fn unclosed_count(text: &[u8]) -> usize
+    ensures count { result ≡ prefix_len is_unclosed text.now }
+    ensures within { result ≤ length text.now }
+{
+    text.iter().take_while(|byte| **byte != b']').count()
+}
+
+/// What precedes the first `]`, and the rest.
+fn unclosed(text: &[u8]) -> (&[u8], &[u8])
+    ensures { Run is_unclosed text.now result.0.now result.1.now }
+{
+    text.split_at(unclosed_count(text))
+}
+
+/// The name of the class that comes first, and the rest.
+#[tactic(auto, using(crate::proofs::Sets::is_class, crate::proofs::Sets::not_opened, crate::proofs::Sets::no_closing))]
+fn class_name(text: &[u8]) -> Option<(&[u8], &[u8])>
+    ensures { MatchOption result ((name rest : List ℕ) → ¬ (IsClass text.now name rest)) (λ p. IsClass text.now p.0.now p.1.now) }
+{
+    let inner = strip(text, b"[:")?;
+    let (inside, closing) = unclosed(inner);
+    let name = strip_end(inside, b":")?;
+    let rest = after_end(closing)?;
+    Some((name, rest))
+}
+
+/// Whether the first member has the byte, and the rest.
+#[tactic(auto, using(crate::proofs::Sets::class_shortens, crate::proofs::Sets::member_shortens, crate::proofs::Sets::of_byte, crate::proofs::Sets::of_no_byte))]
+fn member(text: &[u8], starts: bool, byte: u8, ignores_case: bool) -> Option<(bool, &[u8])>
+    ensures is { MatchOption result ((has : Bool) (rest : List ℕ) → ¬ (Member ignores_case byte starts text.now has rest))
+        (λ p. Member ignores_case byte starts text.now p.0 p.1.now) }
+    ensures shorter { IfSome result (λ p. length p.1.now < length text.now) }
+{
+    match class_name(text) {
+        Some((name, rest)) => match class_has(name, byte, ignores_case) {
+            Some(has) => Some((has, rest)),
+            None => None,
+        },
+        None => {
+            let (has, rest) = byte_or_range(text, starts, byte, ignores_case)?;
+            Some((has, rest))
+        }
+    }
+}
+
 /// Whether one of the members up to `]` has the byte, and the rest, or `None` if they are no members of a set.
-#[tactic(auto, using(crate::proofs::Sets::goes_on_first, crate::proofs::Sets::goes_on_found, crate::proofs::Sets::goes_on_here, crate::proofs::Sets::set_closed, crate::proofs::Sets::no_first, crate::proofs::Sets::not_closed))]
+#[tactic(auto, using(crate::proofs::Sets::goes_on_first, crate::proofs::Sets::goes_on_found, crate::proofs::Sets::goes_on_here, crate::proofs::Sets::set_closed, crate::proofs::Sets::no_first))]
 fn members(text: &[u8], byte: u8, ignores_case: bool) -> Option<(bool, &[u8])>
     ensures { MatchOption result ((found : Bool) (rest : List ℕ) → ¬ (SetHas ignores_case byte true text.now found rest))
         (λ p. SetHas ignores_case byte true text.now p.0 p.1.now) }

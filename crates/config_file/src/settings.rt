@@ -11,6 +11,7 @@ ghost use Rattle.config_file.specs.Views.{entry_of};
 ghost use Rattle.config_path.specs.Interpolation.{known_in};
 ghost use Rattle.std.specs.Option.{ForSome};
 
+use crate::bytes::strip;
 use crate::entry::Entry;
 use crate::errors::Error as FileError;
 use crate::reader::Entries;
@@ -105,14 +106,6 @@ fn strip_lower<'t>(text: &'t [u8], front: &[u8]) -> Option<&'t [u8]>
         rest = others;
     }
     Some(rest)
-}
-
-/// What follows the front, or `None` if the text begins otherwise.
-fn strip<'t>(text: &'t [u8], front: &[u8]) -> Option<&'t [u8]>
-    ensures { MatchOption result ((rest : List ℕ) → text.now ≢ front.now ++ rest)
-        (λ rest. text.now ≡ front.now ++ rest.now) }
-{
-    text.strip_prefix(front)
 }
 
 /// What follows the section and its dot in a key as Git lists it.

@@ -1,5 +1,5 @@
 use Rattle.config_file.specs.Pattern.{is_star}
-use Rattle.config_file.proofs.Patterns.{run_split}
+use Rattle.config_file.proofs.Runs.{run_split}
 use Rattle.config_file.proofs.pattern.stars.Goals as goal
 
 pub returns : goal.returns

@@ -1,4 +1,4 @@
-use Rattle.config_file.proofs.Sets.{goes_on_first, goes_on_found, goes_on_here, set_closed}
+use Rattle.config_file.proofs.Sets.{goes_on_first, goes_on_found, goes_on_here, not_closed, set_closed}
 use Rattle.config_file.proofs.set.members.Goals as goal
 
 pub members-init : goal.members-init
@@ -12,3 +12,8 @@ members-preserved-then-found c = goes_on_found c.members.found c.if-found.true c
 
 pub members-preserved : goal.members-preserved
 members-preserved c = goes_on_here c.members.found c.if-found.false c.members.invariant c.in_ok-is_here.ensures.is
+
+pub returns-in_err-is_here : goal.returns-in_err-is_here
+returns-in_err-is_here c =
+    rw c.from_residual-in_err-is_here.ensures
+    (not_closed c.members.found c.members.rest.now c.members.invariant c.in_default.ensures c.in_err-is_here.ensures.is)
