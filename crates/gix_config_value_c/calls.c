@@ -47,6 +47,12 @@ const char *gcv_status_text(gcv_status status)
         return "a line of the file is invalid";
     case GCV_NUL:
         return "the file has a NUL outside a comment";
+    case GCV_NO_INCLUDE:
+        return "the entry includes no file";
+    case GCV_NO_VALUE:
+        return "the entry includes a file, and has no value";
+    case GCV_NO_DIRECTORY:
+        return "the path begins with a user's name, or with a directory that is not known";
     }
     return "unknown status";
 }

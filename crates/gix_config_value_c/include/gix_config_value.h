@@ -83,7 +83,10 @@ typedef GCV_ENUM(gcv_status) {
     GCV_SHORT_BUFFER = 13,  /* the buffer is shorter than the text */
     GCV_NO_MEMORY = 14,     /* memory was refused, or a path stands for more than there can be */
     GCV_BAD_LINE = 15,      /* a line of a file is invalid */
-    GCV_NUL = 16            /* a file has a NUL outside a comment */
+    GCV_NUL = 16,           /* a file has a NUL outside a comment */
+    GCV_NO_INCLUDE = 17,    /* the entry includes no file */
+    GCV_NO_VALUE = 18,      /* the entry includes a file, and has no value */
+    GCV_NO_DIRECTORY = 19   /* the path of an include begins with a user's name, or a directory that is not there */
 } gcv_status;
 
 /* The kinds of values. */
@@ -279,6 +282,23 @@ typedef struct gcv_context {
     size_t passwd_length;
 } gcv_context;
 
+/* The file that an entry is in, and what the entry may ask for to include another one. What is null is not there,
+ * whatever its length; all 0 is a file without a name, and no more. */
+typedef struct gcv_includer {
+    const char *file; /* the name of the file: a relative path is put after its directory */
+    size_t file_length;
+    const char *install_dir; /* for %(prefix)/ */
+    size_t install_dir_length;
+    const char *home; /* for ~ */
+    size_t home_length;
+    const char *git_dir; /* the absolute path of the git directory, links kept; null without a repository */
+    size_t git_dir_length;
+    const char *real_git_dir; /* the same with links resolved; if null, `git_dir` */
+    size_t real_git_dir_length;
+    const char *branch; /* its name without refs/heads/; null if HEAD is detached */
+    size_t branch_length;
+} gcv_includer;
+
 /* The version of the library, which ends with NUL. */
 const char *gcv_version(void);
 
@@ -347,6 +367,12 @@ gcv_status gcv_raw_lookup(gcv_kind kind, const char *bytes, size_t bytes_length,
                           size_t lengths_count, const char *name, size_t name_length, gcv_entry *out);
 gcv_status gcv_raw_read_file(const char *text, size_t length, char *bytes, size_t capacity, gcv_place *places,
                              size_t room, gcv_file *out);
+gcv_status gcv_raw_include(const char *key, size_t key_length, uint32_t has_value, const char *value,
+                           size_t value_length, const char *file, size_t file_length, uint32_t has_install_dir,
+                           const char *install_dir, size_t install_dir_length, uint32_t has_home, const char *home,
+                           size_t home_length, uint32_t has_repository, const char *git_dir, size_t git_dir_length,
+                           const char *real_git_dir, size_t real_git_dir_length, uint32_t has_branch,
+                           const char *branch, size_t branch_length, char *buffer, size_t capacity, size_t *size);
 void gcv_raw_cut_mark(const char *text, size_t length, uint32_t *optional, size_t *start);
 gcv_status gcv_raw_interpolate(const char *text, size_t length, uint32_t has_install_dir, const char *install_dir,
                                size_t install_dir_length, uint32_t has_home, const char *home, size_t home_length,
@@ -615,6 +641,36 @@ GCV_RETURNS((1, 2, 3)) gcv_lookup_setting(const gcv_settings *settings, const ch
         }
     }
     return GCV_ABSENT;
+}
+
+/* Writes the name of the file that an entry includes: who walks over files reads it next, where it is, and its entries
+ * come after this one. `key` is the key as Git lists it, as gcv_next_setting has it, and `value` the value, or null for a
+ * key without `=`. Any bytes are a key, a value, and a directory.
+ *
+ * GCV_NO_INCLUDE if the entry includes no file, or on a condition that does not hold: without a repository only
+ * include.path includes, and hasconfig: never does. Otherwise GCV_NO_VALUE if there is no value, and
+ * GCV_NO_DIRECTORY if it begins with `~` and a user's name, or with a directory that is not there. Git stops at
+ * these two. GCV_NO_MEMORY if malloc refuses memory, which the call gives back. */
+GCV_RETURNS((5, 8)) gcv_include(const char *key, size_t key_length, const char *value, size_t value_length,
+                                const gcv_includer *includer, char *GCV_RESTRICT buffer, size_t capacity, size_t *size)
+{
+    char none[1] = {0};
+    size_t length = value ? value_length : 0;
+    size_t file_length = includer->file ? includer->file_length : 0;
+    size_t install_dir_length = includer->install_dir ? includer->install_dir_length : 0;
+    size_t home_length = includer->home ? includer->home_length : 0;
+    size_t git_dir_length = includer->git_dir ? includer->git_dir_length : 0;
+    const char *real_git_dir = includer->real_git_dir ? includer->real_git_dir : includer->git_dir;
+    size_t real_git_dir_length = includer->real_git_dir ? includer->real_git_dir_length : git_dir_length;
+    size_t branch_length = includer->branch ? includer->branch_length : 0;
+    return gcv_raw_include(gcv_bytes(key, key_length), key_length, value ? 1 : 0, gcv_bytes(value, length), length,
+                           gcv_bytes(includer->file, file_length), file_length, includer->install_dir ? 1 : 0,
+                           gcv_bytes(includer->install_dir, install_dir_length), install_dir_length,
+                           includer->home ? 1 : 0, gcv_bytes(includer->home, home_length), home_length,
+                           includer->git_dir ? 1 : 0, gcv_bytes(includer->git_dir, git_dir_length), git_dir_length,
+                           gcv_bytes(real_git_dir, real_git_dir_length), real_git_dir_length, includer->branch ? 1 : 0,
+                           gcv_bytes(includer->branch, branch_length), branch_length, capacity == 0 ? none : buffer,
+                           capacity, size);
 }
 
 /* Paths. */
