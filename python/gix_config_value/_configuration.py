@@ -4,7 +4,7 @@ from collections import namedtuple
 
 from . import _core, _repository
 from ._errors import InvalidFile, Refused
-from ._values import READERS, home_of_user, interpolate, reader_of
+from ._values import READERS, Readers, home_of_user, interpolate
 
 Entry = namedtuple("Entry", "file line key text", module="gix_config_value")
 Entry.__doc__ = """An entry of a file: the file, the line from 1, the key as Git lists it, and the text.
@@ -16,7 +16,6 @@ MOST_INCLUDES = 10
 
 _MISSING = (FileNotFoundError, NotADirectoryError)
 
-_LOWER = str.maketrans("ABCDEFGHIJKLMNOPQRSTUVWXYZ", "abcdefghijklmnopqrstuvwxyz")
 _ABSENT = object()
 
 
@@ -24,17 +23,22 @@ def _path(text):
     return interpolate(text, home=os.environ.get("HOME"), users=home_of_user)
 
 
-_READERS = {**READERS, "path": _path, "text": str}
+_READERS = Readers(READERS, path=_path, text=str)
 
 
-def _value(kind, text):
+def _value(read, text):
     """The value of a text, where `None` is that of a key without `=`."""
-    if text is None and kind == "text":
+    if text is not None:
+        return read(text)
+    if read is str:
         return None
-    if text is None:
-        # the boolean is true, and no other kind reads these
-        text = "" if kind == "path" else "true"
-    return reader_of(kind, _READERS)(text)
+    # a boolean is true, and no other reader takes these
+    return read("" if read is _path else "true")
+
+
+def _lower(text):
+    # a section or a last part that is not ASCII is in no file
+    return text.lower() if text.isascii() else text
 
 
 def _listed(key):
@@ -43,7 +47,7 @@ def _listed(key):
         raise TypeError(f"a key is a str, and not {type(key)}")
     section, dot, rest = key.partition(".")
     subsection, last_dot, name = rest.rpartition(".")
-    return section.translate(_LOWER) + dot + subsection + last_dot + name.translate(_LOWER)
+    return _lower(section) + dot + subsection + last_dot + _lower(name)
 
 
 class Configuration(dict):
@@ -94,24 +98,23 @@ class Configuration(dict):
         HOME and the users of this system. A key without `=` is true as a boolean, has no text, and no other value.
         If the text has no value of the kind, `Refused` names the entry.
         """
+        read_text = _READERS[kind]
         text = dict.get(self, key, _ABSENT)
         if text is _ABSENT:
             text = dict.get(self, _listed(key), _ABSENT)
-        if text is _ABSENT:
-            reader_of(kind, _READERS)
-            return default
+            if text is _ABSENT:
+                return default
         try:
-            return _value(kind, text)
+            return _value(read_text, text)
         except Refused as refused:
             raise refused.of(self.entries_of(key)[-1]) from None
 
     def get_all(self, key, kind="text"):
         """The values of all entries with a key, in order."""
-        reader_of(kind, _READERS)
-        values = []
+        read_text, values = _READERS[kind], []
         for entry in self.entries_of(key):
             try:
-                values.append(_value(kind, entry.text))
+                values.append(_value(read_text, entry.text))
             except Refused as refused:
                 raise refused.of(entry) from None
         return values
@@ -129,11 +132,11 @@ def _text_of(name):
 
 def _add(entries, name, text, known, depth=0):
     """Appends the entries of a file, and after each one those of the file that it includes, if includes are known."""
-    file = os.fsdecode(name)
+    file, includer = os.fsdecode(name), known and (name, *known)
     for line, key, value in _core.settings(text, file):
         entry = Entry(file, line, key, value)
         entries.append(entry)
-        included = known and _included(entry, (name, *known))
+        included = includer and _included(entry, includer)
         if included is not None:
             _add_included(entries, entry, included, known, depth + 1)
 

@@ -7,16 +7,16 @@ from ._core import Attribute, Color, Name, boolean, integer, suffix
 #: The kinds of values, in the order of their numbers in C.
 KINDS = ("suffix", "integer", "amount", "boolean", "name", "attribute", "color")
 
-READERS = {"suffix": suffix, "integer": integer, "amount": integer, "boolean": boolean, "name": Name.parse,
-           "attribute": Attribute.parse, "color": Color.parse}
+
+class Readers(dict):
+    """Readers by kinds."""
+
+    def __missing__(self, kind):
+        raise ValueError(f"no kind {kind!r}: {', '.join(self)}")
 
 
-def reader_of(kind, readers):
-    """The reader of a kind, or `ValueError`."""
-    read = readers.get(kind)
-    if read is None:
-        raise ValueError(f"no kind {kind!r}: {', '.join(readers)}")
-    return read
+READERS = Readers(suffix=suffix, integer=integer, amount=integer, boolean=boolean, name=Name.parse,
+                  attribute=Attribute.parse, color=Color.parse)
 
 
 def lookup(kind, entries, name, default=None):
@@ -28,7 +28,7 @@ def lookup(kind, entries, name, default=None):
     >>> lookup("boolean", {"core.bare": "yes"}, "core.bare")
     True
     """
-    read = reader_of(kind, READERS)
+    read = READERS[kind]
     if hasattr(entries, "keys"):
         if name not in entries:
             return default
