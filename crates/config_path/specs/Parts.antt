@@ -1,8 +1,12 @@
 -- What the parts of a text make.
-use Rattle.std.specs.Prelude.{ℕ, List, [], ◌++◌, codes, Result, Ok, Err, if◌then◌else◌}
+use Rattle.std.specs.Prelude.{ℕ, List, [], ◌++◌, codes, Result, Ok, Err, if◌then◌else◌, option_copied}
 use Rattle.config_path.specs.declared.interpolate.Error.{Error}
+use Rattle.config_path.specs.declared.parts.Form as code
+use Rattle.config_path.specs.declared.parts.Form.TheVariants as forms
+use Rattle.config_path.specs.declared.parts.Joint.{Joint}
 use Rattle.config_path.specs.declared.parts.Parts.{Parts}
-use Rattle.config_path.specs.Interpolation.{PathResult, refusal}
+use Rattle.config_path.specs.Interpolation.{Form, PathResult, refusal}
+use Rattle.config_path.specs.Interpolation.Form.{empty, below_prefix, below_home, below_user, other}
 use Rattle.config_path.specs.Interpolation.PathResult.{text}
 
 -- the text of the parts
@@ -13,3 +17,20 @@ parts_text p = p.dir.now ++ (if p.has_slash then codes "/" else []) ++ p.rest.no
 abbrev pub parts_result : Result Parts Error → PathResult
 parts_result (Ok p) = text (parts_text p)
 parts_result (Err e) = refusal e
+
+-- a form by its bytes
+abbrev pub form_in : code.Form → Form
+form_in forms.Empty = empty
+form_in (forms.BelowPrefix rest) = below_prefix rest.now
+form_in (forms.BelowHome rest) = below_home (option_copied rest)
+form_in (forms.BelowUser name rest) = below_user name.now (option_copied rest)
+form_in (forms.Other value) = other value.now
+
+-- the text of a directory and what follows it
+abbrev pub joint_text : List ℕ → Joint → List ℕ
+joint_text dir j = (if j.has_dir then dir else []) ++ (if j.has_slash then codes "/" else []) ++ j.rest.now
+
+-- the same, or an error, as a result of the path table
+abbrev pub joint_result : List ℕ → Result Joint Error → PathResult
+joint_result dir (Ok j) = text (joint_text dir j)
+joint_result dir (Err e) = refusal e

@@ -5,6 +5,7 @@ ghost use Rattle.config_path.specs.Interpolation.{place_shown, path_error_text, 
 ghost use Rattle.config_path.specs.Passwd.{colon, pieces, home_of_fields, home_in};
 ghost use Rattle.config_path.specs.Reading.Fields.{FollowsFields};
 
+use bstr::ByteSlice;
 use std::alloc::AllocError;
 use std::fmt;
 use thiserror::Error as ThisError;
@@ -217,45 +218,61 @@ impl<'a, F> Default for Context<'a, F> {
     }
 }
 
-/// The piece before the first separator and what follows it, or `None` if the text holds no separator. Its
-/// contract says what `split_once` gives in the words of the passwd text.
-fn split_piece<'a>(text: &'a str, separator: char) -> Option<(&'a str, &'a str)>
-    requires { separator < 128 }
+/// The piece before the first separator and what follows it, or `None` if the text holds no separator.
+fn split_piece(text: &[u8], separator: u8) -> Option<(&[u8], &[u8])>
     ensures cut { MatchOption result
         (pieces separator text.now ≡ text.now ∷ [])
         (λ cut. pieces separator text.now ≡ cut.0.now ∷ pieces separator cut.1.now) }
     ensures shorter { IfSome result (λ cut. length cut.1.now < length text.now) }
 {
-    text.split_once(separator)
+    let at = text.find_byte(separator)?;
+    Some((&text[..at], &text[at + 1..]))
 }
 
 /// What follows the first `count` fields of a line, or `None` if it has no more fields than those.
-fn past_fields(line: &str, count: usize) -> Option<&str>
+fn past_fields(line: &[u8], count: usize) -> Option<&[u8]>
     ensures { MatchOption result (length (pieces colon line.now) ≤ count)
         (λ rest. FollowsFields count (pieces colon line.now) (pieces colon rest.now)) }
 {
     let mut rest = line;
     for _field in 0..count {
-        let (_skipped, more) = split_piece(rest, ':')?;
+        let (_skipped, more) = split_piece(rest, b':')?;
         rest = more;
     }
     Some(rest)
 }
 
 /// The home directory in one line, if the line has seven fields and is that of the user.
-fn home_in_line<'a>(line: &'a str, name: &str) -> Option<&'a str>
+fn home_in_line<'a>(line: &'a [u8], name: &[u8]) -> Option<&'a [u8]>
     ensures { option_copied result ≡ home_of_fields name.now (pieces colon line.now) }
 {
-    let (user, rest) = split_piece(line, ':')?;
+    let (user, rest) = split_piece(line, b':')?;
     if user != name {
         return None;
     }
     let rest = past_fields(rest, 4)?;
-    let (home, shell) = split_piece(rest, ':')?;
-    match split_piece(shell, ':') {
+    let (home, shell) = split_piece(rest, b':')?;
+    match split_piece(shell, b':') {
         Some(_) => None,
         None => Some(home),
     }
+}
+
+/// As [`home_for_user`], in a passwd text of any bytes.
+pub fn home_in_passwd<'a>(passwd: &'a [u8], name: &[u8]) -> Option<&'a [u8]>
+    ensures { option_copied result ≡ home_in passwd.now name.now }
+{
+    if name.contains(&0) {
+        return None;
+    }
+    let mut rest = passwd;
+    while let Some((line, tail)) = split_piece(rest, b'\n') {
+        if let Some(home) = home_in_line(line, name) {
+            return Some(home);
+        }
+        rest = tail;
+    }
+    home_in_line(rest, name)
 }
 
 /// The home directory of the user of that name in a passwd text. It is the sixth field of the first line of
@@ -275,15 +292,9 @@ fn home_in_line<'a>(line: &'a str, name: &str) -> Option<&'a str>
 pub fn home_for_user<'a>(passwd: &'a str, name: &str) -> Option<&'a str>
     ensures { option_copied result ≡ home_in passwd.now name.now }
 {
-    if name.as_bytes().contains(&0) {
-        return None;
+    let home = home_in_passwd(passwd.as_bytes(), name.as_bytes())?;
+    match str::from_utf8(home) {
+        Ok(home) => Some(home),
+        Err(_) => None,
     }
-    let mut rest = passwd;
-    while let Some((line, tail)) = split_piece(rest, '\n') {
-        if let Some(home) = home_in_line(line, name) {
-            return Some(home);
-        }
-        rest = tail;
-    }
-    home_in_line(rest, name)
 }

@@ -3,13 +3,13 @@
 //! No memory is asked for. `Path::interpolate` makes one text of the parts, and a caller with a buffer writes
 //! them there.
 ghost use Rattle.std.specs.Prelude.{◌≡◌, ◌≢◌, [], IsUtf8, MatchResult, codes, if◌then◌else◌};
-ghost use Rattle.std.specs.Prelude.{option_copied, string_bytes};
+ghost use Rattle.std.specs.Prelude.{option_copied, string_bytes, Some};
 ghost use Rattle.std.specs.Option.{ForSome};
 ghost use Rattle.config_path.specs.declared.interpolate.Place.TheVariants.{Whole};
-ghost use Rattle.config_path.specs.Interpolation.{PathTable, WhereUtf8, IsBelow, IsBelowUser, IsOneName};
+ghost use Rattle.config_path.specs.Interpolation.{PathResult, PathTable, HasForm, WhereUtf8, IsBelow, IsBelowUser, IsOneName};
 ghost use Rattle.config_path.specs.Interpolation.{below, join, refusal, users_of, known_in};
 ghost use Rattle.config_path.specs.Interpolation.PathResult.{text as whole_text, ill_formed};
-ghost use Rattle.config_path.specs.Parts.{parts_text, parts_result};
+ghost use Rattle.config_path.specs.Parts.{parts_text, parts_result, form_in, joint_text, joint_result};
 
 use crate::interpolate::{Context, Error, Place};
 use crate::path::strip_front;
@@ -71,7 +71,7 @@ impl Parts<'_, '_> {
 }
 
 /// The bytes as text. Fails with `IllFormed`, which holds the place and all the bytes.
-fn text_at<'p>(place: Place, bytes: &'p [u8]) -> Result<&'p str, Error<'p>>
+pub fn text_at<'p>(place: Place, bytes: &'p [u8]) -> Result<&'p str, Error<'p>>
     ensures { MatchResult result
         (λ text. (text.now ≡ bytes.now) × IsUtf8 bytes.now)
         (λ e. ¬ (IsUtf8 bytes.now) × (refusal e ≡ ill_formed place bytes.now)) }
@@ -85,22 +85,65 @@ fn text_at<'p>(place: Place, bytes: &'p [u8]) -> Result<&'p str, Error<'p>>
     }
 }
 
-/// A directory and a rest as one path.
-fn joined<'a, 'p>(dir: &'a str, rest: &'p str) -> Parts<'a, 'p>
-    ensures { parts_text result ≡ join dir.now rest.now }
-{
-    if rest.as_bytes().starts_with(b"/") {
-        return Parts {
-            dir: "",
-            has_slash: false,
+/// What follows a directory, and what of the two stays.
+#[derive(Clone, Copy)]
+pub struct Joint<'p> {
+    /// Whether the directory stays: a rest that begins with `/` stands alone.
+    pub has_dir: bool,
+    /// Whether a `/` follows the directory.
+    pub has_slash: bool,
+    /// What follows, of the value.
+    pub rest: &'p str,
+}
+
+impl<'p> Joint<'p> {
+    /// The rest below a directory.
+    fn of(dir: &[u8], rest: &'p str) -> Joint<'p>
+        ensures { joint_text dir.now result ≡ join dir.now rest.now }
+    {
+        if rest.as_bytes().starts_with(b"/") {
+            return Joint {
+                has_dir: false,
+                has_slash: false,
+                rest,
+            };
+        }
+        Joint {
+            has_dir: true,
+            has_slash: !dir.is_empty() && !dir.ends_with(b"/"),
             rest,
-        };
+        }
     }
-    let has_slash = !dir.is_empty() && !dir.as_bytes().ends_with(b"/");
-    Parts {
-        dir,
-        has_slash,
-        rest,
+
+    /// The parts with this directory.
+    fn with<'a>(self, dir: &'a str) -> Parts<'a, 'p>
+        ensures { parts_text result ≡ joint_text dir.now self.entry }
+    {
+        Parts {
+            dir: if self.has_dir { dir } else { "" },
+            has_slash: self.has_slash,
+            rest: self.rest,
+        }
+    }
+}
+
+/// How a rest, if there is one, is put below a directory of any bytes. Fails with `IllFormed` at the place if the
+/// rest is not UTF-8.
+pub fn joint_of<'p>(dir: &[u8], rest: Option<&'p [u8]>, place: Place) -> Result<Joint<'p>, Error<'p>>
+    ensures { (missing : PathResult) → IsBelow (record {
+      dir = Some dir.now;
+      missing = missing;
+      rest = option_copied rest.entry;
+      place = place;
+    }) (joint_result dir.now result) }
+{
+    match rest {
+        None => Ok(Joint {
+            has_dir: true,
+            has_slash: false,
+            rest: "",
+        }),
+        Some(rest) => Ok(Joint::of(dir, text_at(place, rest)?)),
     }
 }
 
@@ -122,13 +165,9 @@ fn below_dir<'a, 'p>(
     let Some(dir) = dir else {
         return Err(missing);
     };
-    match rest {
-        None => Ok(Parts {
-            dir,
-            has_slash: false,
-            rest: "",
-        }),
-        Some(rest) => Ok(joined(dir, text_at(place, rest)?)),
+    match joint_of(dir.as_bytes(), rest, place) {
+        Ok(joint) => Ok(joint.with(dir)),
+        Err(error) => Err(error),
     }
 }
 
@@ -162,6 +201,48 @@ fn name_and_rest(path: &[u8]) -> (&[u8], Option<&[u8]>)
     }
 }
 
+/// What a value is, by how it begins.
+#[derive(Clone, Copy)]
+pub enum Form<'p> {
+    /// It is empty.
+    Empty,
+    /// It begins with `%(prefix)/`, and this follows.
+    BelowPrefix(&'p [u8]),
+    /// It is `~`, or begins with `~/`, and this follows.
+    BelowHome(Option<&'p [u8]>),
+    /// It begins with `~` and this name, and what follows the `/` after the name, if there is one.
+    BelowUser(&'p [u8], Option<&'p [u8]>),
+    /// It is any other value: this one.
+    Other(&'p [u8]),
+}
+
+/// The form of a value, which tells the directory that it asks for.
+///
+/// ```rust
+/// use gix_config_value::path::parts::{Form, form_of};
+///
+/// assert!(rt; matches!(form_of(b"~/x"), Form::BelowHome(Some(_))));
+/// assert!(rt; matches!(form_of(b"/etc/x"), Form::Other(_)));
+/// ```
+pub fn form_of(value: &[u8]) -> Form<'_>
+    ensures { HasForm value.now (form_in result) }
+{
+    if value.is_empty() {
+        return Form::Empty;
+    }
+    if let Some(rest) = strip_front(value, PREFIX) {
+        return Form::BelowPrefix(rest);
+    }
+    let Some(path) = strip_front(value, b"~") else {
+        return Form::Other(value);
+    };
+    let (name, rest) = name_and_rest(path);
+    if name.is_empty() {
+        return Form::BelowHome(rest);
+    }
+    Form::BelowUser(name, rest)
+}
+
 /// The value itself. Fails with `IllFormed` where it is not UTF-8.
 fn unchanged<'a, 'p>(value: &'p [u8]) -> Result<Parts<'a, 'p>, Error<'p>>
     ensures { WhereUtf8 Whole value.now (parts_result result ≡ whole_text value.now) (parts_result result) }
@@ -189,19 +270,14 @@ where
         home_dir,
         home_for_user,
     } = context;
-    if value.is_empty() {
-        return Err(Error::PathMissing);
+    match form_of(value) {
+        Form::Empty => Err(Error::PathMissing),
+        Form::BelowPrefix(rest) => {
+            let missing = Error::InstallDirMissing;
+            below_dir(git_install_dir, missing, Some(rest), Place::PastPrefix)
+        }
+        Form::BelowHome(rest) => below_dir(home_dir, Error::HomeMissing, rest, Place::PastHome),
+        Form::BelowUser(name, rest) => below_user(home_for_user, name, rest),
+        Form::Other(whole) => unchanged(whole),
     }
-    if let Some(rest) = strip_front(value, PREFIX) {
-        let missing = Error::InstallDirMissing;
-        return below_dir(git_install_dir, missing, Some(rest), Place::PastPrefix);
-    }
-    let Some(path) = strip_front(value, b"~") else {
-        return unchanged(value);
-    };
-    let (name, rest) = name_and_rest(path);
-    if name.is_empty() {
-        return below_dir(home_dir, Error::HomeMissing, rest, Place::PastHome);
-    }
-    below_user(home_for_user, name, rest)
 }

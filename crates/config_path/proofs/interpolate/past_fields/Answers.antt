@@ -26,18 +26,18 @@ no_more n count fields rest field f e below =
     )
 
 pub loop-field-init : goal.loop-field-init
-loop-field-init c = (record { others = []; counted = refl; parts = refl }, search rules)
+loop-field-init c = record { others = []; counted = refl; parts = refl }
 
 pub loop-field-preserved : goal.loop-field-preserved
 loop-field-preserved c =
-    (one_more _ _ _ _ _ c.loop-field.invariant.0 c.in_ok-_skipped.ensures.cut, search rules)
+    one_more _ _ _ _ _ c.loop-field.invariant c.in_ok-_skipped.ensures.cut
 
 pub returns-in_err-_skipped : goal.returns-in_err-_skipped
 returns-in_err-_skipped c = rw c.from_residual.ensures
-    (no_more _ _ _ _ _ c.loop-field.invariant.0 c.in_err-_skipped.ensures.cut c.loop-field-test.true)
+    (no_more _ _ _ _ _ c.loop-field.invariant c.in_err-_skipped.ensures.cut c.loop-field-test.true)
 
 pub returns : goal.returns
 returns c = let whole : c.loop-field._field ≡ c.args.count =
     omega (arith, c.loop-field-test.false, c.loop-field.auto._field-end) in
     subst (λ n. FollowsFields n (pieces colon c.args.line.now) (pieces colon c.loop-field.rest.now)) whole
-    c.loop-field.invariant.0
+    c.loop-field.invariant

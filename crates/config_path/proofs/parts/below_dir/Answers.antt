@@ -1,22 +1,11 @@
-use Rattle.std.proofs.Common.{ap, refl, ◌∙◌, rules, append-nil}
-use Rattle.config_path.specs.Interpolation.IsBelow.{no_rest, both}
-use Rattle.config_path.specs.Interpolation.PathResult.{text}
-use Rattle.config_path.specs.Interpolation.WhereUtf8.{utf8, other_bytes}
+use Rattle.config_path.specs.Interpolation.{refusal}
 use Rattle.config_path.proofs.parts.below_dir.Goals as goal
 
-pub returns-in_err-text_at-in-Some-rest : goal.returns-in_err-text_at-in-Some-rest
-returns-in_err-text_at-in-Some-rest c =
-    both c.in-Some.dir.now c.in-Some-rest.rest.now (rw c.in-Some.is refl) (rw c.in-Some-rest.is refl)
-    (other_bytes c.in_err-text_at-in-Some-rest.ensures.0
-    (let e = c.in_err-text_at-in-Some-rest.ensures.1 in let r = c.from_residual.ensures in search rules))
+pub returns-in-Ok : goal.returns-in-Ok
+returns-in-Ok c =
+    let below = c.in-Ok.ensures (refusal c.args.missing) in
+    rw (c.in-Some.is, c.with.ensures) (rw c.as_bytes.ensures.value at below)
 
-pub returns-in-None : goal.returns-in-None
-returns-in-None c =
-    no_rest c.in-Some.dir.now (rw c.in-Some.is refl) (rw c.in-None.is refl)
-    (ap text (append-nil _ ∙ append-nil _))
-
-pub returns-in_ok-text_at-in-Some-rest : goal.returns-in_ok-text_at-in-Some-rest
-returns-in_ok-text_at-in-Some-rest c =
-    let t = c.in_ok-text_at-in-Some-rest.ensures in
-    both c.in-Some.dir.now c.in-Some-rest.rest.now (rw c.in-Some.is refl) (rw c.in-Some-rest.is refl)
-    (utf8 t.1 (rw (← t.0) (ap text c.joined.ensures)))
+pub returns-in-Err : goal.returns-in-Err
+returns-in-Err c =
+    let below = c.in-Err.ensures (refusal c.args.missing) in rw c.in-Some.is (rw c.as_bytes.ensures.value at below)
