@@ -152,7 +152,7 @@ static PyObject *reject(gcv_status status, PyObject *file, size_t line)
     const char *code = status == GCV_BAD_LINE   ? "bad_line"
                        : status == GCV_NUL      ? "nul"
                        : status == GCV_NO_VALUE ? "no_value"
-                                                : "unknown_directory";
+                                                : "no_directory";
     if (status == GCV_NO_MEMORY)
         return PyErr_NoMemory();
     return raised(invalid_file_type, PyObject_CallFunction(invalid_file_type, "ssOn", code,

@@ -7,7 +7,7 @@ Suffix = Literal["k", "m", "g"]
 Code = Literal["suffix", "boolean", "integer", "overflow", "out_of_range", "color", "path_missing",
                "install_dir_missing", "home_missing", "lookup_missing", "user_not_found", "ill_formed_past_prefix",
                "ill_formed_past_home", "ill_formed_username", "ill_formed_past_user", "ill_formed_path"]
-FileCode = Literal["bad_line", "nul", "no_value", "unknown_directory", "unreadable", "too_deep"]
+FileCode = Literal["bad_line", "nul", "no_value", "no_directory", "unreadable", "too_deep"]
 Kind = Literal["suffix", "integer", "amount", "boolean", "name", "attribute", "color"]
 AnyPath = Union[str, bytes, PathLike[str], PathLike[bytes]]
 Entries = Union[Mapping[AnyStr, Optional[Text]], Iterable[Tuple[Text, Optional[Text]]]]

@@ -62,12 +62,17 @@ class Configuration(dict):
     """
 
     __module__ = "gix_config_value"
-    __slots__ = ("entries", "_by_key")
+    __slots__ = ("_entries", "_by_key")
 
     def __init__(self, entries=()):
-        self.entries = tuple(entries)
-        self._by_key = {}
-        super().__init__((entry.key, entry.text) for entry in self.entries)
+        self._entries = tuple(entries)
+        self._by_key = None
+        super().__init__((entry.key, entry.text) for entry in self._entries)
+
+    @property
+    def entries(self):
+        """All entries, in order."""
+        return self._entries
 
     def __missing__(self, key):
         text = dict.get(self, _listed(key), _ABSENT)
@@ -79,16 +84,18 @@ class Configuration(dict):
         return dict.__contains__(self, key) or dict.__contains__(self, _listed(key))
 
     def __repr__(self):
-        return f"Configuration({self.entries!r})"
+        return f"Configuration({self._entries!r})"
 
     def __reduce__(self):
-        return Configuration, (self.entries,)
+        return Configuration, (self._entries,)
 
     def entries_of(self, key):
         """The entries with a key, in order: the last one decides."""
-        if not self._by_key:
-            for entry in self.entries:
-                self._by_key.setdefault(entry.key, []).append(entry)
+        if self._by_key is None:
+            by_key = {}
+            for entry in self._entries:
+                by_key.setdefault(entry.key, []).append(entry)
+            self._by_key = by_key
         return tuple(self._by_key.get(_listed(key), ()))
 
     def get(self, key, kind="text", default=None):
@@ -146,7 +153,7 @@ def _included(entry, includer):
     try:
         return _core.include(entry, includer)
     except InvalidFile as invalid:
-        if invalid.code != "unknown_directory":
+        if invalid.code != "no_directory":
             raise
         # the library looks up no users
         try:

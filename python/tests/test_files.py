@@ -220,7 +220,7 @@ class Configurations(Files):
         for call in (config.get, config.get_all):
             for key in ("core.bare", "a.b"):
                 self.assertRaises(ValueError, call, key, "number")
-            self.assertRaises(TypeError, call, b"core.bare")
+            self.assertRaises(TypeError, call, 3)
 
     def test_mapping(self):
         config = self.config

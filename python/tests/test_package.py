@@ -303,7 +303,7 @@ class Paths(unittest.TestCase):
 
 class Package(unittest.TestCase):
     def test_examples(self):
-        for module in (gcv, sys.modules[gcv.lookup.__module__], sys.modules[gcv.read.__module__]):
+        for module in (gcv, sys.modules[lookup.__module__]):
             tested = doctest.testmod(module)
             self.assertTrue(tested.attempted > 0 and tested.failed == 0, tested)
         page = ROOT / "docs/C.md"
