@@ -8,6 +8,8 @@ red bold red bold
 >>> normalize("integer", "0x10k")
 '16k'
 
+`read(file)` and `read_repository(folder)` read files: `read_repository(".").get("core.bare", "boolean")`.
+
 A text is a `str`, or `bytes` or another buffer of bytes; anything else raises `TypeError`. A refused text raises
 `Refused`, a `ValueError` with a code for the fault.
 """

@@ -26,10 +26,8 @@ def _path(text):
 _READERS = Readers(READERS, path=_path, text=str)
 
 
-def _value(read, text):
-    """The value of a text, where `None` is that of a key without `=`."""
-    if text is not None:
-        return read(text)
+def _alone(read):
+    """The value of a key without `=`."""
     if read is str:
         return None
     # a boolean is true, and no other reader takes these
@@ -112,7 +110,7 @@ class Configuration(dict):
             if text is _ABSENT:
                 return default
         try:
-            return _value(read_text, text)
+            return _alone(read_text) if text is None else read_text(text)
         except Refused as refused:
             raise refused.of(self.entries_of(key)[-1]) from None
 
@@ -121,7 +119,7 @@ class Configuration(dict):
         read_text, values = _READERS[kind], []
         for entry in self.entries_of(key):
             try:
-                values.append(_value(read_text, entry.text))
+                values.append(_alone(read_text) if entry.text is None else read_text(entry.text))
             except Refused as refused:
                 raise refused.of(entry) from None
         return values

@@ -12,18 +12,22 @@ class Refused(ValueError):
     """
 
     __module__ = "gix_config_value"
+    file = line = key = _entry = None
 
     def __init__(self, code, fault, input, entry=None):
         shown = repr(input[:SHOWN_INPUT])
         if len(input) > SHOWN_INPUT:
             shown += f".. ({len(input)} bytes)"
+        message = f"{fault}: {shown}"
+        if entry is not None:
+            self._entry = entry
+            self.file, self.line, self.key, text = entry
+            message = f"{fault}: no value" if text is None else message
+            message = f"{self.file}:{self.line}: {self.key}: {message}"
+        super().__init__(message)
         self.code = code
         self.fault = fault
         self.input = input
-        self.file, self.line, self.key, text = entry or (None, None, None, "")
-        place = f"{self.file}:{self.line}: {self.key}: " if entry else ""
-        super().__init__(f"{place}{fault}: {'no value' if text is None else shown}")
-        self._entry = entry
 
     def of(self, entry):
         """The same refusal, of the text of this entry."""
