@@ -47,16 +47,20 @@ def refused(text):
     except ValueError:
         pass
 
-entries = {f"core.key{at}": "yes" for at in range(1000)}
-lookup = lambda: boolean(entries["core.key500"])
+config = {f"core.key{at}": "yes" for at in range(1000)}
+lookup = value = lambda key: boolean(config[key])
 """
 OF_PACKAGE = """
 import gix_config_value as it
 boolean, integer, color = getattr(it, "boolean", None), getattr(it, "integer", None), it.Color.parse
 entries = {f"core.key{at}": "yes" for at in range(1000)}
-lookup = lambda: it.lookup("boolean", entries, "core.key500")
+lookup = value = lambda key: it.lookup("boolean", entries, key)
 if boolean is None:
     boolean, integer, entries = it.Boolean.parse, lambda text: it.Integer.parse(text).to_decimal(), list(entries.items())
+config = dict(entries)
+if hasattr(it, "Configuration"):
+    config = it.Configuration(it.Entry("config", 1, *entry) for entry in entries.items())
+    value = lambda key: config.get(key, "boolean")
 
 def refused(text):
     try:
@@ -65,7 +69,8 @@ def refused(text):
         pass
 """
 ROWS = {"a boolean": 'boolean("yes")', "an integer": 'integer("10m")', "a color": 'color("bold red ul blue")',
-        "a refused boolean": 'refused("maybe")', "one of 1,000 settings": "lookup()"}
+        "a refused boolean": 'refused("maybe")', "one of 1,000 settings": 'lookup("core.key500")',
+        "a text by key": 'config["core.key500"]', "a boolean by key": 'value("core.key500")'}
 
 
 def run(folder, code):

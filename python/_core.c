@@ -18,7 +18,7 @@ typedef struct {
 } Value;
 
 static PyTypeObject *name_type, *attribute_type, *color_type;
-static PyObject *refused_type;
+static PyObject *refused_type, *invalid_file_type;
 
 static const char *const kinds[] = {"suffix", "integer",   "amount", "boolean",
                                     "name",   "attribute", "color",  NULL};
@@ -127,17 +127,36 @@ static int is_kind(PyObject *name, gcv_kind *kind)
     return 0;
 }
 
+/* Raises an exception that has just been made, unless that failed. Always NULL. */
+static PyObject *raised(PyObject *type, PyObject *error)
+{
+    if (error)
+        PyErr_SetObject(type, error);
+    Py_XDECREF(error);
+    return NULL;
+}
+
 /* Raises Refused for a text, given as `bytes`. Always NULL. */
 static PyObject *refuse(gcv_fault fault, PyObject *bytes)
 {
     char text[GCV_LONGEST_TEXT];
     size_t size = 0;
     (void)gcv_fault_text(fault, text, sizeof text, &size);
-    PyObject *error = PyObject_CallFunction(refused_type, "sNO", codes[fault], ascii(text, size), bytes);
-    if (error)
-        PyErr_SetObject(refused_type, error);
-    Py_XDECREF(error);
-    return NULL;
+    return raised(refused_type,
+                  PyObject_CallFunction(refused_type, "sNO", codes[fault], ascii(text, size), bytes));
+}
+
+/* Raises InvalidFile for a line of a file, or MemoryError. Always NULL. */
+static PyObject *reject(gcv_status status, PyObject *file, size_t line)
+{
+    const char *code = status == GCV_BAD_LINE   ? "bad_line"
+                       : status == GCV_NUL      ? "nul"
+                       : status == GCV_NO_VALUE ? "no_value"
+                                                : "no_directory";
+    if (status == GCV_NO_MEMORY)
+        return PyErr_NoMemory();
+    return raised(invalid_file_type, PyObject_CallFunction(invalid_file_type, "ssOn", code,
+                                                           gcv_status_text(status), file, (Py_ssize_t)line));
 }
 
 /* Readers */
@@ -732,6 +751,105 @@ static PyObject *mark_cut(PyObject *Py_UNUSED(module), PyObject *path)
     return result;
 }
 
+/* Files */
+
+/* A text of a file, which is any bytes but NUL. */
+static PyObject *text_of(const char *bytes)
+{
+    return PyUnicode_DecodeUTF8(bytes, (Py_ssize_t)strlen(bytes), "surrogateescape");
+}
+
+/* The line, the key and the text of each setting, where the text of a key without `=` is None. */
+static PyObject *listed(const gcv_settings *settings)
+{
+    PyObject *list = PyList_New((Py_ssize_t)settings->count);
+    gcv_setting setting;
+    size_t index = 0;
+    while (list && gcv_next_setting(settings, &index, &setting) == GCV_OK) {
+        PyObject *text = setting.value ? text_of(setting.value) : counted(Py_None);
+        PyObject *row = Py_BuildValue("nNN", (Py_ssize_t)setting.line, text_of(setting.key), text);
+        if (!row || PyList_SetItem(list, (Py_ssize_t)index - 1, row) != 0)
+            Py_CLEAR(list);
+    }
+    return list;
+}
+
+/* The settings of a file with these bytes; the file is named in InvalidFile. */
+static PyObject *settings_of(PyObject *Py_UNUSED(module), PyObject *args)
+{
+    PyObject *bytes, *file, *result = NULL;
+    gcv_settings settings = {0};
+    gcv_file taken = {0};
+    if (!PyArg_ParseTuple(args, "SO", &bytes, &file))
+        return NULL;
+    const char *text = PyBytes_AsString(bytes);
+    size_t length = (size_t)PyBytes_Size(bytes);
+    gcv_status status = gcv_add_file(&settings, text, length, &taken);
+    if (status == GCV_SHORT_BUFFER) {
+        settings.bytes = PyMem_Malloc(settings.capacity = taken.size);
+        settings.places = PyMem_Malloc((settings.room = taken.count) * sizeof *settings.places);
+        status = settings.bytes && settings.places ? gcv_add_file(&settings, text, length, &taken) : GCV_NO_MEMORY;
+    }
+    result = status == GCV_OK ? listed(&settings) : reject(status, file, taken.line);
+    PyMem_Free(settings.bytes);
+    PyMem_Free(settings.places);
+    return result;
+}
+
+/* The bytes of a text of C, and how many there are. Null for None, and with an exception for what is not `bytes`. */
+static const char *part_of(PyObject *bytes, size_t *length)
+{
+    char *text = NULL;
+    Py_ssize_t size = 0;
+    if (bytes != Py_None && PyBytes_AsStringAndSize(bytes, &text, &size) != 0)
+        return NULL;
+    *length = (size_t)size;
+    return text;
+}
+
+/* Makes the name of the file that a key and a value include, as `bytes`. Both are `bytes`, or None. */
+static gcv_status make_name(PyObject *key, PyObject *value, const gcv_includer *includer, PyObject **name)
+{
+    size_t key_length = 0, length = 0, size = 0;
+    const char *key_text = part_of(key, &key_length), *text = part_of(value, &length);
+    gcv_status status = gcv_include(key_text, key_length, text, length, includer, NULL, 0, &size);
+    if (status == GCV_OK || status == GCV_SHORT_BUFFER) {
+        *name = PyBytes_FromStringAndSize(NULL, (Py_ssize_t)size);
+        status = *name ? gcv_include(key_text, key_length, text, length, includer, PyBytes_AsString(*name), size, &size)
+                       : GCV_NO_MEMORY;
+    }
+    return status;
+}
+
+/* The name of the file that an entry includes, or None. The arguments are an entry, and the parts of a gcv_includer,
+ * each of them `bytes` or None. */
+static PyObject *included(PyObject *Py_UNUSED(module), PyObject *args)
+{
+    PyObject *file, *key, *value, *parts[6], *name = NULL;
+    Py_ssize_t line;
+    gcv_includer includer = {0};
+    gcv_status status = GCV_NO_MEMORY;
+    if (!PyArg_ParseTuple(args, "(OnOO)(OOOOOO)", &file, &line, &key, &value, &parts[0], &parts[1], &parts[2],
+                          &parts[3], &parts[4], &parts[5]))
+        return NULL;
+    includer.file = part_of(parts[0], &includer.file_length);
+    includer.install_dir = part_of(parts[1], &includer.install_dir_length);
+    includer.home = part_of(parts[2], &includer.home_length);
+    includer.git_dir = part_of(parts[3], &includer.git_dir_length);
+    includer.real_git_dir = part_of(parts[4], &includer.real_git_dir_length);
+    includer.branch = part_of(parts[5], &includer.branch_length);
+    PyObject *text = value == Py_None ? counted(value) : bytes_of(value);
+    key = text ? bytes_of(key) : NULL;
+    if (key && !PyErr_Occurred())
+        status = make_name(key, text, &includer, &name);
+    Py_XDECREF(key);
+    Py_XDECREF(text);
+    if (status == GCV_OK || PyErr_Occurred())
+        return name;
+    Py_XDECREF(name);
+    return status == GCV_NO_INCLUDE ? counted(Py_None) : reject(status, file, (size_t)line);
+}
+
 /* The module */
 
 static PyMethodDef functions[] = {
@@ -749,6 +867,8 @@ static PyMethodDef functions[] = {
     {"encode", encoded, METH_O, NULL},
     {"cut_mark", mark_cut, METH_O, NULL},
     {"interpolate", interpolated, METH_VARARGS, NULL},
+    {"settings", settings_of, METH_VARARGS, NULL},
+    {"include", included, METH_VARARGS, NULL},
     {NULL, NULL, 0, NULL},
 };
 
@@ -778,10 +898,11 @@ PyMODINIT_FUNC PyInit__core(void)
         !(attribute_type = add_type(module, "gix_config_value.Attribute", attribute_slots)) ||
         !(color_type = add_type(module, "gix_config_value.Color", color_slots)))
         return NULL;
-    PyObject *own = PyImport_ImportModule("gix_config_value._refused");
+    PyObject *own = PyImport_ImportModule("gix_config_value._errors");
     refused_type = own ? PyObject_GetAttrString(own, "Refused") : NULL;
+    invalid_file_type = refused_type ? PyObject_GetAttrString(own, "InvalidFile") : NULL;
     Py_XDECREF(own);
-    if (!refused_type || PyModule_AddStringConstant(module, "version", gcv_version()) != 0)
+    if (!invalid_file_type || PyModule_AddStringConstant(module, "version", gcv_version()) != 0)
         return NULL;
     for (int word = 0; word < WORDS; word++) {
         PyObject *one = attributes_of(words[word].bit);

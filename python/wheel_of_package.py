@@ -41,9 +41,9 @@ def _words(variable, default=""):
     return shlex.split(os.environ.get(variable) or default)
 
 
-def _library(variable):
-    """Where the C library is, by pkg-config."""
-    command = [*_words("PKG_CONFIG", "pkg-config"), f"--variable={variable}", PACKAGE]
+def _library(asked):
+    """What pkg-config says of the C library."""
+    command = [*_words("PKG_CONFIG", "pkg-config"), asked, PACKAGE]
     run = subprocess.run(command, stdout=subprocess.PIPE, text=True, check=False)
     if run.returncode != 0:
         raise SystemExit(f"pkg-config does not find {PACKAGE}: build it by `sh crates/gix_config_value_c/build.sh "
@@ -53,12 +53,16 @@ def _library(variable):
 
 def _compiled():
     """The bytes of the module, which shows nothing but its entry."""
+    found, wanted = _library("--modversion"), _said("version")
+    if found != wanted:
+        raise SystemExit(f"pkg-config finds {PACKAGE} {found}, and the package needs {wanted}")
+    include, folder = _library("--variable=includedir"), _library("--variable=libdir")
     with tempfile.TemporaryDirectory() as work:
         module = pathlib.Path(work, MODULE)
         subprocess.run([*_words("CC", "cc"), "-std=c99", "-O2", "-fPIC", "-fvisibility=hidden", *_words("CFLAGS"),
-                        f"-I{sysconfig.get_path('include')}", f"-I{_library('includedir')}", "-shared", "_core.c",
-                        f"{_library('libdir')}/lib{PACKAGE}.a", *_words("LDFLAGS"), "-Wl,--exclude-libs,ALL", "-s",
-                        "-o", module], cwd=HERE, check=True)
+                        f"-I{sysconfig.get_path('include')}", f"-I{include}", "-shared", "_core.c",
+                        f"{folder}/lib{PACKAGE}.a", *_words("LDFLAGS"), "-Wl,--exclude-libs,ALL", "-s", "-o", module],
+                       cwd=HERE, check=True)
         return module.read_bytes()
 
 

@@ -1,4 +1,4 @@
-"""Readers of Git configuration values: booleans, integers, colors and paths.
+"""Readers of Git configuration values: booleans, integers, colors and paths, in texts and in files.
 
 >>> boolean("yes"), integer("0x10k")
 (True, 16384)
@@ -8,85 +8,18 @@ red bold red bold
 >>> normalize("integer", "0x10k")
 '16k'
 
+`read(file)` and `read_repository(folder)` read files: `read_repository(".").get("core.bare", "boolean")`.
+
 A text is a `str`, or `bytes` or another buffer of bytes; anything else raises `TypeError`. A refused text raises
 `Refused`, a `ValueError` with a code for the fault.
 """
-import os
-
 from . import _core
+from ._configuration import Configuration, Entry, read, read_repository
 from ._core import Attribute, Color, Name, boolean, integer, integer_parts, normalize, same, suffix
-from ._refused import Refused
+from ._errors import InvalidFile, Refused
+from ._values import KINDS, cut_mark, home_of_user, interpolate, lookup
 
 __version__ = _core.version
-__all__ = ["Attribute", "Color", "KINDS", "Name", "Refused", "boolean", "cut_mark", "home_of_user", "integer",
-           "integer_parts", "interpolate", "lookup", "normalize", "same", "suffix"]
-
-#: The kinds of values, in the order of their numbers in C.
-KINDS = ("suffix", "integer", "amount", "boolean", "name", "attribute", "color")
-
-_READERS = {"suffix": suffix, "integer": integer, "amount": integer, "boolean": boolean, "name": Name.parse,
-            "attribute": Attribute.parse, "color": Color.parse}
-
-
-def lookup(kind, entries, name, default=None):
-    """The value of a setting, or the default if no entry has this name.
-
-    The entries are a mapping, or pairs of a name and a text, of which the last one with the name decides. A text of
-    `None` is that of a key without `=`: as a boolean it is true, and no other kind has a value for it.
-
-    >>> lookup("boolean", {"core.bare": "yes"}, "core.bare")
-    True
-    """
-    read = _READERS.get(kind)
-    if read is None:
-        raise ValueError(f"no kind {kind!r}: {', '.join(KINDS)}")
-    if hasattr(entries, "keys"):
-        if name not in entries:
-            return default
-        text = entries[name]
-    else:
-        wanted = _core.encode(name)
-        text = entries  # which is no text
-        for key, value in entries:
-            if _core.encode(key) == wanted:
-                text = value
-        if text is entries:
-            return default
-    return read("true" if text is None else text)
-
-
-def cut_mark(path):
-    """Whether a path begins with the mark `:(optional)`, and the path after that one mark.
-
-    >>> cut_mark(":(optional)~/x")
-    (True, '~/x')
-    """
-    path = os.fspath(path)
-    is_optional, start = _core.cut_mark(path)
-    return is_optional, path[start:]
-
-
-def interpolate(path, *, prefix=None, home=None, users=None):
-    """What a path stands for, as `str` or `bytes` as the path is.
-
-    One mark is cut off. `%(prefix)/` stands for `prefix`, `~` for `home`, and `~user` for what `users("user")` returns,
-    which is called for such a path alone, at most once. It returns `None` for an unknown user. If a directory is
-    needed and not there, `Refused` is raised.
-
-    >>> interpolate("~/x", home="/home/me")
-    '/home/me/x'
-    """
-    path = os.fspath(path)
-    directories = [None if it is None else _core.encode(os.fspath(it)) for it in (prefix, home)]
-    whole = _core.interpolate(_core.encode(path), *directories, users)
-    return whole.decode("utf-8", "surrogateescape") if isinstance(path, str) else whole
-
-
-def home_of_user(name):
-    """The home of a user of this system, for `interpolate`, or `None`."""
-    import pwd  # pylint: disable=import-outside-toplevel
-
-    try:
-        return pwd.getpwnam(name).pw_dir
-    except KeyError:
-        return None
+__all__ = ["Attribute", "Color", "Configuration", "Entry", "InvalidFile", "KINDS", "Name", "Refused", "boolean",
+           "cut_mark", "home_of_user", "integer", "integer_parts", "interpolate", "lookup", "normalize", "read",
+           "read_repository", "same", "suffix"]

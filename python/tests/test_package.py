@@ -303,7 +303,9 @@ class Paths(unittest.TestCase):
 
 class Package(unittest.TestCase):
     def test_examples(self):
-        self.assertEqual(doctest.testmod(gcv).failed, 0)
+        for module in (gcv, sys.modules[lookup.__module__]):
+            tested = doctest.testmod(module)
+            self.assertTrue(tested.attempted > 0 and tested.failed == 0, tested)
         page = ROOT / "docs/C.md"
         tested = doctest.testfile(str(page), module_relative=False)
         self.assertTrue(tested.attempted > 0 and tested.failed == 0, tested)

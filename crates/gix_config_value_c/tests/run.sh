@@ -224,7 +224,7 @@ for builder in $pythons; do
     holds "the wheel by $by, taken apart" "$builder" -m zipfile -e "$work"/wheel/*.whl "$work/site"
     for python in $pythons; do
         holds "the package by $by on $("$python" -V)" env -C "$root/python/tests" PYTHONDONTWRITEBYTECODE=1 \
-            PYTHONPATH="$work/site" "$python" -X dev -W error -bb -m unittest test_package
+            PYTHONPATH="$work/site" "$python" -X dev -W error -bb -m unittest test_package test_files
     done
 done
 for python in $pythons; do

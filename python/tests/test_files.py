@@ -1,0 +1,283 @@
+"""Configurations from files, compared with Git where it is installed.
+
+Run: python -W error -bb -m unittest discover -s tests, where the package can be imported.
+"""
+import copy
+import getpass
+import json
+import os
+import pathlib
+import pickle
+import re
+import shutil
+import subprocess
+import tempfile
+import unittest
+from unittest import mock
+
+from gix_config_value import Color, Configuration, Entry, InvalidFile, Refused, lookup, read, read_repository
+
+TYPED = """[core]
+    bare
+    limit = 10k
+    editor = vi
+    bare = no
+    hooksPath = ~/hooks
+[color "branch"]
+    Current = red bold
+    current = reddish
+[branch "Main"]
+    rebase
+"""
+# files of a tree, of which `main` is read; {root} is the folder of the tree, and {user} the current user
+FILES = {
+    "one after the other": {"main": "[a]k=1\nk\n[b \"C\\\"d\"]K=\n[a] k = x # y\n"},
+    "texts": {"main": "\ufeff[a]b=\"q\\n \" \\\n  c\td ; e\r\n[a.B]c=\\\"\\\\\\t\n[a \"\u00e9\"]c=\u00e9\udcff\n"},
+    "no section": {"main": "k=1\n[x]\ny"},
+    "in place": {"main": "[a]k=1\n[include]path=other\nk=2\n[a]k=3", "other": "[hit]k=1\nk=2"},
+    "in folders": {"main": "[include]path=s/one", "s/one": "[include]path=two\npath=../two\npath=/{root}/two",
+                   "s/two": "[hit]k=1", "two": "[hit]k=2"},
+    "twice, and none": {"main": "[include]path=o\npath=o\npath=none\npath=o/x\npath=", "o": "[hit]k=1"},
+    "at home": {"main": "[include]path=~/h\npath=~{user}/no such file", "home/h": "[hit]k=1"},
+    "other keys": {"main": "[include]path2=o\n[include \"x\"]path=o\n[includeIf]path=o\n[includeif \"\"]path=o", "o": "bad ="},
+    "conditions": {
+        "main": "".join(f"[includeIf \"{condition}\"]path=hit\n" for condition in (
+            "gitdir:.git", "gitdir:.GIT", "gitdir/i:.GIT", "gitdir:{root}/", "gitdir:*", "gitdir:/*", "gitdir:**/x/**",
+            "onbranch:topic/*", "onbranch:topic/", "onbranch:topic", "onbranch:**", "Gitdir:.git", "unknown:")),
+        "hit": "[hit]k"},
+    "ten deep": {"main": "[include]path=1", **{str(at): f"[hit]k={at}\n[include]path={at + 1}" for at in range(1, 11)}},
+    "eleven deep": {"main": "[include]path=1", **{str(at): f"[include]path={at + 1}" for at in range(1, 12)}},
+    "itself": {"main": "[include]path=main"},
+    "a bad line": {"main": "[a]b=1\n[a\n"},
+    "a bad line of an included file": {"main": "[include]path=s/o\n", "s/o": "[a]b=1\nc=\"\n"},
+    "no path": {"main": "[a]b=1\n[include]\npath\n"},
+    "no such user": {"main": "\n[include]path=~no_such_user/x\n"},
+    "a folder": {"main": "[include]path=s\n", "s/x": ""},
+}
+
+
+def listing(output):
+    """The entries that `git config --list -z --show-origin` writes, as a file, a key and a text."""
+    fields = os.fsdecode(output).split("\0")[:-1]
+    pairs = [entry.partition("\n") for entry in fields[1::2]]
+    return [(origin[len("file:"):], key, text if line else None) for origin, (key, line, text) in zip(fields[::2], pairs)]
+
+
+class Files(unittest.TestCase):
+    def setUp(self):
+        folder = tempfile.TemporaryDirectory()
+        self.addCleanup(folder.cleanup)
+        self.root = os.path.realpath(folder.name)
+        variables = {"PATH": os.environ.get("PATH", ""), "HOME": f"{self.root}/home", "GIT_CONFIG_NOSYSTEM": "1",
+                     "GIT_CEILING_DIRECTORIES": os.path.dirname(self.root), "LC_ALL": "C.UTF-8"}
+        patch = mock.patch.dict(os.environ, variables, clear=True)
+        patch.start()
+        self.addCleanup(patch.stop)
+        self.addCleanup(os.chdir, os.getcwd())
+        self.enter(".")
+
+    def enter(self, folder):
+        """Changes to a folder, as a shell does."""
+        os.chdir(os.path.join(self.root, folder))
+        os.environ["PWD"] = os.path.normpath(os.path.join(self.root, folder))
+
+    def write(self, files):
+        for name, text in files.items():
+            file = pathlib.Path(self.root, name)
+            file.parent.mkdir(parents=True, exist_ok=True)
+            text = text.replace("{root}", self.root).replace("{user}", getpass.getuser())
+            file.write_bytes(text.encode("utf-8", "surrogateescape"))
+
+    def git(self, *words, fails=False):
+        done = subprocess.run(["git", *words], stdout=subprocess.PIPE, stderr=subprocess.PIPE, check=False)
+        self.assertEqual(done.returncode != 0, fails, done.stderr)
+        return done.stderr.decode() if fails else done.stdout
+
+    def refused(self, call, *words, **keywords):
+        with self.assertRaises((Refused, InvalidFile)) as caught:
+            call(*words, **keywords)
+        return caught.exception
+
+
+@unittest.skipUnless(shutil.which("git"), "Git is not there")
+class AsGit(Files):
+    def test_files(self):
+        for note, files in FILES.items():
+            with self.subTest(note):
+                self.root = tempfile.mkdtemp(dir=self.root)
+                self.enter(".")
+                self.git("init", "-q", "-b", "topic/one")
+                self.write({"home/.gitconfig": "", **files})
+                os.environ["HOME"] = f"{self.root}/home"
+                self.compare("main", False)
+                self.compare("main", True)
+                self.compare(f"{self.root}/main", True)
+                self.root = os.path.dirname(self.root)
+
+    def compare(self, file, includes):
+        words = ("config", "-f", file, "--list", "-z", "--show-origin", *["--includes"] * includes)
+        done = subprocess.run(["git", *words], stdout=subprocess.PIPE, stderr=subprocess.PIPE, check=False)
+        if done.returncode == 0:
+            config = read(file, includes=includes, repository=".")
+            self.assertEqual([(entry.file, entry.key, entry.text) for entry in config.entries], listing(done.stdout))
+            self.assertEqual(dict(config), {key: text for _, key, text in listing(done.stdout)})
+            return
+        refused = self.refused(read, file, includes=includes, repository=".")
+        told = re.search(r"bad config line (\d+) in file (.*)", done.stderr.decode())
+        self.assertEqual((refused.line, refused.file) if told else refused.code,
+                         (int(told[1]), told[2]) if told else "too_deep")
+
+    def repository(self, path=".", top="", same_names=True):
+        """Compares the configuration in a folder, where Git works in the folder `top`."""
+        wanted = listing(self.git("-C", path, "config", "--list", "-z", "--show-origin"))
+        given = [(entry.file, entry.key, entry.text) for entry in read_repository(path).entries]
+        if not same_names:
+            wanted = [(os.path.realpath(os.path.join(self.root, top, file)), *more) for file, *more in wanted]
+            given = [(os.path.realpath(file), *more) for file, *more in given]
+        self.assertEqual(given, wanted)
+        return {file for file, *_ in given}
+
+    def test_repositories(self):
+        hits = "".join(f"[includeIf \"{condition}\"]path=hit\n[c]d={condition}\n" for condition in (
+            "gitdir:r/", "gitdir:bare", "gitdir:bare/.", "gitdir:link/", "gitdir:**/worktrees/w", "onbranch:main",
+            "onbranch:w", "gitdir:{root}/**"))
+        self.write({"home/.gitconfig": f"[user]name=me\n{hits}", "home/hit": "[hit]k", "xdg/git/config": "[x]dg=1",
+                    "home/.config/git/config": "[x]dg=2", "system": "[sys]tem\n[user]name=nobody", "own": "[o]wn"})
+        self.git("init", "-q", "-b", "main", "r")
+        self.git("init", "-q", "--bare", "bare")
+        self.git("init", "-q", "--separate-git-dir", "elsewhere", "apart")
+        self.git("-C", "r", "-c", "user.email=a@b", "commit", "-q", "--allow-empty", "-m", "x")
+        self.git("-C", "r", "worktree", "add", "-q", "../w")
+        os.makedirs("r/deep/er")
+        os.symlink("r", "link")
+        self.assertEqual(len(self.repository()), 2)
+        for _ in range(2):
+            for name in ("r", "bare", "apart", "w", "link", "r/deep", "r/.git", "r/.git/refs"):
+                self.enter(name)
+                self.repository(same_names=name not in ("r/deep", "r/.git/refs"), top="r")
+                self.enter(".")
+                self.repository(name, same_names=False, top=name.replace("/deep", ""))
+            # again, where each worktree has a file of its own
+            self.git("-C", "r", "config", "extensions.worktreeConfig", "true")
+            self.git("-C", "r", "config", "--worktree", "own.r", "1")
+            self.git("-C", "w", "config", "--worktree", "own.w", "2")
+        self.assertEqual([read_repository(name).get("own.w", "integer") for name in "rw"], [None, 2])
+        self.variables()
+
+    def variables(self):
+        self.enter("r")
+        for name, value in (("XDG_CONFIG_HOME", f"{self.root}/xdg"), ("XDG_CONFIG_HOME", ""), ("HOME", "/none"),
+                            ("GIT_CONFIG_GLOBAL", f"{self.root}/own"), ("GIT_CONFIG_GLOBAL", ""),
+                            ("GIT_CONFIG_NOSYSTEM", "false"), ("GIT_DIR", "../w/.git"), ("GIT_DIR", "../bare"),
+                            ("GIT_DIR", "/none"), ("GIT_COMMON_DIR", "../bare"), ("PWD", "/none")):
+            with self.subTest(name, value=value), mock.patch.dict(os.environ, {name: value}):
+                os.environ["GIT_CONFIG_SYSTEM"] = f"{self.root}/system"
+                self.repository()
+        with mock.patch.dict(os.environ):
+            del os.environ["HOME"]
+            self.repository()
+        os.environ["GIT_CEILING_DIRECTORIES"] = f"{self.root}/r"
+        self.assertEqual(len(self.repository("deep/er", same_names=False)), 2)
+
+    def test_broken_repositories(self):
+        self.git("init", "-q", "r")
+        self.write({"home/.gitconfig": "[a]b\n[include]path=c", "home/c": "[d"})
+        self.assertEqual(str(self.refused(read_repository, "r")), f"{self.root}/home/c:2: a line of the file is invalid")
+        self.assertIn(f"bad config line 2 in file {self.root}/home/c",
+                      self.git("-C", "r", "config", "--list", fails=True))
+
+    def test_typed(self):
+        self.write({"main": TYPED})
+        config = read("main")
+        for kind, name, key in (("bool", "boolean", "core.bare"), ("int", "integer", "core.limit"),
+                                ("path", "path", "core.hooksPath"), ("bool", "boolean", "branch.Main.rebase")):
+            told = self.git("config", "-f", "main", f"--type={kind}", key).decode().strip()
+            self.assertEqual(told, str(config.get(key, name)).replace("False", "false").replace("True", "true"))
+
+
+class Configurations(Files):
+    def setUp(self):
+        super().setUp()
+        self.write({"main": TYPED, "more": "[core]limit = 1g"})
+        self.config = read("main")
+
+    def test_values(self):
+        config = self.config
+        self.assertIs(config.get("core.bare", "boolean"), False)
+        self.assertEqual(config.get_all("core.bare", "boolean"), [True, False])
+        self.assertEqual(config.get_all("core.bare"), [None, "no"])
+        self.assertEqual(config.get("CORE.Limit", "integer"), 10240)
+        self.assertEqual(read("main", pathlib.Path("more")).get("core.limit", "amount"), 1 << 30)
+        self.assertEqual(config.get("core.hookspath", "path"), f"{self.root}/home/hooks")
+        self.assertEqual(config.get_all("color.branch.current", "text"), ["red bold", "reddish"])
+        self.assertEqual(Configuration(config.entries[:6]).get("color.branch.current", "color"), Color.parse("red bold"))
+        self.assertEqual((config.get("a.b", "color"), config.get("a.b", "color", 5), config.get("a.b", default=5)),
+                         (None, 5, 5))
+        self.assertEqual((config.get_all("a.b"), config.entries_of("a.b")), ([], ()))
+        self.assertEqual((config.get("branch.Main.rebase"), config.get("branch.Main.rebase", "boolean")), (None, True))
+        self.assertEqual(config.entries_of("core.Limit"), (Entry("main", 3, "core.limit", "10k"),))
+        self.assertIs(lookup("boolean", config, "Core.bare"), False)
+        for call in (config.get, config.get_all):
+            for key in ("core.bare", "a.b"):
+                self.assertRaises(ValueError, call, key, "number")
+            self.assertRaises(TypeError, call, 3)
+
+    def test_mapping(self):
+        config = self.config
+        self.assertEqual(list(config), ["core.bare", "core.limit", "core.editor", "core.hookspath",
+                                        "color.branch.current", "branch.Main.rebase"])
+        self.assertEqual((len(config), config["core.editor"], config["BRANCH.Main.Rebase"]), (6, "vi", None))
+        self.assertTrue("core.EDITOR" in config and "branch.Main.REBASE" in config)
+        # K is the sign of Kelvin, whose lower case is k
+        for key in ("branch.main.rebase", "core", "", "core.bare.", "core.hoo\u212aspath"):
+            self.assertNotIn(key, config)
+            self.assertRaises(KeyError, config.__getitem__, key)
+        for again in (copy.copy(config), copy.deepcopy(config), pickle.loads(pickle.dumps(config)), eval(repr(config))):
+            self.assertEqual((again, again.entries, type(again)), (config, config.entries, Configuration))
+        self.assertEqual(json.loads(json.dumps(config)), dict(config))
+        for call in (lambda: config.update(a=1), config.clear, lambda: config.pop("core.bare"), config.popitem,
+                     lambda: config.setdefault("a", 1), lambda: config.__setitem__("a", 1),
+                     lambda: config.__delitem__("core.bare"), lambda: config.__ior__({})):
+            self.assertRaises(TypeError, call)
+        self.assertEqual((len(config), len(Configuration())), (6, 0))
+
+    def test_refusals(self):
+        for key, kind, code, line, text in (("core.editor", "boolean", "boolean", 4, b"vi"),
+                                            ("core.Editor", "integer", "integer", 4, b"vi"),
+                                            ("color.branch.current", "color", "color", 9, b"reddish"),
+                                            ("branch.Main.rebase", "integer", "integer", 11, b""),
+                                            ("branch.Main.rebase", "path", "path_missing", 11, b"")):
+            refused = self.refused(self.config.get, key, kind)
+            self.assertEqual((refused.file, refused.line, refused.key.lower()), ("main", line, key.lower()))
+            self.assertEqual((refused.code, refused.input), (code, text))
+            shown = repr(text) if text else "no value"
+            self.assertEqual(str(refused), f"main:{line}: {refused.key}: {refused.fault}: {shown}")
+            again = pickle.loads(pickle.dumps(refused))
+            self.assertEqual((str(again), again.line, again.input), (str(refused), line, text))
+        self.assertEqual(self.refused(self.config.get_all, "color.branch.current", "color").line, 9)
+        self.assertEqual(self.refused(self.config.get_all, "core.bare", "integer").line, 2)
+
+    def test_invalid_files(self):
+        self.write({"bad": "[a]\nb = 1\n[c\n", "nul": "[a]\nb = \0"})
+        for file, code, line in (("bad", "bad_line", 3), ("nul", "nul", 2)):
+            invalid = self.refused(read, "main", file)
+            self.assertEqual((invalid.code, invalid.file, invalid.line), (code, file, line))
+            self.assertEqual(str(invalid), f"{file}:{line}: {invalid.fault}")
+            self.assertEqual(str(pickle.loads(pickle.dumps(invalid))), str(invalid))
+        self.assertRaises(FileNotFoundError, read, "none")
+        self.assertRaises(IsADirectoryError, read, b".")
+        self.assertRaises(TypeError, read, 3)
+
+    def test_without_git(self):
+        self.write({"r/.git/HEAD": "ref: refs/heads/main\n", "r/.git/objects/x": "", "r/.git/refs/x": "",
+                    "r/.git/config": "[includeIf \"onbranch:main\"]path=../in", "r/in": "[in]it=1",
+                    "home/.gitconfig": "[a]b\n[in]it=0"})
+        config = read_repository(os.path.join("r", ".git", ".."))
+        self.assertEqual([(entry.file, entry.line, entry.key) for entry in config.entries],
+                         [(f"{self.root}/home/.gitconfig", 1, "a.b"), (f"{self.root}/home/.gitconfig", 2, "in.it"),
+                          ("r/.git/../.git/config", 1, "includeif.onbranch:main.path"), ("r/.git/../.git/../in", 1, "in.it")])
+        self.assertEqual((config["in.it"], dict(read_repository())), ("1", {"a.b": None, "in.it": "0"}))
+
+
+if __name__ == "__main__":
+    unittest.main()
