@@ -51,8 +51,10 @@ COMMANDS = {
     "blame": ("", "git blame a.txt"),
     "blame-color": ("", "git blame --color-lines --color-by-age a.txt"),
     "grep": ("", "git grep --threads=2 -n foo"),
+    "grep-outside": ("mkdir ../plain", "git -C ../plain grep foo"),
     "branch": ("", "git branch -a --color -v"),
     "branch-new": ("", "git branch --track new origin/side"),
+    "checkout-remote": ("git remote add more ../origin.git; git fetch -q more", "git checkout side2"),
     "checkout": ("git stash -q", "git checkout conf"),
     "tag-list": ("", "git tag -l"),
     "tag": ("", "git tag -m x v9"),
@@ -65,6 +67,7 @@ COMMANDS = {
     "rerere": ("mkdir .git/rr-cache; git stash -q; git merge -q conf", "git rerere"),
     "repack": ("", "git repack -adq"),
     "repack-cruft": ("git reset -q --hard HEAD~1; git reflog expire --expire=now --all", "git repack --cruft -dq"),
+    "repack-islands": ("git config repack.useDeltaIslands true", "git repack -adq"),
     "pack-bitmaps": ("", "git repack -adb --quiet"),
     "midx-bitmaps": ("git repack -dq", "git multi-pack-index write --bitmap"),
     "commit-graph": ("", "git commit-graph write --reachable --changed-paths"),
@@ -98,6 +101,7 @@ COMMANDS = {
     "stash-show": ("git stash -q", "git stash show"),
     "rebase": ("git stash -q", "git rebase --force-rebase HEAD~1"),
     "rebase-todo": ("git stash -q", "GIT_SEQUENCE_EDITOR='echo >' git rebase -i HEAD~1"),
+    "rebase-sequence": ("git stash -q", "git rebase -i HEAD~1"),
     "rebase-edit": ("git stash -q", "GIT_SEQUENCE_EDITOR=true git rebase -i HEAD~1"),
     "rebase-exec": ("git stash -q", "git rebase -x true HEAD~1"),
     "revert": ("git stash -q", "git revert --no-edit HEAD"),
@@ -122,13 +126,20 @@ COMMANDS = {
                         "git -C ../copy -c protocol.file.allow=always submodule update --init"),
     "submodule-errors": ("git clone -q . ../copy", "git -C ../copy -c protocol.file.allow=always "
                          "-c submodule.alternateLocation=no submodule update --init"),
+    "submodule-remote": ("", "git submodule update --remote"),
     "submodule-update": ("", "git submodule update"),
     "sparse": ("", "git sparse-checkout set d"),
     "index": ("", "git update-index --split-index"),
     "index-new": ("rm .git/index", "git reset -q"),
+    "index-shared": ("git update-index --split-index; echo x > more.txt; git add more.txt", "git update-index --split-index"),
+    "index-threads": ("git config index.threads 2", "git add ."),
+    "hook-version": ("git config core.fsmonitor echo", "git status"),
     "remote": ("", "git remote update"),
     "ls-remote": ("", "git ls-remote origin"),
     "ls-remote-file": ("", "git ls-remote \"file://$PWD\""),
+    "ls-remote-git": ("", "git ls-remote git://127.0.0.1:1/x"),
+    "ls-remote-ssh": ("", "git ls-remote ssh://127.0.0.1:1/x"),
+    "ls-remote-variant": ("git config core.sshCommand false", "git ls-remote ssh://127.0.0.1:1/x"),
     "ls-remote-http": ("", "git ls-remote http://127.0.0.1:1/x"),
     "ls-remote-password": ("", "git ls-remote http://u:p@127.0.0.1:1/x"),
     "credential": ("", "printf 'url=http://127.0.0.1:1/x\\n\\n' | git credential fill"),
@@ -252,22 +263,23 @@ def ask(stored, keys):
 VERDICTS = {b"error": "dies", b"warning": "warns"}
 # a question whose answer differs from the verdict, and the kind of its row
 Case = collections.namedtuple("Case", "question kind ours git")
-EFFECTS = set("""core.bare core.repositoryFormatVersion extensions.objectFormat commit.gpgSign fetch.parallel
-submodule.fetchJobs pack.threads format.useAutoBase filter.*.required help.format merge.ff protocol.allow protocol.*.allow
-push.default push.gpgSign safe.bareRepository difftool.trustExitCode core.fsyncObjectFiles receive.denyDeleteCurrent
-merge.verbosity""".split())
-WIDER = set("""core.abbrev branch.sort tag.sort gc.logExpiry gc.pruneExpire gc.worktreePruneExpire diff.colorMovedWS
-push.recurseSubmodules repack.cruftWindow repack.cruftDepth repack.cruftThreads http.sslVersion http.*.sslVersion
-http.postBuffer http.*.postBuffer receive.maxInputSize pack.deltaCacheLimit diff.dirstat
-splitIndex.maxPercentChange""".split())
+EFFECTS = set("""core.bare core.fsyncObjectFiles extensions.objectFormat commit.gpgSign fetch.parallel submodule.fetchJobs
+pack.threads format.useAutoBase filter.*.required help.format merge.ff protocol.allow protocol.*.allow push.default
+push.gpgSign safe.bareRepository difftool.trustExitCode receive.denyDeleteCurrent merge.verbosity""".split())
+WIDER = set("""core.abbrev branch.sort tag.sort gc.logExpiry gc.pruneExpire gc.worktreePruneExpire
+diff.colorMovedWS push.recurseSubmodules repack.cruftWindow repack.cruftDepth repack.cruftThreads http.sslVersion
+http.*.sslVersion http.sslBackend http.*.sslBackend receive.maxInputSize diff.dirstat log.graphColors trace2.normalTarget
+trace2.perfTarget trace2.eventTarget""".split())
+NEWER = set("help.autoCorrect merge.stat pack.allowPackReuse status.showUntrackedFiles".split())
 # by its name, whether a difference is of the class
 CLASSES = {
     "Git ignores the value without a word": lambda case: (case.ours, case.git) == ("warns", "takes"),
     "a number of 2^63 and more": lambda case: case.question.value == str(2 ** 63) and case.git == "takes",
-    "a missing value at which Git goes on":
-        lambda case: case.question.value is None and (case.ours, case.git) == ("dies", "warns"),
+    "Git warns of a missing value, or of a number: an error": lambda case: (case.ours, case.git) == ("dies", "warns"),
+    "Git stops at some wrong values, and not at all: a warning": lambda case: (case.ours, case.git) == ("warns", "dies"),
     "a text that the command reads further": lambda case: case.kind == "text" and case.ours == "takes",
     "a right value with an effect that fails": lambda case: case.question.row in EFFECTS and case.ours == "takes",
+    "a value that only newer Gits take": lambda case: case.question.row in NEWER and case.ours == "takes",
     "a kind that takes more than Git": lambda case: case.question.row in WIDER and case.ours == "takes",
 }
 

@@ -46,7 +46,7 @@ core.ignoreCase                     bool
 core.precomposeUnicode              bool
 core.protectHFS                     bool
 core.protectNTFS                    bool
-core.fsmonitorHookVersion           int
+core.fsmonitorHookVersion           warn int 1 2
 core.trustctime                     bool
 core.splitIndex                     warn bool
 core.untrackedCache                 needs-value warn bool-or-word-any-case keep
@@ -60,7 +60,7 @@ core.ignoreStat                     bool
 core.bare                           bool
 core.worktree                       text
 core.logAllRefUpdates               bool-or-word-any-case always
-core.repositoryFormatVersion        int
+core.repositoryFormatVersion        int -2147483648 1
 core.warnAmbiguousRefs              bool
 core.compression                    int -1 9
 core.looseCompression               int -1 9
@@ -103,7 +103,9 @@ core.fsync                          warn words loose-object -loose-object pack -
     derived-metadata -derived-metadata committed -committed added -added all -all none
 core.unsetenvvars                   text
 core.notesRef                       text
-core.abbrev                         words-any-case auto no off false 0* 1* 2* 3* 4* 5* 6* 7* 8* 9* +*
+core.abbrev                         words-any-case auto no off false 4 5 6 7 8 9 10 11 12 13 14 15 16 \
+    17 18 19 20 21 22 23 24 25 26 27 28 29 30 31 32 33 34 35 36 37 38 39 40 41 42 43 44 45 46 47 48 49 50 51 \
+    52 53 54 55 56 57 58 59 60 61 62 63 64 04 05 06 07 01* 0x* +*
 # add
 add.ignoreErrors                    bool
 add.ignore-errors                   bool
@@ -133,8 +135,8 @@ branch.*.rebase                     bool-or-word merges m interactive i
 branch.sort                         sort-key refname objecttype objectsize objectname deltabase tree \
     parent numparent object type tag author authorname authoremail authordate committer committername \
     committeremail committerdate tagger taggername taggeremail taggerdate creator creatordate subject body \
-    trailers contents upstream push symref flag HEAD color worktreepath ahead-behind is-base describe \
-    signature
+    trailers contents raw upstream push symref flag HEAD color worktreepath ahead-behind is-base describe \
+    signature rest if then else end
 branch.*.remote                     text
 branch.*.pushRemote                 text
 branch.*.merge                      text
@@ -231,7 +233,10 @@ color.status.unmerged               color
 color.transport                     needs-value bool-or-word-any-case always never auto
 color.transport.rejected            color
 color.ui                            bool-or-word-any-case always never auto
-color.blame.highlightRecent         text
+color.blame.highlightRecent         warn words-any-case normal default black red green yellow blue \
+    magenta cyan white bright* bold dim italic ul blink reverse strike reset no* -1 0* 1* 2* 3* 4* 5* 6* 7* \
+    8* 9* #* sec* min* hour* day* week* month* year* ago now yesterday noon midnight tea never last jan* \
+    feb* mar* apr* may jun* jul* aug* sep* oct* nov* dec* sun* mon* tue* wed* thu* fri* sat*
 # commit
 commit.cleanup                      word strip whitespace verbatim scissors default
 commit.gpgSign                      bool
@@ -351,15 +356,12 @@ gc.bigPackThreshold                 int 0 9223372036854775807
 gc.writeCommitGraph                 bool
 gc.packRefs                         bool-or-word notbare
 gc.cruftPacks                       bool
-gc.logExpiry                        date-any-case now never all false yesterday last noon midnight tea \
-    am pm one two three four five six seven eight nine ten jan* feb* mar* apr* may* jun* jul* aug* sep* oct* \
-    nov* dec*
-gc.pruneExpire                      date-any-case now never all false yesterday last noon midnight tea \
-    am pm one two three four five six seven eight nine ten jan* feb* mar* apr* may* jun* jul* aug* sep* oct* \
-    nov* dec*
-gc.worktreePruneExpire              date-any-case now never all false yesterday last noon midnight tea \
-    am pm one two three four five six seven eight nine ten jan* feb* mar* apr* may* jun* jul* aug* sep* oct* \
-    nov* dec*
+gc.logExpiry                        date-any-case now never yesterday last noon midnight tea am pm one \
+    two three four five six seven eight nine ten jan* feb* mar* apr* may* jun* jul* aug* sep* oct* nov* dec*
+gc.pruneExpire                      date-any-case now never yesterday last noon midnight tea am pm one \
+    two three four five six seven eight nine ten jan* feb* mar* apr* may* jun* jul* aug* sep* oct* nov* dec*
+gc.worktreePruneExpire              date-any-case now never yesterday last noon midnight tea am pm one \
+    two three four five six seven eight nine ten jan* feb* mar* apr* may* jun* jul* aug* sep* oct* nov* dec*
 gc.reflogExpire                     date-any-case now never all false yesterday last noon midnight tea \
     am pm one two three four five six seven eight nine ten jan* feb* mar* apr* may* jun* jul* aug* sep* oct* \
     nov* dec*
@@ -438,7 +440,7 @@ gui.trustmtime                      warn bool
 help.format                         word man info web html
 help.browser                        text
 help.htmlPath                       text
-help.autoCorrect                    int-or-word never immediate prompt
+help.autoCorrect                    int-or-word never immediate prompt show true yes on false no off
 # http
 http.proxyAuthMethod                warn word anyauth basic digest negotiate ntlm
 http.proxySSLCert                   text
@@ -454,7 +456,7 @@ http.schannelCheckRevoke            bool
 http.sslTry                         bool
 http.maxRequests                    int
 http.minSessions                    int
-http.postBuffer                     int -9223372036854775808 9223372036854775807
+http.postBuffer                     int 0 9223372036854775807
 http.lowSpeedTime                   int
 http.noEPSV                         bool
 http.followRedirects                bool-or-word initial
@@ -469,7 +471,8 @@ http.sslCert                        text
 http.sslKey                         text
 http.sslCertPasswordProtected       bool
 http.sslCAInfo                      text
-http.sslBackend                     alone text
+http.sslBackend                     alone words-any-case openssl gnutls schannel secure-transport \
+    mbedtls wolfssl nss bearssl rustls rustls-ffi gskit libressl boringssl
 http.schannelUseSSLCAInfo           bool
 http.pinnedPubkey                   text
 http.lowSpeedLimit                  int
@@ -488,7 +491,7 @@ http.*.schannelCheckRevoke          bool
 http.*.sslTry                       bool
 http.*.maxRequests                  int
 http.*.minSessions                  int
-http.*.postBuffer                   int -9223372036854775808 9223372036854775807
+http.*.postBuffer                   int 0 9223372036854775807
 http.*.lowSpeedTime                 int
 http.*.noEPSV                       bool
 http.*.followRedirects              bool-or-word initial
@@ -503,7 +506,8 @@ http.*.sslCert                      text
 http.*.sslKey                       text
 http.*.sslCertPasswordProtected     bool
 http.*.sslCAInfo                    text
-http.*.sslBackend                   alone text
+http.*.sslBackend                   alone words-any-case openssl gnutls schannel secure-transport \
+    mbedtls wolfssl nss bearssl rustls rustls-ffi gskit libressl boringssl
 http.*.schannelUseSSLCAInfo         bool
 http.*.pinnedPubkey                 text
 http.*.lowSpeedLimit                int
@@ -526,7 +530,7 @@ index.recordEndOfIndexEntries       bool
 index.recordOffsetTable             bool
 index.sparse                        bool
 index.threads                       bool-or-int
-index.version                       int
+index.version                       warn int 2 4
 # instaweb
 instaweb.local                      bool
 instaweb.port                       alone warn int
@@ -551,14 +555,16 @@ log.date                            word relative relative-local local iso iso-l
     format:* format-local:* auto:*
 log.initialDecorationSet            warn word all
 log.excludeDecoration               text
-log.graphColors                     text
+log.graphColors                     warn words-any-case normal default black red green yellow blue \
+    magenta cyan white bright* bold dim italic ul blink reverse strike reset no* -1 0* 1* 2* 3* 4* 5* 6* 7* \
+    8* 9* #*
 # lsrefs
 lsrefs.unborn                       word advertise allow ignore
 # mailinfo
 mailinfo.scissors                   bool
 # maintenance
 maintenance.auto                    bool
-maintenance.strategy                warn word-any-case none incremental
+maintenance.strategy                warn word-any-case none incremental gc geometric
 maintenance.*.enabled               bool
 maintenance.*.schedule              warn word-any-case hourly daily weekly
 maintenance.commit-graph.auto       int
@@ -573,7 +579,7 @@ merge.branchdesc                    bool
 merge.log                           bool-or-int
 merge.renameLimit                   int
 merge.directoryRenames              needs-value warn bool-or-word-any-case conflict
-merge.stat                          bool
+merge.stat                          bool-or-word diffstat compact
 merge.autoStash                     bool
 merge.verbosity                     int
 merge.suppressDest                  text
@@ -609,9 +615,9 @@ pack.window                         int
 pack.depth                          int
 pack.windowMemory                   int 0 9223372036854775807
 pack.compression                    int -1 9
-pack.allowPackReuse                 bool
+pack.allowPackReuse                 bool-or-word single multi
 pack.deltaCacheSize                 int
-pack.deltaCacheLimit                int
+pack.deltaCacheLimit                int 0 1048575
 pack.threads                        int 0 2147483647
 pack.indexVersion                   int 0 2
 pack.packSizeLimit                  int 0 9223372036854775807
@@ -638,7 +644,7 @@ push.autoSetupRemote                bool
 push.default                        word nothing current upstream tracking simple matching
 push.followTags                     bool
 push.gpgSign                        bool-or-word-any-case if-asked
-push.recurseSubmodules              needs-value bool-or-word check on-demand only
+push.recurseSubmodules              words-any-case check on-demand only false no off 0* +0* -0*
 push.useForceIfIncludes             bool
 push.negotiate                      bool
 push.useBitmaps                     bool
@@ -699,10 +705,10 @@ repack.packKeptObjects              bool
 repack.useDeltaIslands              bool
 repack.writeBitmaps                 bool
 repack.updateServerInfo             bool
-repack.cruftWindow                  int
+repack.cruftWindow                  int -9223372036854775808 9223372036854775807
 repack.cruftWindowMemory            int 0 9223372036854775807
-repack.cruftDepth                   int
-repack.cruftThreads                 int
+repack.cruftDepth                   int -9223372036854775808 9223372036854775807
+repack.cruftThreads                 int -9223372036854775808 9223372036854775807
 # rerere
 rerere.autoUpdate                   bool
 rerere.enabled                      bool
@@ -723,7 +729,7 @@ sendemail.*.aliasFileType           alone warn word mutt mailrc pine elm gnus se
 sendemail.*.smtpBatchSize           alone warn int
 sendemail.*.smtpReloginDelay        alone warn int
 sendemail.identity                  alone text
-sendemail.smtpEncryption            alone text
+sendemail.smtpEncryption            alone warn word tls ssl none plain no off false
 sendemail.smtpsslcertpath           alone text
 sendemail.aliasesFile               alone text
 sendemail.annotate                  bool
@@ -736,7 +742,7 @@ sendemail.from                      alone text
 sendemail.signedOffByCc             bool
 sendemail.signedOffCc               bool
 sendemail.smtpPass                  alone text
-sendemail.suppressCc                alone text
+sendemail.suppressCc                alone word all cccmd cc author self sob body bodycc misc-by
 sendemail.suppressFrom              bool
 sendemail.to                        alone text
 sendemail.toCmd                     alone text
@@ -746,17 +752,43 @@ sendemail.smtpServerPort            alone text
 sendemail.smtpServerOption          alone text
 sendemail.smtpUser                  alone text
 sendemail.thread                    bool
-sendemail.transferEncoding          alone text
+sendemail.transferEncoding          alone word 7bit 8bit quoted-printable base64 auto
 sendemail.validate                  bool
 sendemail.xmailer                   bool
 sendemail.forbidSendmailVariables   bool
+sendemail.*.smtpEncryption          alone warn word tls ssl none plain no off false
+sendemail.*.smtpsslcertpath         alone text
+sendemail.*.aliasesFile             alone text
+sendemail.*.annotate                bool
+sendemail.*.bcc                     alone text
+sendemail.*.cc                      alone text
+sendemail.*.ccCmd                   alone text
+sendemail.*.chainReplyTo            bool
+sendemail.*.envelopeSender          alone text
+sendemail.*.from                    alone text
+sendemail.*.signedOffByCc           bool
+sendemail.*.signedOffCc             bool
+sendemail.*.smtpPass                alone text
+sendemail.*.suppressCc              alone word all cccmd cc author self sob body bodycc misc-by
+sendemail.*.suppressFrom            bool
+sendemail.*.to                      alone text
+sendemail.*.toCmd                   alone text
+sendemail.*.smtpDomain              alone text
+sendemail.*.smtpServer              alone text
+sendemail.*.smtpServerPort          alone text
+sendemail.*.smtpServerOption        alone text
+sendemail.*.smtpUser                alone text
+sendemail.*.thread                  bool
+sendemail.*.transferEncoding        alone word 7bit 8bit quoted-printable base64 auto
+sendemail.*.validate                bool
+sendemail.*.xmailer                 bool
+sendemail.*.forbidSendmailVariables bool
 # sparse
 sparse.expectFilesOutsideOfPatterns bool
 # splitIndex
-splitIndex.maxPercentChange         int
-splitIndex.sharedIndexExpire        date-any-case now never all false yesterday last noon midnight tea \
-    am pm one two three four five six seven eight nine ten jan* feb* mar* apr* may* jun* jul* aug* sep* oct* \
-    nov* dec*
+splitIndex.maxPercentChange         warn int 0 100
+splitIndex.sharedIndexExpire        date-any-case now never yesterday last noon midnight tea am pm one \
+    two three four five six seven eight nine ten jan* feb* mar* apr* may* jun* jul* aug* sep* oct* nov* dec*
 # status
 status.relativePaths                bool
 status.short                        bool
@@ -766,7 +798,7 @@ status.displayCommentPrefix         bool
 status.renameLimit                  int
 status.renames                      bool-or-word-any-case copies copy
 status.showStash                    bool
-status.showUntrackedFiles           word no normal all
+status.showUntrackedFiles           needs-value bool-or-word no normal all
 status.submoduleSummary             bool-or-int
 # stash
 stash.showIncludeUntracked          bool
@@ -781,7 +813,7 @@ submodule.fetchJobs                 int 0 2147483647
 submodule.alternateLocation         word no superproject
 submodule.alternateErrorStrategy    word ignore info die
 submodule.*.url                     text
-submodule.*.update                  text
+submodule.*.update                  word checkout rebase merge none !*
 submodule.*.branch                  text
 submodule.*.fetchRecurseSubmodules  needs-value bool-or-word on-demand
 submodule.active                    text
@@ -791,8 +823,8 @@ tag.gpgSign                         bool
 tag.sort                            sort-key refname objecttype objectsize objectname deltabase tree \
     parent numparent object type tag author authorname authoremail authordate committer committername \
     committeremail committerdate tagger taggername taggeremail taggerdate creator creatordate subject body \
-    trailers contents upstream push symref flag HEAD color worktreepath ahead-behind is-base describe \
-    signature
+    trailers contents raw upstream push symref flag HEAD color worktreepath ahead-behind is-base describe \
+    signature rest if then else end
 # trace2
 trace2.normalBrief                  needs-value warn bool
 trace2.perfBrief                    needs-value warn bool
@@ -800,9 +832,9 @@ trace2.eventBrief                   needs-value warn bool
 trace2.eventNesting                 warn int
 trace2.destinationDebug             needs-value warn bool
 trace2.maxFiles                     warn int
-trace2.normalTarget                 text
-trace2.perfTarget                   text
-trace2.eventTarget                  text
+trace2.normalTarget                 needs-value warn bool-or-word-any-case /* af_unix:* c:* d:*
+trace2.perfTarget                   needs-value warn bool-or-word-any-case /* af_unix:* c:* d:*
+trace2.eventTarget                  needs-value warn bool-or-word-any-case /* af_unix:* c:* d:*
 trace2.configParams                 text
 trace2.envVars                      text
 # transfer
@@ -891,14 +923,12 @@ man.*.path                          text
 pager.*                             alone text
 # pretty
 pretty.*                            text
-# remotes
-remotes.*                           text
 # sequence
 sequence.editor                     text
 # showBranch
 showBranch.default                  text
 # ssh
-ssh.variant                         alone warn word auto ssh plink putty tortoiseplink simple
+ssh.variant                         warn word auto ssh plink putty tortoiseplink simple
 # tar
 tar.umask                           int-or-word user
 # url
@@ -941,6 +971,42 @@ trailer.*.ifexists                  alone warn word-any-case addIfDifferent addI
 trailer.*.ifmissing                 warn word-any-case doNothing add
 trailer.*.command                   text
 trailer.*.cmd                       text
+advice.graftFileDeprecated          bool
+advice.objectNameWarning            bool
+am.messageid                        bool
+color.branch.reset                  color
+color.interactive.plain             color
+color.interactive.reset             color
+color.transport.reset               color
+core.disambiguate                   word-any-case none commit committish tree treeish blob
+diff.color                          bool-or-word-any-case always never auto
+diff.color.*                        color
+diff.suppress-blank-empty           bool
+fetch.uriProtocols                  alone text
+gc.launchctlPlistLockTimeoutMS      alone text
+gitweb.extraBranchRefs              alone text
+http.getanyfile                     bool
+http.receivepack                    bool
+http.uploadpack                     bool
+http.maxRequestBuffer               int 0 9223372036854775807
+mailinfo.quotedCR                   word nowarn warn strip
+maintenance.repo                    alone text
+maintenance.*.lastRun               alone text
+merge.summary                       bool-or-int
+merge.diffstat                      bool
+sendemail.ccCover                   bool
+sendemail.toCover                   bool
+sendemail.*.ccCover                 bool
+sendemail.*.toCover                 bool
+sendemail.*.smtpAuth                alone text
+sendemail.*.sendmailCmd             alone text
+sendemail.*.composeEncoding         alone text
+sendemail.*.assume8bitEncoding      alone text
+status.color                        bool-or-word-any-case always never auto
+status.color.*                      color
+submodule.stickyRecursiveClone      bool
+uploadpack.allowSidebandAll         bool
+uploadpack.blobPackfileURI          text
 # since Git 2.40
 bundle.heuristic                    alone text
 fetch.bundleCreationToken           text
@@ -948,13 +1014,22 @@ fetch.bundleURI                     text
 index.skipHash                      bool
 transfer.bundleURI                  bool
 uploadpack.advertiseBundleURIs      bool
+diff.*.algorithm                    word-any-case default myers minimal patience histogram
 # since Git 2.41
 difftool.guiDefault                 bool-or-word-any-case auto
 mergetool.guiDefault                bool-or-word-any-case auto
 pack.readReverseIndex               bool
 rebase.rebaseMerges                 bool-or-word rebase-cousins no-rebase-cousins
+advice.diverging                    bool
+format.noprefix                     bool
+http.sslCertType                    text
+http.sslKeyType                     text
+http.*.sslCertType                  text
+http.*.sslKeyType                   text
+sendemail.headerCmd                 alone text
 # since Git 2.42
 gc.recentObjectsHook                text
+advice.worktreeAddOrphan            bool
 # since Git 2.43
 attr.tree                           text
 core.maxTreeDepth                   int
@@ -962,19 +1037,101 @@ diff.statNameWidth                  int
 gc.maxCruftSize                     int 0 9223372036854775807
 gc.repackFilter                     text
 gc.repackFilterTo                   text
+advice.submoduleMergeConflict       bool
 # since Git 2.44
 fetch.all                           bool
+advice.forceDeleteBranch            bool
+advice.rebaseTodoError              bool
+format.mboxrd                       bool
 # since Git 2.45
 core.commentString                  text
 diff.dstPrefix                      text
 diff.srcPrefix                      text
 extensions.compatObjectFormat       text
 extensions.refStorage               text
+advice.mergeConflict                bool
+advice.refSyntax                    bool
+advice.useCoreFSMonitorConfig       bool
 # since Git 2.46
 http.proactiveAuth                  text
 http.*.proactiveAuth                text
+advice.defaultBranchName            bool
+advice.sparseIndexExpanded          bool
+bitmapPseudoMerge.*.pattern         text
+bitmapPseudoMerge.*.decay           text
+bitmapPseudoMerge.*.sampleRate      text
+bitmapPseudoMerge.*.threshold       text
+bitmapPseudoMerge.*.maxMerges       text
+bitmapPseudoMerge.*.stableThreshold text
+bitmapPseudoMerge.*.stableSize      text
+commitGraph.changedPathsVersion     int
+diff.trustExitCode                  bool
+diff.*.trustExitCode                bool
+promisor.quiet                      bool
+# since Git 2.47
+init.defaultObjectFormat            text
+init.defaultRefFormat               text
+maintenance.autoDetach              bool
+remote.*.serverOption               text
+sendemail.mailmap                   bool
+sendemail.mailmap.file              text
+sendemail.mailmap.blob              text
 # since Git 2.48
 extensions.relativeWorktrees        bool
 remote.*.followRemoteHEAD           text
 worktree.useRelativePaths           bool
+advice.fetchRemoteHEADWarn          bool
+# since Git 2.49
+pack.usePathWalk                    bool
+promisor.advertise                  bool
+promisor.acceptFromServer           text
+# since Git 2.50
+http.keepAliveCount                 text
+http.keepAliveIdle                  text
+http.keepAliveInterval              text
+http.*.keepAliveCount               text
+http.*.keepAliveIdle                text
+http.*.keepAliveInterval            text
+maintenance.reflog-expire.auto      int
+maintenance.rerere-gc.auto          int
+maintenance.worktree-prune.auto     int
+sendemail.outlookIdFix              bool
+# since Git 2.51
+repack.midxMustContainCruft         bool
+sendemail.smtpSSLClientCert         alone text
+sendemail.smtpSSLClientKey          alone text
+# after Git 2.51
+commitGraph.changedPaths            bool
+extensions.submodulePathConfig      text
+maintenance.geometric-repack.auto   int
+maintenance.geometric-repack.splitFactor int
+promisor.checkFields                text
+promisor.sendFields                 text
+promisor.storeFields                text
+sendemail.imapSentFolder            alone text
+sendemail.useImapOnly               bool
+status.compareBranches              text
+submodule.*.gitdir                  text
+# Settings of other tools in these sections, and of Gits before 2.39
+diff.compactionHeuristic            alone text
+gc.prunePackExpire                  alone text
+http.allowNTLMAuth                  alone text
+http.sslAutoClientCert              alone text
+http.*.allowNTLMAuth                alone text
+http.*.sslAutoClientCert            alone text
+pack.buildBitmaps                   alone text
+pack.cutDeltaChains                 alone text
+pack.deltaCompression               alone text
+pack.reuseDeltas                    alone text
+pack.reuseObjects                   alone text
+pack.singlePack                     alone text
+rebase.useBuiltin                   alone text
+remote.lfsDefault                   alone text
+remote.lfsPushDefault               alone text
+sendemail.smtpSSL                   alone text
+stash.useBuiltin                    alone text
+status.deserializePath              alone text
+status.deserializeWait              alone text
+# remotes, last: its section is nearly that of remote
+remotes.*                           text
 ";
