@@ -13,7 +13,7 @@ Affirms t = SameWord t (codes "yes") ⊎ SameWord t (codes "on") ⊎ SameWord t 
 abbrev pub Denies : List ℕ → Type 0
 Denies t = (t ≡ []) ⊎ SameWord t (codes "no") ⊎ SameWord t (codes "off") ⊎ SameWord t (codes "false")
 
--- boolean text: a word, or an amount text, which is true where its number is not zero
+-- boolean text: a word, or an amount text, which is true if its number is not zero
 pub data BooleanText (t : List ℕ) (v : Boolean) : Type 0 where
   affirmed : Affirms t → v.0 ≡ true → BooleanText t v
   denied : Denies t → v.0 ≡ false → BooleanText t v

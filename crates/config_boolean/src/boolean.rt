@@ -27,13 +27,13 @@ use std::str::FromStr;
 
 /// A truth value. **In Git a key without `=` is true, and one with nothing after its `=` is false.**
 ///
-/// A reader sees only the text. So whoever reads a file tells a key without `=` from the line, and hands in
-/// `true` for it; `uses::entries` shows how.
+/// A reader gets only the text after the `=`. If there is no `=`, pass it `true`, as the lookups of
+/// `config_file::settings` do.
 ///
-/// The words are `yes`, `on`, `true` and `no`, `off`, `false`, in any case of their letters. The empty text
-/// is false, and an amount is true if its number is not zero. Any other text is refused with
-/// `Fault::Boolean`, also an integer text whose product leaves `i64`. Canonical are `true` and `false`:
-/// docs/GRAMMAR.md, Booleans.
+/// `yes`, `on` and `true` are true; `no`, `off`, `false` and the empty text are false; ASCII case is ignored.
+/// An amount is true if its number is not zero. Any other text is refused with `Fault::Boolean`, including an
+/// integer whose product does not fit `i64`. The canonical texts are `true` and `false`: docs/GRAMMAR.md,
+/// Booleans.
 ///
 /// ```rust
 /// use gix_config_value::{Boolean, Fault};
@@ -46,7 +46,7 @@ use std::str::FromStr;
 #[derive(Clone, Copy, PartialEq, Eq, PartialOrd, Ord, Hash, Debug, Default)]
 pub struct Boolean(pub bool);
 
-/// Whether the text is one of the words for true, in any case of its letters.
+/// Whether the text is a word for true, ignoring ASCII case.
 #[inline(always)]
 fn affirms(text: &[u8]) -> bool
     ensures { IsTrue result ↔ (Affirms text.now) }
@@ -56,7 +56,7 @@ fn affirms(text: &[u8]) -> bool
         || equals_ignoring_case(text, b"true")
 }
 
-/// Whether the text is one of the words for false, in any case of its letters, or empty.
+/// Whether the text is empty or a word for false, ignoring ASCII case.
 #[inline(always)]
 fn denies(text: &[u8]) -> bool
     ensures { IsTrue result ↔ (Denies text.now) }
@@ -69,7 +69,7 @@ fn denies(text: &[u8]) -> bool
         || equals_ignoring_case(text, b"false")
 }
 
-/// The truth value that a word names, or the empty text, or `None` for any other text.
+/// The truth value of a word or of the empty text, or `None` for any other text.
 #[inline(always)]
 fn word(text: &[u8]) -> Option<bool>
     ensures { MatchOption result ((¬ Affirms text.now) × (¬ Denies text.now))
@@ -84,8 +84,7 @@ fn word(text: &[u8]) -> Option<bool>
     }
 }
 
-/// The boolean of a text that is no word: whether the amount that it writes is not zero, or `None` if it
-/// writes no amount.
+/// Reads a text that is not a word: whether its amount is not zero, or `None` if it is not an amount text.
 #[inline(never)]
 fn read_amount(text: &[u8]) -> Option<Boolean>
     requires affirms { ¬ (Affirms text.now) }
@@ -98,7 +97,7 @@ fn read_amount(text: &[u8]) -> Option<Boolean>
     }
 }
 
-/// The boolean that the text writes, or `None` if it writes none.
+/// Reads the text, or returns `None` if it is not a boolean text.
 fn boolean_of(text: &[u8]) -> Option<Boolean>
     ensures { Reads BooleanText text.now result }
 {
@@ -129,7 +128,7 @@ impl From<Boolean> for bool {
 impl TryRead for Boolean {
     ghost refusal = { OnlyFault faults.Boolean };
 
-    /// The boolean that the text writes, or `Fault::Boolean` if it writes none.
+    /// Reads the text, or returns `Fault::Boolean` if it is not a boolean text.
     fn try_read(text: &[u8]) -> Result<Boolean, Fault> {
         boolean_of(text).ok_or(Fault::Boolean)
     }
@@ -140,7 +139,7 @@ impl FromStr for Boolean {
 
     ghost from_str_gives = { ReadsFault BooleanText (OnlyFault faults.Boolean) };
 
-    /// The boolean that the text writes, or `Fault::Boolean` if it writes none.
+    /// Reads the text, or returns `Fault::Boolean` if it is not a boolean text.
     fn from_str(text: &str) -> Result<Boolean, Fault> {
         Boolean::try_read(text.as_bytes())
     }
@@ -151,7 +150,7 @@ impl<'a> TryFrom<BStr<'a>> for Boolean {
 
     ghost try_from_gives = { ReadsBytes BooleanText (OnlyFault faults.Boolean) };
 
-    /// The boolean of the input, or `Fault::Boolean` and the whole input.
+    /// Reads the input, or returns `Fault::Boolean` with the whole input.
     fn try_from(input: BStr<'a>) -> Result<Boolean, Error<'a>> {
         read_bytes(input)
     }
@@ -162,7 +161,7 @@ impl<'a> TryFrom<&'a str> for Boolean {
 
     ghost try_from_gives = { λ s r. ReadsText BooleanText (OnlyFault faults.Boolean) s.now r };
 
-    /// The boolean of the input, or `Fault::Boolean` and the whole input.
+    /// Reads the input, or returns `Fault::Boolean` with the whole input.
     fn try_from(input: &'a str) -> Result<Boolean, Error<'a>> {
         read_text(input)
     }
@@ -174,7 +173,7 @@ impl TryFrom<BString> for Boolean {
     ghost try_from_gives = { λ s r.
         ReadsOwned BooleanText (OnlyFault faults.Boolean) (bstring_bytes s) s r };
 
-    /// The boolean of the input, or `Fault::Boolean` and the input itself.
+    /// Reads the input, or returns `Fault::Boolean` and hands the input back.
     fn try_from(input: BString) -> Result<Boolean, Returned<BString>> {
         read_owned(input)
     }
@@ -186,14 +185,14 @@ impl<'a> TryFrom<CowSlice<'a, u8>> for Boolean {
     ghost try_from_gives = { λ s r.
         ReadsOwned BooleanText (OnlyFault faults.Boolean) (cow_slice_items s) s r };
 
-    /// The boolean of the input, or `Fault::Boolean` and the input itself.
+    /// Reads the input, or returns `Fault::Boolean` and hands the input back.
     fn try_from(input: CowSlice<'a, u8>) -> Result<Boolean, Returned<CowSlice<'a, u8>>> {
         read_cow(input)
     }
 }
 
 impl Boolean {
-    /// The JSON value `true` or `false`. Takes no memory and always succeeds.
+    /// Returns the JSON value `true` or `false`. It takes no memory and always succeeds.
     pub fn to_json(&self, _alloc: Global) -> Result<JsonValue, JsonError>
         ensures { IsJson (boolean self.now.0) result }
     {
@@ -217,7 +216,7 @@ impl Value for Boolean {
 
     ghost displayed = { boolean_shown };
 
-    /// The boolean that the input writes, or `None` if it writes none.
+    /// Reads the input, or returns `None` if it is not a boolean text.
     fn read(input: BStr<'_>) -> Option<Boolean> {
         boolean_of(input.as_bytes())
     }

@@ -31,7 +31,7 @@ pub record TextRead (t : List ℕ) (names : List Name) (bits : ℕ) : Type 0 whe
   pub cut : Words t words
   pub read : WordsRead words names bits
 
--- the first name is the foreground, the second the background, each none where there is no such name; there
+-- the first name is the foreground and the second the background, each `None` if there is no such name; there
 -- is no place for a third
 abbrev pub Placed : List Name → Option Name → Option Name → Type 0
 Placed [] foreground background = (foreground ≡ None) × (background ≡ None)
@@ -55,7 +55,8 @@ abbrev pub set_shown : ℕ → List (List ℕ)
 set_shown zero = []
 set_shown (suc n) = attribute_shown (suc n) ∷ []
 
--- how a color is shown: those of foreground, background and attributes that there are, with one space between
+-- how a color is shown: its foreground, its background and its attributes, if it has them, with one space
+-- between
 abbrev pub color_shown : Color → List ℕ
 color_shown c =
     join_with_byte space ((part_shown c.foreground ++ part_shown c.background) ++ set_shown c.attributes.0)

@@ -8,7 +8,7 @@ use Rattle.config_color.specs.Color.{TextRead, Placed, ColorText}
 use Rattle.config_text.specs.Value.{IsAccepted, HasText}
 use Rattle.config_word.specs.Attribute.{AttributeText}
 
--- a color's names: its foreground, then its background, those that there are
+-- a color's names: its foreground, then its background, if it has them
 abbrev pub color_names : Color → List Name
 color_names c = option_to_list c.foreground ++ option_to_list c.background
 
@@ -17,8 +17,8 @@ pub record Composition (a b c : Color) : Type 0 where
   pub placed : Placed (color_names a ++ color_names b) c.foreground c.background
   pub united : c.attributes.0 ≡ bit_or a.attributes.0 b.attributes.0
 
--- the answer of `compose`: the composition, which then has a text, and none where the names are more than
--- two, for which there is no composition
+-- what `compose` returns: the composition, which has a text; or `None` if there are more than two names, and
+-- then there is no composition
 abbrev pub Composes : Color → Color → Option Color → Type 0
 Composes a b None = (2 < length (color_names a ++ color_names b)) × ((c : Color) → ¬ (Composition a b c))
 Composes a b (Some c) = Composition a b c × HasText ColorText c
@@ -27,7 +27,7 @@ Composes a b (Some c) = Composition a b c × HasText ColorText c
 abbrev pub Joined : List ℕ → List ℕ → Color → Type 0
 Joined front back c = (a : Color) × (b : Color) × ColorText front a × ColorText back b × Composition a b c
 
--- both texts have a color, and the names of the two colors are more than two
+-- both texts have a color, and the two colors have more than two names
 abbrev pub HaveTooManyNames : List ℕ → List ℕ → Type 0
 HaveTooManyNames front back =
     (a : Color) × (b : Color) × ColorText front a × ColorText back b
@@ -40,8 +40,8 @@ pub record SameWords (a b : List ℕ) : Type 0 where
   pub first : TextRead a names bits
   pub second : TextRead b names bits
 
--- two lists of words that differ in one whole attribute word, which stands at another place of the second
--- list, or at one more place of it
+-- two lists of words that differ in one whole attribute word, which the second list has at another place, or
+-- once more
 pub data Moves (ws vs : List (List ℕ)) : Type 0 where
   moved : (w : List ℕ) (front back ahead behind : List (List ℕ)) → IsAccepted AttributeText w
       → ws ≡ front ++ w ∷ back → vs ≡ ahead ++ w ∷ behind → front ++ back ≡ ahead ++ behind → Moves ws vs

@@ -1,4 +1,4 @@
--- The words of a text: it is cut at white space, and decoded nowhere.
+-- The words of a text. It is cut at white space, and nothing is decoded.
 use Rattle.std.specs.Prelude.{◌≡◌, ℕ, List, [], ◌∷◌, ◌++◌}
 use Rattle.config_color.specs.Space.{Space}
 

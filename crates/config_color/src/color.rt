@@ -33,12 +33,12 @@ use std::str::FromStr;
 
 /// What text is drawn with: a foreground, a background and attributes.
 ///
-/// A text is names and attributes in any order, with white space between them, which is Unicode's. The first
-/// name is the foreground, the second the background. The empty text reads to the default color.
+/// A text has names and attributes in any order, with Unicode white space between them. The first name is the
+/// foreground, the second the background. The empty text reads to the default color.
 ///
 /// A text with a third name, or with a word that is neither, is refused with `Fault::Color`. The canonical
 /// text has the names first and then the attributes, in at most `LONGEST_TEXT` bytes. A color with an unknown
-/// bit has none, nor has one with a background alone. The source: docs/GRAMMAR.md, Colors.
+/// bit has no text, and neither has one with a background alone: docs/GRAMMAR.md, Colors.
 ///
 /// ```rust
 /// use gix_config_value::color::{Attribute, Name};
@@ -74,7 +74,7 @@ impl Default for Color {
 }
 
 impl Color {
-    /// This color with one more name: as its foreground, or else as its background. `None` if it has
+    /// Adds a name as the foreground, or if there is one, as the background. Returns `None` if there are
     /// both.
     #[inline(always)]
     fn with_name(self, name: Name) -> Option<Color>
@@ -94,7 +94,7 @@ impl Color {
         }
     }
 
-    /// This color with one more item.
+    /// Adds a name or an attribute. Returns `None` for a third name.
     #[inline(always)]
     fn with_item(self, item: Item) -> Option<Color>
         ensures { result ≡ with_item self item }
@@ -108,8 +108,8 @@ impl Color {
         }
     }
 
-    /// This color with the item that a word stands for, or as it is if the word is empty. `None` if
-    /// the word stands for nothing, or for a third name.
+    /// Adds the item that a word means; an empty word adds nothing. Returns `None` if the word is not an
+    /// item, or is a third name.
     #[inline(always)]
     fn with_word(self, text: &[u8]) -> Option<Color>
         ensures { result ≡ read_from self (piece text.now) }
@@ -121,7 +121,7 @@ impl Color {
     }
 }
 
-/// Does nothing: what it ensures is used by the proof of `is_readable`.
+/// Does nothing. The proof of `is_readable` uses what it ensures.
 fn part_fits(part: Option<Name>)
     ensures { PartFits part }
 {
@@ -131,7 +131,7 @@ fn part_fits(part: Option<Name>)
 }
 
 impl Color {
-    /// Writes the names as they are shown, with one space between them, into a text that is empty.
+    /// Writes the shown names, with one space between them, into an empty text.
     #[tactic(auto, using(config_word::specs::Laws::Name::name_short))]
     fn show_names(&self, text: &mut CanonicalText)
         requires { text.old.bytes ≡ [] }
@@ -154,8 +154,8 @@ impl Color {
         }
     }
 
-    /// Whether some text reads to this color: each set bit has a constant, and where there is a
-    /// background there is a foreground.
+    /// Whether some text reads to this color: each set bit has a constant, and a background comes with a
+    /// foreground.
     fn is_readable(&self) -> bool
         ensures { IsTrue result ↔ (HasText ColorText self.now) }
     {
@@ -165,7 +165,7 @@ impl Color {
             && (self.background.is_none() || self.foreground.is_some())
     }
 
-    /// The color as it is shown, of any set of attributes, in at most `LONGEST_TEXT` bytes.
+    /// Returns the color as it is shown, whatever its attributes, in at most `LONGEST_TEXT` bytes.
     pub fn shown(&self) -> CanonicalText
         ensures { result.bytes ≡ color_shown self.now }
     {
@@ -174,7 +174,7 @@ impl Color {
         text
     }
 
-    /// Writes the color as it is shown into a text that is empty.
+    /// Writes the color as it is shown into an empty text.
     #[inline(always)]
     pub(crate) fn show(&self, text: &mut CanonicalText)
         requires { text.old.bytes ≡ [] }
@@ -194,16 +194,16 @@ impl Color {
 /// Where the first word of a text ends.
 #[derive(Clone, Copy)]
 struct FirstWord {
-    /// The bytes before the first white space.
+    /// How many bytes come before the first white space.
     length: usize,
-    /// The bytes of that white space, or 0 where the text has none.
+    /// How many bytes that white space has, or 0 if there is none.
     space: usize,
 }
 
-/// How many bytes of a long word are looked at at once.
+/// How many bytes of a long word are tested at once.
 const RUN: usize = 16;
 
-/// Whether each byte of the run at `at` is one with which no white space begins.
+/// Whether no byte of the run at `at` can begin white space.
 #[inline(always)]
 fn is_plain_run(text: &[u8], at: usize) -> bool
     requires { at + RUN ≤ length text.now }
@@ -217,7 +217,7 @@ fn is_plain_run(text: &[u8], at: usize) -> bool
     is_plain
 }
 
-/// Where the plain runs from `start` on end.
+/// Returns where the plain runs from `start` on end.
 fn end_of_runs(text: &[u8], start: usize) -> usize
     requires clear { IsWithoutSpace text.now start }
     requires within { start ≤ length text.now }
@@ -231,7 +231,7 @@ fn end_of_runs(text: &[u8], start: usize) -> usize
     at
 }
 
-/// The word that ends at a place from `start` on and before `end`, if there is white space there.
+/// Returns the first word if it ends at or after `start`, and before `end`.
 #[inline(always)]
 fn word_between(text: &[u8], start: usize, end: usize) -> Option<FirstWord>
     requires clear { IsWithoutSpace text.now start }
@@ -248,7 +248,7 @@ fn word_between(text: &[u8], start: usize, end: usize) -> Option<FirstWord>
     None
 }
 
-/// The first word of a text. What follows its first bytes is looked at in runs as far as they are plain.
+/// Finds the first word of a text. After its first bytes it goes on by whole runs, as far as they are plain.
 #[inline(always)]
 fn first_word(text: &[u8]) -> FirstWord
     ensures clear { IsWithoutSpace text.now result.length }
@@ -271,7 +271,7 @@ fn first_word(text: &[u8]) -> FirstWord
     }
 }
 
-/// What follows the spaces at the front of a text.
+/// The text without the spaces at its front.
 #[inline(always)]
 fn past_spaces(text: &[u8]) -> &[u8]
     ensures same { words result.now ≡ words text.now }
@@ -284,7 +284,7 @@ fn past_spaces(text: &[u8]) -> &[u8]
     rest
 }
 
-/// The color of a text, or `None` where it has none. The text is walked from its front.
+/// Reads the text word by word from its front, or returns `None` if it is not a color text.
 #[inline(always)]
 fn color_of(input: &[u8]) -> Option<Color>
     ensures { Reads ColorText input.now result }
@@ -303,7 +303,7 @@ fn color_of(input: &[u8]) -> Option<Color>
 impl TryRead for Color {
     ghost refusal = { OnlyFault faults.Color };
 
-    /// The color of the text, or `Fault::Color` if it has none.
+    /// Reads the text, or returns `Fault::Color` if it is not a color text.
     fn try_read(text: &[u8]) -> Result<Color, Fault> {
         color_of(text).ok_or(Fault::Color)
     }
@@ -314,7 +314,7 @@ impl FromStr for Color {
 
     ghost from_str_gives = { ReadsFault ColorText (OnlyFault faults.Color) };
 
-    /// The color of the text, or `Fault::Color` if it has none.
+    /// Reads the text, or returns `Fault::Color` if it is not a color text.
     fn from_str(text: &str) -> Result<Color, Fault> {
         Color::try_read(text.as_bytes())
     }
@@ -325,7 +325,7 @@ impl<'a> TryFrom<BStr<'a>> for Color {
 
     ghost try_from_gives = { ReadsBytes ColorText (OnlyFault faults.Color) };
 
-    /// The color of the input, or `Fault::Color` with the whole input if it has none.
+    /// Reads the input, or returns `Fault::Color` with the whole input.
     fn try_from(input: BStr<'a>) -> Result<Color, Error<'a>> {
         read_bytes(input)
     }
@@ -336,7 +336,7 @@ impl<'a> TryFrom<&'a str> for Color {
 
     ghost try_from_gives = { λ s r. ReadsText ColorText (OnlyFault faults.Color) s.now r };
 
-    /// The color of the input, or `Fault::Color` with the whole input if it has none.
+    /// Reads the input, or returns `Fault::Color` with the whole input.
     fn try_from(input: &'a str) -> Result<Color, Error<'a>> {
         read_text(input)
     }
@@ -348,7 +348,7 @@ impl TryFrom<BString> for Color {
     ghost try_from_gives = { λ s r.
         ReadsOwned ColorText (OnlyFault faults.Color) (bstring_bytes s) s r };
 
-    /// The color of the input, or `Fault::Color` with the input handed back if it has none.
+    /// Reads the input, or returns `Fault::Color` and hands the input back.
     fn try_from(input: BString) -> Result<Color, Returned<BString>> {
         read_owned(input)
     }
@@ -360,7 +360,7 @@ impl<'a> TryFrom<CowSlice<'a, u8>> for Color {
     ghost try_from_gives = { λ s r.
         ReadsOwned ColorText (OnlyFault faults.Color) (cow_slice_items s) s r };
 
-    /// The color of the input, or `Fault::Color` with the input handed back if it has none.
+    /// Reads the input, or returns `Fault::Color` and hands the input back.
     fn try_from(input: CowSlice<'a, u8>) -> Result<Color, Returned<CowSlice<'a, u8>>> {
         read_cow(input)
     }
@@ -382,7 +382,7 @@ impl Value for Color {
 
     ghost displayed = { color_shown };
 
-    /// The color of the input, or `None` if it has none.
+    /// Reads the input, or returns `None` if it is not a color text.
     fn read(input: BStr<'_>) -> Option<Color> {
         color_of(input.as_bytes())
     }

@@ -1,4 +1,4 @@
-//! Two colors as one.
+//! The composition of two colors.
 ghost use Rattle.std.specs.Prelude.{◌≡◌};
 ghost use Rattle.config_color.specs.Color.{ColorText};
 ghost use Rattle.config_color.specs.Reading.Color.{places_of};
@@ -9,8 +9,8 @@ use crate::color::Color;
 use bitflags::Flags;
 use config_word::name::Name;
 
-/// The foreground and the background that the names of `a` and then those of `b` make, or `None`
-/// where they are more than two.
+/// The foreground and the background from the names of `a` and then those of `b`, or `None` if there are more
+/// than two names.
 fn places(a: Color, b: Color) -> Option<(Option<Name>, Option<Name>)>
     ensures { result ≡ places_of a.foreground a.background b.foreground b.background }
 {
@@ -27,12 +27,12 @@ fn places(a: Color, b: Color) -> Option<(Option<Name>, Option<Name>)>
     }
 }
 
-/// The color that a text of `a`, white space and a text of `b` reads to: docs/GRAMMAR.md, Colors. The names
-/// of `a` and then those of `b` are its foreground and background, and it has the attributes of both. `None`
-/// where the names are more than two.
+/// Returns the color of a text of `a`, white space and a text of `b`: docs/GRAMMAR.md, Colors. The names of
+/// `a` and then those of `b` become its foreground and background, and it has the attributes of both. Returns
+/// `None` if there are more than two names.
 ///
-/// Both colors must have a text, as [`Value::has_text`](config_text::value::Value::has_text) tells, and the
-/// answer has one. A color that was read has a text.
+/// Both colors must have a text, as [`Value::has_text`](config_text::value::Value::has_text) tells; a color
+/// that was read has one. So has the result.
 ///
 /// ```rust
 /// use gix_config_value::Color;

@@ -1,4 +1,4 @@
-//! Laws of colors, each the contract of a function that does nothing.
+//! Laws of colors. Each is the contract of a function that does nothing.
 
 pub mod colors;
 pub mod orders;

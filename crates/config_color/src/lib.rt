@@ -1,16 +1,16 @@
 //! Git's colors: what text is drawn with, as a value like `bold red #1e1e1e` says it.
 //!
-//! [`color::Color`] is a foreground, a background and a set of attributes. It is read from a text
-//! or from bytes, borrowed or owned, by `TryFrom`. The words of the text are names and attributes
-//! in any order. The first name is the foreground, the second the background, and a third is
-//! refused. A refusal holds the whole input. A color is shown by `Display`, and as a [`Value`] it
-//! has one canonical text, where any text reads to it.
+//! [`color::Color`] is a foreground, a background and a set of attributes. It is read from a text or from
+//! bytes, borrowed or owned, by `TryFrom`. The words of the text are names and attributes in any order. The
+//! first name is the foreground, the second the background, and a third is refused. A refusal holds the whole
+//! input. A color is shown by `Display`, and as a [`Value`] it has one canonical text, if any text reads to
+//! it.
 //!
-//! [`composition::compose`] makes of two colors the one that a text of both reads to, and
-//! [`space::space_at`] finds the white space between words, which is Unicode's.
+//! [`composition::compose`] combines two colors as reading a text of both would, and [`space::space_at`]
+//! finds the white space of Unicode between words.
 //!
-//! [`laws`] states what holds of colors beside their calls: which colors have a text, what the
-//! words of a text are, and how colors compare.
+//! [`laws`] states what else holds of colors: which colors have a text, what the words of a text are, and how
+//! colors compare.
 //!
 //! [`Value`]: config_text::value::Value
 #![tactic(auto)]

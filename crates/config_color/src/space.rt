@@ -37,8 +37,7 @@ fn is_triple(first: u8, second: u8, third: u8) -> bool
     }
 }
 
-/// The length of the spelling of white space at the head of these bytes, or 0 where none stands
-/// there.
+/// The length of the white space at the front of these bytes, or 0 if there is none.
 #[inline(always)]
 fn space_length(bytes: &[u8]) -> usize
     ensures none { result ≡ 0
@@ -55,9 +54,9 @@ fn space_length(bytes: &[u8]) -> usize
     }
 }
 
-/// The length in bytes of the white space that stands in the input at the byte `at`, or 0 where none stands
-/// there. White space is 25 code points of Unicode, which UTF-8 spells in 1 to 3 bytes. `at` is at most
-/// `input.len()`. The source: docs/GRAMMAR.md, White space and words.
+/// The length in bytes of the white space in the input at the byte `at`, or 0 if there is none. White space
+/// is 25 code points of Unicode, which UTF-8 spells in 1 to 3 bytes: docs/GRAMMAR.md, White space and words.
+/// `at` must be at most `input.len()`.
 ///
 /// ```rust
 /// use gix_config_value::color::space_at;

@@ -1,4 +1,4 @@
--- Amounts: integer texts read as the number that is their product.
+-- Amounts: integer texts, read as their product.
 use Rattle.std.specs.Prelude.{ℕ, List}
 use Rattle.std.specs.Fmt.{signed_decimal}
 use Rattle.config_text.specs.declared.errors.Fault.{Fault}
@@ -9,7 +9,7 @@ use Rattle.config_integer.specs.Integer.{ProductInRange, IntegerFault, Canonical
 abbrev pub AmountText : List ℕ → Amount → Type 0
 AmountText t v = ProductInRange t v.0
 
--- why a text is no amount text: it is no integer text, or its product is out of range
+-- why a text is not an amount text: it is not an integer text, or its product is out of range
 abbrev pub AmountFault : List ℕ → Fault → Type 0
 AmountFault t fault = IntegerFault (λ _. ⊥) t fault
 

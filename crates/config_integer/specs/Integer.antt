@@ -42,7 +42,7 @@ abbrev pub SuffixIfAny : List ℕ → Option Suffix → Type 0
 SuffixIfAny t None = t ≡ []
 SuffixIfAny t (Some s) = SuffixText t s
 
--- integer text: a number, and behind it nothing or one suffix
+-- integer text: a number, then nothing or one suffix
 pub record IntegerText (t : List ℕ) (v : Integer) : Type 0 where
   pub front : List ℕ
   pub back : List ℕ
@@ -60,13 +60,13 @@ pub record ProductText (t : List ℕ) (z : ℤ) : Type 0 where
   pub text : IntegerText t integer
   pub number : z ≡ product integer
 
--- the same, of a product that is in range
+-- the text is an integer text with this product, which is in range
 pub record ProductInRange (t : List ℕ) (z : ℤ) : Type 0 where
   pub product_text : ProductText t z
   pub in_range : IsInI64 z
 
--- why no number is read from a text: it is no integer text, or its product is out of range, or the product
--- is one that the caller's type refuses
+-- why no number is read from a text: it is not an integer text, its product is out of range, or the caller's
+-- type refuses the product
 abbrev pub IntegerFault : (ℤ → Type 0) → List ℕ → Fault → Type 0
 IntegerFault refuses t faults.Integer = IsRefused IntegerText t
 IntegerFault refuses t faults.Overflow = (z : ℤ) × ProductText t z × ¬ (IsInI64 z)
@@ -92,7 +92,7 @@ pub data CanonicalNumber (t : List ℕ) : Type 0 where
   positive : PlainDigits 9223372036854775807 t → CanonicalNumber t
   negative : (m : List ℕ) → t ≡ codes "-" ++ m → PlainDigits 9223372036854775808 m → CanonicalNumber t
 
--- the canonical texts of an integer: a canonical number, and behind it nothing or a canonical suffix
+-- the canonical texts of an integer: a canonical number, then nothing or a canonical suffix
 pub record CanonicalInteger (t : List ℕ) : Type 0 where
   pub front : List ℕ
   pub back : List ℕ

@@ -11,7 +11,7 @@ use Rattle.config_integer.specs.Suffix.{factor}
 abbrev pub suffix_order : Suffix → Suffix → Ordering
 suffix_order = on factor nat_cmp
 
--- by the number, then by the suffix, none first
+-- by the number, then by the suffix, `None` first
 abbrev pub integer_order : Integer → Integer → Ordering
 integer_order = then_cmp (on (λ v. v.value) int_cmp) (on (λ v. v.suffix) (option_cmp suffix_order))
 

@@ -1,4 +1,4 @@
-//! Integer texts read as the number that is their product.
+//! Integer texts, read as their product.
 ghost use Rattle.std.specs.Prelude.{Some};
 ghost use Rattle.bstr.specs.Owned.{bstring_bytes};
 ghost use Rattle.std.specs.Cow.{cow_slice_items};
@@ -18,9 +18,9 @@ use std::borrow::CowSlice;
 use std::fmt;
 use std::str::FromStr;
 
-/// The number that an integer text has as its product: `1k` and `1024` are one amount.
+/// The product of an integer text: `1k` and `1024` are the same amount.
 ///
-/// It is from -9223372036854775808 to 9223372036854775807. A text that is no integer text is refused with
+/// It is from -9223372036854775808 to 9223372036854775807. A text that is not an integer text is refused with
 /// `Fault::Integer`, and one whose product is out of this range with `Fault::Overflow`. The canonical text is
 /// the number in decimal: docs/GRAMMAR.md, Amounts.
 ///
@@ -36,8 +36,8 @@ pub struct Amount(pub i64);
 impl TryRead for Amount {
     ghost refusal = { AmountFault };
 
-    /// The amount of the text, or `Fault::Integer` if it writes no integer, or `Fault::Overflow` if the
-    /// product leaves `i64`.
+    /// Reads the text, or returns `Fault::Integer` if it is not an integer text, or `Fault::Overflow` if its
+    /// product does not fit `i64`.
     #[inline(always)]
     fn try_read(text: &[u8]) -> Result<Amount, Fault> {
         let Some(integer) = scan(text) else {
@@ -55,8 +55,8 @@ impl FromStr for Amount {
 
     ghost from_str_gives = { ReadsFault AmountText AmountFault };
 
-    /// The amount of the text, or `Fault::Integer` if it writes no integer, or `Fault::Overflow` if the
-    /// product leaves `i64`.
+    /// Reads the text, or returns `Fault::Integer` if it is not an integer text, or `Fault::Overflow` if its
+    /// product does not fit `i64`.
     fn from_str(text: &str) -> Result<Amount, Fault> {
         Amount::try_read(text.as_bytes())
     }
@@ -67,7 +67,7 @@ impl<'a> TryFrom<BStr<'a>> for Amount {
 
     ghost try_from_gives = { ReadsBytes AmountText AmountFault };
 
-    /// The amount of the input, or a fault as `try_read` has it and the whole input.
+    /// Reads the input, or returns the fault of `try_read` with the whole input.
     fn try_from(input: BStr<'a>) -> Result<Amount, Error<'a>> {
         read_bytes(input)
     }
@@ -78,7 +78,7 @@ impl<'a> TryFrom<&'a str> for Amount {
 
     ghost try_from_gives = { λ s r. ReadsText AmountText AmountFault s.now r };
 
-    /// The amount of the input, or a fault as `try_read` has it and the whole input.
+    /// Reads the input, or returns the fault of `try_read` with the whole input.
     fn try_from(input: &'a str) -> Result<Amount, Error<'a>> {
         read_text(input)
     }
@@ -89,7 +89,7 @@ impl TryFrom<BString> for Amount {
 
     ghost try_from_gives = { λ s r. ReadsOwned AmountText AmountFault (bstring_bytes s) s r };
 
-    /// The amount of the input, or a fault as `try_read` has it and the input itself.
+    /// Reads the input, or returns the fault of `try_read` and hands the input back.
     fn try_from(input: BString) -> Result<Amount, Returned<BString>> {
         read_owned(input)
     }
@@ -100,7 +100,7 @@ impl<'a> TryFrom<CowSlice<'a, u8>> for Amount {
 
     ghost try_from_gives = { λ s r. ReadsOwned AmountText AmountFault (cow_slice_items s) s r };
 
-    /// The amount of the input, or a fault as `try_read` has it and the input itself.
+    /// Reads the input, or returns the fault of `try_read` and hands the input back.
     fn try_from(input: CowSlice<'a, u8>) -> Result<Amount, Returned<CowSlice<'a, u8>>> {
         read_cow(input)
     }
@@ -122,14 +122,14 @@ impl Value for Amount {
 
     ghost displayed = { amount_shown };
 
-    /// The amount of the input, or `None` if it is no integer text or its product leaves `i64`.
+    /// Reads the input, or returns `None` if it is not an integer text or its product does not fit `i64`.
     fn read(input: BStr<'_>) -> Option<Amount> {
         Amount::try_read(input.as_bytes()).ok()
     }
 
     /// Every amount has a text.
     fn has_text(&self) -> bool {
-        // The prover knows the range of a field that is read.
+        // Reading the field tells the prover its range.
         let _number = self.0;
         true
     }

@@ -33,11 +33,11 @@ use std::str::FromStr;
 /// A number and the suffix that it was written with, kept apart: `1k` and `1024` are two integers.
 ///
 /// A text has at most one sign and at most one suffix. Its number is decimal, or hexadecimal after `0x`,
-/// binary after `0b`, octal after `0`. The letters are read in either case. The number is from
-/// -9223372036854775808 to 9223372036854775807; the product with its suffix may leave that range.
+/// binary after `0b`, octal after `0`. Letters may be in either case. The number is from -9223372036854775808
+/// to 9223372036854775807; the product with its suffix may be out of that range.
 ///
-/// Any other text is refused with `Fault::Integer`, also one with white space or `_`. The canonical text is
-/// the number in decimal and the suffix in lower case: docs/GRAMMAR.md, Integers.
+/// Any other text is refused with `Fault::Integer`, including one with white space or `_`. The canonical text
+/// is the number in decimal and the suffix in lower case: docs/GRAMMAR.md, Integers.
 ///
 /// ```rust
 /// use gix_config_value::Integer;
@@ -55,8 +55,8 @@ pub struct Integer {
     pub suffix: Option<Suffix>,
 }
 
-/// The integer that the input writes, or `None` if it writes none. The input is read once, from its first
-/// byte on, and no further than to the byte that refuses it.
+/// Reads the input, or returns `None` if it is not an integer text. It goes over the input once, from its
+/// first byte on, and stops at the byte that makes it invalid.
 #[inline(always)]
 pub fn scan(input: &[u8]) -> Option<Integer>
     ensures { Reads IntegerText input.now result }
@@ -79,7 +79,7 @@ fn sign_and_rest(text: &[u8]) -> (bool, &[u8])
     }
 }
 
-/// The largest magnitude of a negative number of `i64`, or of another.
+/// The largest magnitude of a number of `i64` that is negative, or that is not.
 #[inline(always)]
 fn largest(is_negative: bool) -> u64
     ensures { result ≡ largest is_negative }
@@ -91,7 +91,7 @@ fn largest(is_negative: bool) -> u64
     }
 }
 
-/// The number with this sign and magnitude, or `None` if it leaves `i64`.
+/// The number with this sign and magnitude, or `None` if it does not fit `i64`.
 #[inline(always)]
 fn with_sign(is_negative: bool, magnitude: u64) -> Option<i64>
     ensures { SomeIff result (magnitude ≤ largest is_negative) (with_sign is_negative magnitude) }
@@ -103,7 +103,7 @@ fn with_sign(is_negative: bool, magnitude: u64) -> Option<i64>
     }
 }
 
-/// The product of the integer that a text writes, as a `T`, or why there is none.
+/// Reads an integer text and returns its product as a `T`, or why it has none.
 fn product_as<T: TryFrom<i64>>(text: &[u8]) -> Result<T, Fault>
 where
     T::Error: Drop,
@@ -112,7 +112,7 @@ where
     ensures refused { IfErr result
         (IntegerFault (λ z. (x : T.Error) × T.try_from_gives z (Err x)) text.now) }
 {
-    // With `ok_or` and `?` in place of these arms the proof takes three times as long.
+    // With `ok_or` and `?` instead of these arms the proof takes three times as long.
     let Some(integer) = scan(text) else {
         return Err(Fault::Integer);
     };
@@ -125,7 +125,7 @@ where
 impl TryRead for Integer {
     ghost refusal = { OnlyFault faults.Integer };
 
-    /// The integer that the text writes, or `Fault::Integer` if it writes none.
+    /// Reads the text, or returns `Fault::Integer` if it is not an integer text.
     fn try_read(text: &[u8]) -> Result<Integer, Fault> {
         scan(text).ok_or(Fault::Integer)
     }
@@ -136,7 +136,7 @@ impl FromStr for Integer {
 
     ghost from_str_gives = { ReadsFault IntegerText (OnlyFault faults.Integer) };
 
-    /// The integer that the text writes, or `Fault::Integer` if it writes none.
+    /// Reads the text, or returns `Fault::Integer` if it is not an integer text.
     fn from_str(text: &str) -> Result<Integer, Fault> {
         Integer::try_read(text.as_bytes())
     }
@@ -147,7 +147,7 @@ impl<'a> TryFrom<BStr<'a>> for Integer {
 
     ghost try_from_gives = { ReadsBytes IntegerText (OnlyFault faults.Integer) };
 
-    /// The integer of the input, or `Fault::Integer` and the whole input.
+    /// Reads the input, or returns `Fault::Integer` with the whole input.
     fn try_from(input: BStr<'a>) -> Result<Integer, Error<'a>> {
         read_bytes(input)
     }
@@ -158,7 +158,7 @@ impl<'a> TryFrom<&'a str> for Integer {
 
     ghost try_from_gives = { λ s r. ReadsText IntegerText (OnlyFault faults.Integer) s.now r };
 
-    /// The integer of the input, or `Fault::Integer` and the whole input.
+    /// Reads the input, or returns `Fault::Integer` with the whole input.
     fn try_from(input: &'a str) -> Result<Integer, Error<'a>> {
         read_text(input)
     }
@@ -170,7 +170,7 @@ impl TryFrom<BString> for Integer {
     ghost try_from_gives = { λ s r.
         ReadsOwned IntegerText (OnlyFault faults.Integer) (bstring_bytes s) s r };
 
-    /// The integer of the input, or `Fault::Integer` and the input itself.
+    /// Reads the input, or returns `Fault::Integer` and hands the input back.
     fn try_from(input: BString) -> Result<Integer, Returned<BString>> {
         read_owned(input)
     }
@@ -182,15 +182,15 @@ impl<'a> TryFrom<CowSlice<'a, u8>> for Integer {
     ghost try_from_gives = { λ s r.
         ReadsOwned IntegerText (OnlyFault faults.Integer) (cow_slice_items s) s r };
 
-    /// The integer of the input, or `Fault::Integer` and the input itself.
+    /// Reads the input, or returns `Fault::Integer` and hands the input back.
     fn try_from(input: CowSlice<'a, u8>) -> Result<Integer, Returned<CowSlice<'a, u8>>> {
         read_cow(input)
     }
 }
 
 impl Integer {
-    /// The number times the factor of its suffix, as a JSON number. Takes no memory, and refuses with
-    /// `JsonError::Overflow` exactly where that product leaves `i64`.
+    /// Returns the number times the factor of its suffix as a JSON number. It takes no memory, and fails with
+    /// `JsonError::Overflow` exactly if that product does not fit `i64`.
     pub fn to_json(&self, _alloc: Global) -> Result<JsonValue, JsonError>
         ensures { GivesJsonNumber (product self.now) result }
     {
@@ -204,14 +204,14 @@ impl fmt::Display for Integer {
 
     /// Writes the number in decimal, and the letter of its suffix.
     fn fmt<W: fmt::Write>(&self, f: &mut fmt::Formatter<W>) -> fmt::Result {
-        // The prover knows the range of a field that is read.
+        // Reading the field tells the prover its range.
         let _value = self.value;
         f.write_str(self.text().as_str())
     }
 }
 
 impl Integer {
-    /// The number times the factor of its suffix, or `None` if that leaves `i64`.
+    /// Returns the number times the factor of its suffix, or `None` if that does not fit `i64`.
     ///
     /// ```rust
     /// use gix_config_value::Integer;
@@ -228,11 +228,11 @@ impl Integer {
         }
     }
 
-    /// The product of the integer that the input writes, as a `T`. A refusal has the whole input, and the
-    /// first fault that fits: docs/GRAMMAR.md, Integers.
+    /// Reads the input as an integer and returns its product as a `T`. An error has the whole input, and the
+    /// first of these faults that applies (docs/GRAMMAR.md, Integers):
     ///
-    /// - `Fault::Integer`: the input writes no integer.
-    /// - `Fault::Overflow`: its product leaves `i64`.
+    /// - `Fault::Integer`: the input is not an integer text.
+    /// - `Fault::Overflow`: its product does not fit `i64`.
     /// - `Fault::OutOfRange`: the conversion of the product to `T` fails.
     ///
     /// ```rust
@@ -265,14 +265,14 @@ impl Value for Integer {
 
     ghost displayed = { integer_shown };
 
-    /// The integer that the input writes, or `None` if it writes none.
+    /// Reads the input, or returns `None` if it is not an integer text.
     fn read(input: BStr<'_>) -> Option<Integer> {
         scan(input.as_bytes())
     }
 
     /// Every integer has a text.
     fn has_text(&self) -> bool {
-        // The prover knows the range of a field that is read.
+        // Reading the field tells the prover its range.
         let _value = self.value;
         true
     }

@@ -2,11 +2,11 @@
 //!
 //! - [`suffix`]: the suffixes.
 //! - [`integer`]: a number and its suffix, kept apart, and the reader `scan`.
-//! - [`amount`]: an integer text read as the number that is its product.
+//! - [`amount`]: an integer text read as its product.
 //! - [`laws`]: the orders of the three, and that each value has a text.
 //!
-//! `specs/Integer.antt` has the grammar. `specs/Reading/` holds what the loops compute, for private
-//! contracts, and `specs/Laws/` that this is the grammar.
+//! `specs/Integer.antt` has the grammar. `specs/Reading/` says what the loops compute, for private contracts.
+//! `specs/Laws/` proves that this is the grammar.
 #![tactic(auto)]
 
 pub mod amount;

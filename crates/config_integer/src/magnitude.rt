@@ -5,7 +5,7 @@ ghost use Rattle.config_integer.specs.Reading.Integer.{number_and_suffix, base_a
 use crate::suffix::{Suffix, suffix_of};
 use config_text::digits::digit_of;
 
-/// 2 to the power of 59. One more digit of any base takes a smaller number to less than 2 to the power of 63.
+/// 2 to the power of 59. A smaller number with one more digit of any base is less than 2 to the power of 63.
 const CHECKED_FROM: u64 = 0x0800_0000_0000_0000;
 
 /// The number with one more digit of the base, or `None` if that is more than `limit`.
@@ -23,7 +23,7 @@ fn with_digit(number: u64, base: u64, digit: u64, limit: u64) -> Option<u64>
     if number <= limit { Some(number) } else { None }
 }
 
-/// The number that one digit or more of the base write, if it is at most `limit`, and the suffix after them.
+/// The number of one or more digits of the base, if it is at most `limit`, and the suffix after them.
 #[inline(always)]
 fn number_and_suffix(text: &[u8], base: u64, limit: u64) -> Option<(u64, Option<Suffix>)>
     requires high { base ≤ 16 }
@@ -63,7 +63,7 @@ fn base_and_digits(text: &[u8]) -> (u64, &[u8])
     }
 }
 
-/// A run of zeros. All of them but the last are passed at once.
+/// A run of zeros, all but the last of which are skipped at once.
 const ZEROS: [u8; 17] = [b'0'; 17];
 
 /// The text without those zeros at its front that another zero follows, which change no number.

@@ -19,8 +19,8 @@ use std::str::FromStr;
 
 /// A unit: 1024, 1024 * 1024 or 1024 * 1024 * 1024.
 ///
-/// The texts are `k`, `m` and `g` in either case, and the lower-case ones are canonical. Any other text is
-/// refused with `()`, also the empty one: docs/GRAMMAR.md, Suffixes.
+/// The texts are `k`, `m` and `g` in either case, and the lower-case ones are canonical. Any other text, even
+/// the empty one, is refused with `()`: docs/GRAMMAR.md, Suffixes.
 ///
 /// ```rust
 /// use gix_config_value::integer::Suffix;
@@ -40,7 +40,7 @@ pub enum Suffix {
     Gibi,
 }
 
-/// The suffix that the text names, or `None` if it names none.
+/// Reads the text, or returns `None` if it is not a suffix text.
 pub(crate) fn suffix_of(text: &[u8]) -> Option<Suffix>
     ensures { Reads SuffixText text.now result }
 {
@@ -93,7 +93,7 @@ impl FromStr for Suffix {
 
     ghost from_str_gives = { λ s r. ReadsOr SuffixText (λ _. Unit {0}) s r };
 
-    /// The suffix that the text names, or `()` if it names none.
+    /// Reads the text, or returns `()` if it is not a suffix text.
     fn from_str(text: &str) -> Result<Suffix, ()> {
         suffix_of(text.as_bytes()).ok_or(())
     }
@@ -104,14 +104,15 @@ impl<'a> TryFrom<BStr<'a>> for Suffix {
 
     ghost try_from_gives = { λ s r. ReadsOr SuffixText (λ _. Unit {0}) (bstr_bytes s) r };
 
-    /// The suffix that the input names, or `()` if it names none.
+    /// Reads the input, or returns `()` if it is not a suffix text.
     fn try_from(input: BStr<'a>) -> Result<Suffix, ()> {
         suffix_of(input.as_bytes()).ok_or(())
     }
 }
 
 impl Suffix {
-    /// The letter `k`, `m` or `g` as a JSON string, or `JsonError::Memory` if there is no memory for it.
+    /// Returns the letter `k`, `m` or `g` as a JSON string. Fails with `JsonError::Memory` if memory runs
+    /// out.
     pub fn to_json(&self, alloc: Global) -> Result<JsonValue, JsonError>
         ensures { GivesJsonText (suffix_shown self.now) result }
     {
@@ -135,7 +136,7 @@ impl Value for Suffix {
 
     ghost displayed = { suffix_shown };
 
-    /// The suffix that the input names, or `None` if it names none.
+    /// Reads the input, or returns `None` if it is not a suffix text.
     fn read(input: BStr<'_>) -> Option<Suffix> {
         suffix_of(input.as_bytes())
     }

@@ -51,12 +51,12 @@ HasForm value (below_user name rest) = (value ≡ codes "~" ++ below name rest) 
 HasForm value (other whole) =
     (whole ≡ value) × (value ≢ []) × LacksFront (codes "%(prefix)/") value × LacksFront (codes "~") value
 
--- what stands between a directory and a rest: a `/`, unless the directory is empty or ends in one
+-- what comes between a directory and a rest: a `/`, unless the directory is empty or ends in one
 abbrev pub separator : List ℕ → List ℕ
 separator [] = []
 separator (c ∷ cs) = if ends_with nat_eq (c ∷ cs) (codes "/") then [] else codes "/"
 
--- joined: a rest that begins with `/` stands alone
+-- joined: a rest that begins with `/` replaces the directory
 abbrev pub join : List ℕ → List ℕ → List ℕ
 join dir rest = if starts_with nat_eq rest (codes "/") then rest else dir ++ separator dir ++ rest
 
@@ -84,7 +84,8 @@ pub data WhereUtf8 (place : Place) (bytes : List ℕ) (row : Type 0) (result : P
   utf8 : IsUtf8 bytes → row → WhereUtf8 place bytes row result
   other_bytes : ¬ (IsUtf8 bytes) → result ≡ ill_formed place bytes → WhereUtf8 place bytes row result
 
--- a row for a directory: what it gives if there is none, and a rest with its place, which has to be UTF-8
+-- a row for a directory: its result if there is no directory, and a rest with its place, which has to be
+-- UTF-8
 pub record Row : Type 0 where
   pub dir : Option (List ℕ)
   pub missing : PathResult
@@ -145,7 +146,7 @@ abbrev pub returned : Result (String Global) Error → PathResult
 returned (Ok s) = text (string_bytes s)
 returned (Err e) = refusal e
 
--- this result is returned; or out of memory for a text that is not empty
+-- this result is returned; or out of memory, if its text is not empty
 abbrev pub IsAllocated : PathResult → Result (String Global) Error → Type 0
 IsAllocated result (Err (Memory e)) = (t : List ℕ) × (result ≡ text t) × (t ≢ [])
 IsAllocated result r = result ≡ returned r
@@ -158,7 +159,7 @@ pub record Interpolated (known : Known) (value : List ℕ) (r : Result (String G
 
 -- ---- what a context knows
 
--- the lookup may answer this directory, or none, for the name
+-- the lookup may return this directory, or `None`, for the name
 abbrev pub LooksUp : {F : Type 0} → Once F (Bor (List ℕ) × Unit {0}) (Option (Bor (List ℕ))) → F → List ℕ
     → Option (List ℕ) → Type 0
 LooksUp lookup f name answer =

@@ -17,7 +17,7 @@ nul = 0
 abbrev pub pieces : ℕ → List ℕ → List (List ℕ)
 pieces separator text = slice_split (λ b. b == separator) text
 
--- the home in these fields: the sixth, where there are exactly seven and the first is the name
+-- the home in these fields: the sixth, if there are exactly seven and the first is the name
 abbrev pub home_of_fields : List ℕ → List (List ℕ) → Option (List ℕ)
 home_of_fields name (user ∷ password ∷ id ∷ group ∷ comment ∷ home ∷ shell ∷ []) =
     if bytes_eq user name then Some home else None
@@ -29,7 +29,7 @@ home_in_lines name [] = None
 home_in_lines name (line ∷ lines) =
     option_or (home_of_fields name (pieces colon line)) (home_in_lines name lines)
 
--- the home in a passwd text: its lines end at LF and fields at `:`; a name that holds a NUL has none
+-- the home in a passwd text: its lines end at LF and fields at `:`; a name with a NUL has no home
 abbrev pub home_in : List ℕ → List ℕ → Option (List ℕ)
 home_in passwd name =
     if list_any (λ b. b == nul) name then None else home_in_lines name (pieces line_feed passwd)

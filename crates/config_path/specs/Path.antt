@@ -6,12 +6,12 @@ use Rattle.std.specs.declared.cmp.Ordering.{Ordering}
 use Rattle.bstr.specs.Owned.{bstring_bytes}
 use Rattle.config_path.specs.declared.path.Path.{Path}
 
--- marked: with one leading `:(optional)` cut off, or, where none stands there, with all bytes kept
+-- marked: one leading `:(optional)` is cut off; without it all bytes are kept
 abbrev pub Marked : List ℕ → Bool → List ℕ → Type 0
 Marked text true kept = text ≡ codes ":(optional)" ++ kept
 Marked text false kept = (kept ≡ text) × ((rest : List ℕ) → text ≢ codes ":(optional)" ++ rest)
 
--- the path that a text stands for
+-- the path that a text gives
 abbrev pub IsPathOf : List ℕ → Path → Type 0
 IsPathOf text path = Marked text path.is_optional (bstring_bytes path.value)
 

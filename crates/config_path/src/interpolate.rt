@@ -1,4 +1,4 @@
-//! The directories that stand in a path value for `%(prefix)`, `~` and `~user`.
+//! The directories that `%(prefix)`, `~` and `~user` mean in a path value.
 ghost use Rattle.std.specs.Prelude.{◌≡◌, ◌<◌, ◌≤◌, [], ◌∷◌, ◌++◌, codes, length, None, Some, MatchOption};
 ghost use Rattle.std.specs.Prelude.{IfSome, option_copied};
 ghost use Rattle.config_path.specs.Interpolation.{place_shown, path_error_text, class_of};
@@ -10,8 +10,8 @@ use std::alloc::AllocError;
 use std::fmt;
 use thiserror::Error as ThisError;
 
-/// What a path value may refer to. A directory or a lookup that is `None` is missing only to a value that
-/// needs it.
+/// What a path value may refer to. A directory or a lookup may be `None`; then only a value that needs it is
+/// refused.
 ///
 /// ```rust
 /// use gix_config_value::Path;
@@ -85,8 +85,8 @@ pub enum Class {
     Memory,
 }
 
-/// Why a path value is refused. The table of paths says which value is refused with which: docs/GRAMMAR.md,
-/// Paths.
+/// Why a path value is refused. The table in docs/GRAMMAR.md, Paths, says which value is refused with which
+/// error.
 ///
 /// ```rust
 /// use gix_config_value::Path;
@@ -111,7 +111,7 @@ pub enum Error<'p> {
     HomeMissing,
     /// The value begins with `~` and a user's name, and the context has no lookup.
     LookupMissing,
-    /// The lookup knows no user of the name.
+    /// The lookup finds no directory for the name.
     UserNotFound,
     /// A part of the value is not UTF-8.
     IllFormed {
@@ -127,7 +127,7 @@ pub enum Error<'p> {
 impl fmt::Display for Place {
     ghost output = { λ place. Some (place_shown place) };
 
-    /// Writes the words for the part, as they stand in the text of `IllFormed`.
+    /// Writes the words for the part, as the text of `IllFormed` has them.
     fn fmt<W: fmt::Write>(&self, f: &mut fmt::Formatter<W>) -> fmt::Result {
         f.write_str(match self {
             Place::PastPrefix => "path past %(prefix)",
@@ -140,7 +140,7 @@ impl fmt::Display for Place {
 }
 
 impl Place {
-    /// What an error says whose bytes stand at this place.
+    /// The text of an error whose bytes are at this place.
     fn ill_formed_text(self) -> &'static str
         ensures { result.now ≡ codes "Ill-formed UTF-8 in " ++ place_shown self }
     {
@@ -192,8 +192,8 @@ impl Error<'_> {
     }
 }
 
-/// No lookup, for a `Context` that is written out: `absent(|_name: &str| None)`. The closure only
-/// names the type of the lookup. It is dropped and never called.
+/// Returns `None` as the lookup of a `Context`: `absent(|_name: &str| None)`. The closure only names the type
+/// of the lookup; it is dropped and never called.
 pub fn absent<'a, F>(lookup: F) -> Option<F>
 where
     F: FnOnce(&str) -> Option<&'a str> + Drop,
@@ -279,8 +279,8 @@ pub fn home_in_passwd<'a>(passwd: &'a [u8], name: &[u8]) -> Option<&'a [u8]>
 /// exactly seven fields whose first field is the name. `None` where no line fits, and for a name that holds a
 /// NUL.
 ///
-/// Fields are separated by `:`. Lines end at LF, the last line may lack its LF, a CR is part of its
-/// field, and there are no comments. The source: docs/GRAMMAR.md, Paths.
+/// Fields are separated by `:`, and lines end at LF, which the last line may lack. A CR is part of its field,
+/// and there are no comments: docs/GRAMMAR.md, Paths.
 ///
 /// ```rust
 /// use gix_config_value::path::interpolate::home_for_user;

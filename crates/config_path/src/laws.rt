@@ -1,4 +1,4 @@
-//! Laws of paths, each the contract of a function that does nothing.
+//! Laws of paths. Each is the contract of a function that does nothing.
 
 pub mod equality;
 pub mod paths;

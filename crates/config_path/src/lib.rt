@@ -1,21 +1,21 @@
 //! Git's path values: a path that may be marked as optional, and the directories that it may refer
 //! to.
 //!
-//! [`path::Path`] is made of a text or of bytes, borrowed or owned. One leading `:(optional)` is
-//! the mark of an optional path, and no part of it.
+//! [`path::Path`] is made from a text or from bytes, borrowed or owned. One leading `:(optional)` marks a
+//! path as optional, and is not part of it.
 //!
-//! [`path::Path::interpolate`] replaces what the path begins with: `%(prefix)/` by the directory
-//! that Git is installed in, `~` and `~/` by the home directory, `~user` and `~user/` by that
-//! user's home. The caller hands in these directories as an [`interpolate::Context`], with a lookup
-//! for users. One such lookup is [`interpolate::home_for_user`], over the text of a passwd file.
+//! [`path::Path::interpolate`] replaces what the path begins with: `%(prefix)/` by the directory that Git is
+//! installed in, `~` and `~/` by the home directory, `~user` and `~user/` by that user's home. The caller
+//! passes these directories as an [`interpolate::Context`], with a lookup for users, such as
+//! [`interpolate::home_for_user`] over the text of a passwd file.
 //!
-//! [`parts`] answers the same in parts that are borrowed, for callers that have a buffer of their own.
+//! [`parts`] returns the same as borrowed parts, for callers with a buffer of their own.
 //!
-//! What fails says why: [`interpolate::Error`], by [`interpolate::Class`]. Results are allocated,
-//! so each call that makes one takes the allocator.
+//! An [`interpolate::Error`] says why a call failed, and has an [`interpolate::Class`]. Calls that allocate
+//! their result take the allocator.
 //!
-//! [`laws`] states what holds of paths beside their calls: a text stands for one path, how paths compare,
-//! and that a value has one result in the table of `interpolate`.
+//! [`laws`] states what else holds of paths: a text gives one path, how paths compare, and that a value has
+//! one result in the table of `interpolate`.
 #![tactic(auto)]
 
 pub mod interpolate;

@@ -1,6 +1,6 @@
-//! What a path value stands for, as parts that are borrowed: a directory, a `/` and a rest.
+//! What a path value means, as borrowed parts: a directory, a `/` and a rest.
 //!
-//! No memory is asked for. `Path::interpolate` makes one text of the parts, and a caller with a buffer writes
+//! This takes no memory. `Path::interpolate` makes one text of the parts, and a caller with a buffer writes
 //! them there.
 ghost use Rattle.std.specs.Prelude.{◌≡◌, ◌≢◌, [], IsUtf8, MatchResult, codes, if◌then◌else◌};
 ghost use Rattle.std.specs.Prelude.{option_copied, string_bytes, Some};
@@ -17,7 +17,7 @@ use crate::path::strip_front;
 use bstr::ByteSlice;
 use std::alloc::{AllocError, Global};
 
-/// What a value begins with where it refers to the install directory.
+/// What a value begins with if it refers to the install directory.
 const PREFIX: &[u8] = b"%(prefix)/";
 
 /// A text in three parts, one after the other. Any of them may be empty.
@@ -38,11 +38,11 @@ const PREFIX: &[u8] = b"%(prefix)/";
 /// ```
 #[derive(Clone, Copy)]
 pub struct Parts<'a, 'p> {
-    /// The directory, of the context.
+    /// The directory, from the context.
     pub dir: &'a str,
     /// Whether a `/` follows the directory.
     pub has_slash: bool,
-    /// What follows, of the value.
+    /// What follows, from the value.
     pub rest: &'p str,
 }
 
@@ -55,7 +55,8 @@ impl Parts<'_, '_> {
         if self.has_slash { "/" } else { "" }
     }
 
-    /// The text of the parts, in one allocation. Fails only if memory runs out, and never if it is empty.
+    /// Joins the parts into one text, in one allocation. Fails only if memory runs out, and never if the text
+    /// is empty.
     pub fn to_text(self, alloc: Global) -> Result<String, AllocError>
         ensures { MatchResult result
             (λ whole. string_bytes whole ≡ parts_text self.entry)
@@ -157,8 +158,8 @@ pub fn joint_of<'p>(dir: &[u8], rest: Option<&'p [u8]>, place: Place) -> Result<
     }
 }
 
-/// The directory, or the directory and the rest joined. Fails with `missing` if there is no directory, and
-/// with `IllFormed` at the place if the rest is not UTF-8.
+/// Returns the directory, joined with the rest if there is one. Fails with `missing` if there is no
+/// directory, and with `IllFormed` at the place if the rest is not UTF-8.
 fn below_dir<'a, 'p>(
     dir: Option<&'a str>,
     missing: Error<'p>,
@@ -181,7 +182,7 @@ fn below_dir<'a, 'p>(
     }
 }
 
-/// The same below the directory that the lookup answers for the name.
+/// The same below the directory that the lookup returns for the name.
 fn below_user<'p, 'a, F>(
     lookup: Option<F>,
     name: &'p [u8],
@@ -200,7 +201,7 @@ where
     below_dir(lookup(name), Error::UserNotFound, rest, Place::PastUser)
 }
 
-/// What is before the first `/`, or all, and what follows that `/`, if there is one.
+/// Splits the path at its first `/`. Without a `/`, the name is the whole path, and there is no rest.
 fn name_and_rest(path: &[u8]) -> (&[u8], Option<&[u8]>)
     ensures whole { path.now ≡ below result.0.now (option_copied result.1) }
     ensures name { IsOneName result.0.now }
@@ -264,8 +265,8 @@ fn unchanged<'a, 'p>(value: &'p [u8]) -> Result<Parts<'a, 'p>, Error<'p>>
     })
 }
 
-/// The parts of what a value stands for, as the path table gives it. It refuses as `Path::interpolate` does,
-/// and never with `Memory`, since the table never gives that.
+/// Returns the parts that the path table gives for a value. It refuses as `Path::interpolate` does, but never
+/// with `Memory`, which the table never gives.
 pub fn parts_of<'p, 'a, F>(
     value: &'p [u8],
     context: Context<'a, F>,

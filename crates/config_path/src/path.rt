@@ -18,9 +18,9 @@ const MARK: &[u8] = b":(optional)";
 
 /// A path, and whether it may be missing.
 ///
-/// Any bytes are a path, and none are refused; a call that copies them fails only if memory runs out. One
-/// leading `:(optional)`, in exactly these bytes, marks a path as optional and is cut off. What a path refers
-/// to is put in by [`Path::interpolate`]. The source: docs/GRAMMAR.md, Paths.
+/// Any bytes are a path; a call that copies them fails only if memory runs out. One leading `:(optional)`, in
+/// exactly these bytes, marks a path as optional and is cut off. [`Path::interpolate`] puts in the
+/// directories that a path refers to: docs/GRAMMAR.md, Paths.
 ///
 /// ```rust
 /// use gix_config_value::Path;
@@ -37,8 +37,8 @@ pub struct Path {
     pub is_optional: bool,
 }
 
-/// Whether the bytes begin with the mark of an optional path, and what follows it; without the mark that is
-/// all of them. Only one mark is cut off.
+/// Whether the bytes begin with the mark of an optional path, and what follows it. Without the mark that is
+/// all bytes. Only one mark is cut off.
 ///
 /// ```rust
 /// use gix_config_value::path::cut_mark;
@@ -68,8 +68,8 @@ pub(crate) fn strip_front<'a>(bytes: &'a [u8], front: &[u8]) -> Option<&'a [u8]>
 impl From<BString> for Path {
     ghost from_gives = { λ value path. IsPathOf (bstring_bytes value) path };
 
-    /// The path of these bytes. One leading `:(optional)` is cut off and makes the path optional. A
-    /// second one is part of the path. The memory of the bytes is used as it is.
+    /// The path of these bytes. One leading `:(optional)` is cut off and makes the path optional. A second
+    /// one is part of the path. The memory of the bytes is reused.
     fn from(value: BString) -> Path {
         let mut bytes = value.into_vec();
         let (is_optional, _path) = cut_mark(&bytes);
@@ -105,8 +105,8 @@ impl Path {
     }
 
     /// The path of bytes that are borrowed or owned. One leading `:(optional)` is cut off, as by
-    /// `From<BString>`. Owned bytes are used as they are, and never fail; borrowed ones are copied,
-    /// which fails only if memory runs out.
+    /// `From<BString>`. Owned bytes are reused, which never fails; borrowed ones are copied, which fails only
+    /// if memory runs out.
     pub fn from_cow(alloc: Global, value: CowSlice<'_, u8>) -> Result<Path, AllocError>
         ensures path { IfOk result (IsPathOf (cow_slice_items value.entry)) }
         ensures owned { IsOwnedSlice value.entry → IsOk result }
@@ -138,19 +138,19 @@ impl Path {
         self.value.as_bstr()
     }
 
-    /// The path with what it refers to: `%(prefix)/` stands for the install directory, `~` for the
-    /// home directory, and `~user` for what the lookup answers for that name. A rest that begins
-    /// with `/` is the whole result. Any other value is answered unchanged.
+    /// Replaces what the path begins with: `%(prefix)/` by the install directory, `~` by the home directory,
+    /// and `~user` by what the lookup returns for that name. A rest that begins with `/` is the whole result.
+    /// Any other value is returned unchanged.
     ///
-    /// Whether the path is optional makes no difference. The lookup is called at most once, with
-    /// the user's name, and must be callable with any text. The result takes one allocation, and
-    /// none where it is empty.
+    /// Whether the path is optional makes no difference. The lookup is called at most once, with the user's
+    /// name, and must be callable with any text. The result takes one allocation, or no allocation if it is
+    /// empty.
     ///
     /// Errors:
     /// - `PathMissing`: the path is empty.
     /// - `InstallDirMissing`, `HomeMissing`, `LookupMissing`: the path needs what the context
     ///   lacks.
-    /// - `UserNotFound`: the lookup answers `None`.
+    /// - `UserNotFound`: the lookup returns `None`.
     /// - `IllFormed`: the rest, the name or, in any other value, the whole is not UTF-8. The error
     ///   lends those bytes.
     /// - `Memory`: out of memory.

@@ -13,7 +13,7 @@ abbrev pub IsJson : Data → Result Value JsonError → Type 0
 IsJson json (Ok v) = view v ≡ json
 IsJson json (Err e) = ⊥
 
--- the number, or, where it is out of range, the error that says so
+-- the number, or `Overflow` if it is out of range
 abbrev pub GivesJsonNumber : ℤ → Result Value JsonError → Type 0
 GivesJsonNumber z (Ok v) = IsInI64 z × (view v ≡ number (of_integer z))
 GivesJsonNumber z (Err e) = (¬ (IsInI64 z)) × (e ≡ Overflow)

@@ -1,5 +1,5 @@
 -- Numbers as digits write them. A digit's value is std's: 0 to 9 for `0` to `9`, and from 10 on for the
--- letters of either case. No number here has a bound but the one that `IsInI64` names.
+-- letters of either case. No number here has a bound, except by `IsInI64`.
 use Rattle.std.specs.Prelude.{ℕ, ℤ, pos, negsuc, ◌+◌, ◌*◌, ◌^◌, ◌≤ℤ◌, List, [], ◌∷◌, length}
 use Rattle.std.specs.Char.{digit_value}
 

@@ -4,8 +4,8 @@ use Rattle.std.specs.Cmp.{IsTotalOrder}
 use Rattle.std.specs.Ordering.{is_eq}
 use Rattle.std.specs.declared.cmp.Ordering.{Ordering}
 
--- `==` answers whether two values are the same, `cmp` and `partial_cmp` answer by the order, which is total
--- and agrees with `==`, and equal values hash equally
+-- `==` says whether two values are the same; `cmp` and `partial_cmp` return their order, which is total and
+-- agrees with `==`; equal values hash equally
 pub record HasOrder {V H : Type 0} (same : V → V → Type 0) (order : V → V → Ordering)
     (eq : V → V → Bool) (cmp : V → V → Ordering) (partial_cmp : V → V → Option Ordering)
     (hash_input : V → H) : Type 0 where
@@ -16,7 +16,7 @@ pub record HasOrder {V H : Type 0} (same : V → V → Type 0) (order : V → V 
   pub agrees : (v w : V) → eq v w ≡ is_eq (cmp v w)
   pub hashes : (v w : V) → IsTrue (eq v w) → hash_input v ≡ hash_input w
 
--- `==` answers exactly whether two values are the same
+-- `==` says whether two values are the same
 abbrev pub Equates : {V : Type 0} → (V → V → Type 0) → (V → V → Bool) → Type 0
 Equates {V} same eq = (v w : V) → (IsTrue (eq v w)) ↔ (same v w)
 

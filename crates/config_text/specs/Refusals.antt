@@ -1,7 +1,7 @@
--- What the readers of a kind promise, whatever the input is borrowed from or owned by: the value that the
--- grammar gives the input's bytes, or, where it gives none, a refusal that holds a fault and the whole input.
+-- What the readers of a kind promise, whether the input is borrowed or owned: the value that the grammar
+-- gives the input's bytes; or, if it gives them no value, a refusal that holds a fault and the whole input.
 --
--- A refusal of a kind says which texts are refused with which faults.
+-- `refusal` says which texts are refused with which faults.
 use Rattle.std.specs.Prelude.{◌≡◌, ℕ, List, Bool, IsTrue, Result, Ok, Err}
 use Rattle.bstr.specs.declared.bstr.BStr.{BStr}
 use Rattle.bstr.specs.BStr.{bstr_bytes}
@@ -10,7 +10,7 @@ use Rattle.config_text.specs.declared.errors.Fault.{Fault}
 use Rattle.config_text.specs.declared.errors.Returned.{Returned}
 use Rattle.config_text.specs.Value.{IsRefused}
 
--- the value of the text, or a refusal of which this holds, and then the text has no value
+-- the value of the text; or an error of which `refusal` holds, and then the text has no value
 abbrev pub ReadsOr : {V E : Type 0} → (List ℕ → V → Type 0) → (E → Type 0) → List ℕ → Result V E → Type 0
 ReadsOr grammar refusal t (Ok v) = grammar t v
 ReadsOr grammar refusal t (Err e) = refusal e × IsRefused grammar t
@@ -40,10 +40,10 @@ abbrev pub ReadsOwned : {V I : Type 0} → (List ℕ → V → Type 0) → (List
     → Result V (Returned I) → Type 0
 ReadsOwned grammar refusal t s r = ReadsOr grammar (λ e. refusal t e.fault × (e.input ≡ s)) t r
 
--- one fault, and inputs of the same bytes
+-- the same fault, and inputs of the same bytes
 abbrev pub IsSameError : Error → Error → Type 0
 IsSameError e f = (e.fault ≡ f.fault) × (bstr_bytes e.input ≡ bstr_bytes f.input)
 
--- one fault, and inputs that this equality takes for equal
+-- the same fault, and inputs that are equal by `eq`
 abbrev pub IsSameReturned : {I : Type 0} → (I → I → Bool) → Returned I → Returned I → Type 0
 IsSameReturned eq e f = (e.fault ≡ f.fault) × IsTrue (eq e.input f.input)

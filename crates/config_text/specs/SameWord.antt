@@ -1,4 +1,4 @@
--- Words read with ASCII case aside.
+-- Words compared ignoring ASCII case.
 use Rattle.std.specs.Prelude.{◌≡◌, ℕ, List, map}
 use Rattle.std.specs.Char.{to_ascii_lowercase}
 

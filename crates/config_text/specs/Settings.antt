@@ -1,4 +1,4 @@
--- What a list of entries answers for a name. An entry is a name and a text, and the last entry of a name
+-- What a list of entries gives for a name. An entry is a name and a text, and the last entry of a name
 -- decides.
 use Rattle.std.specs.Prelude.{◌≡◌, ℕ, ◌<◌, ◌↔◌, List, Some, map}
 use Rattle.std.specs.List.{slice_get}
@@ -23,7 +23,7 @@ pub record Decides (es : List (List ℕ × List ℕ)) (n : List ℕ) (i : ℕ) (
   pub named : IsNamed es n i t
   pub last : (j : ℕ) (u : List ℕ) → i < j → ¬ (IsNamed es n j u)
 
--- the value of a name: that of the deciding entry's text, and the default where no entry has the name
+-- the value of a name: that of the deciding entry's text, or the default if no entry has the name
 pub data Finds {V : Type 0} (grammar : List ℕ → V → Type 0) (es : List (List ℕ × List ℕ)) (n : List ℕ)
     (default v : V) : Type 0 where
   decided : (i : ℕ) (t : List ℕ) → Decides es n i t → grammar t v → Finds grammar es n default v
@@ -50,7 +50,7 @@ pub record SameAnswers {V : Type 0} (grammar : List ℕ → V → Type 0)
   pub refusals : (n : List ℕ) (i : ℕ) (t : List ℕ)
       → (DecidingIsRefused grammar es n i t) ↔ (DecidingIsRefused grammar fs n i t)
 
--- a name has one answer at most: one value for each default, or one refusal
+-- a name has at most one result: one value for each default, or one refusal
 pub record OneAnswer {V : Type 0} (grammar : List ℕ → V → Type 0) (es : List (List ℕ × List ℕ)) : Type 0 where
   pub value : (n : List ℕ) (default v w : V) → Finds grammar es n default v → Finds grammar es n default w
       → v ≡ w
@@ -59,6 +59,6 @@ pub record OneAnswer {V : Type 0} (grammar : List ℕ → V → Type 0) (es : Li
   pub apart : (n : List ℕ) (default v : V) (i : ℕ) (t : List ℕ) → Finds grammar es n default v
       → ¬ (DecidingIsRefused grammar es n i t)
 
--- one index, and texts of the same bytes
+-- the same index, and texts of the same bytes
 abbrev pub IsSameRefused : Refused → Refused → Type 0
 IsSameRefused r s = (r.index ≡ s.index) × (r.input.now ≡ s.input.now)

@@ -17,7 +17,7 @@ IsAccepted {V} grammar t = (v : V) × grammar t v
 abbrev pub HasText : {V : Type 0} → (List ℕ → V → Type 0) → V → Type 0
 HasText grammar v = (t : List ℕ) × grammar t v
 
--- the answer of an exact reader: the value that the grammar gives, and none only where it gives none
+-- what an exact reader returns: the value that the grammar gives, and `None` only if it gives no value
 abbrev pub Reads : {V : Type 0} → (List ℕ → V → Type 0) → List ℕ → Option V → Type 0
 Reads grammar t None = IsRefused grammar t
 Reads grammar t (Some v) = grammar t v
@@ -37,7 +37,7 @@ pub record HasMeaning {V : Type 0} (grammar : List ℕ → V → Type 0) (canoni
   pub text : IsTextOf grammar canonical v s
   pub only_text : (r : List ℕ) → canonical r → grammar r v → r ≡ s
 
--- a value and a text are what the input means; without both, the grammar gives the input no value
+-- the value and the text are what the input means; if both are `None`, the grammar gives the input no value
 abbrev pub Means : {V : Type 0} → (List ℕ → V → Type 0) → (List ℕ → Type 0) → List ℕ → Option V
     → Option (List ℕ) → Type 0
 Means grammar canonical t None None = IsRefused grammar t

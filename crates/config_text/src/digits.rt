@@ -2,7 +2,7 @@
 ghost use Rattle.std.specs.Prelude.{◌≡◌, ◌<◌, ◌≤◌};
 ghost use Rattle.std.specs.Char.{digit_value};
 
-/// What each byte is worth as a hexadecimal digit, and 16 where it is none.
+/// What each byte is worth as a hexadecimal digit, and 16 if it is not one.
 #[rattlefmt::skip]
 const DIGITS: [u8; 256] = [
     16, 16, 16, 16, 16, 16, 16, 16, 16, 16, 16, 16, 16, 16, 16, 16,

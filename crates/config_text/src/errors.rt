@@ -5,11 +5,11 @@ ghost use Rattle.config_text.specs.Faults.{fault_text};
 use bstr::BStr;
 use thiserror::Error as ThisError;
 
-/// Why a reader refuses a text. Each is a fault of the text that was handed in, and none is of memory.
+/// Why a reader refuses a text. A fault is always one of the text, and never of memory.
 ///
-/// Booleans are refused with `Boolean`, and names, attributes and colors with `Color`. Integers are refused
-/// with `Integer`, and amounts with `Integer` first and `Overflow` second. `Integer::from_bytes` answers
-/// `OutOfRange` third. The texts of each kind: docs/GRAMMAR.md.
+/// Booleans are refused with `Boolean`; names, attributes and colors with `Color`; integers with `Integer`;
+/// amounts with `Integer` first and `Overflow` second. `Integer::from_bytes` returns `OutOfRange` third.
+/// docs/GRAMMAR.md has the texts of each kind.
 ///
 /// ```rust
 /// use gix_config_value::Fault;
@@ -22,26 +22,26 @@ use thiserror::Error as ThisError;
 #[derive(Clone, Copy, PartialEq, Eq, Debug, ThisError)]
 #[error("{}", self.text())]
 pub enum Fault {
-    /// The text is no boolean text: docs/GRAMMAR.md, Booleans.
+    /// The text is not a boolean text: docs/GRAMMAR.md, Booleans.
     Boolean,
-    /// The text is no integer text: docs/GRAMMAR.md, Integers.
+    /// The text is not an integer text: docs/GRAMMAR.md, Integers.
     Integer,
-    /// The text is an integer text, but the product of number and suffix leaves `i64`: docs/GRAMMAR.md,
+    /// The text is an integer text, but the product of number and suffix does not fit `i64`: docs/GRAMMAR.md,
     /// Amounts.
     Overflow,
-    /// The product fits `i64`, but its conversion to the caller's type refuses it.
+    /// The product fits `i64`, but the conversion to the caller's type refuses it.
     OutOfRange,
-    /// The text is no name, attribute or color text: docs/GRAMMAR.md, Colors.
+    /// The text is not a name, attribute or color text: docs/GRAMMAR.md, Colors.
     Color,
 }
 
-/// The text of `Fault::Integer`, with the grammar of the Rust crate.
+/// The text of `Fault::Integer`, word for word that of the Rust crate.
 const INTEGER_TEXT: &str =
     "Integers needs to be positive or negative numbers which may have a suffix like 1k, 42, or 50G";
 
 impl Fault {
-    /// What `Display` prints, another text for each fault. It is that of the Rust crate, but for
-    /// `OutOfRange`, which names no type here. It names the kind, and not what in the text is wrong.
+    /// What `Display` prints, a different text for each fault. The texts are those of the Rust crate, except
+    /// that `OutOfRange` names no type here. They name the kind, and not what is wrong in the text.
     ///
     /// ```rust
     /// use gix_config_value::Fault;
@@ -65,8 +65,8 @@ impl Fault {
 
 /// A refusal of a borrowed text: the fault, and the whole input.
 ///
-/// Each `TryFrom` of a `&str` or a `BStr` answers it, of every kind but suffixes, and so does
-/// `Integer::from_bytes`. It is no error type and has no text. Its [`Fault`] is one, and `?` turns it into
+/// `TryFrom` of a `&str` or a `BStr` returns it, for every kind except suffixes, and so does
+/// `Integer::from_bytes`. It is not an error type and has no text. Its [`Fault`] is one, and `?` converts to
 /// that.
 ///
 /// ```rust
@@ -85,11 +85,10 @@ pub struct Error<'a> {
     pub input: BStr<'a>,
 }
 
-/// A refusal of a text that is handed back, since it is or may be owned: the fault, and the input as
-/// handed in.
+/// A refusal of an input that is or may be owned: the fault, and the input handed back.
 ///
-/// The readers of `BString` and `CowSlice` answer it, and copy nothing. It is no error type and has no text.
-/// Its [`Fault`] is one, and `?` turns it into that; the input is then dropped.
+/// The readers of `BString` and `CowSlice` return it, and copy nothing. It is not an error type and has no
+/// text. Its [`Fault`] is one, and `?` converts to that; the input is then dropped.
 ///
 /// ```rust
 /// use bstr::BString;
@@ -111,8 +110,7 @@ pub struct Returned<V> {
 impl<'a> From<Error<'a>> for Fault {
     ghost from_gives = { λ error fault. fault ≡ error.fault };
 
-    /// Why the text was refused, so that `?` passes on a refusal of a borrowed text where the error is a
-    /// `Fault`.
+    /// Why the text was refused, so that `?` passes on a refusal of a borrowed text as a `Fault`.
     fn from(error: Error<'a>) -> Fault {
         error.fault
     }
@@ -121,8 +119,8 @@ impl<'a> From<Error<'a>> for Fault {
 impl<V: Drop> From<Returned<V>> for Fault {
     ghost from_gives = { λ returned fault. fault ≡ returned.fault };
 
-    /// Why the text was refused, so that `?` passes on a refusal of an owned text where the error is a
-    /// `Fault`. The input is dropped.
+    /// Why the text was refused, so that `?` passes on a refusal of an owned text as a `Fault`. The input is
+    /// dropped.
     fn from(returned: Returned<V>) -> Fault {
         returned.fault
     }

@@ -7,8 +7,8 @@ use thiserror::Error;
 
 /// Why a value has no JSON value: docs/GRAMMAR.md, JSON values.
 ///
-/// Integers are refused with `Overflow` alone. Names, attributes and suffixes are refused with `Memory`
-/// alone, and booleans never.
+/// Integers fail with `Overflow` alone; names, attributes and suffixes with `Memory` alone; booleans never
+/// fail.
 ///
 /// ```rust
 /// use gix_config_value::Integer;
@@ -19,7 +19,7 @@ use thiserror::Error;
 /// ```
 #[derive(Clone, Copy, PartialEq, Eq, Debug, Error)]
 pub enum JsonError {
-    /// The product of an integer leaves `i64`.
+    /// The product of an integer does not fit `i64`.
     #[error("integer suffix multiplication overflows `i64`")]
     Overflow,
     /// Memory for the text was refused.
@@ -27,8 +27,8 @@ pub enum JsonError {
     Memory(AllocError),
 }
 
-/// The text as a JSON string. It asks for memory once, and not for the empty text. Fails with
-/// `JsonError::Memory` if that is refused.
+/// Returns the text as a JSON string. It asks for memory once, but not for the empty text. Fails with
+/// `JsonError::Memory` if memory is refused.
 pub fn string(alloc: Global, text: &str) -> Result<Value, JsonError>
     ensures { GivesJsonText text.now result }
 {

@@ -8,9 +8,9 @@
 //! - [`words`]: a text compared with a word.
 //! - [`json`]: why a value has no JSON value, and texts as JSON.
 //! - [`settings`]: a setting by name, of a list of entries.
-//! - [`laws`]: what holds of settings, and what `==` and `clone` answer.
+//! - [`laws`]: what holds of settings, and what `==` and `clone` return.
 //!
-//! This crate knows no kind of value. Its definitions are on top of `specs/`; `specs/Laws/` holds lemmas.
+//! This crate knows no kind of value. Its definitions are at the top of `specs/`; `specs/Laws/` holds lemmas.
 #![tactic(auto)]
 
 pub mod digits;

@@ -1,4 +1,4 @@
-//! The readers of a type, written once: each is the type's [`TryRead`], with the input beside the fault.
+//! The readers of a type, written once. Each calls the type's [`TryRead`], and adds the input to the fault.
 ghost use Rattle.std.specs.Prelude.{ℕ, List};
 ghost use Rattle.std.specs.Cow.{cow_slice_items};
 ghost use Rattle.bstr.specs.Owned.{bstring_bytes};
@@ -10,7 +10,7 @@ use crate::value::Value;
 use bstr::{BStr, BString};
 use std::borrow::CowSlice;
 
-/// A value whose reader says why it refuses a text. Six of the seven kinds do; a suffix is refused with no
+/// A value whose reader says why it refuses a text. Six of the seven kinds do; a suffix is refused without a
 /// fault.
 ///
 /// ```rust
@@ -24,12 +24,12 @@ pub trait TryRead: Value {
     /// Which texts are refused with which faults.
     ghost refusal: { List ℕ → Fault → Type 0 };
 
-    /// The value of the text, or why the grammar gives it none.
+    /// Reads the text, or returns why the grammar gives it no value.
     fn try_read(text: &[u8]) -> Result<Self, Fault>
         ensures { ReadsFault Self.grammar refusal text.now result };
 }
 
-/// The value of a byte string, or a refusal that lends it whole, with the fault of `try_read`.
+/// Reads a byte string. A refusal has the fault of `try_read` and lends the whole input.
 pub fn read_bytes<V: TryRead>(input: BStr<'_>) -> Result<V, Error<'_>>
     ensures { ReadsBytes V.grammar V.refusal input.entry result }
 {
@@ -39,14 +39,14 @@ pub fn read_bytes<V: TryRead>(input: BStr<'_>) -> Result<V, Error<'_>>
     }
 }
 
-/// The value of a text, or a refusal that lends it whole, with the fault of `try_read`.
+/// Reads a text. A refusal has the fault of `try_read` and lends the whole input.
 pub fn read_text<V: TryRead>(input: &str) -> Result<V, Error<'_>>
     ensures { ReadsText V.grammar V.refusal input.now result }
 {
     read_bytes(BStr::from(input))
 }
 
-/// The value of an owned byte string, or a refusal that hands it back with the fault of `try_read`.
+/// Reads an owned byte string. A refusal has the fault of `try_read` and hands the input back.
 pub fn read_owned<V: TryRead>(input: BString) -> Result<V, Returned<BString>>
     ensures { ReadsOwned V.grammar V.refusal (bstring_bytes input) input result }
 {
@@ -56,8 +56,8 @@ pub fn read_owned<V: TryRead>(input: BString) -> Result<V, Returned<BString>>
     }
 }
 
-/// The value of a byte slice that is borrowed or owned, or a refusal that hands it back with the fault of
-/// `try_read`.
+/// Reads a byte slice that is borrowed or owned. A refusal has the fault of `try_read` and hands the input
+/// back.
 pub fn read_cow<V: TryRead>(input: CowSlice<'_, u8>) -> Result<V, Returned<CowSlice<'_, u8>>>
     ensures { ReadsOwned V.grammar V.refusal (cow_slice_items input.entry) input.entry result }
 {

@@ -1,12 +1,12 @@
-//! Settings by name: of the entries of a name the last one decides.
+//! Settings by name. The last entry of a name decides.
 ghost use Rattle.std.specs.Prelude.{MatchOption, MatchResult};
 ghost use Rattle.config_text.specs.Settings.{entry_texts, IsAbsent, Decides, Finds, DecidingIsRefused};
 
 use crate::value::Value;
 use bstr::BStr;
 
-/// A setting whose deciding entry has a text without a value: docs/GRAMMAR.md, Settings. The fault is what
-/// the reader of the type answers for that text.
+/// A setting whose deciding entry has a text without a value: docs/GRAMMAR.md, Settings. If the type is a
+/// [`TryRead`](crate::readers::TryRead), its `try_read` says why.
 ///
 /// ```rust
 /// use gix_config_value::Boolean;
@@ -35,12 +35,12 @@ fn deciding_entry<'a>(entries: &[(&[u8], &'a [u8])], name: &[u8]) -> Option<(usi
     Some((index, entries[index].1))
 }
 
-/// The value of a setting. An entry is a name and a text. The last entry with exactly this name
-/// decides, and the entries before it are not read; without one the default is the answer. The text of
-/// the deciding entry is refused where the type gives it no value. The source: docs/GRAMMAR.md, Settings.
+/// Returns the value of a setting. An entry is a name and a text. The last entry with exactly this name
+/// decides, and earlier ones are not read. If there is no such entry, the default is returned. If the type
+/// gives the text of the deciding entry no value, it is refused: docs/GRAMMAR.md, Settings.
 ///
-/// Names are compared byte by byte, so their case counts. For a key that stands without `=`, which Git takes
-/// for true, hand in the text `true`.
+/// Names are compared byte by byte, so their case counts. Git takes a key without `=` for true: give it the
+/// text `true`.
 ///
 /// ```rust
 /// use gix_config_value::Boolean;

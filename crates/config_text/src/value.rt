@@ -15,11 +15,11 @@ pub const LONGEST_TEXT: usize = 127;
 /// A canonical text. It has room for the longest.
 pub type CanonicalText = ArrayString<LONGEST_TEXT>;
 
-/// A kind of value that has texts: which texts read to which value, and which one of them is
-/// canonical. A type of the caller's own may be one too.
+/// A kind of value that has texts: which texts read to which value, and which one of them is canonical. A
+/// caller's own type may be one too.
 ///
-/// `read` takes any bytes, and returns `None` if they are no text of the kind: docs/GRAMMAR.md has a section
-/// for each. Why they are refused is said by [`TryRead`](crate::readers::TryRead).
+/// `read` takes any bytes, and returns `None` if they are not a text of the kind: docs/GRAMMAR.md has a
+/// section for each. [`TryRead`](crate::readers::TryRead) says why they are refused.
 ///
 /// ```rust
 /// use bstr::BStr;
@@ -34,13 +34,13 @@ pub trait Value: Copy + Eq {
     /// Which texts read to which values.
     ghost grammar: { List ℕ → Self → Type 0 };
 
-    /// The canonical texts, written apart from how values are shown.
+    /// The canonical texts, defined without reference to how values are shown.
     ghost canonical: { List ℕ → Type 0 };
 
     /// How a value is shown.
     ghost displayed: { Self → List ℕ };
 
-    /// The value of the input, or `None` where the grammar gives it none.
+    /// Reads the input, or returns `None` if the grammar gives it no value.
     fn read(input: BStr<'_>) -> Option<Self>
         ensures { Reads grammar (bstr_bytes input.entry) result };
 
@@ -48,15 +48,15 @@ pub trait Value: Copy + Eq {
     fn has_text(&self) -> bool
         ensures { IsTrue result ↔ (HasText grammar self.now) };
 
-    /// Writes the one canonical text that reads to this value into a text that is empty. Some text
-    /// must read to the value, as `has_text` tells.
+    /// Writes the one canonical text that reads to this value into an empty text. Some text must read to the
+    /// value, as `has_text` tells.
     fn write_to(&self, text: &mut CanonicalText)
         requires value { HasText grammar self.now }
         requires empty { text.old.bytes ≡ [] }
         ensures { text.new.bytes ≡ displayed self.now };
 
-    /// The one canonical text that reads to this value, which is its displayed text. Some text must read to
-    /// the value, as `has_text` tells.
+    /// Returns the one canonical text that reads to this value, which is its displayed text. Some text must
+    /// read to the value, as `has_text` tells.
     fn text(&self) -> CanonicalText
         requires { HasText grammar self.now }
         ensures text { IsTextOf grammar canonical self.now result.bytes }
@@ -79,13 +79,13 @@ pub trait Value: Copy + Eq {
     /// A canonical text is read: it has a value.
     ghost canonical_reads: { (t : List ℕ) → canonical t → IsAccepted grammar t };
 
-    /// What a value that has a text is shown as is its canonical text, and so reads back.
+    /// A value that has a text is shown as its canonical text, and so reads back.
     ghost shown_is_text: { (v : Self) → HasText grammar v → IsTextOf grammar canonical v (displayed v) };
 
     /// Each text is accepted or refused.
     ghost decided: { (t : List ℕ) → IsAccepted grammar t ⊎ IsRefused grammar t };
 
-    /// `==` says whether two values are the same one.
+    /// `==` says whether two values are the same.
     ghost equal_is_same: { (v w : Self) → (IsTrue (Self.eq v w)) ↔ (v ≡ w) };
 }
 

@@ -7,11 +7,11 @@ use std::alloc::{AllocError, Global};
 /// What is asked of files.
 #[derive(Clone, Copy)]
 pub struct Request<'m, 'a> {
-    /// The files, of which a later one decides over an earlier one.
+    /// The files. A later one decides over an earlier one.
     pub files: &'m [&'a str],
-    /// The key whose value is wanted. Without one the entries are listed.
+    /// The key whose value is wanted. Without a key the entries are listed.
     pub key: Option<&'a str>,
-    /// The kind as which the value is read. Without one its text is printed as it is.
+    /// The kind as which the value is read. Without a kind its text is printed unchanged.
     pub kind: Option<Kind>,
     /// Whether includes are followed.
     pub includes: bool,

@@ -15,8 +15,8 @@ use std::io::{self, BufWriter, Write};
 /// The bytes that wait before they are written.
 const ROOM: usize = 65536;
 
-/// Adds each file that can be read, up to its first invalid line. Reports each other one, and returns whether
-/// all of them are added whole.
+/// Adds each file that can be read, up to its first invalid line. Reports the others, and returns whether all
+/// files are added whole.
 fn add_files<'a>(
     rt: &HostRuntime,
     files: &[&'a str],
@@ -51,7 +51,7 @@ fn read_file(rt: &HostRuntime, file: &str) -> io::Result<Option<Vec<u8>>> {
     }
 }
 
-/// Writes an entry. Before it are its file and its line.
+/// Writes an entry after its file and its line.
 fn write_entry<W: Write>(
     alloc: Global,
     writer: &mut W,
@@ -74,7 +74,8 @@ fn write_entry<W: Write>(
     writer.write_all(end.as_bytes())
 }
 
-/// Lists the entries of a file up to its first invalid line, which it reports. Returns whether it has none.
+/// Lists the entries of a file up to its first invalid line, which it reports. Returns whether all lines are
+/// valid.
 fn list_file<W: Write>(
     rt: &HostRuntime,
     writer: &mut W,
@@ -111,8 +112,8 @@ fn list<W: Write>(
     Ok(are_whole)
 }
 
-/// The section, the subsection and the last part of a key such as `core.bare` or `branch.main.rebase`. The
-/// subsection is what is between the first dot and the last one. `None` if the key has no dot.
+/// Splits a key such as `core.bare` or `branch.main.rebase` into section, subsection and name. The subsection
+/// is what is between the first dot and the last one. Returns `None` if the key has no dot.
 fn split_key(key: &str) -> Option<(&str, Option<&str>, &str)> {
     let (section, rest) = key.split_once('.')?;
     match rest.rsplit_once('.') {
@@ -225,8 +226,8 @@ fn answer(rt: &HostRuntime, request: &Request<'_, '_>) -> io::Result<bool> {
     Ok(are_whole && get(rt, &mut writer, &settings, key, request)?)
 }
 
-/// The status of what is asked of the files: 0 if all of it succeeds, 1 if something is refused, and 2 if the
-/// output cannot be written or memory runs out.
+/// Does what is asked of the files, and returns the status: 0 if all of it succeeds, 1 if something is
+/// refused, and 2 if the output cannot be written or memory runs out.
 pub fn run(rt: &HostRuntime, request: &Request<'_, '_>) -> u8 {
     match answer(rt, request) {
         Ok(true) => 0,

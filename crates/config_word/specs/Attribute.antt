@@ -23,7 +23,7 @@ bit_of row = row.1
 abbrev pub shown_word : AttributeRow → List ℕ
 shown_word row = row.2
 
--- each word that is read as it
+-- each word that reads to it
 abbrev pub spellings_of : AttributeRow → List (List ℕ)
 spellings_of row = row.2 ∷ row.3
 
@@ -65,8 +65,8 @@ pub data AttributeText (t : List ℕ) (a : Attribute) : Type 0 where
 abbrev pub attribute_words : ℕ → List (List ℕ)
 attribute_words bits = map shown_word (filter (λ row. bit_at bits (bit_of row) == 1) attributes)
 
--- how a set of bits is shown: the words of its known bits, with one space between; an unknown bit shows as
--- nothing
+-- how a set of bits is shown: the words of its known bits, with one space between; an unknown bit is not
+-- shown
 abbrev pub attribute_shown : ℕ → List ℕ
 attribute_shown bits = join_with_byte space (attribute_words bits)
 

@@ -56,8 +56,8 @@ pub record HexPair (high low n : ℕ) : Type 0 where
   pub number : n ≡ 16 * digit_value high + digit_value low
 
 -- name text: a name's word, ignoring ASCII case; `-1`; an optional `+` and decimal digits whose number is at
--- most 255; or `#` with two hexadecimal digits for each of red, green and blue, or with one, which then
--- stands twice
+-- most 255; or `#` with two hexadecimal digits for each of red, green and blue, or with one, which is then
+-- taken twice
 pub data NameText (t : List ℕ) (n : Name) : Type 0 where
   word : OneOf word_names n → SameWord t (name_shown n) → NameText t n
   minus_one : t ≡ codes "-1" → n ≡ Normal → NameText t n

@@ -39,7 +39,7 @@ name_place BrightWhite = 17
 name_place (Ansi n) = 18
 name_place (Rgb r g b) = 19
 
--- the numbers of a name, of which a word has none
+-- the numbers of a name; a word has no numbers
 abbrev pub name_numbers : Name → List ℕ
 name_numbers (Ansi n) = n ∷ []
 name_numbers (Rgb r g b) = r ∷ g ∷ b ∷ []

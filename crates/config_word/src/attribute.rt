@@ -29,11 +29,12 @@ use std::str::FromStr;
 /// A set of attributes, such as bold or not underlined. Each attribute is one bit; bits that have
 /// no constant are kept.
 ///
-/// A text is one word, as `bold`, `noul` or `no-ul`, and reads to the set of its bit. Words are read in lower
-/// case only, but `reset` in any case. Any other text is refused with `Fault::Color`, and so are two words.
+/// A text is one word, such as `bold`, `noul` or `no-ul`, and reads to the set of its bit. Words are read in
+/// lower case only, except `reset`, which is read in any case. Any other text is refused with `Fault::Color`,
+/// and so are two words.
 ///
-/// A set is shown as the words of its known bits. It has a text exactly where one known bit is set, and no
-/// other: then that word is canonical. The source: docs/GRAMMAR.md, Attributes.
+/// A set is shown as the words of its known bits. It has a text exactly if one known bit is set, and no
+/// other; that word is then canonical: docs/GRAMMAR.md, Attributes.
 ///
 /// ```rust
 /// use gix_config_value::Fault;
@@ -97,12 +98,12 @@ impl Flags for Attribute {
         Attribute::FLAGS
     }
 
-    /// The set as a number, of which each bit is an attribute.
+    /// The set as a number. Each of its bits is an attribute.
     fn bits(&self) -> u32 {
         self.0
     }
 
-    /// The set of these bits, with those that have no constant.
+    /// The set of these bits, including those that have no constant.
     fn from_bits_retain(bits: u32) -> Attribute {
         Attribute(bits)
     }
@@ -153,12 +154,12 @@ const EARLY: usize = 8;
 /// The least bit of a `no` word.
 const LATE: u32 = 1 << 21;
 
-/// The bytes of all words of [`SHOWN`] with a space between: what the longest text has beside two of the
+/// How many bytes all words of [`SHOWN`] have, with a space between: the longest text also has two of the
 /// longest names, each with a space after it.
 pub const LONGEST_SET: usize = LONGEST_TEXT - 2 * (LONGEST_NAME + 1);
 
 impl Attribute {
-    /// The rows that the set can have words of. A set without a `no` word is shown faster so.
+    /// The rows whose words the set can have. This shows a set without `no` words faster.
     fn possible_words(self) -> &'static [Shown]
         ensures { words_in self.0 (map shown_row result.now) ≡ words_in self.0 shown_rows }
     {
@@ -199,7 +200,7 @@ impl Attribute {
         text
     }
 
-    /// Whether the set is one of the constants, which are the sets that some text is read as.
+    /// Whether the set is one of the constants. Texts read to no other sets.
     fn is_constant(self) -> bool
         ensures { IsTrue result ↔ (HasText AttributeText self) }
     {
@@ -212,7 +213,7 @@ impl Attribute {
     }
 }
 
-/// The attribute of the text, or `None` if it has none.
+/// Reads the text, or returns `None` if it is not an attribute text.
 fn attribute_of(text: &[u8]) -> Option<Attribute>
     ensures { Reads AttributeText text.now result }
 {
@@ -225,7 +226,7 @@ fn attribute_of(text: &[u8]) -> Option<Attribute>
 impl TryRead for Attribute {
     ghost refusal = { OnlyFault faults.Color };
 
-    /// The attribute of the text, or `Fault::Color` if it has none.
+    /// Reads the text, or returns `Fault::Color` if it is not an attribute text.
     fn try_read(text: &[u8]) -> Result<Attribute, Fault> {
         attribute_of(text).ok_or(Fault::Color)
     }
@@ -236,7 +237,7 @@ impl FromStr for Attribute {
 
     ghost from_str_gives = { ReadsFault AttributeText (OnlyFault faults.Color) };
 
-    /// The attribute of the text, or `Fault::Color` if it has none.
+    /// Reads the text, or returns `Fault::Color` if it is not an attribute text.
     fn from_str(text: &str) -> Result<Attribute, Fault> {
         Attribute::try_read(text.as_bytes())
     }
@@ -247,15 +248,15 @@ impl<'a> TryFrom<BStr<'a>> for Attribute {
 
     ghost try_from_gives = { ReadsBytes AttributeText (OnlyFault faults.Color) };
 
-    /// The attribute of the input, or `Fault::Color` with the whole input if it has none.
+    /// Reads the input, or returns `Fault::Color` with the whole input.
     fn try_from(input: BStr<'a>) -> Result<Attribute, Error<'a>> {
         read_bytes(input)
     }
 }
 
 impl Attribute {
-    /// The text that the set is shown as, as a JSON string. Answers `JsonError::Memory` where there is no
-    /// memory for the text; an empty text takes none.
+    /// Returns the shown text as a JSON string. Fails with `JsonError::Memory` if memory runs out; an empty
+    /// text takes no memory.
     pub fn to_json(&self, alloc: Global) -> Result<JsonValue, JsonError>
         ensures { GivesJsonText (attribute_shown self.now.0) result }
     {
@@ -280,7 +281,7 @@ impl Value for Attribute {
 
     ghost displayed = { λ a. attribute_shown a.0 };
 
-    /// The attribute of the input, or `None` if it has none.
+    /// Reads the input, or returns `None` if it is not an attribute text.
     fn read(input: BStr<'_>) -> Option<Attribute> {
         attribute_of(input.as_bytes())
     }

@@ -1,4 +1,4 @@
-//! The words of a color text, and the numbers beside them.
+//! What a word of a color text means: a name or an attribute.
 ghost use Rattle.std.specs.Prelude.{◌≡◌, ◌<◌, SomeIff};
 ghost use Rattle.std.specs.Char.{digit_value};
 ghost use Rattle.config_text.specs.Value.{Reads};
@@ -10,7 +10,7 @@ use crate::name::Name;
 use crate::words::known_word;
 use config_text::digits::digit_of;
 
-/// What a word of a color text stands for. The source: docs/GRAMMAR.md, Attributes.
+/// What a word of a color text means: docs/GRAMMAR.md, Attributes.
 ///
 /// ```rust
 /// use gix_config_value::color::{Attribute, Item, Name, word};
@@ -26,7 +26,7 @@ pub enum Item {
     Attribute(Attribute),
 }
 
-/// The number of decimal digits, if there is one digit or more and the number is at most 255.
+/// The number that decimal digits write, if there is at least one and the number is at most 255.
 fn palette_number(digits: &[u8]) -> Option<u8>
     ensures { result ≡ palette_of digits.now }
 {
@@ -75,7 +75,7 @@ fn rgb(digits: &[u8]) -> Option<Name>
     }
 }
 
-/// What the input stands for, told by its first byte before any word is compared.
+/// Reads an item. Its first byte is looked at before any word is compared.
 #[inline(always)]
 fn read_item(input: &[u8]) -> Option<Item>
     ensures { result ≡ item_of input.now }
@@ -88,8 +88,8 @@ fn read_item(input: &[u8]) -> Option<Item>
     }
 }
 
-/// The name or the attribute that the input is a text of, or `None` where it is neither's. No text
-/// is both. The source: docs/GRAMMAR.md, Attributes.
+/// Reads the input as a name or an attribute, or returns `None` if it is neither. No text is both:
+/// docs/GRAMMAR.md, Attributes.
 ///
 /// ```rust
 /// use gix_config_value::color::{Item, Name, word};

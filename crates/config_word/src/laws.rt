@@ -1,4 +1,4 @@
-//! Laws over the definitions, each the contract of a function that does nothing.
+//! Laws over the definitions. Each is the contract of a function that does nothing.
 
 pub mod attributes;
 pub mod equality;

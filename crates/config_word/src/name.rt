@@ -28,11 +28,11 @@ use std::str::FromStr;
 /// A color's name: a word, a palette number, or red, green and blue.
 ///
 /// The eighteen words are read in any case of their letters, and `-1` as `normal`. A palette number is 0 to
-/// 255; a `+` and zeros may stand before it. Red, green and blue are `#` and six hexadecimal digits, or
-/// three, each taken twice.
+/// 255; a `+` and zeros may come before it. Red, green and blue are `#` and six hexadecimal digits, or three,
+/// each taken twice.
 ///
 /// Any other text is refused with `Fault::Color`. The canonical text is the word in lower case, the number in
-/// decimal, or `#` and six lower-case digits. The source: docs/GRAMMAR.md, Color names.
+/// decimal, or `#` and six lower-case digits: docs/GRAMMAR.md, Color names.
 ///
 /// ```rust
 /// use gix_config_value::Fault;
@@ -155,7 +155,8 @@ impl Name {
         }
     }
 
-    /// The name at this place in the order of declaration, or `None` if that has numbers or there is none.
+    /// The name at this place in the order of declaration, or `None` if that name has numbers or there is no
+    /// such place.
     #[inline(always)]
     #[tactic(auto, unfolding(crate::specs::Name::word_names))]
     pub fn at_place(place: u8) -> Option<Name>
@@ -237,7 +238,7 @@ impl Name {
     }
 }
 
-/// The name of the text, or `None` if it has none.
+/// Reads the text, or returns `None` if it is not a name text.
 #[inline(always)]
 fn name_of(text: &[u8]) -> Option<Name>
     ensures { Reads NameText text.now result }
@@ -251,7 +252,7 @@ fn name_of(text: &[u8]) -> Option<Name>
 impl TryRead for Name {
     ghost refusal = { OnlyFault faults.Color };
 
-    /// The name of the text, or `Fault::Color` if it has none.
+    /// Reads the text, or returns `Fault::Color` if it is not a name text.
     fn try_read(text: &[u8]) -> Result<Name, Fault> {
         name_of(text).ok_or(Fault::Color)
     }
@@ -262,7 +263,7 @@ impl FromStr for Name {
 
     ghost from_str_gives = { ReadsFault NameText (OnlyFault faults.Color) };
 
-    /// The name of the text, or `Fault::Color` if it has none.
+    /// Reads the text, or returns `Fault::Color` if it is not a name text.
     fn from_str(text: &str) -> Result<Name, Fault> {
         Name::try_read(text.as_bytes())
     }
@@ -273,15 +274,14 @@ impl<'a> TryFrom<BStr<'a>> for Name {
 
     ghost try_from_gives = { ReadsBytes NameText (OnlyFault faults.Color) };
 
-    /// The name of the input, or `Fault::Color` with the whole input if it has none.
+    /// Reads the input, or returns `Fault::Color` with the whole input.
     fn try_from(input: BStr<'a>) -> Result<Name, Error<'a>> {
         read_bytes(input)
     }
 }
 
 impl Name {
-    /// The text that the name is shown as, as a JSON string, or `JsonError::Memory` where there is
-    /// no memory for it.
+    /// Returns the shown text as a JSON string. Fails with `JsonError::Memory` if memory runs out.
     pub fn to_json(&self, alloc: Global) -> Result<JsonValue, JsonError>
         ensures { GivesJsonText (name_shown self.now) result }
     {
@@ -306,7 +306,7 @@ impl Value for Name {
 
     ghost displayed = { name_shown };
 
-    /// The name of the input, or `None` if it has none.
+    /// Reads the input, or returns `None` if it is not a name text.
     #[inline(always)]
     fn read(input: BStr<'_>) -> Option<Name> {
         name_of(input.as_bytes())

@@ -9,8 +9,7 @@ use crate::item::Item;
 use crate::name::Name;
 use config_text::words::{equals, equals_ignoring_case};
 
-/// What the first of these words that the text is stands for, or `None`. Before each word is how it is
-/// compared.
+/// What the text means if it is one of these words, otherwise `None`. The function before a word compares it.
 macro_rules! first_of {
     ($text:ident, $($compared:ident $word:literal => $kind:ident::$constant:ident),+) => {
         $(if $compared($text, $word) {
@@ -21,7 +20,7 @@ macro_rules! first_of {
     };
 }
 
-/// What a word of two bytes stands for.
+/// What a word of two bytes means.
 #[inline(always)]
 fn of_two(text: &[u8]) -> Option<Item>
     ensures { result ≡ found (of_length 2 word_table) text.now }
@@ -32,7 +31,7 @@ fn of_two(text: &[u8]) -> Option<Item>
     )
 }
 
-/// What a word of three bytes stands for.
+/// What a word of three bytes means.
 #[inline(always)]
 fn of_three(text: &[u8]) -> Option<Item>
     ensures { result ≡ found (of_length 3 word_table) text.now }
@@ -43,7 +42,7 @@ fn of_three(text: &[u8]) -> Option<Item>
     )
 }
 
-/// What a word of four bytes stands for.
+/// What a word of four bytes means.
 #[inline(always)]
 fn of_four(text: &[u8]) -> Option<Item>
     ensures { result ≡ found (of_length 4 word_table) text.now }
@@ -56,7 +55,7 @@ fn of_four(text: &[u8]) -> Option<Item>
     )
 }
 
-/// What a word of five bytes stands for.
+/// What a word of five bytes means.
 #[inline(always)]
 fn of_five(text: &[u8]) -> Option<Item>
     ensures { result ≡ found (of_length 5 word_table) text.now }
@@ -72,7 +71,7 @@ fn of_five(text: &[u8]) -> Option<Item>
     )
 }
 
-/// What a word of six bytes stands for.
+/// What a word of six bytes means.
 #[inline(always)]
 fn of_six(text: &[u8]) -> Option<Item>
     ensures { result ≡ found (of_length 6 word_table) text.now }
@@ -87,7 +86,7 @@ fn of_six(text: &[u8]) -> Option<Item>
     )
 }
 
-/// What a word of seven bytes stands for.
+/// What a word of seven bytes means.
 #[inline(always)]
 fn of_seven(text: &[u8]) -> Option<Item>
     ensures { result ≡ found (of_length 7 word_table) text.now }
@@ -101,7 +100,7 @@ fn of_seven(text: &[u8]) -> Option<Item>
     )
 }
 
-/// What a word of eight bytes stands for.
+/// What a word of eight bytes means.
 #[inline(always)]
 fn of_eight(text: &[u8]) -> Option<Item>
     ensures { result ≡ found (of_length 8 word_table) text.now }
@@ -113,7 +112,7 @@ fn of_eight(text: &[u8]) -> Option<Item>
     )
 }
 
-/// What a word of nine bytes stands for.
+/// What a word of nine bytes means.
 #[inline(always)]
 fn of_nine(text: &[u8]) -> Option<Item>
     ensures { result ≡ found (of_length 9 word_table) text.now }
@@ -126,7 +125,7 @@ fn of_nine(text: &[u8]) -> Option<Item>
     )
 }
 
-/// What a word of ten bytes stands for.
+/// What a word of ten bytes means.
 #[inline(always)]
 fn of_ten(text: &[u8]) -> Option<Item>
     ensures { result ≡ found (of_length 10 word_table) text.now }
@@ -138,7 +137,7 @@ fn of_ten(text: &[u8]) -> Option<Item>
     )
 }
 
-/// What a word of eleven bytes stands for.
+/// What a word of eleven bytes means.
 #[inline(always)]
 fn of_eleven(text: &[u8]) -> Option<Item>
     ensures { result ≡ found (of_length 11 word_table) text.now }
@@ -150,7 +149,7 @@ fn of_eleven(text: &[u8]) -> Option<Item>
     )
 }
 
-/// What a word of twelve bytes stands for.
+/// What a word of twelve bytes means.
 #[inline(always)]
 fn of_twelve(text: &[u8]) -> Option<Item>
     ensures { result ≡ found (of_length 12 word_table) text.now }
@@ -158,7 +157,7 @@ fn of_twelve(text: &[u8]) -> Option<Item>
     first_of!(text, equals_ignoring_case b"brightyellow" => Name::BrightYellow)
 }
 
-/// What a word of thirteen bytes stands for.
+/// What a word of thirteen bytes means.
 #[inline(always)]
 fn of_thirteen(text: &[u8]) -> Option<Item>
     ensures { result ≡ found (of_length 13 word_table) text.now }
@@ -166,7 +165,7 @@ fn of_thirteen(text: &[u8]) -> Option<Item>
     first_of!(text, equals_ignoring_case b"brightmagenta" => Name::BrightMagenta)
 }
 
-/// What the text stands for among the words.
+/// What the text means if it is one of the words.
 #[inline(always)]
 pub(crate) fn known_word(text: &[u8]) -> Option<Item>
     ensures { result ≡ known text.now }

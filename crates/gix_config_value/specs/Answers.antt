@@ -1,7 +1,7 @@
--- What the program answers to its input.
+-- What the program writes for its input.
 --
--- The input is cut into lines at LF. Each line has one outcome, and the output is what the outcomes are shown
--- as, in order.
+-- The input is cut into lines at LF. Each line has one outcome, and the output is the texts of the outcomes,
+-- in order.
 use Rattle.std.specs.Prelude.{◌≡◌, ◌≢◌, ◌⊎◌, ℕ, ◌==◌, List, [], ◌∷◌, ◌++◌, flat_map, Bool, true, false}
 use Rattle.std.specs.Prelude.{codes, Option, None, Some, Result, Ok, Err}
 use Rattle.std.specs.List.{AllByRecursion, AllZip, list_all, before_first, after_first}
@@ -19,7 +19,7 @@ use Rattle.config_text.specs.Value.{Normalizes}
 abbrev pub ended : List ℕ → List ℕ
 ended line = line ++ line_feed ∷ []
 
--- no LF stands in it
+-- the line has no LF
 abbrev pub IsUnbroken : List ℕ → Type 0
 IsUnbroken line = AllByRecursion (λ b. b ≢ line_feed) line
 
@@ -34,17 +34,17 @@ abbrev pub counted_lines : List (List ℕ) → List ℕ → List (List ℕ)
 counted_lines lines [] = lines
 counted_lines lines (b ∷ bs) = lines ++ (b ∷ bs) ∷ []
 
--- what stands before the first space, or the whole line where there is none
+-- what comes before the first space, or the whole line if there is none
 abbrev pub line_head : List ℕ → List ℕ
 line_head line = before_first (λ b. b == space) line
 
--- what stands after the first space, or nothing where there is none
+-- what follows the first space, or nothing if there is none
 abbrev pub line_value : List ℕ → List ℕ
 line_value line = after_first (λ b. b == space) line
 
 -- ---- the outcome of a line
 
--- what a line is answered: a canonical text, that its text is refused, or that its kind is unknown
+-- what a line gets: a canonical text, a refusal of its text, or that its kind is unknown
 pub data Outcome : Type 0 where
   accepted : (s : List ℕ) → Outcome
   refused : Outcome
@@ -56,13 +56,13 @@ NormalizesLine line text = (kind : Kind) × (kind_name kind ≡ line_head line)
     × Normalizes (KindGrammar kind) (KindCanonical kind) (line_value line) text
 
 -- accepted with the canonical text of the line's text, refused if the kind's grammar gives the text no value,
--- and unknown if the head of the line is no kind's name
+-- and unknown if the head of the line is not the name of a kind
 abbrev pub LineOutcome : List ℕ → Outcome → Type 0
 LineOutcome line (accepted s) = NormalizesLine line (Some s)
 LineOutcome line refused = NormalizesLine line None
 LineOutcome line unknown_kind = (kind : Kind) → kind_name kind ≢ line_head line
 
--- the line that says an outcome
+-- the line that tells an outcome
 abbrev pub outcome_text : Outcome → List ℕ
 outcome_text (accepted s) = ended (codes "ok " ++ s)
 outcome_text refused = ended (codes "refused")
@@ -76,7 +76,7 @@ is_accepted unknown_kind = false
 
 -- ---- the answers to an input
 
--- each line has its outcome, the output is the answers in order, and `ok` is true exactly where each line is
+-- each line has its outcome, the output is the answers in order, and `ok` is true exactly if each line is
 -- accepted
 pub record LinesAnswered (lines : List (List ℕ)) (output : List ℕ) (ok : Bool) : Type 0 where
   pub outcomes : List Outcome
@@ -93,8 +93,8 @@ pub record Answers (input output : List ℕ) (ok : Bool) : Type 0 where
 
 -- ---- what a run did to its reader and its writer
 
--- from a reader that had `unread` and then `left`, and a writer that held `held` and then `holds`:
--- the reader was read to its end, and what was written is the answers to what was read
+-- the reader had `unread` and then `left`, and the writer held `held` and then `holds`: the reader was read
+-- to its end, and what was written is the answers to what was read
 pub record Completes (unread left held holds : Option (List ℕ)) (ok : Bool) : Type 0 where
   pub input : List ℕ
   pub output : List ℕ
@@ -138,8 +138,8 @@ pub record Fails (unread left held holds : Option (List ℕ)) (e : RunError) : T
 abbrev pub OneBegins : List ℕ → List ℕ → Type 0
 OneBegins a b = ((more : List ℕ) × (b ≡ a ++ more)) ⊎ ((more : List ℕ) × (a ≡ b ++ more))
 
--- what two runs wrote that read the same input and ended with this error: the same after `Read`, and after
--- another error one of them may have come further
+-- what two runs wrote, if both read the same input and ended with this error: the same after `Read`; after
+-- another error one of them may have written more
 abbrev pub AgreeAfter : RunError → List ℕ → List ℕ → Type 0
 AgreeAfter Read a b = a ≡ b
 AgreeAfter Write a b = OneBegins a b
@@ -147,7 +147,7 @@ AgreeAfter (Memory e) a b = OneBegins a b
 
 -- ---- the exit status
 
--- 0 where every line was accepted, 1 where some line was not, and 2 after an error
+-- 0 if every line was accepted, 1 if some line was not, and 2 after an error
 abbrev pub status_of : Result Bool RunError → ℕ
 status_of (Ok true) = 0
 status_of (Ok false) = 1

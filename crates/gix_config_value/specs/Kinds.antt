@@ -35,7 +35,7 @@ kind_name kinds.Name = codes "name"
 kind_name kinds.Attribute = codes "attribute"
 kind_name kinds.Color = codes "color"
 
--- the kind of that name, or a refusal where no kind has it
+-- the kind of that name, or a refusal if no kind has it
 abbrev pub NamesKind : {E : Type 0} → List ℕ → Result Kind E → Type 0
 NamesKind t (Ok kind) = kind_name kind ≡ t
 NamesKind t (Err e) = (kind : Kind) → kind_name kind ≢ t
@@ -75,7 +75,7 @@ abbrev pub IsFaultOf : (Fault → Type 0) → Refusal → Type 0
 IsFaultOf refusal refusals.Suffix = ⊥
 IsFaultOf refusal (refusals.Fault fault) = refusal fault
 
--- why a text has no value of a kind: the fault of the kind's reader, and that of suffixes has none
+-- why a text has no value of a kind: the fault of the kind's reader; the reader of suffixes has no fault
 abbrev pub KindRefusal : Kind → List ℕ → Refusal → Type 0
 KindRefusal kinds.Suffix t = λ r. r ≡ refusals.Suffix
 KindRefusal kinds.Integer t = IsFaultOf (OnlyFault faults.Integer t)
@@ -85,7 +85,7 @@ KindRefusal kinds.Name t = IsFaultOf (OnlyFault faults.Color t)
 KindRefusal kinds.Attribute t = IsFaultOf (OnlyFault faults.Color t)
 KindRefusal kinds.Color t = IsFaultOf (OnlyFault faults.Color t)
 
--- the answer to why a text is refused: nothing where it has a value, and otherwise one of these reasons
+-- why a text is refused: nothing if it has a value, and otherwise one of these reasons
 abbrev pub WhyRefused : {V : Type 0} → (List ℕ → V → Type 0) → (Refusal → Type 0) → List ℕ → Option Refusal
     → Type 0
 WhyRefused grammar reason t None = IsAccepted grammar t

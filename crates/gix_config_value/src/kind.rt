@@ -25,7 +25,7 @@ use std::fmt;
 use std::str::FromStr;
 use thiserror::Error;
 
-/// A kind of value, chosen at run time. Paths are none, since they have no canonical text.
+/// A kind of value, chosen at run time. Paths are not a kind, since they have no canonical text.
 ///
 /// ```rust
 /// use gix_config_value::canonical::Kind;
@@ -88,7 +88,8 @@ impl fmt::Display for Kind {
     }
 }
 
-/// A text that is the name of no kind. The names are the seven that [`Kind::name`] answers, in lower case.
+/// The error for a text that is not the name of a kind. The names are the seven that [`Kind::name`] returns,
+/// in lower case.
 ///
 /// ```rust
 /// use gix_config_value::canonical::{Kind, UnknownKind};
@@ -105,7 +106,7 @@ impl FromStr for Kind {
 
     ghost from_str_gives = { NamesKind };
 
-    /// The kind of exactly this name, in lower case, or `UnknownKind` where no kind has it.
+    /// The kind of exactly this name, in lower case, or `UnknownKind` if no kind has it.
     ///
     /// ```rust
     /// use gix_config_value::canonical::{Kind, UnknownKind};
@@ -144,8 +145,8 @@ pub(crate) fn kind_by_name(name: &[u8]) -> Option<Kind>
 }
 
 /// The canonical text of this kind that reads to the value of the input. `None` exactly if the kind's grammar
-/// gives the input no value. A canonical input is returned byte for byte. White space parts a color text into
-/// two, and the canonical text is that of their composition: [`laws::headline`](crate::laws::headline).
+/// gives the input no value. A canonical input is returned byte for byte. For color texts joined by white
+/// space it is the text of their composition: [`laws::headline`](crate::laws::headline).
 ///
 /// [`refusal`] says why an input is refused. docs/GRAMMAR.md has a section for each kind.
 ///
@@ -202,7 +203,7 @@ fn refusal_as<V: TryRead>(input: BStr<'_>) -> Option<Refusal>
     }
 }
 
-/// Why a text has no value of this kind, or `None` exactly where it has one.
+/// Why a text has no value of this kind, or `None` exactly if it has one.
 ///
 /// ```rust
 /// use bstr::BStr;
@@ -232,9 +233,9 @@ pub fn refusal(kind: Kind, input: BStr<'_>) -> Option<Refusal>
     }
 }
 
-/// Whether two texts of this kind mean the same, or `None` exactly where the kind's grammar gives
-/// one of them no value. For colors that is whether their words have the same names in the same
-/// order, and attributes of the same bits.
+/// Whether two texts of this kind mean the same, or `None` exactly if the kind's grammar gives one of them no
+/// value. Color texts mean the same if their words have the same names in the same order, and attributes of
+/// the same bits.
 ///
 /// ```rust
 /// use bstr::BStr;

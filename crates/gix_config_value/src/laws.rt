@@ -1,4 +1,4 @@
-//! Laws over the definitions, each the contract of a function that does nothing. Those of another crate that
+//! Laws over the definitions. Each is the contract of a function that does nothing. Laws of other crates that
 //! callers cite are here too.
 
 pub mod answers;

@@ -1,6 +1,6 @@
 //! The readers of Git configuration values: booleans, integers with the suffixes `k`, `m` and `g`, colors,
-//! color names, attributes and paths. Each reader but that of paths is proved to accept exactly the texts of
-//! its kind's written grammar.
+//! color names, attributes and paths. Every reader except that of paths is proved to accept exactly the texts
+//! of its kind's written grammar.
 //!
 //! ```
 //! use gix_config_value::canonical::{Kind, normalize};
@@ -23,11 +23,11 @@
 //! | `config_color` | [`color`]: `Color`, `space_at`; [`canonical::compose`] |
 //! | `config_path` | [`path`]: paths, interpolation, the passwd text |
 //!
-//! What is here alone: [`canonical::Kind`], a kind chosen at run time, with [`canonical::normalize`],
-//! [`canonical::same`] and [`canonical::refusal`]; and [`program`], lines and their answers.
+//! This crate itself has [`canonical::Kind`], a kind chosen at run time, with [`canonical::normalize`],
+//! [`canonical::same`] and [`canonical::refusal`]; and [`program`], which answers lines.
 //!
-//! Each public type, and each call that a user meets first, has an example in its comment.
-//! The grammar of a kind stands on top of its crate's `specs/`, and docs/GRAMMAR.md says it in words.
+//! Each public type, and each call that a user meets first, has an example in its comment. The grammar of a
+//! kind is at the top of its crate's `specs/`, and docs/GRAMMAR.md says it in words.
 #![tactic(auto)]
 
 mod kind;

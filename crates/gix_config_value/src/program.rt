@@ -1,7 +1,7 @@
-//! The program: it answers each line of its input with the canonical text of the line's value.
+//! The program. It answers each line of its input with the canonical text of the line's value.
 //!
 //! Answers wait in a buffer. They are written out when it is full, before the next read and at the end. Lines
-//! within one read are answered from its slice; only a line that crosses the end of a read is gathered.
+//! within one read are answered from its slice; only a line that crosses the end of a read is copied.
 ghost use Rattle.std.specs.Prelude.{◌≡◌, ℕ, ◌+◌, ◌≤◌, ◌<◌, List, [], ◌++◌, length, OnOk, OnErr, IfOk, IfErr};
 ghost use Rattle.gix_config_value.specs.Answers.{ended, line_head, line_value, IsUnbroken, Completes, Fails};
 ghost use Rattle.gix_config_value.specs.Answers.{Answers, AnswersAllBut, status_of};
@@ -47,8 +47,8 @@ const ROOM: usize = 8192;
 /// The most bytes that one read takes.
 const READ: usize = 65536;
 
-/// What is before the first space of a line, and what follows it. Without a space, the whole line and
-/// nothing.
+/// Splits a line at its first space. Without a space, the first part is the whole line and the second is
+/// empty.
 fn split_line(line: &[u8]) -> (&[u8], &[u8])
     ensures head { result.0.now ≡ line_head line.now }
     ensures value { result.1.now ≡ line_value line.now }
@@ -81,7 +81,7 @@ fn push_answer(line: &[u8], waiting: &mut ArrayString<ROOM>) -> bool
     true
 }
 
-/// Answers on their way to a writer: those that wait, and the writer that takes them.
+/// The answers that wait, and the writer that takes them.
 #[derive(Drop)]
 struct Output<'w, W: Write> {
     waiting: ArrayString<ROOM>,
@@ -89,7 +89,7 @@ struct Output<'w, W: Write> {
 }
 
 impl<'w, W: Write> Output<'w, W> {
-    /// Writes out what waits, by as many writes as it takes. A write of no byte is an error.
+    /// Writes out what waits, in as many writes as it takes. A write that takes no byte is an error.
     fn write_out(&mut self) -> Result<(), RunError>
         ensures ok { OnOk result
             (SendsBytes (output_state W.contents self.old) (output_state W.contents self.new) []) }
@@ -151,7 +151,7 @@ impl<'w, W: Write> Output<'w, W> {
     }
 }
 
-/// A run between two reads: the line begun, and whether each line before it was accepted.
+/// The state between two reads: the line begun, and whether each line before it was accepted.
 #[derive(Drop)]
 struct Progress {
     line: Vec<u8>,
@@ -311,10 +311,10 @@ fn answer_input<R: Read, W: Write>(
 }
 
 /// Answers each line of the input, in order: `ok ` and the canonical text of the line's value, `refused`, or
-/// `unknown kind`. A last line without LF counts if it is not empty. The result is whether every line was
-/// accepted; with no line it is true. The source: docs/GRAMMAR.md, Lines and answers.
+/// `unknown kind`. A last line without LF counts if it is not empty. Returns whether every line was accepted,
+/// which is true if there is no line: docs/GRAMMAR.md, Lines and answers.
 ///
-/// Errors, after each of which what was written is a beginning of the answers:
+/// After any of these errors, what was written is a beginning of the answers:
 /// - `Read`: a read failed, or the input had not ended after 18446744073709551615 reads. Exactly the lines
 ///   that were read with their LF are answered.
 /// - `Write`: a write or the flush at the end failed, or a write took no byte.
@@ -359,8 +359,8 @@ fn append_answer(line: &[u8], out: &mut Vec<u8>) -> Result<bool, AllocError>
 }
 
 /// Appends the answers to the lines of an input in memory to `out`, the same as [`run`] writes, and returns
-/// whether every line was accepted. There is no reader and no writer that could fail. If memory for `out` is
-/// refused, the answers to some first lines are appended.
+/// whether every line was accepted. No reader or writer can fail. If memory for `out` is refused, the answers
+/// to some first lines are appended.
 ///
 /// ```rust
 /// use gix_config_value::program::run_over;

@@ -17,7 +17,7 @@ use thiserror::Error;
 #[derive(Clone, Copy, PartialEq, Eq, Debug, Error)]
 #[error("{}", self.text())]
 pub enum Refusal {
-    /// The text is no suffix. The reader of suffixes has no fault.
+    /// The text is not a suffix. The reader of suffixes has no fault.
     Suffix,
     /// The fault with which the reader of any other kind refuses the text.
     Fault(Fault),

@@ -1,5 +1,4 @@
-//! Calls of `Path::interpolate` as lines write them, and what the library answers to them, as a line writes
-//! it.
+//! Calls of `Path::interpolate`, one on a line, and their results, one on a line.
 
 use bstr::BString;
 use gix_config_value::Path;
@@ -16,11 +15,11 @@ pub struct Call<'a> {
     git_install_dir: &'a str,
     /// The home directory, or `-`.
     home_dir: &'a str,
-    /// What the lookup knows, as `user=directory` between commas, or `-` where there is no lookup.
+    /// What the lookup knows, as `user=directory` between commas, or `-` if there is no lookup.
     lookup: &'a str,
 }
 
-/// The call of a line, whose fields stand between tabs; `None` where there are fewer than four.
+/// The call of a line, whose fields are separated by tabs, or `None` if there are fewer than four.
 pub fn parse(line: &str) -> Option<Call<'_>> {
     let mut fields = line.splitn(4, '\t');
     Some(Call {
@@ -36,7 +35,7 @@ fn text(alloc: Global, digits: &str) -> anyhow::Result<String> {
     Ok(String::from_utf8(hex::decode(alloc, digits)?)?)
 }
 
-/// The text of these digits, or `None` at `-`.
+/// The text of these digits, or `None` for `-`.
 fn directory(alloc: Global, field: &str) -> anyhow::Result<Option<String>> {
     match field {
         "-" => Ok(None),
@@ -44,7 +43,7 @@ fn directory(alloc: Global, field: &str) -> anyhow::Result<Option<String>> {
     }
 }
 
-/// A user and the home directory that the lookup answers.
+/// A user and the home directory that the lookup returns.
 #[derive(Drop)]
 struct User {
     name: String,
@@ -65,7 +64,7 @@ fn users(alloc: Global, field: &str) -> anyhow::Result<Vec<User>> {
     Ok(users)
 }
 
-/// What the lookup answers.
+/// What the lookup returns.
 fn home_of<'a>(users: &'a [User], name: &str) -> Option<&'a str> {
     for user in users {
         if user.name.as_str() == name {
@@ -75,7 +74,7 @@ fn home_of<'a>(users: &'a [User], name: &str) -> Option<&'a str> {
     None
 }
 
-/// What stands in an answer for a place.
+/// How an answer names a place.
 fn place_name(place: Place) -> &'static str {
     match place {
         Place::PastPrefix => "PastPrefix",
@@ -107,9 +106,9 @@ fn outcome(alloc: Global, given: Result<String, Error<'_>>) -> anyhow::Result<St
 }
 
 impl Call<'_> {
-    /// What the call gives: the flag, the value behind the mark, how often the lookup was called, and the
-    /// text or the error, between tabs. An error where digits are wrong, where those of a directory or of a
-    /// user are no UTF-8, and where memory is refused.
+    /// Makes the call. Returns, separated by tabs, the flag, the value after the mark, how often the lookup
+    /// was called, and the text or the error. Fails if digits are invalid, if a directory or a user is not
+    /// UTF-8, or if memory is refused.
     pub fn answer(&self, alloc: Global) -> anyhow::Result<String> {
         let path = Path::from(BString::new(hex::decode(alloc, self.value)?));
         let git_install_dir = directory(alloc, self.git_install_dir)?;

@@ -1,5 +1,5 @@
-//! Answers calls of `Path::interpolate`: each line of the input is a call, and each line of the output what
-//! it gives.
+//! Answers calls of `Path::interpolate`: each line of the input is a call, and the same line of the output
+//! its result.
 #![tactic(auto)]
 
 mod call;

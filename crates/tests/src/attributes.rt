@@ -1,4 +1,4 @@
-//! Sets of attributes. No contract covers the operators, nor what `iter` and `iter_names` go over:
+//! Sets of attributes. No contract covers the operators, nor what `iter` and `iter_names` go over;
 //! `bitflag_items!` writes them.
 
 use crate::support::equal;

@@ -1,4 +1,4 @@
-//! Values of configuration files that are lent.
+//! Values of configuration files that are borrowed.
 
 use config_file::reader::Entries;
 use std::alloc::{AllocError, Global};

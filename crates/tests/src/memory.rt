@@ -1,4 +1,4 @@
-//! Memory that is refused: no contract says that an error is returned only if memory was refused, nor how
+//! Memory that is refused. No contract says that an error is returned only if memory was refused, or how
 //! often a call asks for it. Under `rt try` each call is made with ample memory alone.
 
 mod interpolation;

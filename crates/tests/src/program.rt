@@ -68,8 +68,8 @@ fn fails_where_a_read_fails(rt: HostRuntime) -> Result<(), Fail> {
     Ok(())
 }
 
-/// The run fails where the call of this number does otherwise, after a beginning of the answers, and writes
-/// no more.
+/// The run fails if the call of this number does not do its work. It has written a beginning of the answers,
+/// and writes no more.
 fn fails_at(rt: &impl Host, read: usize, piece: usize, call: u64, turn: Turn) -> Result<(), Fail> {
     let alloc = rt.alloc();
     let answers = answers(alloc, 6)?;

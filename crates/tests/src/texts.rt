@@ -1,5 +1,5 @@
-//! The texts of errors, which no contract says, and one of each kind of value, since no contract says that a
-//! value can be displayed.
+//! The texts of errors, which no contract states, and one text of each kind of value, since no contract says
+//! that `Display` succeeds.
 
 use crate::support::{Host, equal};
 use gix_config_value::canonical::UnknownKind;

@@ -1,4 +1,4 @@
--- What the readers and normalizers promise of one text: the headline, with no word of the library but
+-- What the readers and normalizers promise of one text: the headline, with no words of the library except
 -- grammars.
 use Rattle.std.specs.Prelude.{◌≡◌, ◌≤◌, ◌↔◌, ◌⊎◌, ℕ, List, length, Option, None, Some}
 use Rattle.config_color.specs.declared.color.Color.{Color}
@@ -19,7 +19,7 @@ pub record Headline {V : Type 0} (grammar : List ℕ → V → Type 0) (canonica
       → (value ≡ Some w) ↔ (normalized ≡ Some s)
 
 -- White space joins two texts. The joined text is read as the composition of their colors. It is refused
--- exactly if one of the two is refused, or if the names of their colors are more than two.
+-- exactly if one of the two is refused, or if their colors have more than two names.
 pub record JoinedHeadline (front back : List ℕ) (color : Option Color) : Type 0 where
   pub read : (c : Color) → (color ≡ Some c) ↔ (Joined front back c)
   pub refused : (color ≡ None)

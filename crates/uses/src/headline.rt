@@ -1,5 +1,6 @@
 //! The headline of the library, stated once for each kind: what is read, with which value, and its one
-//! canonical text. `Headline` of specs/Headline.antt says it with no word of the library but the grammars.
+//! canonical text. `Headline` of specs/Headline.antt says it with no words of the library except the
+//! grammars.
 ghost use Rattle.std.specs.Prelude.{◌≡◌, ◌++◌, ℕ, List, option_map};
 ghost use Rattle.bstr.specs.BStr.{bstr_bytes};
 ghost use Rattle.gix_config_value.specs.Suffix.{SuffixText, CanonicalSuffix};
@@ -84,7 +85,7 @@ pub fn color(input: BStr<'_>) -> (Option<Color>, Option<CanonicalText>)
     value_and_text::<Color>(input)
 }
 
-/// The color of a text in which white space joins two texts, at each place at which white space is.
+/// The color of a text in which white space joins two texts, at each place where there is white space.
 pub fn color_of_joined(joined_texts: BStr<'_>) -> Option<Color>
     ensures { (front space back : List ℕ) → Space space
         → bstr_bytes joined_texts.entry ≡ front ++ space ++ back → JoinedHeadline front back result }

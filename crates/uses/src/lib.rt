@@ -1,12 +1,12 @@
 //! Short callers of `gix_config_value`. Each rests on public contracts alone, and its own contract says what
-//! its user gets. Read `repository` first, and then what your task is nearest to.
+//! its user gets. Read `repository` first, and then the module nearest to your task.
 //!
 //! - `repository` reads the files of the system, the user and the repository, and looks a setting up; a
 //!   refusal names its file and its line.
-//! - `push_default` reads what `push.default` may be, as a kind of value of one's own.
+//! - `push_default` reads what `push.default` may be, as a kind of value of your own.
 //! - `paths` interpolates paths, without users and with those of a passwd text.
 //! - `headline` states for each kind what is read, with which value, and its one canonical text.
-//! - `literals` has defaults that are written as texts, with a reader computed on a literal.
+//! - `literals` has defaults written as texts, whose values the prover computes.
 #![tactic(auto)]
 
 pub mod headline;

@@ -6,7 +6,7 @@ ghost use Rattle.config_word.specs.declared.name.Name.TheVariants as names;
 
 use gix_config_value::{Color, Integer};
 
-/// The most bytes of an object that is shown.
+/// The largest object that is shown, in bytes.
 pub fn default_limit() -> usize
     ensures { result ≡ 10485760 }
 {

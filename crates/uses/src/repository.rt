@@ -14,7 +14,7 @@ pub struct File<'a> {
     pub bytes: &'a [u8],
 }
 
-/// The settings of files, of which a later one decides over an earlier one. Fails at the first invalid line.
+/// Reads the settings of files. A later file decides over an earlier one. Fails at the first invalid line.
 pub fn read<'a>(alloc: Global, files: &[File<'a>]) -> Result<Settings<'a>, AddError<'a>> {
     let mut settings = Settings::new(alloc);
     for file in files {
@@ -23,8 +23,8 @@ pub fn read<'a>(alloc: Global, files: &[File<'a>]) -> Result<Settings<'a>, AddEr
     Ok(settings)
 }
 
-/// Whether the repository is bare: the last `core.bare`, in any case of its letters, decides. A key alone is
-/// true, an empty text is false, and without an entry the answer is false.
+/// Whether the repository is bare. The last `core.bare` decides, ignoring ASCII case. A key alone is true, an
+/// empty text is false, and without an entry the result is false.
 pub fn is_bare<'s>(settings: &'s Settings<'_>) -> Result<bool, Refused<'s, Fault>>
     ensures { MatchResult result
         (λ bare. (found : Option value.Boolean) × GetsBare settings.now.entries.items (Ok found)

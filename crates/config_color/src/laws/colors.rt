@@ -21,7 +21,7 @@ pub fn numbers_fit()
         → PartFits c.foreground × PartFits c.background }
 {}
 
-/// Each text has words, and no other words.
+/// Each text has exactly one list of words.
 pub fn one_words()
     ensures { (text : List ℕ)
         → (ws : List (List ℕ)) × Words text ws × ((vs : List (List ℕ)) → Words text vs → vs ≡ ws) }
@@ -34,9 +34,9 @@ pub fn joined_words()
         → Words before ws → Words rest vs → Words (before ++ space ++ rest) (ws ++ vs) }
 {}
 
-/// Two texts joined by white space have a color exactly if both have one and these have a composition,
-/// which is the color. They are refused exactly if one of them is refused, or if the names of their colors
-/// are more than two.
+/// Two texts joined by white space have a color exactly if both have one and these have a composition, which
+/// is the color. They are refused exactly if one of them is refused, or if their colors have more than two
+/// names.
 pub fn joined()
     ensures read { (front space back : List ℕ) (c : Color) → Space space
         → (ColorText (front ++ space ++ back) c) ↔ (Joined front back c) }
@@ -45,8 +45,7 @@ pub fn joined()
         ↔ (IsRefused ColorText front ⊎ IsRefused ColorText back ⊎ HaveTooManyNames front back) }
 {}
 
-/// For two colors there is only one answer of `compose`: their one composition, or `None` where they have
-/// none.
+/// `compose` has only one result for two colors: their one composition, or `None` if they have none.
 pub fn one_composition()
     ensures { (a b : Color) (r s : Option Color) → Composes a b r → Composes a b s → r ≡ s }
 {}
@@ -58,8 +57,8 @@ pub fn same_words()
         → (v ≡ w) ↔ (SameWords a b) }
 {}
 
-/// Texts whose words are the same but for one whole attribute word have the same color, or none. That word
-/// stands at another place or once more.
+/// Moving one whole attribute word to another place, or repeating it, changes nothing: both texts have the
+/// same color, or neither has one.
 pub fn moved_words()
     ensures { (t u : List ℕ) (ws vs : List (List ℕ)) (c : Color) → Words t ws → Words u vs
         → Moves ws vs → (ColorText t c) ↔ (ColorText u c) }

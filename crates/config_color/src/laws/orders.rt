@@ -1,4 +1,4 @@
-//! What `==`, `cmp`, `partial_cmp`, hashes and `clone` answer for colors, and what the default is.
+//! What `==`, `cmp`, `partial_cmp`, hashes and `clone` return for colors, and what the default is.
 ghost use Rattle.std.specs.Prelude.{◌≡◌, None};
 ghost use Rattle.config_text.specs.Orders.{HasOrder, IsCopied};
 ghost use Rattle.config_color.specs.declared.color.Color.{Color};
@@ -8,7 +8,7 @@ use crate::color::Color;
 use config_word::laws::orders::name_order;
 use std::hash::Hash;
 
-/// Colors are ordered by the foreground, then the background, in each none first, and then by the
+/// Colors are ordered by the foreground, then the background, `None` first in each, and then by the
 /// attributes. The default color has no names and no attributes.
 pub fn color_order()
     ensures order { HasOrder (◌≡◌) color_order ⟦<Color as PartialEq>⟧.eq ⟦<Color as Ord>⟧.cmp

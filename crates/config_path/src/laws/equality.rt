@@ -1,4 +1,4 @@
-//! What `==` and `clone` answer for places, classes and refusals of paths, and `clone` for contexts.
+//! What `==` and `clone` return for places, classes and refusals of paths, and `clone` for contexts.
 ghost use Rattle.std.specs.Prelude.{◌≡◌};
 ghost use Rattle.config_text.specs.Orders.{Equates, IsCopied};
 ghost use Rattle.config_path.specs.declared.interpolate.Class.{Class};
@@ -9,29 +9,29 @@ ghost use Rattle.config_path.specs.Interpolation.{IsSameError};
 
 use crate::interpolate::{Class, Context, Error, Place};
 
-/// Places are equal exactly where they are the same.
+/// Places are equal exactly if they are the same.
 pub fn places()
     ensures equality { Equates (◌≡◌) ⟦<Place as PartialEq>⟧.eq }
     ensures clones { IsCopied ⟦<Place as Clone>⟧.is_clone
         ⟦<Place as Clone>⟧.is_infallible }
 {}
 
-/// Classes are equal exactly where they are the same.
+/// Classes are equal exactly if they are the same.
 pub fn classes()
     ensures equality { Equates (◌≡◌) ⟦<Class as PartialEq>⟧.eq }
     ensures clones { IsCopied ⟦<Class as Clone>⟧.is_clone
         ⟦<Class as Clone>⟧.is_infallible }
 {}
 
-/// Refusals of paths are equal exactly where they are the same, ill-formed bytes by their place and
-/// what they are.
+/// Refusals of paths are equal exactly if they are the same; ill-formed bytes are compared by their place and
+/// byte by byte.
 pub fn path_errors()
     ensures equality { Equates IsSameError ⟦<Error<'static> as PartialEq>⟧.eq }
     ensures clones { IsCopied ⟦<Error<'static> as Clone>⟧.is_clone
         ⟦<Error<'static> as Clone>⟧.is_infallible }
 {}
 
-/// A clone of a context is that context, and never fails, where both hold of clones of its lookup.
+/// A clone of a context is the same context, and never fails, if both are true of clones of its lookup.
 pub fn contexts<F: Clone>()
     ensures { IsCopied F.is_clone F.is_infallible
         → IsCopied ⟦<Context<'static, F> as Clone>⟧.is_clone

@@ -17,13 +17,13 @@ use crate::path::Path;
 use bstr::BString;
 use std::hash::Hash;
 
-/// A text stands for one path.
+/// A text gives only one path.
 pub fn one_path()
     ensures { (text : List ℕ) (p q : Path) → IsPathOf text p → IsPathOf text q → IsEqualPath p q }
 {}
 
-/// Paths are equal where their bytes and their flags are. They are ordered by their bytes and then
-/// by their flag, `false` first. What is hashed is the bytes and then the flag.
+/// Paths are equal if their bytes and their flags are. They are ordered by their bytes and then by their
+/// flag, `false` first. What is hashed is the bytes and then the flag.
 pub fn path_order()
     ensures order { HasOrder IsEqualPath path_order ⟦<Path as PartialEq>⟧.eq ⟦<Path as Ord>⟧.cmp
         ⟦<Path as PartialOrd>⟧.partial_cmp ⟦<Path as Hash>⟧.hash_input }
@@ -33,7 +33,7 @@ pub fn path_order()
 
 /// A value has one result in the path table, if the lookup has one home for each name.
 ///
-/// - `form`: a value has a form, and no other.
+/// - `form`: a value has exactly one form.
 /// - `table`: a form has one result.
 /// - `memory`: the table never gives out of memory.
 /// - `result`: two results of one value are the same, if memory was refused to both or to neither.

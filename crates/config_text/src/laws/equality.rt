@@ -1,4 +1,4 @@
-//! What `==` and `clone` answer for faults, refusals and errors.
+//! What `==` and `clone` return for faults, refusals and errors.
 ghost use Rattle.std.specs.Prelude.{◌≡◌};
 ghost use Rattle.config_text.specs.Faults.{fault_text};
 ghost use Rattle.config_text.specs.Orders.{Equates, IsCopied};
@@ -14,34 +14,34 @@ use crate::errors::{Error, Fault, Returned};
 use crate::json::JsonError;
 use crate::settings::Refused;
 
-/// Faults are equal exactly where they are the same, and no two of them have one text.
+/// Faults are equal exactly if they are the same, and no two of them have the same text.
 pub fn faults()
     ensures equality { Equates (◌≡◌) ⟦<Fault as PartialEq>⟧.eq }
     ensures clones { IsCopied ⟦<Fault as Clone>⟧.is_clone ⟦<Fault as Clone>⟧.is_infallible }
     ensures texts { (f g : Fault) → fault_text f ≡ fault_text g → f ≡ g }
 {}
 
-/// Refusals of borrowed texts are equal exactly where their faults are, and the bytes of their inputs.
+/// Refusals of borrowed texts are equal exactly if their faults are, and the bytes of their inputs.
 pub fn errors()
     ensures equality { Equates IsSameError ⟦<Error<'static> as PartialEq>⟧.eq }
     ensures clones { IsCopied ⟦<Error<'static> as Clone>⟧.is_clone
         ⟦<Error<'static> as Clone>⟧.is_infallible }
 {}
 
-/// Refusals that hand a text back are equal exactly where their faults are the same, and their inputs equal
+/// Refusals that hand a text back are equal exactly if their faults are the same, and their inputs are equal
 /// by the equality of their type.
 pub fn returned<V: PartialEq + Drop>()
     ensures { Equates (IsSameReturned V.eq) ⟦<Returned<V> as PartialEq>⟧.eq }
 {}
 
-/// Refused settings are equal exactly where their indices are, and the bytes of their texts.
+/// Refused settings are equal exactly if their indices are, and the bytes of their texts.
 pub fn refused()
     ensures equality { Equates IsSameRefused ⟦<Refused<'static> as PartialEq>⟧.eq }
     ensures clones { IsCopied ⟦<Refused<'static> as Clone>⟧.is_clone
         ⟦<Refused<'static> as Clone>⟧.is_infallible }
 {}
 
-/// Why a value has no JSON value: equal exactly where they are the same.
+/// Reasons why a value has no JSON value are equal exactly if they are the same.
 pub fn json_errors()
     ensures equality { Equates (◌≡◌) ⟦<JsonError as PartialEq>⟧.eq }
     ensures clones { IsCopied ⟦<JsonError as Clone>⟧.is_clone

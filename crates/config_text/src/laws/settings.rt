@@ -5,14 +5,14 @@ ghost use Rattle.config_text.specs.Settings.{IsReplaced, SameAnswers, OneAnswer}
 
 use crate::value::Value;
 
-/// Where in a list of entries any texts are replaced by canonical texts of the same values, each name keeps
-/// its answer. That is the value, whatever the default, or the index of the refusal and the refused text.
+/// If some texts of a list of entries are replaced by canonical texts of the same values, each name keeps its
+/// result. That is the value, whatever the default, or the index of the refusal and the refused text.
 pub fn replaced_values<V: Value>()
     ensures { (es fs : List (List ℕ × List ℕ)) → AllZip (IsReplaced V.grammar V.canonical) es fs
         → SameAnswers V.grammar es fs }
 {}
 
-/// A name has one answer at most: for each default one value, or one refusal, and never both.
+/// A name has at most one result: for each default one value, or one refusal, and never both.
 pub fn one_answer<V: Value>()
     ensures { (es : List (List ℕ × List ℕ)) → OneAnswer V.grammar es }
 {}

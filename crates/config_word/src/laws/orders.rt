@@ -1,5 +1,5 @@
-//! What `==`, `cmp`, `partial_cmp`, hashes and `clone` answer for names and sets of attributes, and what
-//! the default is.
+//! What `==`, `cmp`, `partial_cmp`, hashes and `clone` return for names and sets of attributes, and what the
+//! default is.
 ghost use Rattle.std.specs.Prelude.{◌≡◌};
 ghost use Rattle.config_text.specs.Orders.{HasOrder, IsCopied};
 ghost use Rattle.config_word.specs.declared.attribute.Attribute.{Attribute};
@@ -20,8 +20,8 @@ pub fn attribute_order()
     ensures default { (a : Attribute) → ⟦<Attribute as Default>⟧.is_default a → a.0 ≡ 0 }
 {}
 
-/// Names are ordered by their places, the words before palette numbers and these before red, green
-/// and blue. Where the places are one, the numbers decide. Equal names hash equally.
+/// Names are ordered by their places: words, then palette numbers, then red, green and blue. If the places
+/// are equal, the numbers decide. Equal names hash equally.
 pub fn name_order()
     ensures order { HasOrder (◌≡◌) name_order
         ⟦<Name as PartialEq>⟧.eq ⟦<Name as Ord>⟧.cmp

@@ -1,4 +1,4 @@
-//! Which names have a text, and what a word stands for.
+//! Which names have a text, and what a word means.
 ghost use Rattle.std.specs.Prelude.{◌≡◌, ℕ, List};
 ghost use Rattle.config_text.specs.Value.{IsTextOf};
 ghost use Rattle.config_word.specs.declared.attribute.Attribute.{Attribute};
@@ -9,19 +9,19 @@ ghost use Rattle.config_word.specs.Name.{NameText, CanonicalName, NameFits, name
 
 use crate::name::Name;
 
-/// Every name has a text: the one that it is shown as, which is canonical and read as that name.
+/// Every name has a text: the one that it is shown as, which is canonical and reads back.
 pub fn name_text()
     ensures shown { (n : Name) → NameFits n → IsTextOf NameText CanonicalName n (name_shown n) }
     ensures fits { (t : List ℕ) (n : Name) → NameText t n → NameFits n }
 {}
 
-/// Each number of a name is a byte. A proof knows it of a name that is passed by value, and not of one inside
-/// another value: there it calls this.
+/// Each number of a name is a byte. A proof knows this of a name that is passed by value. For a name inside
+/// another value it calls this function.
 pub fn numbers_fit(name: Name)
     ensures { NameFits name }
 {}
 
-/// A word stands for one item, and no text is both a name and an attribute.
+/// A word means only one item, and no text is both a name and an attribute.
 pub fn one_item()
     ensures one { (t : List ℕ) (i j : Item) → ItemText t i → ItemText t j → i ≡ j }
     ensures apart { (t : List ℕ) (n : Name) (a : Attribute) → NameText t n → ¬ (AttributeText t a) }

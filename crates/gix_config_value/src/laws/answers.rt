@@ -6,8 +6,7 @@ ghost use Rattle.gix_config_value.specs.Answers.{IsBeginningOfAnswers};
 
 use crate::laws::kinds::every_kind;
 
-/// Each line has one outcome, and no line has two: it is accepted with one text, refused, or of an unknown
-/// kind.
+/// Each line has exactly one outcome: it is accepted with one text, refused, or of an unknown kind.
 pub fn one_outcome()
     ensures some { (line : List ℕ) → (outcome : Outcome) × LineOutcome line outcome }
     ensures one { (line : List ℕ) (a b : Outcome) → LineOutcome line a → LineOutcome line b → a ≡ b }
@@ -15,9 +14,9 @@ pub fn one_outcome()
     every_kind();
 }
 
-/// Each input has one output, and one answer to whether every line of it was accepted. Two runs that read the
-/// same input and ended with the same error wrote the same after `Read`; after another error one of them may
-/// have written more.
+/// Each input has one output, and either every line of it is accepted or not. Two runs that read the same
+/// input and ended with the same error wrote the same after `Read`; after another error one of them may have
+/// written more.
 pub fn one_output()
     ensures some { (input : List ℕ) → (output : List ℕ) × (ok : Bool) × Answers input output ok }
     ensures one { (input a b : List ℕ) (x y : Bool) → Answers input a x → Answers input b y

@@ -10,28 +10,28 @@ use crate::kind::{Kind, UnknownKind};
 use crate::program::RunError;
 use crate::refusal::Refusal;
 
-/// Kinds are equal exactly where they are the same.
+/// Kinds are equal exactly if they are the same.
 pub fn kinds()
     ensures equality { Equates (◌≡◌) ⟦<Kind as PartialEq>⟧.eq }
     ensures clones { IsCopied ⟦<Kind as Clone>⟧.is_clone
         ⟦<Kind as Clone>⟧.is_infallible }
 {}
 
-/// Refusals of a name of no kind are all equal.
+/// All values of `UnknownKind` are equal.
 pub fn unknown_kinds()
     ensures equality { Equates (◌≡◌) ⟦<UnknownKind as PartialEq>⟧.eq }
     ensures clones { IsCopied ⟦<UnknownKind as Clone>⟧.is_clone
         ⟦<UnknownKind as Clone>⟧.is_infallible }
 {}
 
-/// Reasons why a text has no value of a kind are equal exactly where they are the same.
+/// Reasons why a text has no value of a kind are equal exactly if they are the same.
 pub fn refusals()
     ensures equality { Equates (◌≡◌) ⟦<Refusal as PartialEq>⟧.eq }
     ensures clones { IsCopied ⟦<Refusal as Clone>⟧.is_clone
         ⟦<Refusal as Clone>⟧.is_infallible }
 {}
 
-/// Why a run ended: equal exactly where they are the same.
+/// Errors of a run are equal exactly if they are the same.
 pub fn run_errors()
     ensures equality { Equates (◌≡◌) ⟦<RunError as PartialEq>⟧.eq }
     ensures clones { IsCopied ⟦<RunError as Clone>⟧.is_clone

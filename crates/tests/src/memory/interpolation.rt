@@ -7,7 +7,7 @@ use gix_config_value::path::interpolate::{Context, Error};
 use std::alloc::{AllocError, Global};
 use std::test::Fail;
 
-/// A value, the one directory that stands for all, and what the value gives.
+/// A value, the directory that is used for all three, and what the value gives.
 type Row = (&'static [u8], Option<&'static str>, &'static str);
 
 static ROWS: [Row; 6] = [

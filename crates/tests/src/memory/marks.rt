@@ -28,7 +28,7 @@ fn is_path(path: &Path, row: Row<'_>) -> bool {
         && path.as_bstr() == BStr::from(row.2)
 }
 
-/// The way makes the row's path by one request for memory of so many bytes.
+/// Makes the row's path in this way, by one request for memory of so many bytes.
 fn makes<W: Fn() -> Result<Path, AllocError>>(
     rt: &impl Host,
     row: Row<'_>,

@@ -20,8 +20,8 @@ fn whole_answers(output: &[u8]) -> Option<usize> {
     rest.is_empty().then_some(ANSWERS.len())
 }
 
-/// How many bytes a read gives, and how many answers are written if the first growth of a line is refused. At
-/// 1000 only the last line crosses the end of a read.
+/// How many bytes a read gives, and how many answers are written if the first growth of a line is refused.
+/// With 1000 bytes only the last line crosses the end of a read.
 static PIECES: [(usize, usize); 4] = [(1, 0), (3, 0), (20, 3), (1000, 5)];
 
 #[test]
@@ -50,7 +50,7 @@ fn refuses_the_growth_of_a_line(rt: HostRuntime) -> Result<(), Fail> {
         drop(hoard);
         equal(&rt, outcome, REFUSED, piece);
         equal(&rt, written, Some(answered), piece);
-        // what waits is written out first, and where that fails too, the error says so
+        // what waits is written out first, and if that fails too, the error says so
         let wanted = if answered > 0 {
             Err(RunError::Write)
         } else {
@@ -63,7 +63,7 @@ fn refuses_the_growth_of_a_line(rt: HostRuntime) -> Result<(), Fail> {
     Ok(())
 }
 
-/// The whole lines are answered, with ample memory or with none.
+/// The whole lines are answered, with ample memory or without memory.
 fn answers_whole_lines(rt: &impl Host, input: &[u8], starve: bool) -> Result<(), Fail> {
     let alloc = rt.alloc();
     let mut writer = Writer::new(alloc, 1000, usize::MAX)?;

@@ -1,8 +1,8 @@
-//! Memory taken from the process, so that its requests for memory are refused, but for the blocks that it
-//! gives back.
+//! Takes all memory from the process, so that its requests for memory are refused, except for the blocks that
+//! are given back.
 //!
-//! A test makes each call once before that, so that the stack has grown as far as the call needs it: a
-//! process that holds all its addresses cannot grow it.
+//! A test makes each call once before that, so that the stack has grown as far as the call needs. Afterwards
+//! it cannot grow, since no addresses are left.
 
 use crate::support::{Host, equal};
 use std::alloc::{AllocError, Global};
@@ -54,7 +54,7 @@ fn is_starved(rt: &impl Host) {
 }
 
 /// Whether the process can be starved. `rt try` runs it by a loader, with memory that cannot be used up:
-/// there the tests of refused memory show what is answered with ample memory alone.
+/// there the tests of refused memory only show the results with ample memory.
 pub fn can_starve(rt: &impl Host) -> Result<bool, Fail> {
     Ok(!env::current_exe(rt)?.ends_with("ld-linux-x86-64.so.2"))
 }
@@ -68,8 +68,8 @@ pub fn spares(alloc: Global, sizes: &[usize]) -> Result<Vec<Vec<u8>>, AllocError
     Ok(blocks)
 }
 
-/// The call gives what it should with ample memory, and with one block of this size alone. With no memory it
-/// fails with the error, but of the size 0 it gives what it should then too.
+/// The call gives what it should with ample memory, and with only one block of this size. Without memory it
+/// fails with the error; but if the size is 0, it gives what it should then too.
 pub fn asks_once<T, E, R, C, G>(
     rt: &impl Host,
     row: R,

@@ -1,5 +1,4 @@
-//! What a row of a table asserts, written once, since an assertion with a message is proved anew at each
-//! place.
+//! The assertion of a row, written once, since an assertion with a message is proved anew at each place.
 
 use crate::support::Host;
 use std::fmt::Debug;

@@ -1,5 +1,4 @@
-//! An input of six lines, the last without LF, and their answers: one for each way in which a line is
-//! answered.
+//! An input of six lines, the last without LF, and their answers: one for each way to answer a line.
 
 use std::alloc::{AllocError, Global};
 

@@ -4,7 +4,7 @@ ghost use Rattle.std.specs.Prelude.{Some};
 use std::alloc::{AllocError, Global};
 use std::io::{self, ErrorKind, Write};
 
-/// What one call of `write` does in place of taking bytes.
+/// What one call of `write` does instead of taking bytes.
 #[derive(Clone, Copy, PartialEq, Eq, Debug)]
 pub enum Turn {
     Fails,
