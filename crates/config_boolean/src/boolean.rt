@@ -84,7 +84,8 @@ fn word(text: &[u8]) -> Option<bool>
     }
 }
 
-/// Reads a text that is not a word: whether its amount is not zero, or `None` if it is not an amount text.
+/// Reads a text that is not a word as an amount: true if that is not zero. Returns `None` if it is not an
+/// amount text.
 #[inline(never)]
 fn read_amount(text: &[u8]) -> Option<Boolean>
     requires affirms { ¬ (Affirms text.now) }

@@ -32,7 +32,7 @@ fn places(a: Color, b: Color) -> Option<(Option<Name>, Option<Name>)>
 /// `None` if there are more than two names.
 ///
 /// Both colors must have a text, as [`Value::has_text`](config_text::value::Value::has_text) tells; a color
-/// that was read has one. So has the result.
+/// that was read has one. The result has one too.
 ///
 /// ```rust
 /// use gix_config_value::Color;

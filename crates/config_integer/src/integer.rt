@@ -79,7 +79,7 @@ fn sign_and_rest(text: &[u8]) -> (bool, &[u8])
     }
 }
 
-/// The largest magnitude of a number of `i64` that is negative, or that is not.
+/// The largest magnitude of a negative number of `i64`, or of a number that is not negative.
 #[inline(always)]
 fn largest(is_negative: bool) -> u64
     ensures { result ≡ largest is_negative }

@@ -65,9 +65,8 @@ impl Fault {
 
 /// A refusal of a borrowed text: the fault, and the whole input.
 ///
-/// `TryFrom` of a `&str` or a `BStr` returns it, for every kind except suffixes, and so does
-/// `Integer::from_bytes`. It is not an error type and has no text. Its [`Fault`] is one, and `?` converts to
-/// that.
+/// Each `TryFrom` of a `&str` or a `BStr` returns it, except for suffixes, and so does `Integer::from_bytes`.
+/// It is not an error type and has no text. Its [`Fault`] is one, and `?` converts it to that.
 ///
 /// ```rust
 /// use bstr::BStr;
@@ -88,7 +87,7 @@ pub struct Error<'a> {
 /// A refusal of an input that is or may be owned: the fault, and the input handed back.
 ///
 /// The readers of `BString` and `CowSlice` return it, and copy nothing. It is not an error type and has no
-/// text. Its [`Fault`] is one, and `?` converts to that; the input is then dropped.
+/// text. Its [`Fault`] is one, and `?` converts it to that; the input is then dropped.
 ///
 /// ```rust
 /// use bstr::BString;

@@ -8,8 +8,8 @@ ghost use Rattle.config_text.specs.Value.{HasMeaning, Means, Normalizes, Compare
 use arrayvec::ArrayString;
 use bstr::BStr;
 
-/// The bytes of the longest canonical text: two names of 13 bytes, the fifteen words of attributes, and the
-/// spaces between.
+/// How many bytes the longest canonical text has: two names of 13 bytes, the fifteen words of attributes, and
+/// the spaces between.
 pub const LONGEST_TEXT: usize = 127;
 
 /// A canonical text. It has room for the longest.

@@ -154,8 +154,8 @@ const EARLY: usize = 8;
 /// The least bit of a `no` word.
 const LATE: u32 = 1 << 21;
 
-/// How many bytes all words of [`SHOWN`] have, with a space between: the longest text also has two of the
-/// longest names, each with a space after it.
+/// How many bytes all words of [`SHOWN`] have with a space between each two. That is the longest text without
+/// two names of the longest and the space after each.
 pub const LONGEST_SET: usize = LONGEST_TEXT - 2 * (LONGEST_NAME + 1);
 
 impl Attribute {

@@ -3,8 +3,7 @@
 //! - [`name::Name`] is a color's name, and [`attribute::Attribute`] a set of attributes. Each is read by
 //!   `TryFrom` and `FromStr`, shown by `Display`, and has one canonical text if some text reads to it
 //!   ([`Value`](config_text::value::Value)).
-//! - [`item::word`] reads one word as whichever of the two it is. One table has the words and their
-//!   constants.
+//! - [`item::word`] reads one word as whichever of the two it is.
 //! - [`laws`] has what holds of both: each law is the contract of a function that does nothing.
 //!
 //! The grammars of names and of attributes, and how both are shown and ordered, are `Name`, `Attribute`,

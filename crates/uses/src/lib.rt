@@ -1,5 +1,5 @@
-//! Short callers of `gix_config_value`. Each rests on public contracts alone, and its own contract says what
-//! its user gets. Read `repository` first, and then the module nearest to your task.
+//! Short callers of `gix_config_value`. Each rests on public contracts alone. Read `repository` first, and
+//! then the module nearest to your task.
 //!
 //! - `repository` reads the files of the system, the user and the repository, and looks a setting up; a
 //!   refusal names its file and its line.

@@ -8,7 +8,7 @@ use std::test::Fail;
 
 const REFUSED: Result<bool, RunError> = Err(RunError::Memory(AllocError));
 
-/// How many first answers the output is, each whole, or `None` if it is not such a beginning.
+/// How many whole answers the output has, from the first on, or `None` if it has anything else.
 fn whole_answers(output: &[u8]) -> Option<usize> {
     let mut rest = output;
     for (count, answer) in ANSWERS.iter().enumerate() {
