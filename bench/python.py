@@ -1,8 +1,8 @@
 """Measures the Python package beside plain Python: python3 bench/python.py FOLDER..
 
 Each FOLDER holds a package, as pip's --target makes it; that of 0.1.0 (ctypes) is measured too, if it finds its library
-by GIX_CONFIG_VALUE_LIBRARY. A row has the least of seven turns, in microseconds, all in one run. The last row is what an
-import takes of a processor beyond a bare start, in milliseconds.
+by GIX_CONFIG_VALUE_LIBRARY. A row has the least of seven turns, in microseconds of a processor, all in one run. The
+last row is what an import takes of a processor beyond a bare start, in milliseconds.
 """
 import os
 import resource
@@ -80,8 +80,8 @@ def run(folder, code):
 
 def microseconds(folder, setup, statement):
     code = f"""
-import timeit
-timer = timeit.Timer({statement!r}, {setup!r})
+import time, timeit
+timer = timeit.Timer({statement!r}, {setup!r}, time.process_time)
 count, seconds = timer.autorange()
 print(min([seconds, *timer.repeat({TURNS - 1}, count)]) / count * 1e6)"""
     return float(run(folder, code))
