@@ -268,8 +268,7 @@ pack.threads format.useAutoBase filter.*.required help.format merge.ff protocol.
 push.gpgSign safe.bareRepository difftool.trustExitCode receive.denyDeleteCurrent merge.verbosity""".split())
 WIDER = set("""core.abbrev branch.sort tag.sort gc.logExpiry gc.pruneExpire gc.worktreePruneExpire
 diff.colorMovedWS push.recurseSubmodules repack.cruftWindow repack.cruftDepth repack.cruftThreads http.sslVersion
-http.*.sslVersion http.sslBackend http.*.sslBackend receive.maxInputSize diff.dirstat log.graphColors trace2.normalTarget
-trace2.perfTarget trace2.eventTarget""".split())
+http.*.sslVersion http.sslBackend http.*.sslBackend receive.maxInputSize diff.dirstat log.graphColors""".split())
 NEWER = set("help.autoCorrect merge.stat pack.allowPackReuse status.showUntrackedFiles".split())
 # by its name, whether a difference is of the class
 CLASSES = {

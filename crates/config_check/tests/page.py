@@ -2,7 +2,8 @@
 
 Each key has to be one that git-config(1), or a page of ELSEWHERE, documents. Each word of a row has to stand in the
 section of its key, in that of another setting which it names, or in that of the option of another page which has the
-same words (OPTIONS), or Git was seen to take it (compare/settings.tsv). Of kinds no more is compared.
+same words (OPTIONS), or Git was seen to take it (compare/settings.tsv). The words of an option whose page is not
+installed, and of rows that newer Gits have widened, are not compared. Of kinds no more is compared.
 """
 import gzip
 import pathlib
@@ -26,6 +27,8 @@ OPTIONS = {
     "commit.cleanup": ("commit", "--cleanup=*"),
     "diff.colorMoved": ("diff", "--color-moved[=*]"),
     "diff.ignoreSubmodules": ("diff", "--ignore-submodules[=*]"),
+    "sendemail.suppressCc": ("send-email", "--suppress-cc=*"),
+    "sendemail.transferEncoding": ("send-email", "--transfer-encoding=(7bit|8bit|quoted-printable|base64|auto)"),
     "format.coverFromDescription": ("format-patch", "--cover-from-description=*"),
     "log.diffMerges": (
         "log",
@@ -100,7 +103,7 @@ def named(body, known):
 
 def option(key, body):
     """The section of the option that has the words of a setting, where the setting's own section names its page."""
-    command, term = OPTIONS.get(key, ("", ""))
+    command, term = OPTIONS.get(key.replace(".*", ""), ("", ""))
     if not command or re.search(rf"\bgit[ -]{command}\b", body) is None:
         return ""
     return sections(page(f"git-{command}.1")).get(term, "")
@@ -135,6 +138,9 @@ def check(group):
             continue
         body = section(key.lower(), text, known)
         if not group.expect(key, True, body is not None):
+            continue
+        command, _ = OPTIONS.get(key.replace(".*", ""), ("config", ""))
+        if key in settings.NEWER or not page(f"git-{command}.1"):
             continue
         said = "\n".join([body, named(body, known), option(key, body)])
         for word in words if kind.removesuffix("-any-case") in SINGLE else []:

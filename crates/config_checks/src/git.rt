@@ -729,7 +729,7 @@ sendemail.*.aliasFileType           alone warn word mutt mailrc pine elm gnus se
 sendemail.*.smtpBatchSize           alone warn int
 sendemail.*.smtpReloginDelay        alone warn int
 sendemail.identity                  alone text
-sendemail.smtpEncryption            alone warn word tls ssl none plain no off false
+sendemail.smtpEncryption            alone text
 sendemail.smtpsslcertpath           alone text
 sendemail.aliasesFile               alone text
 sendemail.annotate                  bool
@@ -756,7 +756,7 @@ sendemail.transferEncoding          alone word 7bit 8bit quoted-printable base64
 sendemail.validate                  bool
 sendemail.xmailer                   bool
 sendemail.forbidSendmailVariables   bool
-sendemail.*.smtpEncryption          alone warn word tls ssl none plain no off false
+sendemail.*.smtpEncryption          alone text
 sendemail.*.smtpsslcertpath         alone text
 sendemail.*.aliasesFile             alone text
 sendemail.*.annotate                bool
@@ -832,9 +832,9 @@ trace2.eventBrief                   needs-value warn bool
 trace2.eventNesting                 warn int
 trace2.destinationDebug             needs-value warn bool
 trace2.maxFiles                     warn int
-trace2.normalTarget                 needs-value warn bool-or-word-any-case /* af_unix:* c:* d:*
-trace2.perfTarget                   needs-value warn bool-or-word-any-case /* af_unix:* c:* d:*
-trace2.eventTarget                  needs-value warn bool-or-word-any-case /* af_unix:* c:* d:*
+trace2.normalTarget                 text
+trace2.perfTarget                   text
+trace2.eventTarget                  text
 trace2.configParams                 text
 trace2.envVars                      text
 # transfer
