@@ -29,4 +29,5 @@ pub mod Last
 pub mod Paths
 pub mod Sets
 pub mod Patterns
+pub mod Conditions
 pub mod Walks

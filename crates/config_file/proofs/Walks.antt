@@ -15,47 +15,63 @@ use Rattle.config_file.specs.declared.walk.File.{File}
 use Rattle.config_file.specs.declared.walk.Known.{Known}
 use Rattle.config_file.specs.declared.include.Repository.{Repository}
 use Rattle.config_file.specs.Path.{BeginsUnknown}
-use Rattle.config_file.specs.Walk.{HasFile, Walks, ends, plain, missing, included, IncludesFile, AddsNamed, nothing, all_of, Follows, IsFollowed, IsNameOf, Adds, view}
+use Rattle.config_file.specs.declared.walk.Place.{Place}
+use Rattle.config_file.specs.declared.walk.WalkError.{WalkError}
+use Rattle.config_file.specs.Walk.{HasFile, Walks, ends, plain, missing, included, IncludesFile, Reaches, Stops, inside, WalksText, Follows, IsFollowed, IsNameOf, Adds, in_file, view}
+use Rattle.config_file.specs.Reading.Walks.{AddsNamed, nothing, all_of, WalksEntry, WalksNamed}
+use Rattle.config_file.proofs.Adding.{first_of}
 
 pub file_at : (files : List File) (name : List ℕ) (i : ℕ) (d : File) → i < length files
-    → HoldsAt (λ f. f.name.now ≡ name) files i → HasFile files name (get_or files i d)
+    → HoldsAt (λ f. f.place.name.now ≡ name) files i → HasFile files name (get_or files i d)
 file_at files name i d within hit = (hit d, (i, slice_get-get_or files i d within))
 
-pub no_file : (files : List File) (name : List ℕ) → AllWithin (λ f. f.name.now ≢ name) files 0 (length files)
+pub no_file : (files : List File) (name : List ℕ) → AllWithin (λ f. f.place.name.now ≢ name) files 0 (length files)
     → (file : File) → ¬ (HasFile files name file)
 no_file files name nowhere file (named, (i, at)) =
     nowhere i file (omega arith) (slice_get_within files i file at)
-    (ap (λ f. f.name.now) (get_or_from_slice_get files i file file at) ∙ named)
+    (ap (λ f. f.place.name.now) (get_or_from_slice_get files i file file at) ∙ named)
 
-pub walks_append : {known : Known} {depth : ℕ} {file : List ℕ} {entries more : List Entry} {walked others : List (List ℕ × Entry)}
-    → Walks known depth file entries walked → Walks known depth file more others
-    → Walks known depth file (entries ++ more) (walked ++ others)
+pub walks_append : {known : Known} {depth : ℕ} {place : Place} {entries more : List Entry} {walked others : List (List ℕ × Entry)}
+    → Walks known depth place entries walked → Walks known depth place more others
+    → Walks known depth place (entries ++ more) (walked ++ others)
 walks_append ends next = next
 walks_append (plain not rest) next = plain not (walks_append rest next)
 walks_append (missing name is has rest) next = missing name is has (walks_append rest next)
-walks_append {others = others} (included {walked = walked} less name text inner within is has file deep walk rest) next =
-    rw (append_assoc within walked others) (included less name text inner within is has file deep walk (walks_append rest next))
+walks_append {others = others} (included {walked = walked} less name file text inner more is has content reads deep walk rest) next =
+    rw (append_assoc more walked others) (included less name file text inner more is has content reads deep walk (walks_append rest next))
 
-pub walks_named : {known : Known} {depth : ℕ} {file : List ℕ} {entry : Entry} {added : List (List ℕ × Entry)} (name : List ℕ)
-    → IncludesFile known file entry name → AddsNamed known depth name added
-    → Walks known depth file (entry ∷ []) ((file, entry) ∷ added)
+walks_named : {known : Known} {depth : ℕ} {place : Place} {entry : Entry} {added : List (List ℕ × Entry)} (name : List ℕ)
+    → IncludesFile known place entry name → AddsNamed known depth name added
+    → Walks known depth place (entry ∷ []) (in_file place entry ∷ added)
 walks_named name is (nothing has) = missing name is has ends
-walks_named name is (all_of {within = within} less t inner has file deep walk) =
-    rw (sym (append-nil within)) (included less name t inner within is has file deep walk ends)
+walks_named name is (all_of {within = more} less file t inner has content reads deep walk) =
+    rw (sym (append-nil more)) (included less name file t inner more is has content reads deep walk ends)
 
-pub follows_listed : (r : Option Repository) (key listed : List ℕ) (b : Bool) → key ≡ listed → b ≡ true → Follows r key b
-    → IsFollowed r listed
-follows_listed r key listed b same is follows = subst (λ k. IsFollowed r k) same (subst (λ x. Follows r key x) is follows)
+pub entry_named : (known : Known) (depth : ℕ) (place : Place) (entry : Entry) (name : List ℕ) (added : List (List ℕ × Entry))
+    (result : Result (Unit {0}) WalkError) → IncludesFile known place entry name
+    → WalksNamed known depth place entry.line name added result → WalksEntry known depth place entry (in_file place entry ∷ added) result
+entry_named known depth place entry name added (Ok u) is named = walks_named name is named
+entry_named known depth place entry name added (Err error) is stops = λ text walked reaches. stops text walked entry refl reaches is
+
+pub named_walked : (known : Known) (depth less : ℕ) (place : Place) (line : ℕ) (name shown : List ℕ) (file : File) (t : Bor (List ℕ))
+    (added : List (List ℕ × Entry)) (result : Result (Unit {0}) WalkError) → shown ≡ name → HasFile known.files.now shown file
+    → file.content ≡ Text t → depth ≡ less + 1 → WalksText known less file.place t.now added result
+    → WalksNamed known depth place line name added result
+named_walked known depth less place line name shown file t added (Ok u) same has is deep (inner, reads, walk) =
+    all_of less file t inner (subst (λ n. HasFile known.files.now n file) same has) is reads deep walk
+named_walked known depth less place line name shown file t added (Err error) same has is deep stops =
+    λ text walked entry e reaches includes.
+    inside entry less name file t reaches includes (subst (λ n. HasFile known.files.now n file) same has) is deep stops
+
+pub follows_listed : (r : Option Repository) (dir key listed : List ℕ) (b : Bool) → key ≡ listed → b ≡ true → Follows r dir key b
+    → IsFollowed r dir listed
+follows_listed r dir key listed b same is follows = subst (λ k. IsFollowed r dir k) same (subst (λ x. Follows r dir key x) is follows)
 
 pub name_of_text : (known : Known) (file value text name : List ℕ) → value ≡ text → IsNameOf known file value name → IsNameOf known file text name
 name_of_text known file value text name same is = subst (λ v. IsNameOf known file v name) same is
 
 pub unknown_text : (home install : Option (List ℕ)) (value text : List ℕ) → value ≡ text → BeginsUnknown home install value → BeginsUnknown home install text
 unknown_text home install value text same is = subst (λ v. BeginsUnknown home install v) same is
-
-pub on_ok_map : {A E P Q : Type 0} (r : Result A E) → OnOk r P → (P → Q) → OnOk r Q
-on_ok_map (Ok a) p f = f p
-on_ok_map (Err e) p f = p
 
 pub adds_none : (old : List Walked) → Adds old old []
 adds_none old = sym (append-nil (map view old))
@@ -90,9 +106,12 @@ pub named_missing : (known : Known) (depth : ℕ) (name shown : List ℕ) (file 
 named_missing known depth name shown file same has is =
     nothing (file, subst (λ n. HasFile known.files.now n file) same has, is)
 
-pub named_text : (known : Known) (depth less : ℕ) (name shown : List ℕ) (file : File) (t : Bor (List ℕ)) (inner : List Entry)
-    (within : List (List ℕ × Entry)) → shown ≡ name → HasFile known.files.now shown file → file.content ≡ Text t
-    → IsFile t.now inner None → depth ≡ less + 1 → Walks known less file.name.now inner within → AddsNamed known depth name within
-named_text known depth less name shown file t inner within same has is reads deep walk =
-    let here = subst (λ n. HasFile known.files.now n file) same has in
-    all_of less t inner (file, here, is) reads deep (subst (λ n. Walks known less n inner within) here.0 walk)
+pub reached : {known : Known} {depth : ℕ} {place : Place} {walked : List (List ℕ × Entry)} (text : List ℕ) (before : List Entry)
+    (entry : Entry) (reader : Entries) → Walks known depth place before walked
+    → ((left : List Entry) (error : Option Error) → HasLeft reader left error → IsFile text (before ++ entry ∷ left) error)
+    → Reaches known depth place text entry walked
+reached text before entry reader walks reads = record {
+  before = before;
+  first = first_of text (before ++ entry ∷ []) reader (λ left error has. file_more text before left entry error (reads left error has));
+  walks = walks;
+}

@@ -1,10 +1,12 @@
 -- The entries that include a file, and their conditions.
-use Rattle.std.specs.Prelude.{◌≡◌, ◌≢◌, ℕ, Bool, false, if◌then◌else◌, List, ◌++◌, codes, nat_eq, Option, None, Some, ◌⊎◌}
+use Rattle.std.specs.Prelude.{◌≡◌, ◌≢◌, ℕ, Bool, true, false, if◌then◌else◌, ◌==◌, ◌&&◌, List, ◌++◌, ◌∷◌, codes, nat_eq, Option, None, Some, ◌⊎◌, map, option_copied}
+use Rattle.std.specs.Char.{to_ascii_lowercase}
 use Rattle.std.specs.List.{ends_with, starts_with}
 use Rattle.config_file.specs.declared.include.Condition.{Condition}
 use Rattle.config_file.specs.declared.include.Condition.TheVariants.{Always, GitDir, GitDirIgnoringCase, OnBranch, HasRemoteUrl, Unknown}
 use Rattle.config_file.specs.declared.include.Repository.{Repository}
 use Rattle.config_file.specs.Bytes.{LacksFront}
+use Rattle.config_file.specs.Path.{is_rest}
 use Rattle.config_file.specs.Pattern.{MatchesText}
 
 -- what a condition is by its text; any other text is an unknown condition
@@ -38,11 +40,34 @@ below pattern = if ends_with nat_eq pattern (codes "/") then pattern ++ codes "*
 abbrev pub anywhere : List ℕ → List ℕ
 anywhere pattern = if starts_with nat_eq pattern (codes "/") then pattern else codes "**/" ++ pattern
 
--- one of the two names of the git directory matches the pattern
-abbrev pub IsGitDir : Bool → List ℕ → Repository → Type 0
-IsGitDir ignores_case pattern repository =
-    MatchesText ignores_case (below (anywhere pattern)) repository.real_git_dir.now
-    ⊎ MatchesText ignores_case (below (anywhere pattern)) repository.git_dir.now
+-- a pattern with the home directory, if it is known, in place of a `~` that is its first name
+abbrev pub at_home : Option (List ℕ) → List ℕ → List ℕ
+at_home (Some home) (c ∷ rest) = if c == 126 && is_rest rest then home ++ rest else c ∷ rest
+at_home _ pattern = pattern
+
+-- the same name, also with letters of the other case if case does not count
+abbrev pub IsSameName : Bool → List ℕ → List ℕ → Type 0
+IsSameName true a b = map to_ascii_lowercase a ≡ map to_ascii_lowercase b
+IsSameName false a b = a ≡ b
+
+-- the name begins with this directory, and the pattern matches what follows
+abbrev pub MatchesBelow : Bool → List ℕ → List ℕ → List ℕ → Type 0
+MatchesBelow ignores_case dir pattern name =
+    (front : List ℕ) × (left : List ℕ) × (name ≡ front ++ left) × IsSameName ignores_case front dir × MatchesText ignores_case pattern left
+
+-- The pattern of an entry in a file of this directory matches the name of a git directory. The `.` of `./` at its
+-- start is that directory, no byte of which stands for another one.
+pub data MatchesDir (ignores_case : Bool) (dir pattern name : List ℕ) : Type 0 where
+  near : (rest : List ℕ) → pattern ≡ codes "./" ++ rest → MatchesBelow ignores_case dir (below (codes "/" ++ rest)) name
+      → MatchesDir ignores_case dir pattern name
+  other : LacksFront (codes "./") pattern → MatchesText ignores_case (below (anywhere pattern)) name
+      → MatchesDir ignores_case dir pattern name
+
+-- for an entry in a file of this directory one of the two names of the git directory matches the pattern
+abbrev pub IsGitDir : Bool → List ℕ → List ℕ → Repository → Type 0
+IsGitDir ignores_case dir pattern repository =
+    MatchesDir ignores_case dir (at_home (option_copied repository.real_home) pattern) repository.real_git_dir.now
+    ⊎ MatchesDir ignores_case dir (at_home (option_copied repository.real_home) pattern) repository.git_dir.now
 
 -- the branch matches the pattern
 abbrev pub IsOnBranch : List ℕ → Option (List ℕ) → Type 0

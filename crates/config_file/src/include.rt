@@ -1,9 +1,11 @@
 //! The entries that include a file: their conditions.
-ghost use Rattle.std.specs.Prelude.{◌≡◌, ◌≢◌, ◌↔◌, ◌++◌, IsTrue, IfOk, OnOk, MatchOption, List, ℕ, option_map, codes};
+ghost use Rattle.std.specs.Prelude.{◌≡◌, ◌≢◌, ◌↔◌, ◌++◌, IsTrue, IfOk, OnOk, MatchOption, List, ℕ, option_map, option_copied, codes};
 ghost use Rattle.config_file.specs.Include as spec;
 ghost use Rattle.config_file.specs.Include.{Names, Includes, IncludesNone, IsConditional, IsGitDir, IsOnBranch};
+ghost use Rattle.config_file.specs.Include.{IsSameName, MatchesBelow, MatchesDir};
 
 use crate::bytes::{strip, strip_end};
+use crate::path::{is_rest, joined};
 use crate::pattern::matches;
 use std::alloc::{AllocError, Global};
 
@@ -33,6 +35,8 @@ pub struct Repository<'r> {
     pub git_dir: &'r [u8],
     /// The name of the branch without `refs/heads/`, or `None` if HEAD is detached.
     pub branch: Option<&'r [u8]>,
+    /// The home directory, with its links resolved, for a pattern that begins with `~/`.
+    pub real_home: Option<&'r [u8]>,
 }
 
 /// The text of the condition in a key.
@@ -99,22 +103,85 @@ fn anywhere(alloc: Global, pattern: &[u8]) -> Result<Vec<u8>, AllocError>
     Ok(whole)
 }
 
+/// The pattern with the home directory in place of `~`, if it is known.
+fn at_home(alloc: Global, home: Option<&[u8]>, pattern: &[u8]) -> Result<Vec<u8>, AllocError>
+    ensures { IfOk result (λ whole. whole.items ≡ spec.at_home (option_copied home.entry) pattern.now) }
+{
+    if let Some(home) = home {
+        if let [first, rest @ ..] = pattern {
+            if *first == b'~' && is_rest(rest) {
+                return Ok(joined(alloc, home, rest)?);
+            }
+        }
+    }
+    Ok(joined(alloc, b"", pattern)?)
+}
+
+/// Whether two names are the same.
+fn is_same_name(a: &[u8], b: &[u8], ignores_case: bool) -> bool
+    ensures { IsTrue result ↔ (IsSameName ignores_case a.now b.now) }
+{
+    if ignores_case {
+        a.eq_ignore_ascii_case(b)
+    } else {
+        a == b
+    }
+}
+
+/// Whether the name begins with the directory, and the pattern matches what follows.
+fn matches_below(pattern: &[u8], name: &[u8], dir: &[u8], ignores_case: bool) -> bool
+    ensures { IsTrue result ↔ (MatchesBelow ignores_case dir.now pattern.now name.now) }
+{
+    match name.split_at_checked(dir.len()) {
+        Some((front, left)) => is_same_name(front, dir, ignores_case)
+            && matches(pattern, left, ignores_case),
+        None => false,
+    }
+}
+
+/// Whether the pattern, in a file of this directory, matches the name of a git directory.
+#[tactic(auto, using(crate::proofs::Conditions::is_other))]
+fn matches_dir(
+    alloc: Global,
+    dir: &[u8],
+    pattern: &[u8],
+    name: &[u8],
+    ignores_case: bool,
+) -> Result<bool, AllocError>
+    ensures { IfOk result (λ holds. IsTrue holds ↔ (MatchesDir ignores_case dir.now pattern.now name.now)) }
+{
+    match strip(pattern, b"./") {
+        Some(rest) => {
+            let mut whole = joined(alloc, b"/", rest)?;
+            push_below(&mut whole)?;
+            Ok(matches_below(&whole, name, dir, ignores_case))
+        }
+        None => {
+            let mut whole = anywhere(alloc, pattern)?;
+            push_below(&mut whole)?;
+            Ok(matches(&whole, name, ignores_case))
+        }
+    }
+}
+
 impl Repository<'_> {
-    /// Whether the pattern of `gitdir:` matches the git directory. A pattern with `~/` or `./` is asked as it is.
+    /// Whether the pattern of `gitdir:` matches the git directory. `~` at its start is the home directory, if that is
+    /// known, and the `.` of `./` is `real_dir`, the directory of the file that has the pattern, with its links
+    /// resolved and no `/` at its end. Fails only if memory runs out.
     pub fn is_git_dir(
         &self,
         alloc: Global,
+        real_dir: &[u8],
         pattern: &[u8],
         ignores_case: bool,
     ) -> Result<bool, AllocError>
-        ensures { IfOk result (λ holds. IsTrue holds ↔ (IsGitDir ignores_case pattern.now self.now)) }
+        ensures { IfOk result (λ holds. IsTrue holds ↔ (IsGitDir ignores_case real_dir.now pattern.now self.now)) }
     {
-        let mut pattern = anywhere(alloc, pattern)?;
-        push_below(&mut pattern)?;
-        Ok(
-            matches(&pattern, self.real_git_dir, ignores_case)
-                || matches(&pattern, self.git_dir, ignores_case),
-        )
+        let pattern = at_home(alloc, self.real_home, pattern)?;
+        if matches_dir(alloc, real_dir, &pattern, self.real_git_dir, ignores_case)? {
+            return Ok(true);
+        }
+        Ok(matches_dir(alloc, real_dir, &pattern, self.git_dir, ignores_case)?)
     }
 
     /// Whether the pattern of `onbranch:` matches the branch.

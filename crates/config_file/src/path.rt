@@ -61,7 +61,7 @@ pub struct Expanded<'e> {
 }
 
 /// Whether this is nothing, or begins with `/`.
-fn is_rest(rest: &[u8]) -> bool
+pub(crate) fn is_rest(rest: &[u8]) -> bool
     ensures { result ≡ spec.is_rest rest.now }
 {
     match rest {

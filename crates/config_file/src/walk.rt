@@ -1,6 +1,7 @@
 //! The entries of a file and of the files that it includes, in Git's order.
 ghost use Rattle.std.specs.Prelude.{◌≡◌, ◌≢◌, ◌++◌, ◌↔◌, IsTrue, IfOk, OnOk, MatchOption, List, ℕ, [], ◌∷◌, option_copied};
-ghost use Rattle.config_file.specs.Walk.{Holds, Follows, HasFile, IsNameOf, IsInclude, Walks, WalksFile, AddsNamed, Adds};
+ghost use Rattle.config_file.specs.Walk.{Holds, Follows, HasFile, IsNameOf, IsInclude, WalksText, Adds};
+ghost use Rattle.config_file.specs.Reading.Walks.{WalksEntry, WalksNamed};
 ghost use Rattle.config_file.specs.Path.{BeginsUnknown};
 ghost use Rattle.config_file.specs.Views.{entry_of};
 ghost use Rattle.config_file.specs.Errors.{walk_error_shown};
@@ -26,10 +27,20 @@ pub enum Content<'a> {
     Unreadable,
 }
 
+/// Where a file is.
+#[derive(Clone, Copy)]
+pub struct Place<'a> {
+    /// The name of the file.
+    pub name: &'a [u8],
+    /// The absolute path of its directory, with all links resolved and no `/` at its end. Only conditions that
+    /// begin with `./` ask for it.
+    pub real_dir: &'a [u8],
+}
+
 /// A file by its name.
 #[derive(Clone, Copy)]
 pub struct File<'a> {
-    pub name: &'a [u8],
+    pub place: Place<'a>,
     pub content: Content<'a>,
 }
 
@@ -51,13 +62,14 @@ pub struct Walked<'a> {
     pub entry: Entry<'a>,
 }
 
-/// Whether a condition holds. Without a repository only that of `include.path` does, and no remote is asked.
+/// Whether a condition holds for an entry of a file whose directory is `real_dir`, as in [`Place`]. Without a repository only that of `include.path` does, and no remote is asked.
 pub fn holds(
     alloc: Global,
     repository: Option<Repository<'_>>,
+    real_dir: &[u8],
     condition: Condition<'_>,
 ) -> Result<bool, AllocError>
-    ensures { IfOk result (λ holds. IsTrue holds ↔ (Holds repository.entry condition.entry)) }
+    ensures { IfOk result (λ holds. IsTrue holds ↔ (Holds repository.entry real_dir.now condition.entry)) }
 {
     if let Condition::Always = condition {
         return Ok(true);
@@ -67,8 +79,10 @@ pub fn holds(
     };
     match condition {
         Condition::Always => Ok(true),
-        Condition::GitDir(pattern) => Ok(repository.is_git_dir(alloc, pattern, false)?),
-        Condition::GitDirIgnoringCase(pattern) => Ok(repository.is_git_dir(alloc, pattern, true)?),
+        Condition::GitDir(pattern) => Ok(repository.is_git_dir(alloc, real_dir, pattern, false)?),
+        Condition::GitDirIgnoringCase(pattern) => {
+            Ok(repository.is_git_dir(alloc, real_dir, pattern, true)?)
+        }
         Condition::OnBranch(pattern) => Ok(repository.is_on_branch(alloc, pattern)?),
         Condition::HasRemoteUrl(_) | Condition::Unknown => Ok(false),
     }
@@ -78,21 +92,22 @@ pub fn holds(
 fn is_followed(
     alloc: Global,
     repository: Option<Repository<'_>>,
+    real_dir: &[u8],
     key: &[u8],
 ) -> Result<bool, AllocError>
-    ensures { IfOk result (λ followed. Follows repository.entry key.now followed) }
+    ensures { IfOk result (λ followed. Follows repository.entry real_dir.now key.now followed) }
 {
     match Condition::of_key(key) {
-        Some(condition) => Ok(holds(alloc, repository, condition)?),
+        Some(condition) => Ok(holds(alloc, repository, real_dir, condition)?),
         None => Ok(false),
     }
 }
 
 /// Whether a file has this name.
 fn is_named(file: &File<'_>, name: &[u8]) -> bool
-    ensures { IsTrue result ↔ (file.now.name.now ≡ name.now) }
+    ensures { IsTrue result ↔ (file.now.place.name.now ≡ name.now) }
 {
-    file.name == name
+    file.place.name == name
 }
 
 /// The file of this name, or `None` if no such file is known.
@@ -138,20 +153,20 @@ fn name_of(
 pub fn include_of(
     alloc: Global,
     known: &Known<'_>,
-    file: &[u8],
+    place: Place<'_>,
     entry: &Entry<'_>,
 ) -> Result<Include, AllocError>
-    ensures { IfOk result (λ include. IsInclude known.now file.now (entry_of entry.now) include) }
+    ensures { IfOk result (λ include. IsInclude known.now place.entry (entry_of entry.now) include) }
 {
     let key = entry.key_text(alloc)?;
-    if !is_followed(alloc, known.repository, &key)? {
+    if !is_followed(alloc, known.repository, place.real_dir, &key)? {
         return Ok(Include::NotFollowed);
     }
     let Some(value) = &entry.value else {
         return Ok(Include::MissingValue);
     };
     let text = value.to_vec(alloc)?;
-    match name_of(alloc, known, file, &text)? {
+    match name_of(alloc, known, place.name, &text)? {
         Some(name) => Ok(Include::Named(name)),
         None => Ok(Include::UnknownDirectory),
     }
@@ -218,24 +233,28 @@ impl error::Error for WalkError<'_> {}
 /// How deep Git follows includes.
 pub const MAX_DEPTH: usize = 10;
 
-/// Appends the entries of a file and of the files that it includes, in Git's order, at most so many includes deep.
+/// Appends the entries of a text and of the files that it includes, in Git's order, at most so many includes deep.
+/// It stops where Git does. After an error the entries before it are appended, and the entry that it is about.
 #[cycle(walk)]
 pub fn walk_file<'a>(
     alloc: Global,
     known: &Known<'a>,
-    file: &'a [u8],
+    place: Place<'a>,
     text: &'a [u8],
     depth: usize,
     walked: &mut Vec<Walked<'a>>,
 ) -> Result<(), WalkError<'a>>
-    ensures { OnOk result ((added : _) × Adds walked.old.items walked.new.items added × WalksFile known.now depth file.now text.now added) }
+    ensures { (added : _) × Adds walked.old.items walked.new.items added × WalksText known.now depth place.entry text.now added result }
 {
     'entries: for entry in Entries::new(text) {
         let entry = match entry {
             Ok(entry) => entry,
-            Err(error) => return Err(WalkError::Line { file, error }),
+            Err(error) => {
+                let file = place.name;
+                return Err(WalkError::Line { file, error });
+            }
         };
-        match walk_entry(alloc, known, file, entry, depth, walked) {
+        match walk_entry(alloc, known, place, entry, depth, walked) {
             Ok(()) => {}
             Err(error) => return Err(error),
         }
@@ -248,16 +267,16 @@ pub fn walk_file<'a>(
 fn walk_entry<'a>(
     alloc: Global,
     known: &Known<'a>,
-    file: &'a [u8],
+    place: Place<'a>,
     entry: Entry<'a>,
     depth: usize,
     walked: &mut Vec<Walked<'a>>,
 ) -> Result<(), WalkError<'a>>
-    ensures { OnOk result ((added : _) × Adds walked.old.items walked.new.items added
-        × Walks known.now depth file.now (entry_of entry.entry ∷ []) added) }
+    ensures { (added : _) × Adds walked.old.items walked.new.items added
+        × WalksEntry known.now depth place.entry (entry_of entry.entry) added result }
 {
-    let line = entry.line;
-    let include = match include_of(alloc, known, file, &entry) {
+    let (file, line) = (place.name, entry.line);
+    let include = match include_of(alloc, known, place, &entry) {
         Ok(include) => include,
         Err(error) => return Err(WalkError::Memory(error)),
     };
@@ -269,23 +288,25 @@ fn walk_entry<'a>(
         Include::NotFollowed => Ok(()),
         Include::MissingValue => Err(WalkError::MissingValue { file, line }),
         Include::UnknownDirectory => Err(WalkError::UnknownDirectory { file, line }),
-        Include::Named(name) => walk_named(alloc, known, file, line, name, depth, walked),
+        Include::Named(name) => walk_named(alloc, known, place, line, name, depth, walked),
     }
 }
 
-/// Appends the entries of the file of this name, which an entry includes.
+/// Appends the entries of the file of this name, which an entry on this line includes.
 #[cycle(walk)]
 fn walk_named<'a>(
     alloc: Global,
     known: &Known<'a>,
-    file: &'a [u8],
+    place: Place<'a>,
     line: usize,
     name: Vec<u8>,
     depth: usize,
     walked: &mut Vec<Walked<'a>>,
 ) -> Result<(), WalkError<'a>>
-    ensures { OnOk result ((added : _) × Adds walked.old.items walked.new.items added × AddsNamed known.now depth name.items added) }
+    ensures { (added : _) × Adds walked.old.items walked.new.items added
+        × WalksNamed known.now depth place.entry line name.items added result }
 {
+    let file = place.name;
     let Some(found) = find(known.files, &name) else {
         return Err(WalkError::Unread(name));
     };
@@ -296,7 +317,7 @@ fn walk_named<'a>(
             if depth == 0 {
                 return Err(WalkError::TooDeep { file, line });
             }
-            walk_file(alloc, known, found.name, text, depth - 1, walked)
+            walk_file(alloc, known, found.place, text, depth - 1, walked)
         }
     }
 }

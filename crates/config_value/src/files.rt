@@ -1,7 +1,7 @@
 //! Lists the entries of files, or prints one value of them.
 
 use crate::arguments::Request;
-use crate::includes::{Place, Source, files, read_included, walk_first};
+use crate::includes::{Environment, Source, files, read_included, walk_first};
 use bstr::BStr;
 use config_file::entry::Entry;
 use config_file::reader::Entries;
@@ -189,16 +189,16 @@ fn answer_included<W: Write>(
     let mut sources = Vec::new(alloc);
     for file in request.files {
         match read_file(rt, *file)? {
-            Some(text) => sources.push(Source::asked_for(alloc, *file, text)?)?,
+            Some(text) => sources.push(Source::asked_for(rt, *file, text)?)?,
             None => are_whole = false,
         }
     }
     let count = sources.len();
-    let place = Place::new(rt)?;
-    read_included(rt, &place, &mut sources)?;
+    let environment = Environment::new(rt)?;
+    read_included(rt, &environment, &mut sources)?;
     let files = files(alloc, &sources)?;
     let mut walked = Vec::new(alloc);
-    are_whole &= walk_first(rt, &place, &files, count, &mut walked)?;
+    are_whole &= walk_first(rt, &environment, &files, count, &mut walked)?;
     let Some(key) = request.key else {
         for walked in &walked {
             write_entry(alloc, writer, walked.file, &walked.entry, request.null)?;

@@ -4,7 +4,7 @@ use config_file::include::Repository;
 use config_file::path::Directories;
 use config_file::reader::Entries;
 use config_file::walk::{
-    Content, File, Include, Known, MAX_DEPTH, WalkError, Walked, include_of, walk_file,
+    Content, File, Include, Known, MAX_DEPTH, Place, WalkError, Walked, include_of, walk_file,
 };
 use config_here as here;
 use std::alloc::Global;
@@ -23,24 +23,48 @@ enum Found {
 #[derive(Drop)]
 pub struct Source {
     name: Vec<u8>,
+    real_dir: String,
     depth: usize,
     found: Found,
 }
 
 impl Source {
     /// A file that is asked for, with its text.
-    pub fn asked_for(alloc: Global, name: &str, text: Vec<u8>) -> io::Result<Source> {
+    pub fn asked_for(rt: &HostRuntime, name: &str, text: Vec<u8>) -> io::Result<Source> {
         Ok(Source {
-            name: name.as_bytes().to_vec(alloc)?,
+            name: name.as_bytes().to_vec(rt.alloc())?,
+            real_dir: real_dir(rt, name)?,
             depth: 0,
             found: Found::Text(text),
         })
     }
 
+    /// A file that is included, so many includes deep.
+    fn included(rt: &HostRuntime, name: Vec<u8>, depth: usize) -> io::Result<Source> {
+        let (real_dir, found) = match str::from_utf8(&name) {
+            Ok(name) => (real_dir(rt, name)?, find(rt, name)?),
+            Err(_) => (String::new(rt.alloc()), Found::Unreadable),
+        };
+        Ok(Source {
+            name,
+            real_dir,
+            depth,
+            found,
+        })
+    }
+
+    /// Where the file is.
+    fn place(&self) -> Place<'_> {
+        Place {
+            name: &self.name,
+            real_dir: self.real_dir.as_bytes(),
+        }
+    }
+
     /// The file, as a walk knows it.
     fn file(&self) -> File<'_> {
         File {
-            name: &self.name,
+            place: self.place(),
             content: match &self.found {
                 Found::Text(text) => Content::Text(text),
                 Found::Missing => Content::Missing,
@@ -50,18 +74,36 @@ impl Source {
     }
 }
 
+/// The directory of a file with its links resolved and no `/` at its end, empty if the file does not exist.
+fn real_dir(rt: &HostRuntime, name: &str) -> io::Result<String> {
+    let path = match here::real_path(rt, name)? {
+        Some(path) => path,
+        None => return Ok(String::new(rt.alloc())),
+    };
+    match path.as_str().rsplit_once('/') {
+        Some((directory, _)) => Ok(format!(in rt.alloc(); "{directory}")?),
+        None => Ok(String::new(rt.alloc())),
+    }
+}
+
 /// Where the program runs, as includes ask about it.
 #[derive(Drop)]
-pub struct Place {
+pub struct Environment {
     home: Option<String>,
+    real_home: Option<String>,
     repository: Option<here::Repository>,
 }
 
-impl Place {
+impl Environment {
     /// The home directory and the repository of this run.
-    pub fn new(rt: &HostRuntime) -> io::Result<Place> {
-        Ok(Place {
-            home: here::variable(rt, "HOME")?,
+    pub fn new(rt: &HostRuntime) -> io::Result<Environment> {
+        let home = here::variable(rt, "HOME")?;
+        Ok(Environment {
+            real_home: match &home {
+                Some(home) => here::real_path(rt, home)?,
+                None => None,
+            },
+            home,
             repository: here::find_repository(rt)?,
         })
     }
@@ -79,6 +121,7 @@ impl Place {
                     real_git_dir: repository.real_git_dir.as_bytes(),
                     git_dir: repository.git_dir.as_bytes(),
                     branch: bytes_of(&repository.branch),
+                    real_home: bytes_of(&self.real_home),
                 }),
                 None => None,
             },
@@ -95,10 +138,7 @@ fn bytes_of(text: &Option<String>) -> Option<&[u8]> {
 }
 
 /// Reads a file of this name. A file that is missing, as is one below a file, differs from one that cannot be read.
-fn find(rt: &HostRuntime, name: &[u8]) -> io::Result<Found> {
-    let Ok(name) = str::from_utf8(name) else {
-        return Ok(Found::Unreadable);
-    };
+fn find(rt: &HostRuntime, name: &str) -> io::Result<Found> {
     match fs::read(rt, name) {
         Ok(text) => Ok(Found::Text(text)),
         Err(error) => match error.kind() {
@@ -119,7 +159,7 @@ fn included_names(alloc: Global, known: &Known<'_>, source: &Source) -> io::Resu
         let Ok(entry) = entry else {
             return Ok(names);
         };
-        if let Include::Named(name) = include_of(alloc, known, &source.name, &entry)? {
+        if let Include::Named(name) = include_of(alloc, known, source.place(), &entry)? {
             names.push(name)?;
         }
     }
@@ -128,15 +168,18 @@ fn included_names(alloc: Global, known: &Known<'_>, source: &Source) -> io::Resu
 
 /// Reads the files that these include, and those that the read ones include, each once. It goes one deeper than
 /// Git follows includes, since a file that is too deep is refused only if it exists.
-pub fn read_included(rt: &HostRuntime, place: &Place, sources: &mut Vec<Source>) -> io::Result<()> {
+pub fn read_included(
+    rt: &HostRuntime,
+    environment: &Environment,
+    sources: &mut Vec<Source>,
+) -> io::Result<()> {
     let mut next = 0;
     while next < sources.len() {
         let depth = sources[next].depth + 1;
         if depth <= MAX_DEPTH + 1 {
-            for name in included_names(rt.alloc(), &place.known(&[]), &sources[next])? {
+            for name in included_names(rt.alloc(), &environment.known(&[]), &sources[next])? {
                 if !sources.iter().any(|source| source.name == name) {
-                    let found = find(rt, &name)?;
-                    sources.push(Source { name, depth, found })?;
+                    sources.push(Source::included(rt, name, depth)?)?;
                 }
             }
         }
@@ -158,18 +201,18 @@ pub fn files<'s>(alloc: Global, sources: &'s [Source]) -> io::Result<Vec<File<'s
 /// stops in a file, and returns whether no file is stopped in.
 pub fn walk_first<'w>(
     rt: &HostRuntime,
-    place: &'w Place,
+    environment: &'w Environment,
     files: &'w [File<'w>],
     count: usize,
     walked: &mut Vec<Walked<'w>>,
 ) -> io::Result<bool> {
-    let known = place.known(files);
+    let known = environment.known(files);
     let mut are_whole = true;
     for file in files.iter().take(count) {
         let Content::Text(text) = file.content else {
             continue;
         };
-        match walk_file(rt.alloc(), &known, file.name, text, MAX_DEPTH, walked) {
+        match walk_file(rt.alloc(), &known, file.place, text, MAX_DEPTH, walked) {
             Ok(()) => {}
             Err(WalkError::Memory(error)) => return Err(io::Error::from(error)),
             Err(error) => {

@@ -18,4 +18,4 @@ abbrev pub invariant-walk_file-entries : goal.invariant-walk_file-entries
 invariant-walk_file-entries l =
     (done : List Entry) × (added : List (List ℕ × Entry))
     × ((left : List Entry) (error : Option Error) → HasLeft l.entry-iterator left error → IsFile l.fn.text (done ++ left) error)
-    × Adds l.fn.walked.items l.walked.items added × Walks l.fn.known l.fn.depth l.fn.file done added
+    × Adds l.fn.walked.items l.walked.items added × Walks l.fn.known l.fn.depth l.fn.place done added

@@ -5,7 +5,7 @@ use Rattle.config_file.proofs.walk.include_of.Goals as goal
 pub returns-in-Some-2 : goal.returns-in-Some-2
 returns-in-Some-2 c =
     let named = rw c.in-Some-2.is at c.in_ok-name.ensures in (
-      λ key listed. follows_listed _ _ key _ (c.deref.ensures.value ∙ c.in_ok-key.ensures key listed) (search rules) c.in_ok-is_followed.ensures,
+      λ key listed. follows_listed _ _ _ key _ (c.deref.ensures.value ∙ c.in_ok-key.ensures key listed) (search rules) c.in_ok-is_followed.ensures,
       (
         c.in-Some.value.raw.now,
         rw c.in-Some.is refl,
@@ -16,7 +16,7 @@ returns-in-Some-2 c =
 pub returns : goal.returns
 returns c =
     let unknown = rw c.in-None.is at c.in_ok-name.ensures in (
-      λ key listed. follows_listed _ _ key _ (c.deref.ensures.value ∙ c.in_ok-key.ensures key listed) (search rules) c.in_ok-is_followed.ensures,
+      λ key listed. follows_listed _ _ _ key _ (c.deref.ensures.value ∙ c.in_ok-key.ensures key listed) (search rules) c.in_ok-is_followed.ensures,
       (
         c.in-Some.value.raw.now,
         rw c.in-Some.is refl,
