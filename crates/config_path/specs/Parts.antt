@@ -1,4 +1,4 @@
--- The text that parts make.
+-- What the parts of a text make.
 use Rattle.std.specs.Prelude.{ℕ, List, [], ◌++◌, codes, Result, Ok, Err, if◌then◌else◌}
 use Rattle.config_path.specs.declared.interpolate.Error.{Error}
 use Rattle.config_path.specs.declared.parts.Parts.{Parts}

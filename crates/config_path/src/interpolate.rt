@@ -217,8 +217,8 @@ impl<'a, F> Default for Context<'a, F> {
     }
 }
 
-/// Splits the text at the first separator, or returns `None` if it has no separator. Its contract says in
-/// words of the passwd text what `split_once` returns.
+/// The piece before the first separator and what follows it, or `None` if the text holds no separator. Its
+/// contract says what `split_once` gives in the words of the passwd text.
 fn split_piece<'a>(text: &'a str, separator: char) -> Option<(&'a str, &'a str)>
     requires { separator < 128 }
     ensures cut { MatchOption result
@@ -242,7 +242,7 @@ fn past_fields(line: &str, count: usize) -> Option<&str>
     Some(rest)
 }
 
-/// The home directory in one line, if the line has seven fields of which the first is the name.
+/// The home directory in one line, if the line has seven fields and is that of the user.
 fn home_in_line<'a>(line: &'a str, name: &str) -> Option<&'a str>
     ensures { option_copied result ≡ home_of_fields name.now (pieces colon line.now) }
 {
@@ -258,8 +258,9 @@ fn home_in_line<'a>(line: &'a str, name: &str) -> Option<&'a str>
     }
 }
 
-/// Finds the home directory of a user in a passwd text: the sixth field of the first line of exactly seven
-/// fields whose first field is the name. Returns `None` if there is no such line, or if the name has a NUL.
+/// The home directory of the user of that name in a passwd text. It is the sixth field of the first line of
+/// exactly seven fields whose first field is the name. `None` where no line fits, and for a name that holds a
+/// NUL.
 ///
 /// Fields are separated by `:`, and lines end at LF, which the last line may lack. A CR is part of its field,
 /// and there are no comments: docs/GRAMMAR.md, Paths.

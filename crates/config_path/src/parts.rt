@@ -71,7 +71,7 @@ impl Parts<'_, '_> {
     }
 }
 
-/// Returns the bytes as text. Fails with `IllFormed`, which holds the place and all the bytes.
+/// The bytes as text. Fails with `IllFormed`, which holds the place and all the bytes.
 fn text_at<'p>(place: Place, bytes: &'p [u8]) -> Result<&'p str, Error<'p>>
     ensures { MatchResult result
         (λ text. (text.now ≡ bytes.now) × IsUtf8 bytes.now)
@@ -86,7 +86,7 @@ fn text_at<'p>(place: Place, bytes: &'p [u8]) -> Result<&'p str, Error<'p>>
     }
 }
 
-/// Joins a directory and a rest.
+/// A directory and a rest as one path.
 fn joined<'a, 'p>(dir: &'a str, rest: &'p str) -> Parts<'a, 'p>
     ensures { parts_text result ≡ join dir.now rest.now }
 {
@@ -163,7 +163,7 @@ fn name_and_rest(path: &[u8]) -> (&[u8], Option<&[u8]>)
     }
 }
 
-/// Returns the value itself. Fails with `IllFormed` if it is not UTF-8.
+/// The value itself. Fails with `IllFormed` where it is not UTF-8.
 fn unchanged<'a, 'p>(value: &'p [u8]) -> Result<Parts<'a, 'p>, Error<'p>>
     ensures { WhereUtf8 Whole value.now (parts_result result ≡ whole_text value.now) (parts_result result) }
 {
