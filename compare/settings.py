@@ -275,7 +275,7 @@ CLASSES = {
     "Git ignores the value without a word": lambda case: (case.ours, case.git) == ("warns", "takes"),
     "a number of 2^63 and more": lambda case: case.question.value == str(2 ** 63) and case.git == "takes",
     "Git warns of a missing value, or of a number: an error": lambda case: (case.ours, case.git) == ("dies", "warns"),
-    "Git stops at some wrong values, and not at all: a warning": lambda case: (case.ours, case.git) == ("warns", "dies"),
+    "Git stops at some wrong values only: a warning": lambda case: (case.ours, case.git) == ("warns", "dies"),
     "a text that the command reads further": lambda case: case.kind == "text" and case.ours == "takes",
     "a right value with an effect that fails": lambda case: case.question.row in EFFECTS and case.ours == "takes",
     "a value that only newer Gits take": lambda case: case.question.row in NEWER and case.ours == "takes",

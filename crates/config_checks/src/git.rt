@@ -95,9 +95,9 @@ core.askPass                        text
 core.editor                         text
 core.commentChar                    text
 core.pager                          text
-core.whitespace                     warn words trailing-space -trailing-space blank-at-eol -blank-at-eol \
-    space-before-tab -space-before-tab indent-with-non-tab -indent-with-non-tab tab-in-indent -tab-in-indent \
-    blank-at-eof -blank-at-eof cr-at-eol -cr-at-eol tabwidth=*
+core.whitespace                     warn words trailing-space -trailing-space blank-at-eol \
+    -blank-at-eol space-before-tab -space-before-tab indent-with-non-tab -indent-with-non-tab tab-in-indent \
+    -tab-in-indent blank-at-eof -blank-at-eof cr-at-eol -cr-at-eol tabwidth=* fix
 core.fsync                          warn words loose-object -loose-object pack -pack pack-metadata \
     -pack-metadata commit-graph -commit-graph index -index objects -objects reference -reference \
     derived-metadata -derived-metadata committed -committed added -added all -all none
@@ -990,8 +990,10 @@ http.receivepack                    bool
 http.uploadpack                     bool
 http.maxRequestBuffer               int 0 9223372036854775807
 mailinfo.quotedCR                   word nowarn warn strip
+instaweb.gitwebdir                  alone text
 maintenance.repo                    alone text
 maintenance.*.lastRun               alone text
+merge.default                       text
 merge.summary                       bool-or-int
 merge.diffstat                      bool
 sendemail.ccCover                   bool
@@ -1067,6 +1069,8 @@ bitmapPseudoMerge.*.stableSize      text
 commitGraph.changedPathsVersion     int
 diff.trustExitCode                  bool
 diff.*.trustExitCode                bool
+mergetool.gvimdiff.layout           alone text
+mergetool.nvimdiff.layout           alone text
 promisor.quiet                      bool
 # since Git 2.47
 init.defaultObjectFormat            text
@@ -1110,12 +1114,15 @@ promisor.sendFields                 text
 promisor.storeFields                text
 sendemail.imapSentFolder            alone text
 sendemail.useImapOnly               bool
+stash.index                         bool
 status.compareBranches              text
 submodule.*.gitdir                  text
 # Settings of other tools in these sections, and of Gits before 2.39
 diff.compactionHeuristic            alone text
 gc.prunePackExpire                  alone text
 http.allowNTLMAuth                  alone text
+http.cookieFileCacheLimit           alone text
+http.maxRedirects                   alone text
 http.sslAutoClientCert              alone text
 http.*.allowNTLMAuth                alone text
 http.*.sslAutoClientCert            alone text
