@@ -1,4 +1,4 @@
--- What the parts of a text make.
+-- The text that parts make.
 use Rattle.std.specs.Prelude.{ℕ, List, [], ◌++◌, codes, Result, Ok, Err, if◌then◌else◌, option_copied}
 use Rattle.config_path.specs.declared.interpolate.Error.{Error}
 use Rattle.config_path.specs.declared.parts.Form as code

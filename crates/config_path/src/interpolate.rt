@@ -218,7 +218,7 @@ impl<'a, F> Default for Context<'a, F> {
     }
 }
 
-/// The piece before the first separator and what follows it, or `None` if the text holds no separator.
+/// Splits the text at the first separator, or returns `None` if it has no separator.
 fn split_piece(text: &[u8], separator: u8) -> Option<(&[u8], &[u8])>
     ensures cut { MatchOption result
         (pieces separator text.now ≡ text.now ∷ [])
@@ -242,7 +242,7 @@ fn past_fields(line: &[u8], count: usize) -> Option<&[u8]>
     Some(rest)
 }
 
-/// The home directory in one line, if the line has seven fields and is that of the user.
+/// The home directory in one line, if the line has seven fields of which the first is the name.
 fn home_in_line<'a>(line: &'a [u8], name: &[u8]) -> Option<&'a [u8]>
     ensures { option_copied result ≡ home_of_fields name.now (pieces colon line.now) }
 {
@@ -275,9 +275,8 @@ pub fn home_in_passwd<'a>(passwd: &'a [u8], name: &[u8]) -> Option<&'a [u8]>
     home_in_line(rest, name)
 }
 
-/// The home directory of the user of that name in a passwd text. It is the sixth field of the first line of
-/// exactly seven fields whose first field is the name. `None` where no line fits, and for a name that holds a
-/// NUL.
+/// Finds the home directory of a user in a passwd text: the sixth field of the first line of exactly seven
+/// fields whose first field is the name. Returns `None` if there is no such line, or if the name has a NUL.
 ///
 /// Fields are separated by `:`, and lines end at LF, which the last line may lack. A CR is part of its field,
 /// and there are no comments: docs/GRAMMAR.md, Paths.

@@ -72,7 +72,7 @@ impl Parts<'_, '_> {
     }
 }
 
-/// The bytes as text. Fails with `IllFormed`, which holds the place and all the bytes.
+/// Returns the bytes as text. Fails with `IllFormed`, which holds the place and all the bytes.
 pub fn text_at<'p>(place: Place, bytes: &'p [u8]) -> Result<&'p str, Error<'p>>
     ensures { MatchResult result
         (λ text. (text.now ≡ bytes.now) × IsUtf8 bytes.now)
@@ -99,11 +99,11 @@ pub fn text_at<'p>(place: Place, bytes: &'p [u8]) -> Result<&'p str, Error<'p>>
 /// ```
 #[derive(Clone, Copy)]
 pub struct Joint<'p> {
-    /// Whether the directory stays: a rest that begins with `/` stands alone.
+    /// Whether the directory stays: a rest that begins with `/` replaces it.
     pub has_dir: bool,
     /// Whether a `/` follows the directory.
     pub has_slash: bool,
-    /// What follows, of the value.
+    /// What follows, from the value.
     pub rest: &'p str,
 }
 
@@ -254,7 +254,7 @@ pub fn form_of(value: &[u8]) -> Form<'_>
     Form::BelowUser(name, rest)
 }
 
-/// The value itself. Fails with `IllFormed` where it is not UTF-8.
+/// Returns the value itself. Fails with `IllFormed` if it is not UTF-8.
 fn unchanged<'a, 'p>(value: &'p [u8]) -> Result<Parts<'a, 'p>, Error<'p>>
     ensures { WhereUtf8 Whole value.now (parts_result result ≡ whole_text value.now) (parts_result result) }
 {
