@@ -1,11 +1,11 @@
 //! The files that Git reads where the program runs, and those that they include.
 
+use config_file::here::{common_folder, find_git_dir, inside, variable};
 use config_file::include::Condition;
 use config_file::path::{Directories, expand, included_name};
 use config_file::reader::Entries;
 use config_file::settings::Settings;
 use config_file::walk::MAX_DEPTH;
-use config_here::{common_folder, find_git_dir, inside, variable};
 use gix_config_value::Boolean;
 use gix_config_value::canonical::TryRead;
 use std::alloc::Global;

@@ -17,6 +17,7 @@ pub mod entry;
 pub mod errors;
 pub mod file;
 mod header;
+pub mod here;
 pub mod include;
 pub mod laws;
 pub mod path;

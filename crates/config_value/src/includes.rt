@@ -1,12 +1,12 @@
 //! The files that are asked for, and those that they include.
 
+use config_file::here;
 use config_file::include::Repository;
 use config_file::path::Directories;
 use config_file::reader::Entries;
 use config_file::walk::{
     Content, File, Include, Known, MAX_DEPTH, Place, WalkError, Walked, include_of, walk_file,
 };
-use config_here as here;
 use std::alloc::Global;
 use std::fs;
 use std::io::{self, ErrorKind};

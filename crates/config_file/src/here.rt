@@ -1,5 +1,5 @@
-//! Where a program runs: its environment, and the repository that it is in.
-#![tactic(auto)]
+//! Where a program runs: its environment, and the repository that it is in. No contract can say what the
+//! system has there.
 
 use std::alloc::{AllocError, Global};
 use std::env::{self, VarError};
