@@ -1,5 +1,5 @@
 -- What conditions on the git directory match.
-use Rattle.std.proofs.Common.{◌≡◌, ℕ, ◌<◌, ◌≤◌, ◌+◌, Bool, true, false, List, [], ◌∷◌, ◌++◌, take, drop, length, codes, map, IsTrue, ◌↔◌, ◌⊎◌, inl, inr, rules, refl, sym, ap, ◌∙◌, subst, arith}
+use Rattle.std.proofs.Common.{◌≡◌, ℕ, ◌<◌, Bool, true, false, List, ◌++◌, take, drop, length, codes, IsTrue, ◌↔◌, ◌⊎◌, inl, inr, rules, sym, ap, ◌∙◌, subst, arith}
 use Rattle.std.specs.List.{IsSplitAt}
 use Rattle.std.specs.Char.{to_ascii_lowercase}
 use Rattle.std.proofs.Math.Seq.{take-append_seam, drop-append_seam}

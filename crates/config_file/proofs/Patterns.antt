@@ -1,9 +1,8 @@
 -- What patterns match, by how they begin.
-use Rattle.std.proofs.Common.{◌≡◌, ◌≢◌, ℕ, suc, ◌+◌, Bool, true, false, List, [], ◌∷◌, ◌++◌, take, drop, refl, sym, ap, ◌∙◌, subst, arith}
-use Rattle.std.proofs.Common.{inl, inr, ◌⊎◌, ◌==◌, ◌&&◌, get_or, length, ◌<◌, ◌≤◌, ◌↔◌, IsTrue}
-use Rattle.std.proofs.lemmas.Bool.{cases_Bool, true≢false}
-use Rattle.std.specs.List.{prefix_len, list_all}
-use Rattle.config_file.specs.Runs.{Run, StopsRun}
+use Rattle.std.proofs.Common.{◌≡◌, ◌≢◌, ℕ, Bool, true, false, List, [], ◌∷◌, refl, sym, ap, ◌∙◌, subst, arith}
+use Rattle.std.proofs.Common.{inl, inr, ◌⊎◌, ◌==◌, length, ◌<◌, ◌≤◌, ◌↔◌, IsTrue}
+use Rattle.std.proofs.lemmas.Bool.{true≢false}
+use Rattle.config_file.specs.Runs.{Run}
 use Rattle.config_file.specs.Bytes.{left_bracket, backslash}
 use Rattle.config_file.specs.Set.{slash, folded, StandsForByte}
 use Rattle.config_file.proofs.OneRun.{run_only}

@@ -1,5 +1,5 @@
 -- Files by name, and entries that are walked one by one.
-use Rattle.std.proofs.Common.{◌≡◌, ◌≢◌, ◌<◌, ◌+◌, ◌++◌, ◌∙◌, ℕ, List, [], ◌∷◌, None, Option, option_map, Result, Ok, Err, OnOk, Bool, true, subst, map, length, get_or, refl, sym, ap, arith}
+use Rattle.std.proofs.Common.{◌≡◌, ◌≢◌, ◌<◌, ◌+◌, ◌++◌, ◌∙◌, ℕ, List, [], ◌∷◌, None, Option, option_map, Result, Ok, Err, Bool, true, subst, map, length, get_or, refl, sym, ap, arith}
 use Rattle.std.specs.List.{HoldsAt, AllWithin}
 use Rattle.std.proofs.lemmas.Option.{slice_get-get_or, slice_get_within, get_or_from_slice_get}
 use Rattle.std.proofs.lemmas.List.{append_assoc, append-nil}
@@ -17,7 +17,7 @@ use Rattle.config_file.specs.declared.include.Repository.{Repository}
 use Rattle.config_file.specs.Path.{BeginsUnknown}
 use Rattle.config_file.specs.declared.walk.Place.{Place}
 use Rattle.config_file.specs.declared.walk.WalkError.{WalkError}
-use Rattle.config_file.specs.Walk.{HasFile, Walks, ends, plain, missing, included, IncludesFile, Reaches, Stops, inside, WalksText, Follows, IsFollowed, IsNameOf, Adds, in_file, view}
+use Rattle.config_file.specs.Walk.{HasFile, Walks, ends, plain, missing, included, IncludesFile, Reaches, inside, WalksText, Follows, IsFollowed, IsNameOf, Adds, in_file, view}
 use Rattle.config_file.specs.Reading.Walks.{AddsNamed, nothing, all_of, WalksEntry, WalksNamed}
 use Rattle.config_file.proofs.Adding.{first_of}
 

@@ -4,7 +4,7 @@ use Rattle.std.specs.Char.{to_ascii_lowercase, to_ascii_uppercase, is_ascii_alph
 use Rattle.std.specs.Char.{is_ascii_control, is_ascii_graphic, is_ascii_punctuation, is_ascii_hexdigit, is_ascii_lowercase, is_ascii_uppercase}
 use Rattle.std.specs.Int.{is_in_range}
 use Rattle.std.specs.Str.{bytes_eq}
-use Rattle.config_file.specs.Bytes.{space, line_feed, dash, left_bracket, right_bracket, backslash, is_blank, is_space}
+use Rattle.config_file.specs.Bytes.{space, line_feed, dash, right_bracket, backslash, is_blank, is_space}
 use Rattle.config_file.specs.Runs.{Run}
 
 abbrev pub slash : ℕ

@@ -1,4 +1,4 @@
-use Rattle.std.proofs.Common.{rules, arith, ◌++◌, ◌∷◌, ◌-◌, [], Some, refl, sym, subst}
+use Rattle.std.proofs.Common.{rules, arith, ◌++◌, ◌∷◌, ◌-◌, [], Some, refl, subst}
 use Rattle.std.proofs.lemmas.List.{append-nil}
 use Rattle.config_file.specs.Views.{entry_of}
 use Rattle.config_file.specs.declared.walk.Walked.{Walked}
