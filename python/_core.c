@@ -825,19 +825,21 @@ static gcv_status make_name(PyObject *key, PyObject *value, const gcv_includer *
  * each of them `bytes` or None. */
 static PyObject *included(PyObject *Py_UNUSED(module), PyObject *args)
 {
-    PyObject *file, *key, *value, *parts[6], *name = NULL;
+    PyObject *file, *key, *value, *parts[8], *name = NULL;
     Py_ssize_t line;
     gcv_includer includer = {0};
     gcv_status status = GCV_NO_MEMORY;
-    if (!PyArg_ParseTuple(args, "(OnOO)(OOOOOO)", &file, &line, &key, &value, &parts[0], &parts[1], &parts[2],
-                          &parts[3], &parts[4], &parts[5]))
+    if (!PyArg_ParseTuple(args, "(OnOO)(OOOOOOOO)", &file, &line, &key, &value, &parts[0], &parts[1], &parts[2],
+                          &parts[3], &parts[4], &parts[5], &parts[6], &parts[7]))
         return NULL;
     includer.file = part_of(parts[0], &includer.file_length);
-    includer.install_dir = part_of(parts[1], &includer.install_dir_length);
-    includer.home = part_of(parts[2], &includer.home_length);
-    includer.git_dir = part_of(parts[3], &includer.git_dir_length);
-    includer.real_git_dir = part_of(parts[4], &includer.real_git_dir_length);
-    includer.branch = part_of(parts[5], &includer.branch_length);
+    includer.real_dir = part_of(parts[1], &includer.real_dir_length);
+    includer.install_dir = part_of(parts[2], &includer.install_dir_length);
+    includer.home = part_of(parts[3], &includer.home_length);
+    includer.real_home = part_of(parts[4], &includer.real_home_length);
+    includer.git_dir = part_of(parts[5], &includer.git_dir_length);
+    includer.real_git_dir = part_of(parts[6], &includer.real_git_dir_length);
+    includer.branch = part_of(parts[7], &includer.branch_length);
     PyObject *text = value == Py_None ? counted(value) : bytes_of(value);
     key = text ? bytes_of(key) : NULL;
     if (key && !PyErr_Occurred())

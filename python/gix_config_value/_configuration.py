@@ -137,7 +137,8 @@ def _text_of(name):
 
 def _add(entries, name, text, known, depth=0):
     """Appends the entries of a file, and after each one those of the file that it includes, if includes are known."""
-    file, includer = os.fsdecode(name), known and (name, *known)
+    real_dir = os.path.dirname(os.path.realpath(name)).rstrip(b"/")
+    file, includer = os.fsdecode(name), known and (name, real_dir, *known)
     for line, key, value in _core.settings(text, file):
         entry = Entry(file, line, key, value)
         entries.append(entry)
@@ -176,9 +177,10 @@ def _add_included(entries, entry, name, known, depth):
 
 def _known(repository):
     """What includes may ask for: no install directory, the home, and the repository if there is one."""
-    names = [None, os.environ.get("HOME"), None, None, None]
+    home = os.environ.get("HOME")
+    names = [None, home, home and os.path.realpath(home), None, None, None]
     if repository:
-        names[2:] = repository.absolute_name(), repository.real_name(), repository.branch()
+        names[3:] = repository.absolute_name(), repository.real_name(), repository.branch()
     return tuple(None if name is None else os.fsencode(name) for name in names)
 
 

@@ -287,10 +287,14 @@ typedef struct gcv_context {
 typedef struct gcv_includer {
     const char *file; /* the name of the file: a relative path is put after its directory */
     size_t file_length;
+    const char *real_dir; /* its absolute directory, links resolved and no / at its end: for conditions with ./ */
+    size_t real_dir_length;
     const char *install_dir; /* for %(prefix)/ */
     size_t install_dir_length;
     const char *home; /* for ~ */
     size_t home_length;
+    const char *real_home; /* the same with links resolved, for conditions; if null, `home` */
+    size_t real_home_length;
     const char *git_dir; /* the absolute path of the git directory, links kept; null without a repository */
     size_t git_dir_length;
     const char *real_git_dir; /* the same with links resolved; if null, `git_dir` */
@@ -368,11 +372,13 @@ gcv_status gcv_raw_lookup(gcv_kind kind, const char *bytes, size_t bytes_length,
 gcv_status gcv_raw_read_file(const char *text, size_t length, char *bytes, size_t capacity, gcv_place *places,
                              size_t room, gcv_file *out);
 gcv_status gcv_raw_include(const char *key, size_t key_length, uint32_t has_value, const char *value,
-                           size_t value_length, const char *file, size_t file_length, uint32_t has_install_dir,
-                           const char *install_dir, size_t install_dir_length, uint32_t has_home, const char *home,
-                           size_t home_length, uint32_t has_repository, const char *git_dir, size_t git_dir_length,
+                           size_t value_length, const char *file, size_t file_length, const char *real_dir,
+                           size_t real_dir_length, uint32_t has_install_dir, const char *install_dir,
+                           size_t install_dir_length, uint32_t has_home, const char *home, size_t home_length,
+                           uint32_t has_repository, const char *git_dir, size_t git_dir_length,
                            const char *real_git_dir, size_t real_git_dir_length, uint32_t has_branch,
-                           const char *branch, size_t branch_length, char *buffer, size_t capacity, size_t *size);
+                           const char *branch, size_t branch_length, uint32_t has_real_home, const char *real_home,
+                           size_t real_home_length, char *buffer, size_t capacity, size_t *size);
 void gcv_raw_cut_mark(const char *text, size_t length, uint32_t *optional, size_t *start);
 gcv_status gcv_raw_interpolate(const char *text, size_t length, uint32_t has_install_dir, const char *install_dir,
                                size_t install_dir_length, uint32_t has_home, const char *home, size_t home_length,
@@ -658,19 +664,24 @@ GCV_RETURNS((5, 8)) gcv_include(const char *key, size_t key_length, const char *
     char none[1] = {0};
     size_t length = value ? value_length : 0;
     size_t file_length = includer->file ? includer->file_length : 0;
+    size_t real_dir_length = includer->real_dir ? includer->real_dir_length : 0;
     size_t install_dir_length = includer->install_dir ? includer->install_dir_length : 0;
     size_t home_length = includer->home ? includer->home_length : 0;
+    const char *real_home = includer->real_home ? includer->real_home : includer->home;
+    size_t real_home_length = includer->real_home ? includer->real_home_length : home_length;
     size_t git_dir_length = includer->git_dir ? includer->git_dir_length : 0;
     const char *real_git_dir = includer->real_git_dir ? includer->real_git_dir : includer->git_dir;
     size_t real_git_dir_length = includer->real_git_dir ? includer->real_git_dir_length : git_dir_length;
     size_t branch_length = includer->branch ? includer->branch_length : 0;
     return gcv_raw_include(gcv_bytes(key, key_length), key_length, value ? 1 : 0, gcv_bytes(value, length), length,
-                           gcv_bytes(includer->file, file_length), file_length, includer->install_dir ? 1 : 0,
-                           gcv_bytes(includer->install_dir, install_dir_length), install_dir_length,
-                           includer->home ? 1 : 0, gcv_bytes(includer->home, home_length), home_length,
-                           includer->git_dir ? 1 : 0, gcv_bytes(includer->git_dir, git_dir_length), git_dir_length,
+                           gcv_bytes(includer->file, file_length), file_length,
+                           gcv_bytes(includer->real_dir, real_dir_length), real_dir_length,
+                           includer->install_dir ? 1 : 0, gcv_bytes(includer->install_dir, install_dir_length),
+                           install_dir_length, includer->home ? 1 : 0, gcv_bytes(includer->home, home_length),
+                           home_length, includer->git_dir ? 1 : 0, gcv_bytes(includer->git_dir, git_dir_length), git_dir_length,
                            gcv_bytes(real_git_dir, real_git_dir_length), real_git_dir_length, includer->branch ? 1 : 0,
-                           gcv_bytes(includer->branch, branch_length), branch_length, capacity == 0 ? none : buffer,
+                           gcv_bytes(includer->branch, branch_length), branch_length, real_home ? 1 : 0,
+                           gcv_bytes(real_home, real_home_length), real_home_length, capacity == 0 ? none : buffer,
                            capacity, size);
 }
 

@@ -9,19 +9,20 @@ use crate::paths::given;
 use crate::status::Status;
 use config_file::include::{Condition, Repository};
 use config_file::path::{Directories, expand, included_name};
-use config_file::walk::holds;
+use config_file::walk::{Place, holds};
 use std::alloc::{AllocError, Global};
 
-/// Whether the entry of a key includes a file, and its condition holds.
+/// Whether the entry of a key, in a file of this directory, includes a file, and its condition holds.
 fn is_followed(
     alloc: Global,
     repository: Option<Repository<'_>>,
+    real_dir: &[u8],
     key: &[u8],
 ) -> Result<bool, AllocError>
-    ensures { IfOk result (λ followed. Follows repository.entry key.now followed) }
+    ensures { IfOk result (λ followed. Follows repository.entry real_dir.now key.now followed) }
 {
     match Condition::of_key(key) {
-        Some(condition) => Ok(holds(alloc, repository, condition)?),
+        Some(condition) => Ok(holds(alloc, repository, real_dir, condition)?),
         None => Ok(false),
     }
 }
@@ -52,16 +53,16 @@ fn included(
     alloc: Global,
     repository: Option<Repository<'_>>,
     directories: Directories<'_>,
-    file: &[u8],
+    place: Place<'_>,
     key: &[u8],
     value: Option<&[u8]>,
 ) -> Result<Vec<u8>, u32>
     ensures { MatchResult result
-        (λ name. IsIncluded repository.entry directories.entry file.now key.now
+        (λ name. IsIncluded repository.entry directories.entry place.entry key.now
         (option_copied value.entry) name.items)
-        (TellsWhyNot repository.entry directories.entry key.now (option_copied value.entry)) }
+        (TellsWhyNot repository.entry directories.entry place.entry key.now (option_copied value.entry)) }
 {
-    match is_followed(alloc, repository, key) {
+    match is_followed(alloc, repository, place.real_dir, key) {
         Ok(true) => {}
         Ok(false) => return Err(Status::NoInclude as u32),
         Err(_) => return Err(Status::NoMemory as u32),
@@ -69,7 +70,7 @@ fn included(
     let Some(value) = value else {
         return Err(Status::NoValue as u32);
     };
-    match name_in(alloc, directories, file, value) {
+    match name_in(alloc, directories, place.name, value) {
         Ok(Some(name)) => Ok(name),
         Ok(None) => Err(Status::NoDirectory as u32),
         Err(_) => Err(Status::NoMemory as u32),
@@ -81,23 +82,27 @@ fn repository_of<'r>(
     git_dir: Option<&'r [u8]>,
     real_git_dir: &'r [u8],
     branch: Option<&'r [u8]>,
+    real_home: Option<&'r [u8]>,
 ) -> Option<Repository<'r>>
     ensures { MatchOption result (option_copied git_dir.entry ≡ None)
         (λ r. (option_copied git_dir.entry ≡ Some r.git_dir.now) × (r.real_git_dir.now ≡ real_git_dir.now)
-        × (option_copied r.branch ≡ option_copied branch.entry)) }
+        × (option_copied r.branch ≡ option_copied branch.entry)
+        × (option_copied r.real_home ≡ option_copied real_home.entry)) }
 {
     match git_dir {
         Some(git_dir) => Some(Repository {
             real_git_dir,
             git_dir,
             branch,
+            real_home,
         }),
         None => None,
     }
 }
 
 /// Puts the name of the file that an entry includes into the buffer, and its length into `length`. The value,
-/// the directories, the git directory and the branch are there if their flag is 1.
+/// the directories, the git directory, the branch and the home directory with its links resolved are there if
+/// their flag is 1. `real_dir` is the directory of the file, with its links resolved and no `/` at its end.
 ///
 /// `BadFlag` if a flag is neither 0 nor 1. `NoInclude` if the entry includes no file, or its condition does
 /// not hold. Otherwise `NoValue` if there is no value, and `NoDirectory` if the value begins with a user's
@@ -110,6 +115,7 @@ pub extern "C" fn gcv_raw_include(
     has_value: u32,
     value: &[u8],
     file: &[u8],
+    real_dir: &[u8],
     has_install_dir: u32,
     install_dir: &[u8],
     has_home: u32,
@@ -119,12 +125,14 @@ pub extern "C" fn gcv_raw_include(
     real_git_dir: &[u8],
     has_branch: u32,
     branch: &[u8],
+    has_real_home: u32,
+    real_home: &[u8],
     buffer: &mut [u8],
     length: &mut usize,
 ) -> u32
-    ensures { IncludesInto key.now (has_value, value.now) file.now (has_install_dir, install_dir.now)
+    ensures { IncludesInto key.now (has_value, value.now) file.now real_dir.now (has_install_dir, install_dir.now)
         (has_home, home.now) (has_repository, git_dir.now) real_git_dir.now (has_branch, branch.now)
-        buffer.old buffer.new length.old length.new result }
+        (has_real_home, real_home.now) buffer.old buffer.new length.old length.new result }
 {
     let Some(value) = given(has_value, value) else {
         return Status::BadFlag as u32;
@@ -141,9 +149,16 @@ pub extern "C" fn gcv_raw_include(
     let Some(branch) = given(has_branch, branch) else {
         return Status::BadFlag as u32;
     };
+    let Some(real_home) = given(has_real_home, real_home) else {
+        return Status::BadFlag as u32;
+    };
     let directories = Directories { home, install_dir };
-    let repository = repository_of(git_dir, real_git_dir, branch);
-    match included(alloc, repository, directories, file, key, value) {
+    let repository = repository_of(git_dir, real_git_dir, branch, real_home);
+    let place = Place {
+        name: file,
+        real_dir,
+    };
+    match included(alloc, repository, directories, place, key, value) {
         Ok(name) => put(&name, buffer, length),
         Err(status) => status,
     }

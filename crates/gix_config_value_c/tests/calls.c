@@ -577,10 +577,10 @@ static gcv_status include(const void *state, char *buffer, size_t capacity, size
 /* By the section "Includes" of git-config(1). */
 static void includes(void)
 {
-    static const gcv_includer nothing = {NULL, 0, NULL, 0, NULL, 0, NULL, 0, NULL, 0, NULL, 0};
-    static const gcv_includer all = {"/J\xf6rg/.gitconfig", 16, "/usr", 4, "/home/u", 7, "/w/p/.git", 9,
-                                     "/real/p/.git",        12, "main/x", 6};
-    static const gcv_includer kept = {NULL, 0, NULL, 0, NULL, 0, "/w/p/.git", 9, NULL, 0, NULL, 0};
+    static const gcv_includer nothing = {NULL, 0, NULL, 0, NULL, 0, NULL, 0, NULL, 0, NULL, 0, NULL, 0, NULL, 0};
+    static const gcv_includer all = {"/J\xf6rg/.gitconfig", 16, "/real/p", 7, "/usr", 4, "/home/u", 7,
+                                     "/w", 2, "/w/p/.git", 9, "/real/p/.git", 12, "main/x", 6};
+    static const gcv_includer kept = {NULL, 0, NULL, 0, NULL, 0, "/w", 2, NULL, 0, "/w/p/.git", 9, NULL, 0, NULL, 0};
     static const struct {
         entry of;
         gcv_status status;
@@ -601,6 +601,10 @@ static void includes(void)
         {{"includeif.gitdir:/real/p/.git.path", "e", &all}, GCV_OK, "/J\xf6rg/e"},
         {{"includeif.gitdir:/W/.path", "e", &all}, GCV_NO_INCLUDE, NULL},
         {{"includeif.gitdir/i:/W/.path", "e", &all}, GCV_OK, "/J\xf6rg/e"},
+        {{"includeif.gitdir:~/p/.path", "e", &all}, GCV_OK, "/J\xf6rg/e"},
+        {{"includeif.gitdir:~/q/.path", "e", &all}, GCV_NO_INCLUDE, NULL},
+        {{"includeif.gitdir:./.git.path", "e", &all}, GCV_OK, "/J\xf6rg/e"},
+        {{"includeif.gitdir:./g.path", "e", &all}, GCV_NO_INCLUDE, NULL},
         {{"includeif.gitdir:/w/.path", NULL, &all}, GCV_NO_VALUE, NULL},
         {{"includeif.gitdir:/v/.path", NULL, &all}, GCV_NO_INCLUDE, NULL},
         {{"includeif.onbranch:main/.path", "e", &all}, GCV_OK, "/J\xf6rg/e"},
@@ -612,6 +616,7 @@ static void includes(void)
         {{"includeif.gitdir:/w/.path", "e", &nothing}, GCV_NO_INCLUDE, NULL},
         {{"includeif.onbranch:**.path", "e", &nothing}, GCV_NO_INCLUDE, NULL},
         {{"includeif.gitdir:/w/.path", "e", &kept}, GCV_OK, "e"},
+        {{"includeif.gitdir:~/p/.path", "e", &kept}, GCV_OK, "e"},
         {{"includeif.gitdir:/real/.path", "e", &kept}, GCV_NO_INCLUDE, NULL},
         {{"includeif.onbranch:**.path", "e", &kept}, GCV_NO_INCLUDE, NULL},
     };
@@ -622,13 +627,13 @@ static void includes(void)
             count(writes_nothing(buffer_area, include, &rows[at].of, rows[at].status), rows[at].of.key);
         }
     }
-    for (size_t at = 0; at < 5; at++) {
-        uint32_t flags[5] = {1, 1, 1, 1, 1};
+    for (size_t at = 0; at < 6; at++) {
+        uint32_t flags[6] = {1, 1, 1, 1, 1, 1};
         char name[8] = "?";
         size_t size = UNTOUCHED;
         flags[at] = (uint32_t)at + 2;
-        count(gcv_raw_include("include.path", 12, flags[0], "a", 1, "", 0, flags[1], "", 0, flags[2], "", 0, flags[3], "", 0, "", 0,
-                              flags[4], "", 0, name, sizeof name, &size) == GCV_BAD_FLAG &&
+        count(gcv_raw_include("include.path", 12, flags[0], "a", 1, "", 0, "", 0, flags[1], "", 0, flags[2], "", 0, flags[3], "", 0,
+                              "", 0, flags[4], "", 0, flags[5], "", 0, name, sizeof name, &size) == GCV_BAD_FLAG &&
                   size == UNTOUCHED && strcmp(name, "?") == 0,
               "a bad flag of an include");
     }

@@ -123,7 +123,7 @@ static gcv_status add_file(const void *state, char *buffer, size_t capacity, siz
 
 static gcv_status include(const void *state, char *buffer, size_t capacity, size_t *size)
 {
-    static const gcv_includer from = {"/e/config", 9, NULL, 0, "/home/u", 7, "/w/.git", 7, NULL, 0, "main", 4};
+    static const gcv_includer from = {"/e/config", 9, NULL, 0, NULL, 0, "/home/u", 7, NULL, 0, "/w/.git", 7, NULL, 0, "main", 4};
     (void)state;
     return gcv_include("includeif.onbranch:ma*.path", 27, "~/x", 3, &from, buffer, capacity, size);
 }

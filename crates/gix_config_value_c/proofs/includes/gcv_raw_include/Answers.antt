@@ -19,14 +19,19 @@ returns-in_default-given-3 c = bad_flag (inr (inr (inr (inl c.in_default-given-3
 pub returns-in_default-given-4 : goal.returns-in_default-given-4
 returns-in_default-given-4 c = bad_flag (inr (inr (inr (inr (inl c.in_default-given-4.ensures))))) (refl, refl, refl)
 
+pub returns-in_default-given-5 : goal.returns-in_default-given-5
+returns-in_default-given-5 c = bad_flag (inr (inr (inr (inr (inr (inl c.in_default-given-5.ensures)))))) (refl, refl, refl)
+
 pub returns-in-Ok : goal.returns-in-Ok
 returns-in-Ok c =
-    told _ _ _ c.in-Some.ensures (c.in-Some-given.ensures, c.in-Some-given-2.ensures)
-    (repository_given _ _ _ _ _ _ c.in-Some-given-3.ensures c.in-Some-given-4.ensures c.repository_of-repository.ensures)
+    told _ _ _ _ c.in-Some.ensures (c.in-Some-given.ensures, c.in-Some-given-2.ensures)
+    (repository_given _ _ _ _ _ _ _ _ c.in-Some-given-3.ensures c.in-Some-given-4.ensures c.in-Some-given-5.ensures
+    c.repository_of-repository.ensures) refl refl
     (put _ (rw c.deref.ensures.value c.in-Ok.ensures) c.put.ensures)
 
 pub returns-in-Err : goal.returns-in-Err
 returns-in-Err c =
-    told _ _ _ c.in-Some.ensures (c.in-Some-given.ensures, c.in-Some-given-2.ensures)
-    (repository_given _ _ _ _ _ _ c.in-Some-given-3.ensures c.in-Some-given-4.ensures c.repository_of-repository.ensures)
+    told _ _ _ _ c.in-Some.ensures (c.in-Some-given.ensures, c.in-Some-given-2.ensures)
+    (repository_given _ _ _ _ _ _ _ _ c.in-Some-given-3.ensures c.in-Some-given-4.ensures c.in-Some-given-5.ensures
+    c.repository_of-repository.ensures) refl refl
     (none c.in-Err.ensures refl refl)
