@@ -1,4 +1,4 @@
-//! The files that Git reads where the program runs, and those that they include.
+//! The files that are named or that Git reads where the program runs, and those that they include.
 
 use config_file::here::{common_folder, find_git_dir, inside, variable};
 use config_file::include::Condition;
@@ -12,11 +12,33 @@ use std::alloc::Global;
 use std::path::Path;
 use std::{fs, io};
 
-/// A file, and how many includes lead to it.
+/// The name that stands for standard input.
+pub const STDIN: &str = "-";
+
+/// A file: its name, its name without links and `..`, and how many includes lead to it.
 #[derive(Drop)]
 pub struct File {
     pub name: String,
-    pub depth: usize,
+    real: String,
+    depth: usize,
+}
+
+/// The file of a name.
+fn file_of(rt: &HostRuntime, name: String, depth: usize) -> io::Result<File> {
+    let real = match Path::new(&name).canonicalize(rt) {
+        Ok(path) => format!(in rt.alloc(); "{}", path.as_path().as_str())?,
+        Err(_) => format!(in rt.alloc(); "{name}")?,
+    };
+    Ok(File { name, real, depth })
+}
+
+/// The files of these names.
+pub fn named(rt: &HostRuntime, names: &[&str]) -> io::Result<Vec<File>> {
+    let mut files = Vec::new(rt.alloc());
+    for name in names {
+        files.push(file_of(rt, format!(in rt.alloc(); "{name}")?, 0)?)?;
+    }
+    Ok(files)
 }
 
 /// Whether an environment variable is set to true.
@@ -54,18 +76,18 @@ fn xdg_file(rt: &HostRuntime) -> io::Result<Option<String>> {
     }
 }
 
+/// Whether one of the files is standard input.
+pub fn has_stdin(files: &[File]) -> bool {
+    files.iter().any(|file| file.name.as_str() == STDIN)
+}
+
 /// Adds a file that exists.
-fn add(
-    rt: &HostRuntime,
-    files: &mut Vec<File>,
-    name: Option<String>,
-    depth: usize,
-) -> io::Result<()> {
+fn add(rt: &HostRuntime, files: &mut Vec<File>, name: Option<String>) -> io::Result<()> {
     let Some(name) = name else {
         return Ok(());
     };
     if Path::new(&name).exists(rt) {
-        files.push(File { name, depth })?;
+        files.push(file_of(rt, name, 0)?)?;
     }
     Ok(())
 }
@@ -73,15 +95,14 @@ fn add(
 /// Adds the files of the user.
 fn add_global(rt: &HostRuntime, files: &mut Vec<File>) -> io::Result<()> {
     if let Some(file) = variable(rt, "GIT_CONFIG_GLOBAL")? {
-        return add(rt, files, Some(file), 0);
+        return add(rt, files, Some(file));
     }
-    add(rt, files, xdg_file(rt)?, 0)?;
+    add(rt, files, xdg_file(rt)?)?;
     match variable(rt, "HOME")? {
         Some(home) => add(
             rt,
             files,
             Some(format!(in rt.alloc(); "{home}/.gitconfig")?),
-            0,
         ),
         None => Ok(()),
     }
@@ -110,13 +131,12 @@ fn add_repository(rt: &HostRuntime, files: &mut Vec<File>) -> io::Result<()> {
     let alloc = rt.alloc();
     let file = inside(alloc, &common_folder(rt, &git_dir)?, "config")?;
     let has_more = has_worktree_files(rt, &file)?;
-    add(rt, files, Some(file), 0)?;
+    add(rt, files, Some(file))?;
     if has_more {
         add(
             rt,
             files,
             Some(inside(alloc, &git_dir, "config.worktree")?),
-            0,
         )?;
     }
     Ok(())
@@ -125,13 +145,14 @@ fn add_repository(rt: &HostRuntime, files: &mut Vec<File>) -> io::Result<()> {
 /// The files that Git reads here, in its order.
 pub fn files(rt: &HostRuntime) -> io::Result<Vec<File>> {
     let mut files = Vec::new(rt.alloc());
-    add(rt, &mut files, system_file(rt)?, 0)?;
+    add(rt, &mut files, system_file(rt)?)?;
     add_global(rt, &mut files)?;
     add_repository(rt, &mut files)?;
     Ok(files)
 }
 
-/// The name of the file that a value includes, or `None` if its folder is not known or it is not UTF-8.
+/// The name of the file that a value includes, or `None` if its folder is not known or it is not UTF-8, or if it is a
+/// relative one on standard input.
 fn name_of(
     alloc: Global,
     home: Option<&str>,
@@ -153,10 +174,29 @@ fn name_of(
     };
     let mut path = parts.directory.to_vec(alloc)?;
     path.extend_from_slice(parts.rest)?;
+    if file == STDIN && !path.starts_with(b"/") {
+        return Ok(None);
+    }
     match String::from_utf8(included_name(alloc, file.as_bytes(), &path)?) {
         Ok(name) => Ok(Some(name)),
         Err(_) => Ok(None),
     }
+}
+
+/// Adds a file that exists, if it is not there yet.
+fn add_once(
+    rt: &HostRuntime,
+    files: &mut Vec<File>,
+    name: String,
+    depth: usize,
+) -> io::Result<()> {
+    if Path::new(&name).exists(rt) {
+        let new = file_of(rt, name, depth)?;
+        if !files.iter().any(|file| file.real == new.real) {
+            files.push(new)?;
+        }
+    }
+    Ok(())
 }
 
 /// Adds the files that a file with this text includes, whatever their conditions, each once. It goes as deep
@@ -183,11 +223,8 @@ pub fn add_included(
         };
         let value = value.to_vec(alloc)?;
         let name = name_of(alloc, home.as_deref(), &files[index].name, &value)?;
-        let Some(name) = name else {
-            continue;
-        };
-        if !files.iter().any(|file| file.name == name) {
-            add(rt, files, Some(name), depth)?;
+        if let Some(name) = name {
+            add_once(rt, files, name, depth)?;
         }
     }
     Ok(())

@@ -3,14 +3,18 @@
 
 mod here;
 
+use crate::here::{File, STDIN};
 use clap::{Arg, ArgAction, ArgMatches, Command};
 use config_checks::check::{CheckError, Counts, check_file};
+use config_checks::finding::push_shown;
 use config_checks::git::SETTINGS;
 use config_checks::options::Options;
+use config_checks::reason::Severity;
 use config_checks::row::Row;
 use config_checks::table::{BadRow, read_rows};
 use std::alloc::{AllocError, Global};
-use std::io::{self, ErrorKind, IsTerminal, Read};
+use std::env::VarError;
+use std::io::{self, ErrorKind, IsTerminal, Read, Write};
 use std::process::ExitCode;
 use std::{env, fs};
 use thiserror::Error;
@@ -31,6 +35,9 @@ fn option<'a>(alloc: Global, name: &'a str, value: &'a str, help: &'a str) -> Ar
         .action(ArgAction::Set)
         .help(help)
 }
+
+/// The values of `--fail-on`.
+const SEVERITIES: &[&str] = &["note", "warning", "error"];
 
 /// The command line of the program.
 fn command<'a>(alloc: Global) -> Result<Command<'a>, AllocError> {
@@ -55,7 +62,16 @@ fn command<'a>(alloc: Global) -> Result<Command<'a>, AllocError> {
             "settings",
             "FILE",
             "Rows of further settings, which win over the built-in ones",
-        ))
+        ))?
+        .arg(
+            option(
+                alloc,
+                "fail-on",
+                "SEVERITY",
+                "The least severity at which the exit status is 1: note, which is the default, warning or error",
+            )
+            .value_parser(SEVERITIES),
+        )
 }
 
 /// Why a run ends with status 2.
@@ -76,6 +92,8 @@ enum Failure<'m> {
     Memory(AllocError),
     #[error("Git reads no file here: name one")]
     NoFile,
+    #[error("standard input is a terminal: name a file, or redirect one: config_check - < FILE")]
+    Terminal,
 }
 
 impl Failure<'_> {
@@ -108,7 +126,7 @@ fn add_rows<'m, 't>(
 
 /// The text of a file, or of standard input.
 fn read_text(rt: &HostRuntime, file: &str) -> io::Result<Vec<u8>> {
-    if file != "-" {
+    if file != STDIN {
         return fs::read(rt, file);
     }
     let mut text = Vec::new(rt.alloc());
@@ -130,14 +148,25 @@ impl Outcome {
             entries: self.counts.entries.saturating_add(counts.entries),
             unknown: self.counts.unknown.saturating_add(counts.unknown),
             findings: self.counts.findings.saturating_add(counts.findings),
+            errors: self.counts.errors.saturating_add(counts.errors),
+            warnings: self.counts.warnings.saturating_add(counts.warnings),
         };
     }
 
-    /// The exit status.
-    fn status(&self) -> u8 {
+    /// Whether there is a finding of this severity, or a worse one.
+    fn has(&self, least: Severity) -> bool {
+        match least {
+            Severity::Note => self.counts.findings > 0,
+            Severity::Warning => self.counts.errors > 0 || self.counts.warnings > 0,
+            Severity::Error => self.counts.errors > 0,
+        }
+    }
+
+    /// The exit status, where findings of this severity and worse ones fail.
+    fn status(&self, fails_on: Severity) -> u8 {
         if self.is_unread {
             2
-        } else if self.counts.findings > 0 {
+        } else if self.has(fails_on) {
             1
         } else {
             0
@@ -164,7 +193,7 @@ impl Checker<'_, '_> {
             Ok(text) => text,
             Err(error) => {
                 outcome.is_unread = true;
-                let _ = eprintln!(self.rt; "config_check: {file}: {error}");
+                tell(self.rt, format!(in self.rt.alloc(); "config_check: {file}: {error}"));
                 return Ok(None);
             }
         };
@@ -185,20 +214,17 @@ impl Checker<'_, '_> {
     }
 }
 
-/// Checks the files that Git reads here.
-fn check_here(checker: &Checker<'_, '_>, outcome: &mut Outcome) -> Result<(), Failure<'static>> {
-    let mut files = match here::files(checker.rt) {
-        Ok(files) => files,
-        Err(error) => return Err(Failure::Here(error)),
-    };
-    if files.is_empty() {
-        return Err(Failure::NoFile);
-    }
+/// Checks files, and those that they include.
+fn check_files(
+    checker: &Checker<'_, '_>,
+    files: &mut Vec<File>,
+    outcome: &mut Outcome,
+) -> Result<(), Failure<'static>> {
     let mut next = 0;
     while next < files.len() {
         let text = checker.check(&files[next].name, outcome)?;
         if let Some(text) = text {
-            if let Err(error) = here::add_included(checker.rt, &mut files, next, &text) {
+            if let Err(error) = here::add_included(checker.rt, files, next, &text) {
                 return Err(Failure::Here(error));
             }
         }
@@ -207,20 +233,54 @@ fn check_here(checker: &Checker<'_, '_>, outcome: &mut Outcome) -> Result<(), Fa
     Ok(())
 }
 
-/// Checks the files that are named, or those that Git reads here.
-fn check_all(checker: &Checker<'_, '_>, files: Option<&[&str]>) -> Result<u8, Failure<'static>> {
-    let mut outcome = Outcome::default();
-    match files {
-        Some(files) => {
-            for file in files {
-                checker.check(*file, &mut outcome)?;
-            }
-        }
-        None => check_here(checker, &mut outcome)?,
+/// The files that are named, or those that Git reads here.
+fn first_files(rt: &HostRuntime, names: Option<&[&str]>) -> Result<Vec<File>, Failure<'static>> {
+    let found = match names {
+        Some(names) => here::named(rt, names),
+        None => here::files(rt),
+    };
+    match found {
+        Ok(files) if files.is_empty() => Err(Failure::NoFile),
+        Ok(files) if here::has_stdin(&files) && rt.stdin().is_terminal() => Err(Failure::Terminal),
+        Ok(files) => Ok(files),
+        Err(error) => Err(Failure::Here(error)),
     }
+}
+
+/// Checks the files that are named, or those that Git reads here, and prints the counts. Returns the exit status.
+fn check_all(
+    checker: &Checker<'_, '_>,
+    names: Option<&[&str]>,
+    fails_on: Severity,
+) -> Result<u8, Failure<'static>> {
+    let mut outcome = Outcome::default();
+    let mut files = first_files(checker.rt, names)?;
+    check_files(checker, &mut files, &mut outcome)?;
     match eprintln!(checker.rt; "config_check: {}", outcome.counts) {
-        Ok(()) => Ok(outcome.status()),
+        Ok(()) => Ok(outcome.status(fails_on)),
         Err(error) => Err(Failure::Write(error)),
+    }
+}
+
+/// Whether severities are written in red: on a terminal that is not dumb, if the user does not refuse colors.
+fn wants_color(rt: &HostRuntime) -> bool {
+    let refused = match env::var(rt, "NO_COLOR") {
+        Ok(value) => !value.is_empty(),
+        Err(error) => !matches!(error, VarError::NotPresent),
+    };
+    let is_dumb = match env::var(rt, "TERM") {
+        Ok(value) => value.as_str() == "dumb",
+        Err(_) => false,
+    };
+    rt.stdout().is_terminal() && !refused && !is_dumb
+}
+
+/// The severity of `--fail-on`.
+fn fails_on(matches: &ArgMatches<'_>) -> Severity {
+    match matches.get_str("fail-on") {
+        Some("error") => Severity::Error,
+        Some("warning") => Severity::Warning,
+        _ => Severity::Note,
     }
 }
 
@@ -241,14 +301,30 @@ fn run<'m>(rt: &HostRuntime, matches: &ArgMatches<'m>) -> Result<u8, Failure<'m>
     )?;
     let options = Options {
         canonical: matches.get_flag("canonical"),
-        color: rt.stdout().is_terminal(),
+        color: wants_color(rt),
     };
     let checker = Checker {
         rt,
         rows: &rows,
         options,
     };
-    check_all(&checker, matches.get_strs("file"))
+    check_all(&checker, matches.get_strs("file"), fails_on(matches))
+}
+
+/// The bytes of a line, with control characters shown safely.
+fn line_of(alloc: Global, text: Result<String, AllocError>) -> Result<Vec<u8>, AllocError> {
+    let mut line = Vec::new(alloc);
+    push_shown(&mut line, text?.as_bytes())?;
+    line.push(b'\n')?;
+    Ok(line)
+}
+
+/// Writes a line on standard error.
+fn tell(rt: &HostRuntime, text: Result<String, AllocError>) {
+    let _ = match line_of(rt.alloc(), text) {
+        Ok(line) => rt.stderr().write_all(&line),
+        Err(_) => rt.stderr().write_all(b"config_check: no memory\n"),
+    };
 }
 
 /// The exit status of an outcome. Prints its failure on standard error.
@@ -257,7 +333,7 @@ fn status(rt: &HostRuntime, outcome: Result<u8, Failure<'_>>) -> ExitCode {
         Ok(status) => ExitCode::from(status),
         Err(failure) => {
             if failure.is_printed() {
-                let _ = eprintln!(rt; "config_check: {failure}");
+                tell(rt, format!(in rt.alloc(); "config_check: {failure}"));
             }
             ExitCode::from(2)
         }

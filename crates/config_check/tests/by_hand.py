@@ -4,7 +4,7 @@ import re
 import made
 import rows
 from checking import CANNOT, Ended, arguments, ended, summary, with_errors_cut
-from plain_reader import finding, key_of
+from plain_reader import finding, key_of, shown
 
 ROWS = 10_000
 WRONG_USE = re.compile(rb"[Uu]sage|error")
@@ -70,11 +70,22 @@ def escapes(group, program):
         (made.line_of(key, value), key, value, None) for key, value in rows.UNSHOWN_ACCEPTED])
 
 
+def expect_unknown(group, program, how, keys):
+    """Keys that are named as unknown, each with the key that is meant or None."""
+    for key, meant in keys:
+        entry = made.line_of(key, b"x")
+        hint = b"" if meant is None else b"; did you mean %s?" % meant
+        output = b"-:1: warning: %s: unknown key%s\n" % (shown(listed(key)), hint)
+        group.expect(entry, ended(output, (1, 0, 1, 1)), program.run(how, entry))
+
+
 def keys(group, program):
     """Which row a key belongs to, if to any; the value is no integer."""
     how = arguments(program.settings(rows.SETTINGS))
     expect_entries(group, program, how, [
         (made.line_of(key, b"x"), shown or listed(key), b"x", rows.INTEGER_FAULT) for key, shown in rows.KNOWN_KEYS])
+    expect_unknown(group, program, how, rows.MISSPELT_KEYS + [(key, None) for key in rows.OWN_KEYS])
+    expect_unknown(group, program, ["-"], rows.MISSPELT_BUILT_IN)
     for key in rows.UNKNOWN_KEYS:
         entry = made.line_of(key, b"x")
         group.expect(entry, ended(b"", (1, 0, 1, 0)), program.run(how, entry))
@@ -94,6 +105,18 @@ def files(group, program):
     group.expect("a file that is missing", (2, output, True, summary((2, 1, 1, 2))),
                  (came.status, came.output, came.errors.startswith(b"config_check: " + missing + b": "),
                   b"".join(came.errors.splitlines(True)[1:])))
+    for more in ([b"\x1b[31m\n"], ["--settings", b"\x1b[31m\n", "-"]):
+        came = program.run(more, b"")
+        group.expect(more, (2, True), (came.status, b"\\x1b[31m\\x0a: " in came.errors and b"\x1b" not in came.errors))
+
+
+def fail_on(group, program):
+    """At which severity the status is 1."""
+    how = arguments(program.settings(rows.SETTINGS), canonical=True)
+    for data, severities in rows.FAIL_ON:
+        for severity in ("note", "warning", "error"):
+            came = program.run(["--fail-on", severity, *how], data)
+            group.expect((severity, data), int(severity in severities), came.status)
 
 
 def built_in(group, program):
@@ -141,5 +164,5 @@ def wrong_and_other_arguments(group, program):
 
 
 def check(group, program):
-    for part in (values, escapes, keys, files, built_in, settings_files, wrong_and_other_arguments):
+    for part in (values, escapes, keys, files, fail_on, built_in, settings_files, wrong_and_other_arguments):
         part(group, program)

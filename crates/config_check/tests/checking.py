@@ -52,7 +52,10 @@ def run(command, data=None, **how):
 
 def summary(counts):
     """The line of the numbers of entries, judged ones, unknown keys and findings."""
-    return b"config_check: %d entries, %d judged, %d unknown keys, %d findings\n" % counts
+    entries, judged, unknown, findings = counts
+    return b"config_check: %d entr%s, %d judged, %d unknown key%s, %d finding%s\n" % (
+        entries, b"y" if entries == 1 else b"ies", judged, unknown, b"" if unknown == 1 else b"s",
+        findings, b"" if findings == 1 else b"s")
 
 
 def ended(output, counts):

@@ -94,25 +94,41 @@ def written_on_terminal(terminal):
         found += more
 
 
-def terminal(group, program, how):
-    """The severity is red on a terminal, and nowhere else."""
-    environment = dict(os.environ, TERM="xterm")
-    environment.pop("NO_COLOR", None)
-    data = FINDING + b'[test] bool = "\x1b[31m"\nx\0'
-    lines = [finding(1, b"test.bool", b"maybe", rows.BOOLEAN_FAULT),
-             finding(2, b"test.bool", b"\\x1b[31m", rows.BOOLEAN_FAULT), b"-:3: " + rows.NUL]
+def on_terminal(program, how, data, environment):
+    """How a run ends whose standard output is a terminal."""
     ours, programs = pty.openpty()
     came = program.run(how, data, stdout=programs, env=environment)
     os.close(programs)
     output = written_on_terminal(ours).replace(b"\r\n", b"\n")
     os.close(ours)
-    red = b"".join(lines).replace(b" error: ", b" " + RED + b"error: " + PLAIN)
-    counts = summary((2, 2, 0, 3))
-    group.expect("a terminal", Ended(1, red, counts), came._replace(output=output))
-    group.expect("a pipe", Ended(1, b"".join(lines), counts), program.run(how, data, env=environment))
+    return came._replace(output=output)
+
+
+def terminal(group, program, how):
+    """The severity is red on a terminal that is not dumb, if no one refuses colors, and nowhere else."""
+    environment = dict(os.environ, TERM="xterm")
+    environment.pop("NO_COLOR", None)
+    data = FINDING + b'[test] bool = "\x1b[31m"\nx\0'
+    lines = [finding(1, b"test.bool", b"maybe", rows.BOOLEAN_FAULT),
+             finding(2, b"test.bool", b"\\x1b[31m", rows.BOOLEAN_FAULT), b"-:3: " + rows.NUL]
+    plain = Ended(1, b"".join(lines), summary((2, 2, 0, 3)))
+    red = plain._replace(output=plain.output.replace(b" error: ", b" " + RED + b"error: " + PLAIN))
+    for more, wanted in (({}, red), ({"NO_COLOR": ""}, red), ({"NO_COLOR": "0"}, plain), ({"TERM": "dumb"}, plain)):
+        group.expect(("a terminal", more), wanted, on_terminal(program, how, data, environment | more))
+    group.expect("a pipe", plain, program.run(how, data, env=environment))
+
+
+def terminal_input(group, program, how):
+    """A terminal is no standard input: a line says what to do."""
+    ours, programs = pty.openpty()
+    came = program.run(how, stdin=programs)
+    os.close(programs)
+    os.close(ours)
+    told = b"config_check: standard input is a terminal: name a file, or redirect one: config_check - < FILE\n"
+    group.expect("a terminal as standard input", Ended(2, b"", told), came)
 
 
 def check(group, program):
     how = arguments(program.settings(rows.SETTINGS))
-    for part in (closed_pipe, full_device, closed_files, memory, terminal):
+    for part in (closed_pipe, full_device, closed_files, memory, terminal, terminal_input):
         part(group, program, how)

@@ -45,9 +45,9 @@ def by_git(git, folder, known):
     return files_of(folder / top, [origin.removeprefix("file:") for origin in origins if origin.startswith("file:")])
 
 
-def by_program(program, folder, known):
+def by_program(program, folder, known, names=()):
     """Each of the files has a value that is wrong."""
-    came = run([program.path], cwd=folder, env=known)
+    came = run([program.path, *names], cwd=folder, env=known)
     return files_of(folder, [line.split(":")[0] for line in came.output.decode().splitlines()])
 
 
@@ -75,6 +75,15 @@ def included(group, program, home, known):
     known = {**known, "GIT_CONFIG_NOSYSTEM": "1", "GIT_CONFIG_GLOBAL": str(folder / "first")}
     wanted = [str(folder / name) for name in ("first", "a", "../home/b", "c", *deep[:10])]
     group.expect("included files", list(map(os.path.realpath, wanted)), by_program(program, home / "plain", known))
+    came = by_program(program, folder, known, ["first"])
+    group.expect("what a named file includes", list(map(os.path.realpath, wanted)), came)
+    (folder / "loop").write_text(WRONG + PATH % "../includes/loop" + PATH % "./loop")
+    group.expect("a file that includes itself", [str(folder / "loop")], by_program(program, folder, known, ["loop"]))
+    data = (WRONG + PATH % "deep-11" + PATH % f"{folder}/c" + PATH % "~/b").encode()
+    came = run([program.path, "-"], data, cwd=folder, env=known)
+    names = [line.split(":")[0] for line in came.output.decode().splitlines()]
+    wanted = ["-", f"{folder}/c", f"{home}/home/b", *(f"{folder}/{name}" for name in ("a", "first", *deep[:7]))]
+    group.expect("what standard input includes", wanted, names)
 
 
 def check(group, program):

@@ -3,6 +3,7 @@
 `findings` gives what the program has to write and its counts. Nothing here is meant to be fast.
 """
 import collections
+import functools
 import re
 import sys
 
@@ -17,7 +18,7 @@ NUL = b"a NUL byte outside a comment"
 
 # a key, cut at its first and at its last dot; where they are one dot, there is no middle
 Key = collections.namedtuple("Key", "first middle last")
-Row = collections.namedtuple("Row", "key alone warns kind words")
+Row = collections.namedtuple("Row", "key alone warns kind words text")
 
 # a number has any count of digits
 sys.set_int_max_str_digits(0)
@@ -281,7 +282,7 @@ def row_of(fields):
     if kind not in KINDS and kind not in WITH_WORDS:
         return None
     is_row = bounds(words) is not None if kind == b"int" else bool(words) == (kind in WITH_WORDS)
-    return Row(key_of(text), kind in RIGHT_ALONE if alone is None else alone, warns, kind, words) if is_row else None
+    return Row(key_of(text), kind in RIGHT_ALONE if alone is None else alone, warns, kind, words, text) if is_row else None
 
 
 def rows_of(text):
@@ -307,6 +308,61 @@ def row_for(rows, text):
     """The first row whose key matches, or None."""
     key = key_of(text)
     return next((row for row in rows if is_matched(row.key, key)), None) if key is not None else None
+
+
+# keys that no row has
+
+# their sections also have settings that no row has
+SHARED = [b"advice", b"core", b"credential", b"gui", b"user"]
+
+
+def distance(one, other):
+    """How many bytes are put in, left out or replaced between two texts, ignoring ASCII case."""
+    one, other = one.lower(), other.lower()
+    line = list(range(len(other) + 1))
+    for row, byte in enumerate(one, 1):
+        before, line[0] = line[0], row
+        for column, wanted in enumerate(other, 1):
+            before, line[column] = line[column], min(line[column] + 1, line[column - 1] + 1, before + (byte != wanted))
+    return line[-1]
+
+
+def apart(pattern, key):
+    """How far a key is from the key of a row, if they differ in one part, and few bytes of it; None otherwise."""
+    is_middle = pattern.middle == key.middle or pattern.middle == b"*" and key.middle is not None
+    is_last = pattern.last in (b"*", key.last)
+    if pattern.first != key.first:
+        pair, most, is_one = (pattern.first, key.first), 1, is_middle and is_last
+    elif is_middle:
+        pair, most, is_one = (pattern.last, key.last), 2, not is_last
+    else:
+        pair, most, is_one = (pattern.middle, key.middle), 2, is_last and None not in (pattern.middle, key.middle)
+    # lengths that differ by more need no look at the bytes
+    if not is_one or abs(len(pair[0]) - len(pair[1])) > most:
+        return None
+    edits = distance(*pair)
+    return edits if edits <= most else None
+
+
+def filled(pattern, key):
+    """A row's key as it is written, with the parts of a key for its `*`."""
+    first, _, rest = pattern.partition(b".")
+    middle, dot, last = rest.rpartition(b".")
+    parts = [first, *([key.middle if middle == b"*" else middle] if dot else []), key.last if last == b"*" else last]
+    return b".".join(parts)
+
+
+def unknown(rows, text):
+    """What is said of a key that no row has; None where nothing is."""
+    key = key_of(text)
+    if key is None:
+        return None
+    near = [(apart(row.key, key), number) for number, row in enumerate(rows)]
+    found = min((one for one in near if one[0] is not None), default=None)
+    if found is not None:
+        return b"warning: unknown key; did you mean %s?" % shown(filled(rows[found[1]].text, key))
+    is_own = key.middle is None and key.first not in SHARED and any(row.key.first == key.first for row in rows)
+    return b"warning: unknown key" if is_own else None
 
 
 # input and output
@@ -439,12 +495,13 @@ def findings(rows, data, canonical=False):
     """The output for standard input, and the counts: entries, judged ones, unknown keys and findings."""
     found, stopped = entries(data)
     judged, lines = 0, []
+    told = functools.cache(lambda key: unknown(rows, key))
     for line, key, value in found:
         row = row_for(rows, key)
         judged += row is not None
-        why = None if row is None else reason(row, value, canonical)
+        why = told(key) if row is None else reason(row, value, canonical)
         if why is not None:
-            lines.append(finding(line, shown(key), None if value is None else shown(value), why))
+            lines.append(finding(line, shown(key), None if value is None or row is None else shown(value), why))
     if stopped is not None:
         lines.append(b"-:%d: error: %s\n" % stopped)
     return b"".join(lines), (len(found), judged, len(found) - judged, len(lines))

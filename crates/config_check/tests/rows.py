@@ -301,7 +301,7 @@ UNSHOWN_ACCEPTED = [
     (b"test.text", b"a\nb\tc\\"), (b"test.text", b"\x7f\xc2\x80"),
 ]
 
-# keys of rows of integers, and how they are shown; keys that no row matches
+# keys of rows of integers, and how they are shown
 KNOWN_KEYS = [
     (b"mixed.case", None), (b"MIXED.case", None), (b"mIxEd.cAsE", None), (b"TEST.INT", None),
     (b"middle.x.last", None), (b"MIDDLE.x.LAST", None), (b"middle..last", None), (b"middle...last", None),
@@ -312,12 +312,27 @@ KNOWN_KEYS = [
     (b"any-last.x", None), (b"any-last.sub.x", None), (b"any-both.x.y", None), (b"any-both.a.b.c", None),
     (b"literal.a*.last", None),
 ]
+# keys that no row matches, and the key that is meant: of another section by one byte, or of another part by two at
+# most; the nearest row's, and the first of several
+MISSPELT_KEYS = [
+    (b"test.in", b"test.int"), (b"test.intt", b"test.int"), (b"tes.int", b"test.int"), (b"testt.int", b"test.int"),
+    (b"test.nit", b"test.int"), (b"test.tni", b"test.int"), (b"test.sort-ky", b"test.sort-key"),
+    (b"test.bol-or-wrd", b"test.bool-or-word"), (b"test.Colour", b"test.color"),
+    (b"any-last.sub.x.y", b"any-last.sub.y"),
+    (b"middle.x.las", b"middle.x.last"), (b"middle.x.lasttt", b"middle.x.last"), (b"mddle.X y.last", b"middle.X y.last"),
+    (b"middle.exact.other", b"middle.Exact.Other"), (b"middle.EXact.other", b"middle.Exact.Other"),
+    (b"middle.Exact.othr", b"middle.Exact.Other"), (b"middle.exat.other", b"middle.Exact.Other"),
+    (b"middle.two.Parts.other", b"middle.two.parts.other"), (b"empty.x.middle", b"empty..middle"),
+    (b"empty.xx.middle", b"empty..middle"), (b"any-last.SUB.x", b"any-last.sub.x"), (b"any-lst.Sub", b"any-last.sub"),
+    (b"any-both-.x.y", b"any-both.x.y"), (b"literal.last-o", b"literal.last*"), (b"x.star", b"*.star"),
+    (b"middle.\xff\t.lst", rb"middle.\xff\x09.last"), (b"middle.a\\b.lst", rb"middle.a\\b.last"),
+]
+# keys of sections that only the rows have
+OWN_KEYS = [b"test.wrong", b"middle.last", b"empty.middle", b"any-both.y", b"literal.last-one"]
 UNKNOWN_KEYS = [
-    b"test.in", b"test.intt", b"tes.int", b"testt.int", b"test.x.int", b"test..int", b".test.int", b"..int",
-    b"middle.last", b"middle.x.las", b"middle.exact.other", b"middle.EXACT.other", b"middle.Exact.x",
-    b"middle.two.other", b"middle.two.Parts.other", b"empty.middle", b"empty.x.middle", b"empty...middle",
-    b"any-last.x.y", b"any-last.SUB.x", b"any-last.sub.x.y", b"any-last..x", b"any-both.y", b"literal.ab.last",
-    b"literal.A*.last", b"literal.last-one", b"x.star", b"any-both-.x.y",
+    b"test.x.int", b"test..int", b".test.int", b"..int", b"te.int", b"middle.Exact.x", b"middle.two.other",
+    b"empty.xxx.middle", b"any-last.x.y", b"any-last..x", b"literal.abcd.last", b"xx.star", b"tset.int",
+    b"other.key", b"core.exclude", b"user.nickname",
 ]
 
 # which row decides: key, value, and the reason
@@ -326,6 +341,12 @@ FIRST_ROWS = [
     (b"first.later", b"", None), (b"first.sub.x", b"red", BOOLEAN_FAULT),
     (b"first.sub.x", b"yes", None), (b"first.Sub.x", b"yes", INTEGER_FAULT),
     (b"first.sub.y", b"yes", COLOR_FAULT), (b"first.sub.y", b"red", None),
+]
+
+# keys of the program's own rows, misspelt: the key that is meant, or None where none is near
+MISSPELT_BUILT_IN = [
+    (b"pull.rebas", b"pull.rebase"), (b"pul.rebase", b"pull.rebase"), (b"branch.main.remte", b"branch.main.remote"),
+    (b"color.brnch.local", b"color.branch.local"), (b"core.autocrfl", b"core.autocrlf"), (b"pull.everything", None),
 ]
 
 # rows of the program itself: key, value, and how the reason begins
@@ -386,9 +407,16 @@ FILES = [
     (b"[test]\nint\nint = 1\0\n", b"-:2: error: test.int: no value\n-:3: " + NUL, (1, 1, 0, 2)),
 ]
 
+# a file, and the severities at which `--fail-on` gives the status 1
+FAIL_ON = [
+    (b"[test]\nint = x\nbool = yes\n", ["note", "warning", "error"]), (b"[test\n", ["note", "warning", "error"]),
+    (b"[mark]\nwarn = x\n", ["note", "warning"]), (b"[test]\nin = 1\n", ["note", "warning"]),
+    (b"[test]\nbool = yes\n", ["note"]), (b"[test]\nbool = true\n[other]x\n", []),
+]
+
 # arguments that are wrong
 WRONG_ARGUMENTS = [["--no-such-argument"], ["-x"], ["--settings"], ["--show-scope"], ["--show-origin"], ["--canonical=maybe"],
-                   ["--canonical", "--canonical"],
+                   ["--canonical", "--canonical"], ["--fail-on"], ["--fail-on", "fatal"], ["--fail-on", "note", "--fail-on", "note"],
                    ["--settings", "/dev/null", "--settings", "/dev/null"]]
 
 # arguments that are no UTF-8

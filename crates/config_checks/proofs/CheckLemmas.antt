@@ -8,30 +8,31 @@ use Rattle.config_file.specs.declared.errors.Error as errors
 use Rattle.config_file.specs.declared.settings.Setting.{Setting}
 use Rattle.config_checks.specs.declared.options.Options.{Options}
 use Rattle.config_checks.specs.declared.row.Row.{Row}
+use Rattle.config_checks.specs.declared.suggestion.UnknownKey.{UnknownKey}
+use Rattle.config_checks.specs.Suggestions.{IsUnknownKey}
 use Rattle.config_checks.specs.declared.check.Counts.{Counts}
 use Rattle.config_checks.specs.declared.check.CheckError.{CheckError}
 use Rattle.config_checks.specs.declared.check.CheckError.TheVariants.{Write, Memory}
-use Rattle.config_checks.specs.Report.{unknown, right, found, Report, nothing, next}
-use Rattle.config_checks.specs.Report.{HasSettings, HasFirst, Completes, Fails}
+use Rattle.config_checks.specs.Report.{unknown_line, unknown, misspelt, right, found, Report, nothing, next}
+use Rattle.config_checks.specs.Report.{HasSettings, HasFirst, Completes, Fails, counted, no_counts}
 use Rattle.config_checks.specs.Findings.{AppendsPart}
 use Rattle.config_checks.specs.Reading.Steps.{Reports, ReportsPart, ReportsAll, ReportsFirst, Tells, TellsPart}
-use Rattle.config_checks.specs.Reading.Steps.{WritesPart, IsMemory, IsWrite}
+use Rattle.config_checks.specs.Reading.Steps.{WritesPart, IsMemory, IsWrite, AreWithin}
+use Rattle.config_checks.specs.Reasons.{severity_of}
+use Rattle.config_checks.specs.declared.reason.Severity.{Severity}
+use Rattle.config_checks.specs.declared.reason.Severity.TheVariants.{Error, Warning, Note}
 use Rattle.config_file.specs.File.{Entry, IsFile}
 use Rattle.config_file.specs.Settings.{IsSettingOf}
 use Rattle.std.specs.List.{AllZip}
 use Rattle.config_file.proofs.EachReading.{each_is_read}
 
 module _ (rows : List Row) (options : Options) where
-  nothing_counted : (s : Counts) → s.entries ≡ 0 → s.unknown ≡ 0 → s.findings ≡ 0 → Report rows options [] [] s
-  nothing_counted s none none_unknown none_found =
-      subst (Report rows options [] []) (sym (ap (λ a. record { entries = a; unknown = s.unknown; findings = s.findings }) none
-      ∙ ap (λ b. record { entries = 0; unknown = b; findings = s.findings }) none_unknown
-      ∙ ap (λ c. record { entries = 0; unknown = 0; findings = c }) none_found)) nothing
-
   -- nothing is reported yet
-  pub start : (w : Option (List ℕ)) (s : Counts) → s.entries ≡ 0 → s.unknown ≡ 0 → s.findings ≡ 0
-      → ReportsAll rows options [] w w s
-  start w s none none_unknown none_found = ([], Appends-nil w, nothing_counted s none none_unknown none_found)
+  pub start : (w : Option (List ℕ)) (s : Counts) → s.entries ≡ 0 → s.unknown ≡ 0 → s.findings ≡ 0 → s.errors ≡ 0
+      → s.warnings ≡ 0 → ReportsAll rows options [] w w s
+  start w s a b c d e =
+      let none : s ≡ no_counts = λ i. record { entries = a i; unknown = b i; findings = c i; errors = d i; warnings = e i } in
+      ([], Appends-nil w, subst (Report rows options [] []) (sym none) nothing)
 
   -- one more setting
   pub more : (settings : List Setting) (setting : Setting) (w x x' : Option (List ℕ)) (s s' : Counts)
@@ -95,14 +96,53 @@ cut_at xs i x below here =
 
 -- ---- counts
 
+-- each count grows by one at most, and that of the entries by one
+pub record AddsOne (s s' : Counts) : Type 0 where
+  pub entries : s'.entries ≡ s.entries + 1
+  pub unknown : s'.unknown ≤ s.unknown + 1
+  pub findings : s'.findings ≤ s.findings + 1
+  pub errors : s'.errors ≤ s.errors + 1
+  pub warnings : s'.warnings ≤ s.warnings + 1
+
+counted_one : (severity : Severity) (s t : Counts) → t.entries ≡ s.entries + 1 → t.unknown ≤ s.unknown + 1
+    → t.findings ≡ s.findings → t.errors ≡ s.errors → t.warnings ≡ s.warnings → AddsOne s (counted severity t)
+counted_one Error s t a b c d e =
+    record { entries = a; unknown = b; findings = omega (arith, c); errors = omega (arith, d); warnings = omega (arith, e) }
+counted_one Warning s t a b c d e =
+    record { entries = a; unknown = b; findings = omega (arith, c); errors = omega (arith, d); warnings = omega (arith, e) }
+counted_one Note s t a b c d e =
+    record { entries = a; unknown = b; findings = omega (arith, c); errors = omega (arith, d); warnings = omega (arith, e) }
+
 pub adds_one : (rows : List Row) (options : Options) (setting : Setting) (s s' : Counts) (x x' : Option (List ℕ))
-    → Reports rows options setting s s' x x'
-    → (s'.entries ≡ s.entries + 1) × (s'.unknown ≤ s.unknown + 1) × (s'.findings ≤ s.findings + 1)
+    → Reports rows options setting s s' x x' → AddsOne s s'
 adds_one rows options setting s s' x x' (line, adds, appended) = elim adds [
-  | unknown is none after ↦ rw after (refl, omega arith, omega arith)
-  | right row decides is none after ↦ rw after (refl, omega arith, omega arith)
-  | found row reason decides is line after ↦ rw after (refl, omega arith, omega arith)
+  | unknown is passed none after ↦ rw after (record {
+    entries = refl;
+    unknown = omega arith;
+    findings = omega arith;
+    errors = omega arith;
+    warnings = omega arith;
+  })
+  | misspelt key is line after ↦
+      rw after (counted_one Warning s (record s { entries = s.entries + 1; unknown = s.unknown + 1 }) refl (omega arith) refl refl refl)
+  | right row decides is none after ↦ rw after (record {
+    entries = refl;
+    unknown = omega arith;
+    findings = omega arith;
+    errors = omega arith;
+    warnings = omega arith;
+  })
+  | found row reason decides is line after ↦
+      rw after (counted_one (severity_of row.goes_on reason) s (record s { entries = s.entries + 1 }) refl (omega arith) refl refl refl)
 ]
+
+pub within_after : (s s' : Counts) → AreWithin s → AddsOne s s' → AreWithin s'
+within_after s s' within adds = record {
+  unknown = omega (arith, adds.entries, adds.unknown, within.unknown);
+  findings = omega (arith, adds.entries, adds.findings, within.findings);
+  errors = omega (arith, adds.entries, adds.errors, within.errors);
+  warnings = omega (arith, adds.entries, adds.warnings, within.warnings);
+}
 
 -- ---- a file
 
@@ -148,10 +188,10 @@ module _ (rows : List Row) (options : Options) (file text : List ℕ) where
           told = None;
           of_file = record { before = []; after = entries; error = error; is_file = is_file; are = tt; at_end = inl refl };
           lines = [];
-          s = record { entries = 0; unknown = 0; findings = 0 };
+          s = no_counts;
           report = nothing;
           last = [];
-          s' = record { entries = 0; unknown = 0; findings = 0 };
+          s' = no_counts;
           ends = (refl, refl);
           missing = [];
           parts = refl;
@@ -295,3 +335,27 @@ pub err_with : {T E P : Type 0} {Q R : E → Type 0} (r : Result T E) → OnErr 
     → (P → (e : E) → Q e → R e) → IfErr r R
 err_with (Ok v) p q so = tt
 err_with (Err e) p q so = so p e q
+
+-- ---- a misspelt key
+
+module _ (rows : List Row) (options : Options) (setting : Setting) (s : Counts) where
+  -- its line was written
+  pub told_misspelt : {T E : Type 0} (s' : Counts) (key : UnknownKey) (r : Result T E) (x x' : Option (List ℕ))
+      → IsUnknownKey rows setting.key.items key
+      → s' ≡ counted Warning (record s { entries = s.entries + 1; unknown = s.unknown + 1 })
+      → OnOk r (Appends x x' (unknown_line options setting key)) → OnOk r (Reports rows options setting s s' x x')
+  told_misspelt s' key (Ok v) x x' is counts appended = (unknown_line options setting key, misspelt key is refl counts, appended)
+  told_misspelt s' key (Err e) x x' is counts appended = tt
+
+  -- a part of it was written
+  part_misspelt : (key : UnknownKey) (e : CheckError) (x x' : Option (List ℕ)) → IsUnknownKey rows setting.key.items key
+      → WritesPart x x' (λ line. line ≡ unknown_line options setting key) e → ReportsPart rows options setting s x x' e
+  part_misspelt key (Write e) x x' is (line, same, part) = (line, (_, misspelt key is same refl), part)
+  part_misspelt key (Memory e) x x' is same = same
+
+  pub failed_misspelt : {T : Type 0} (key : UnknownKey) (r : Result T CheckError) (x x' : Option (List ℕ))
+      → IsUnknownKey rows setting.key.items key
+      → IfErr r (WritesPart x x' (λ line. line ≡ unknown_line options setting key))
+      → IfErr r (ReportsPart rows options setting s x x')
+  failed_misspelt key (Ok v) x x' is part = tt
+  failed_misspelt key (Err e) x x' is part = part_misspelt key e x x' is part

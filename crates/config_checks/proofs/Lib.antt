@@ -6,4 +6,6 @@ mod WriteLemmas
 mod CheckLemmas
 mod TableLemmas
 mod OneFinding
+mod OneKey
+mod OneSuggestion
 mod OneReport

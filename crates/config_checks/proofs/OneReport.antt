@@ -1,11 +1,9 @@
 -- A file has one report.
-use Rattle.std.proofs.Common.{◌≡◌, ◌≢◌, ℕ, inl, inr, ◌⊎◌, ◌<◌, List, [], ◌∷◌, ◌++◌, Bool, map}
-use Rattle.std.proofs.Common.{Option, None, Some, refl, sym, ap, subst, ◌∙◌, arith, append_assoc, append-nil, get_or, Bor, codes}
+use Rattle.std.proofs.Common.{◌≡◌, ◌≢◌, ◌+◌, ℕ, inl, inr, ◌⊎◌, List, [], ◌∷◌, ◌++◌, Bool, map}
+use Rattle.std.proofs.Common.{Option, None, Some, refl, sym, ap, subst, ◌∙◌, append_assoc, append-nil, codes}
 use Rattle.std.specs.Bool.{⊤}
 use Rattle.std.specs.Char.{to_ascii_lowercase}
 use Rattle.std.specs.List.{AllByRecursion, AllZip}
-use Rattle.std.proofs.lemmas.List.{get_or-take, get_or_default, length-take}
-use Rattle.config_text.specs.SameWord.{SameWord}
 use Rattle.config_file.specs.declared.errors.Error as errors
 use Rattle.config_file.specs.declared.settings.Setting.{Setting}
 use Rattle.config_file.specs.Header as header
@@ -20,43 +18,21 @@ use Rattle.config_file.specs.Settings.{IsSettingOf, IsValueOf}
 use Rattle.config_file.proofs.OneReading.{one_reading}
 use Rattle.config_checks.specs.declared.options.Options.{Options}
 use Rattle.config_checks.specs.declared.row.Row.{Row}
-use Rattle.config_checks.specs.declared.key.Key.{Key}
 use Rattle.config_checks.specs.declared.reason.Reason.{Reason}
 use Rattle.config_checks.specs.declared.reason.Reason.TheVariants.{NotCanonical, NoWord}
 use Rattle.config_checks.specs.declared.reason.Severity.{Severity}
-use Rattle.config_checks.specs.declared.reason.Severity.TheVariants.{Note}
+use Rattle.config_checks.specs.declared.reason.Severity.TheVariants.{Note, Warning}
 use Rattle.config_checks.specs.declared.check.Counts.{Counts}
 use Rattle.config_checks.specs.declared.check.CheckError.{CheckError}
-use Rattle.config_checks.specs.Keys.{IsWithout, IsKey, Covers, CoversBetween, between_text, dot}
 use Rattle.config_checks.specs.Rows.{Decides, IsUnknown}
+use Rattle.config_checks.specs.Suggestions.{IsPassed, IsUnknownKey, unknown_text}
 use Rattle.config_checks.specs.Reasons.{HasFinding, IsSameFinding, severity_of}
 use Rattle.config_checks.specs.Findings.{line_feed, shown, value_shown, severity_text, reason_text, no_word_text, painted}
-use Rattle.config_checks.specs.Report.{place, value_of, finding_line, ReportsSetting, unknown, right, found}
+use Rattle.config_checks.specs.Report.{place, value_of, counted, finding_line, ReportsSetting, unknown, misspelt, right, found}
 use Rattle.config_checks.specs.Report.{Report, nothing, next, EndsReport, HasSettings, IsReport, BeginsReport}
-use Rattle.config_checks.proofs.KeyLemmas.{not_without}
 use Rattle.config_checks.proofs.OneFinding.{finding_once}
-use Rattle.gix_config_value.proofs.LineLemmas.{AllByRecursion-from_places}
-use Rattle.gix_config_value.proofs.OneAnswer.{first_cut as line_cut}
-
--- ---- where a byte first and last stands
-
-each_other : (byte : ℕ) (a : List ℕ) → IsWithout byte a → AllByRecursion (λ b. b ≢ byte) a
-each_other byte a without = AllByRecursion-from_places (λ b. b ≢ byte) a (λ k below. without k 0 below)
-
-first_cut : (byte : ℕ) (a b x y : List ℕ) → IsWithout byte a → IsWithout byte b
-    → a ++ byte ∷ x ≡ b ++ byte ∷ y → (a ≡ b) × (x ≡ y)
-first_cut byte a b x y u w e = line_cut byte a b x y (each_other byte a u) (each_other byte b w) e
-
-last_cut : (byte : ℕ) (a b x y : List ℕ) → IsWithout byte x → IsWithout byte y
-    → a ++ byte ∷ x ≡ b ++ byte ∷ y → (a ≡ b) × (x ≡ y)
-last_cut byte [] [] x y u w e = (refl, cc)
-last_cut byte [] (c ∷ b) x y u w e = absurd (not_without byte x b y (cc) u)
-last_cut byte (c ∷ a) [] x y u w e = absurd (not_without byte y a x (cc) w)
-last_cut byte (c ∷ a) (d ∷ b) x y u w e =
-    let rest = last_cut byte a b x y u w (cc) in (let same = rest.0 in cc, rest.1)
-
-regroup : (byte : ℕ) (a x : List ℕ) → (a ++ byte ∷ []) ++ x ≡ a ++ byte ∷ x
-regroup byte a x = append_assoc a (byte ∷ []) x
+use Rattle.config_checks.proofs.OneKey.{known_once, row_once}
+use Rattle.config_checks.proofs.OneSuggestion.{text_once, not_passed}
 
 -- ---- the settings of a file
 
@@ -156,76 +132,6 @@ settings_once name text a b e f (entries, is, are) (entries', is', are') =
       read.1,
     )
 
--- ---- a key and its row
-
--- the same texts stand between
-abbrev SameBetween : Option (Bor (List ℕ)) → Option (Bor (List ℕ)) → Type 0
-SameBetween None None = Unit {0}
-SameBetween None (Some b) = ⊥
-SameBetween (Some a) None = ⊥
-SameBetween (Some a) (Some b) = a.now ≡ b.now
-
-record SameKey (a b : Key) : Type 0 where
-  section : a.section.now ≡ b.section.now
-  between : SameBetween a.between b.between
-  last : a.last.now ≡ b.last.now
-
-between_once : (a b : Option (Bor (List ℕ))) (x y : List ℕ) → IsWithout dot x → IsWithout dot y
-    → between_text a ++ x ≡ between_text b ++ y → (SameBetween a b) × (x ≡ y)
-between_once None None x y u w e = (tt, e)
-between_once None (Some b) x y u w e = absurd (not_without dot x b.now y (e ∙ regroup dot b.now y) u)
-between_once (Some a) None x y u w e = absurd (not_without dot y a.now x (sym e ∙ regroup dot a.now x) w)
-between_once (Some a) (Some b) x y u w e =
-    last_cut dot a.now b.now x y u w (sym (regroup dot a.now x) ∙ e ∙ regroup dot b.now y)
-
-key_once : (t : List ℕ) (a b : Key) → IsKey t a → IsKey t b → SameKey a b
-key_once t a b p q =
-    let first = first_cut dot a.section.now b.section.now (between_text a.between ++ a.last.now) (between_text b.between ++ b.last.now)
-    p.first q.first (sym p.parts ∙ q.parts) in
-    let others = between_once a.between b.between a.last.now b.last.now p.last q.last first.1 in
-    record { section = first.0; between = others.0; last = others.1 }
-
-covers_between : (row a b : Option (Bor (List ℕ))) → SameBetween a b → CoversBetween row a → CoversBetween row b
-covers_between None None None same covers = covers
-covers_between None None (Some b) same covers = absurd same
-covers_between None (Some a) b same covers = absurd covers
-covers_between (Some row) None b same covers = absurd covers
-covers_between (Some row) (Some a) None same covers = absurd same
-covers_between (Some row) (Some a) (Some b) same covers = elim covers [
-  | inl any ↦ inl any
-  | inr is ↦ inr (is ∙ same)
-]
-
-covers_same : (row a b : Key) → SameKey a b → Covers row a → Covers row b
-covers_same row a b same covers = record {
-  section = subst (SameWord row.section.now) same.section covers.section;
-  between = covers_between row.between a.between b.between same.between covers.between;
-  last = elim covers.last [
-    | inl any ↦ inl any
-    | inr is ↦ inr (subst (SameWord row.last.now) same.last is)
-  ];
-}
-
-module _ (rows : List Row) (t : List ℕ) where
-  known_once : (row : Row) → Decides rows t row → ¬ (IsUnknown rows t)
-  known_once row decides (inl none) = none decides.key decides.is_key
-  known_once row decides (inr other) =
-      other.2 decides.place row decides.inside
-      (covers_same _ decides.key other.0 (key_once t decides.key other.0 decides.is_key other.1)
-      (subst (λ r. Covers r.key decides.key) (sym decides.stands) decides.covers))
-
-  row_before : (a b : Row) (p : Decides rows t a) (q : Decides rows t b) → ¬ (p.place < q.place)
-  row_before a b p q before =
-      q.first p.place a (omega (arith, length-take {A = Row}, before, q.inside))
-      (covers_same _ p.key q.key (key_once t p.key q.key p.is_key q.is_key)
-      (subst (λ r. Covers r.key p.key) (sym (get_or-take q.place rows p.place a before ∙ p.stands)) p.covers))
-
-  row_once : (a b : Row) → Decides rows t a → Decides rows t b → a ≡ b
-  row_once a b p q =
-      let less = row_before a b p q in let more = row_before b a q p in
-      let same : p.place ≡ q.place = omega (arith, less, more) in
-      sym p.stands ∙ ap (λ n. get_or rows n a) same ∙ get_or_default rows q.place a b q.inside ∙ q.stands
-
 -- ---- the report
 
 no_finding : (reason : Reason) → ¬ (IsSameFinding None (Some reason))
@@ -237,6 +143,11 @@ module _ (options : Options) where
   line_of f severity text = place f.0 f.1 ++ painted options.color (severity_text severity)
       ++ (shown f.2 ++ codes ": " ++ value_shown f.3) ++ text ++ line_feed ∷ []
 
+  -- the line of a setting with these facts, whose key is misspelt
+  abbrev key_line : Facts → List ℕ → List ℕ
+  key_line f text = place f.0 f.1 ++ painted options.color (severity_text Warning)
+      ++ shown f.2 ++ codes ": " ++ text ++ line_feed ∷ []
+
   same_line : (f : Facts) (goes_on : Bool) (a b : Reason) → IsSameFinding (Some a) (Some b)
       → line_of f (severity_of goes_on a) (reason_text a) ≡ line_of f (severity_of goes_on b) (reason_text b)
   same_line f goes_on (NotCanonical c) (NotCanonical d) same = ap (λ l. line_of f Note (codes "should be " ++ l)) same
@@ -245,11 +156,21 @@ module _ (options : Options) where
   same_line f goes_on a b same =
       let is : a ≡ b = cc in ap (λ r. line_of f (severity_of goes_on r) (reason_text r)) is
 
+  same_severity : (goes_on : Bool) (a b : Reason) → IsSameFinding (Some a) (Some b)
+      → severity_of goes_on a ≡ severity_of goes_on b
+  same_severity goes_on (NotCanonical c) (NotCanonical d) same = refl
+  same_severity goes_on (NoWord l) (NoWord m) same = refl
+  same_severity goes_on a b same = let is : a ≡ b = cc in ap (severity_of goes_on) is
+
   module _ (rows : List Row) where
     -- a setting with the same facts is reported in the same way
     moved : (a b : Setting) (s s' : Counts) (line : List ℕ) → facts b ≡ facts a → ReportsSetting rows options b s line s'
         → ReportsSetting rows options a s line s'
-    moved a b s s' line same (unknown u none is) = unknown (subst (IsUnknown rows) (ap (λ f. f.2) same) u) none is
+    moved a b s s' line same (unknown u passed none is) =
+        unknown (subst (IsUnknown rows) (ap (λ f. f.2) same) u) (subst (IsPassed rows) (ap (λ f. f.2) same) passed) none is
+    moved a b s s' line same (misspelt key is_key shown is) =
+        misspelt key (subst (λ k. IsUnknownKey rows k key) (ap (λ f. f.2) same) is_key)
+        (shown ∙ ap (λ f. key_line f (unknown_text key)) same) is
     moved a b s s' line same (right row decides good none is) =
         right row (subst (λ k. Decides rows k row) (ap (λ f. f.2) same) decides)
         (subst (λ v. HasFinding options.canonical row v None) (ap (λ f. f.3) same) good) none is
@@ -261,21 +182,37 @@ module _ (options : Options) where
     setting_once : (setting : Setting) (s : Counts) (line line' : List ℕ) (t t' : Counts)
         → ReportsSetting rows options setting s line t → ReportsSetting rows options setting s line' t'
         → (line ≡ line') × (t ≡ t')
-    setting_once setting s line line' t t' (unknown u none is) (unknown u' none' is') = (none ∙ sym none', is ∙ sym is')
-    setting_once setting s line line' t t' (unknown u none is) (right row decides good none' is') =
+    setting_once setting s line line' t t' (unknown u passed none is) (unknown u' passed' none' is') =
+        (none ∙ sym none', is ∙ sym is')
+    setting_once setting s line line' t t' (unknown u passed none is) (misspelt key is_key shown is') =
+        absurd (not_passed rows setting.key.items key is_key passed)
+    setting_once setting s line line' t t' (unknown u passed none is) (right row decides good none' is') =
         absurd (known_once rows setting.key.items row decides u)
-    setting_once setting s line line' t t' (unknown u none is) (found row reason decides bad shown is') =
+    setting_once setting s line line' t t' (unknown u passed none is) (found row reason decides bad shown is') =
         absurd (known_once rows setting.key.items row decides u)
-    setting_once setting s line line' t t' (right row decides good none is) (unknown u none' is') =
+    setting_once setting s line line' t t' (misspelt key is_key shown is) (unknown u passed none is') =
+        absurd (not_passed rows setting.key.items key is_key passed)
+    setting_once setting s line line' t t' (misspelt key is_key shown is) (misspelt key' is_key' shown' is') =
+        let text = ap (key_line (facts setting)) (text_once rows setting.key.items key key' is_key is_key') in
+        (shown ∙ text ∙ sym shown', is ∙ sym is')
+    setting_once setting s line line' t t' (misspelt key is_key shown is) (right row decides good none' is') =
+        absurd (known_once rows setting.key.items row decides is_key.unknown)
+    setting_once setting s line line' t t' (misspelt key is_key shown is) (found row reason decides bad shown' is') =
+        absurd (known_once rows setting.key.items row decides is_key.unknown)
+    setting_once setting s line line' t t' (right row decides good none is) (unknown u passed none' is') =
         absurd (known_once rows setting.key.items row decides u)
+    setting_once setting s line line' t t' (right row decides good none is) (misspelt key is_key shown is') =
+        absurd (known_once rows setting.key.items row decides is_key.unknown)
     setting_once setting s line line' t t' (right row decides good none is) (right row' decides' good' none' is') =
         (none ∙ sym none', is ∙ sym is')
     setting_once setting s line line' t t' (right row decides good none is) (found row' reason decides' bad shown is') =
         let same = row_once rows setting.key.items row' row decides' decides in
         absurd (no_finding reason (finding_once options.canonical row (value_of setting) None (Some reason) good
         (subst (λ r. HasFinding options.canonical r (value_of setting) (Some reason)) same bad)))
-    setting_once setting s line line' t t' (found row reason decides bad shown is) (unknown u none is') =
+    setting_once setting s line line' t t' (found row reason decides bad shown is) (unknown u passed none is') =
         absurd (known_once rows setting.key.items row decides u)
+    setting_once setting s line line' t t' (found row reason decides bad shown is) (misspelt key is_key shown' is') =
+        absurd (known_once rows setting.key.items row decides is_key.unknown)
     setting_once setting s line line' t t' (found row reason decides bad shown is) (right row' decides' good none is') =
         let same = row_once rows setting.key.items row row' decides decides' in
         absurd (no_finding reason (finding_once options.canonical row' (value_of setting) None (Some reason) good
@@ -283,11 +220,13 @@ module _ (options : Options) where
     setting_once setting s line line' t t' (found row reason decides bad shown is)
         (found row' reason' decides' bad' shown' is') =
         let same = row_once rows setting.key.items row' row decides' decides in
-        let text = same_line (facts setting) row.goes_on reason reason'
-        (finding_once options.canonical row (value_of setting) (Some reason) (Some reason') bad
-        (subst (λ r. HasFinding options.canonical r (value_of setting) (Some reason')) same bad')) in
+        let finding = finding_once options.canonical row (value_of setting) (Some reason) (Some reason') bad
+        (subst (λ r. HasFinding options.canonical r (value_of setting) (Some reason')) same bad') in
+        let text = same_line (facts setting) row.goes_on reason reason' finding in
         let written = subst (λ r. line' ≡ finding_line options setting (severity_of r.goes_on reason') reason') same shown' in
-        (shown ∙ text ∙ sym written, is ∙ sym is')
+        let counts = subst (λ r. t' ≡ counted (severity_of r.goes_on reason') (record s { entries = s.entries + 1 })) same is' in
+        let severities = same_severity row.goes_on reason reason' finding in
+        (shown ∙ text ∙ sym written, is ∙ ap (λ v. counted v (record s { entries = s.entries + 1 })) severities ∙ sym counts)
 
     facts_and : (es : List Setting) (e : Setting) → map facts (es ++ e ∷ []) ≡ map facts es ++ facts e ∷ []
     facts_and [] e = refl

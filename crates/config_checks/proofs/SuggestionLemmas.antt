@@ -1,9 +1,13 @@
 -- The edits between the keys of rows and a key, and the nearest row.
-use Rattle.std.proofs.Common.{◌≡◌, ◌+◌, ◌<◌, ◌≤◌, ℕ, List, length, take, Result, Ok, Err, IfOk, MatchOption, Option}
-use Rattle.std.proofs.Common.{None, Some, Bor, refl, sym, ◌∙◌, subst, arith}
+use Rattle.std.proofs.Common.{◌≡◌, ◌+◌, ◌<◌, ◌≤◌, ℕ, zero, suc, List, [], ◌∷◌, length, map, take, nat_eq, Result, Ok, Err, IfOk}
+use Rattle.std.proofs.Common.{MatchOption, Option, None, Some, Bor, refl, sym, ◌∙◌, subst, arith}
+use Rattle.std.proofs.lemmas.Int.{clamps}
+use Rattle.std.specs.Char.{to_ascii_lowercase}
+use Rattle.strsim.specs.Edits.{next_row, rows, cost_at}
+use Rattle.config_checks.specs.Reading.Steps.{IsFew}
 use Rattle.std.proofs.Common.{true, false, is_some}
 use Rattle.std.proofs.lemmas.Bool.{false≢true, true≢false}
-use Rattle.std.proofs.lemmas.List.{take_all}
+use Rattle.std.proofs.lemmas.List.{length-map, take_all}
 use Rattle.std.proofs.lemmas.List.Elements.{All-more}
 use Rattle.std.specs.List.{All}
 use Rattle.std.specs.Prelude.{slice_index_or}
@@ -13,23 +17,51 @@ use Rattle.config_checks.specs.declared.row.Row.{Row}
 use Rattle.config_checks.specs.Rows.{Decides, IsUnknown}
 use Rattle.config_checks.specs.Suggestions.{IsPassed}
 use Rattle.config_checks.specs.Suggestions.IsPassed.{known}
-use Rattle.config_checks.specs.Suggestions.{EditsAfter, OnePartEdits, BetweenEdits, IsFirstAt, IsFar, IsNearest}
+use Rattle.config_checks.specs.Suggestions.{edits, EditsAfter, OnePartEdits, BetweenEdits, IsFirstAt, IsFar, IsNearest}
 use Rattle.config_checks.specs.Suggestions.EditsAfter.{in_last, in_between}
 use Rattle.config_checks.specs.Suggestions.OnePartEdits.{in_rest, in_section}
 
-none_after : (row key : Key) → SameWord row.section.now key.section.now → ((n : ℕ) → ¬ (EditsAfter row key n))
-    → (n : ℕ) → ¬ (OnePartEdits row key n)
+none_after : (row key : Key) → SameWord row.section.now key.section.now → ((n : ℕ) → EditsAfter row key n → 2 < n)
+    → (n : ℕ) → OnePartEdits row key n → 2 < n
 none_after row key same none n (in_rest s edits) = none n edits
-none_after row key same none n (in_section other b l is) = other same
+none_after row key same none n (in_section other b l is) = absurd (other same)
 
 -- in the same section the edits are those after it
 pub of_section : {E : Type 0} (row key : Key) → SameWord row.section.now key.section.now
-    → (r : Result (Option ℕ) E)
-    → IfOk r (λ r. MatchOption r ((n : ℕ) → ¬ (EditsAfter row key n)) (EditsAfter row key))
-    → IfOk r (λ r. MatchOption r ((n : ℕ) → ¬ (OnePartEdits row key n)) (OnePartEdits row key))
+    → (r : Result (Option ℕ) E) → IfOk r (λ r. IsFew (EditsAfter row key) r)
+    → IfOk r (λ r. IsFew (OnePartEdits row key) r)
 of_section row key same (Ok None) none = none_after row key same none
-of_section row key same (Ok (Some n)) edits = in_rest same edits
+of_section row key same (Ok (Some n)) edits = (in_rest same edits.0, edits.1)
 of_section row key same (Err e) is = tt
+
+-- the places of a row of the table are no further apart than the edits there
+next_row_apart : (c before : ℕ → ℕ) (n : ℕ) → ((j : ℕ) → (n ≤ before j + j) × (j ≤ before j + n)) → (k : ℕ)
+    → (suc n ≤ next_row c before (suc n) k + k) × (k ≤ next_row c before (suc n) k + suc n)
+unfolding next_row
+next_row_apart c before n apart zero = (omega arith, omega arith)
+next_row_apart c before n apart (suc k) =
+    let left = next_row_apart c before n apart k in
+    let above = apart (suc k) in
+    let across = apart k in
+    (omega (arith, clamps, left.0, above.0, across.0), omega (arith, clamps, left.1, above.1, across.1))
+
+rows_apart : (xs ys : List ℕ) (n : ℕ) (before : ℕ → ℕ) → ((j : ℕ) → (n ≤ before j + j) × (j ≤ before j + n)) → (k : ℕ)
+    → (n + length xs ≤ rows nat_eq xs ys n before k + k) × (k ≤ rows nat_eq xs ys n before k + (n + length xs))
+unfolding rows
+rows_apart [] ys n before apart k = (omega (arith, (apart k).0), omega (arith, (apart k).1))
+rows_apart (x ∷ xs) ys n before apart k =
+    let more = rows_apart xs ys (suc n) (next_row (cost_at nat_eq x ys) before (suc n))
+    (next_row_apart (cost_at nat_eq x ys) before n apart) k in
+    (omega (arith, more.0), omega (arith, more.1))
+
+-- lengths are no further apart than the edits
+pub lengths_apart : (a b : List ℕ) → (length a ≤ edits a b + length b) × (length b ≤ edits a b + length a)
+lengths_apart a b =
+    let apart = rows_apart (map to_ascii_lowercase a) (map to_ascii_lowercase b) 0 (λ j. j) (λ j. (omega arith, omega arith))
+    (length (map to_ascii_lowercase b)) in (
+      omega (arith, apart.0, length-map a to_ascii_lowercase, length-map b to_ascii_lowercase),
+      omega (arith, apart.1, length-map a to_ascii_lowercase, length-map b to_ascii_lowercase),
+    )
 
 -- ---- there is one number of edits
 
@@ -45,7 +77,7 @@ one_after row key m n (in_last covers not is) (in_between not' c also) = absurd 
 one_after row key m n (in_between not covers is) (in_last c d also) = absurd (not c)
 one_after row key m n (in_between not covers is) (in_between c d also) = one_between row.between key.between m n is also
 
-one_number : (row key : Key) (m n : ℕ) → OnePartEdits row key m → OnePartEdits row key n → m ≡ n
+pub one_number : (row key : Key) (m n : ℕ) → OnePartEdits row key m → OnePartEdits row key n → m ≡ n
 one_number row key m n (in_rest s is) (in_rest t also) = one_after row key m n is also
 one_number row key m n (in_rest s is) (in_section other b l also) = absurd (other s)
 one_number row key m n (in_section other b l is) (in_rest t also) = absurd (other t)
@@ -72,10 +104,15 @@ one_more : (rows : List Row) (key : Key) (i least : ℕ) (row : Row) → At rows
 one_more rows key i least row at so_far here =
     All-more (IsNoNearer key least) rows i row at.0 so_far (subst (IsNoNearer key least) (sym at.1) here)
 
+at_most_3 : (rows : List Row) (key : Key) (least : ℕ) (best : Option (Bor Row)) → Found rows key best least → least ≤ 3
+at_most_3 rows key least None found = omega (arith, found)
+at_most_3 rows key least (Some row) found = let few = found.0 in omega (arith, few)
+
 pub passes : (rows : List Row) (key : Key) (i least : ℕ) (best : Option (Bor Row)) (row : Row) → At rows i row
-    → IsBest rows key i best least → ((n : ℕ) → ¬ (OnePartEdits row.key key n)) → IsBest rows key (i + 1) best least
+    → IsBest rows key i best least → ((n : ℕ) → OnePartEdits row.key key n → 2 < n) → IsBest rows key (i + 1) best least
 passes rows key i least best row at so_far none = record {
-  none_nearer = one_more rows key i least row at so_far.none_nearer (λ m edits. absurd (none m edits));
+  none_nearer = one_more rows key i least row at so_far.none_nearer
+      (λ m edits. let far = none m edits in let few = at_most_3 rows key least best so_far.found in omega (arith, far, few));
   found = so_far.found;
 }
 

@@ -1,5 +1,5 @@
 -- What a check of a file writes: a line for each finding, in the order of the entries.
-use Rattle.std.specs.Prelude.{◌≡◌, ◌⊎◌, ⊤, ℕ, ◌+◌, ◌-◌, codes, List, [], ◌∷◌, ◌++◌, Option, None, Some, option_map}
+use Rattle.std.specs.Prelude.{◌≡◌, ◌⊎◌, ⊤, ℕ, ◌+◌, ◌-◌, ◌==◌, if◌then◌else◌, codes, List, [], ◌∷◌, ◌++◌, Option, None, Some, option_map}
 use Rattle.std.specs.Fmt.{decimal}
 use Rattle.std.specs.List.{AllZip}
 use Rattle.std.specs.Io.KnownBytes.{Appends}
@@ -13,13 +13,15 @@ use Rattle.config_checks.specs.declared.options.Options.{Options}
 use Rattle.config_checks.specs.declared.row.Row.{Row}
 use Rattle.config_checks.specs.declared.reason.Reason.{Reason}
 use Rattle.config_checks.specs.declared.reason.Severity.{Severity}
-use Rattle.config_checks.specs.declared.reason.Severity.TheVariants.{Error}
+use Rattle.config_checks.specs.declared.reason.Severity.TheVariants.{Error, Warning, Note}
+use Rattle.config_checks.specs.declared.suggestion.UnknownKey.{UnknownKey}
 use Rattle.config_checks.specs.declared.check.Counts.{Counts}
 use Rattle.config_checks.specs.declared.check.CheckError.{CheckError}
 use Rattle.config_checks.specs.declared.check.CheckError.TheVariants.{Write, Memory}
 use Rattle.config_checks.specs.Rows.{Decides, IsUnknown}
 use Rattle.config_checks.specs.Reasons.{HasFinding, severity_of}
 use Rattle.config_checks.specs.Findings.{line_feed, shown, value_shown, painted, severity_text, reason_text}
+use Rattle.config_checks.specs.Suggestions.{IsPassed, IsUnknownKey, unknown_text}
 
 -- ---- a line
 
@@ -39,6 +41,12 @@ finding_line options setting severity reason =
     place setting.file.now setting.line ++ painted options.color (severity_text severity)
     ++ setting_shown setting ++ reason_text reason ++ line_feed ∷ []
 
+-- the line of a setting whose key is misspelt
+abbrev pub unknown_line : Options → Setting → UnknownKey → List ℕ
+unknown_line options setting unknown =
+    place setting.file.now setting.line ++ painted options.color (severity_text Warning)
+    ++ shown setting.key.items ++ codes ": " ++ unknown_text unknown ++ line_feed ∷ []
+
 -- what is said of a file that is refused
 abbrev pub fault_text : Fault → List ℕ
 fault_text BadLine = codes "Git cannot read this line, and reads nothing of the file"
@@ -50,11 +58,24 @@ refused_line options file error =
 
 -- ---- the report
 
+-- one finding more
+abbrev pub counted : Severity → Counts → Counts
+counted Error s = record s { findings = s.findings + 1; errors = s.errors + 1 }
+counted Warning s = record s { findings = s.findings + 1; warnings = s.warnings + 1 }
+counted Note s = record s { findings = s.findings + 1 }
+
+-- no entry was counted
+abbrev pub no_counts : Counts
+no_counts = record { entries = 0; unknown = 0; findings = 0; errors = 0; warnings = 0 }
+
 -- the line of a setting, empty if nothing is wrong, and the counts before and after it
 pub data ReportsSetting (rows : List Row) (options : Options) (setting : Setting) (s : Counts) (line : List ℕ) (s' : Counts)
     : Type 0 where
-  unknown : IsUnknown rows setting.key.items → line ≡ []
+  unknown : IsUnknown rows setting.key.items → IsPassed rows setting.key.items → line ≡ []
       → s' ≡ record s { entries = s.entries + 1; unknown = s.unknown + 1 }
+      → ReportsSetting rows options setting s line s'
+  misspelt : (key : UnknownKey) → IsUnknownKey rows setting.key.items key → line ≡ unknown_line options setting key
+      → s' ≡ counted Warning (record s { entries = s.entries + 1; unknown = s.unknown + 1 })
       → ReportsSetting rows options setting s line s'
   right : (row : Row) → Decides rows setting.key.items row
       → HasFinding options.canonical row (value_of setting) None → line ≡ []
@@ -62,12 +83,12 @@ pub data ReportsSetting (rows : List Row) (options : Options) (setting : Setting
   found : (row : Row) (reason : Reason) → Decides rows setting.key.items row
       → HasFinding options.canonical row (value_of setting) (Some reason)
       → line ≡ finding_line options setting (severity_of row.goes_on reason) reason
-      → s' ≡ record s { entries = s.entries + 1; findings = s.findings + 1 }
+      → s' ≡ counted (severity_of row.goes_on reason) (record s { entries = s.entries + 1 })
       → ReportsSetting rows options setting s line s'
 
 -- the lines of these settings, one after the other, and their counts
 pub data Report (rows : List Row) (options : Options) : List Setting → List ℕ → Counts → Type 0 where
-  nothing : Report rows options [] [] (record { entries = 0; unknown = 0; findings = 0 })
+  nothing : Report rows options [] [] no_counts
   next : (settings : List Setting) (lines : List ℕ) (s : Counts) (setting : Setting) (line : List ℕ) (s' : Counts)
       → Report rows options settings lines s → ReportsSetting rows options setting s line s'
       → Report rows options (settings ++ setting ∷ []) (lines ++ line) s'
@@ -76,7 +97,7 @@ pub data Report (rows : List Row) (options : Options) : List Setting → List �
 abbrev pub EndsReport : Options → List ℕ → Option errors.Error → Counts → List ℕ → Counts → Type 0
 EndsReport options file None s last s' = (last ≡ []) × (s' ≡ s)
 EndsReport options file (Some error) s last s' =
-    (last ≡ refused_line options file error) × (s' ≡ record s { findings = s.findings + 1 })
+    (last ≡ refused_line options file error) × (s' ≡ counted Error s)
 
 -- the file of this name and text has these settings up to its end, or up to this error
 abbrev pub HasSettings : List ℕ → List ℕ → List Setting → Option errors.Error → Type 0
@@ -98,10 +119,10 @@ pub record IsReport (rows : List Row) (options : Options) (file text output : Li
 -- how the counts are shown
 abbrev pub counts_shown : Counts → List ℕ
 counts_shown s =
-    decimal s.entries ++ (codes " entries, "
+    decimal s.entries ++ ((if s.entries == 1 then codes " entry, " else codes " entries, ")
     ++ (decimal (s.entries - s.unknown) ++ (codes " judged, "
-    ++ (decimal s.unknown ++ (codes " unknown keys, "
-    ++ (decimal s.findings ++ codes " findings"))))))
+    ++ (decimal s.unknown ++ ((if s.unknown == 1 then codes " unknown key, " else codes " unknown keys, ")
+    ++ (decimal s.findings ++ (if s.findings == 1 then codes " finding" else codes " findings")))))))
 
 -- ---- what a check did to its writer
 

@@ -1,15 +1,19 @@
 //! The check of the settings of a file.
-ghost use Rattle.std.specs.Prelude.{◌≡◌, ◌+◌, ◌<◌, ◌^◌, ◌++◌, ℕ, List, [], OnOk, OnErr, IfOk, IfErr, Some};
+ghost use Rattle.std.specs.Prelude.{◌≡◌, ◌==◌, if◌then◌else◌, OnOk, OnErr, IfOk, IfErr, Some};
 ghost use Rattle.std.specs.Io.KnownBytes.{Appends, Keeps};
-ghost use Rattle.config_checks.specs.Report.{counts_shown, Completes, Fails, HasSettings};
+ghost use Rattle.config_checks.specs.Report.{counted, counts_shown, unknown_line, Completes, Fails};
+ghost use Rattle.config_checks.specs.Report.{HasSettings};
+ghost use Rattle.config_checks.specs.declared.reason.Severity.TheVariants.{Warning};
 ghost use Rattle.config_checks.specs.Findings.{AppendsPart};
-ghost use Rattle.config_checks.specs.Reading.Steps.{HasRoom, Reports, ReportsPart, Tells, TellsPart};
-ghost use Rattle.config_checks.specs.Reading.Steps.{ReportsAll, ReportsFirst, IsMemory, IsWrite};
+ghost use Rattle.config_checks.specs.Rows.{IsUnknown};
+ghost use Rattle.config_checks.specs.Reading.Steps.{HasRoom, HasRoomForFinding, Reports, ReportsPart, Tells, TellsPart};
+ghost use Rattle.config_checks.specs.Reading.Steps.{ReportsAll, ReportsFirst, WritesPart, IsMemory, IsWrite};
 
-use crate::finding::{Finding, push_refusal, value_of};
+use crate::finding::{Finding, push_misspelt, push_refusal, value_of};
 use crate::options::Options;
-use crate::reason::find;
+use crate::reason::{Severity, find};
 use crate::row::{Row, row_for};
+use crate::suggestion::{UnknownKey, unknown_key};
 use config_file::errors::Error;
 use config_file::settings::{AddError, Setting, Settings};
 use std::alloc::{AllocError, Global};
@@ -34,6 +38,40 @@ pub struct Counts {
     pub unknown: u64,
     /// The findings: at most one for each entry, and one for a line that Git cannot read.
     pub findings: u64,
+    /// The findings that are errors.
+    pub errors: u64,
+    /// The findings that are warnings.
+    pub warnings: u64,
+}
+
+impl Counts {
+    /// These counts, and one finding more.
+    fn with(self, severity: Severity) -> Counts
+        requires { HasRoomForFinding self }
+        ensures { result ≡ counted severity self }
+    {
+        let findings = self.findings + 1;
+        match severity {
+            Severity::Error => Counts {
+                findings,
+                errors: self.errors + 1,
+                ..self
+            },
+            Severity::Warning => Counts {
+                findings,
+                warnings: self.warnings + 1,
+                ..self
+            },
+            Severity::Note => Counts { findings, ..self },
+        }
+    }
+}
+
+/// The word for one thing, or for several.
+fn plural(count: u64, one: &'static str, several: &'static str) -> &'static str
+    ensures { result.now ≡ (if count == 1 then one.now else several.now) }
+{
+    if count == 1 { one } else { several }
 }
 
 impl fmt::Display for Counts {
@@ -41,15 +79,17 @@ impl fmt::Display for Counts {
 
     /// Writes the counts as the last line of `config_check` has them.
     fn fmt<W: fmt::Write>(&self, f: &mut fmt::Formatter<W>) -> fmt::Result {
-        let Counts {
-            entries,
-            unknown,
-            findings,
-        } = *self;
-        let judged = entries.saturating_sub(unknown);
+        let judged = self.entries.saturating_sub(self.unknown);
         write!(
             f,
-            "{entries} entries, {judged} judged, {unknown} unknown keys, {findings} findings"
+            "{}{}{} judged, {}{}{}{}",
+            self.entries,
+            plural(self.entries, " entry, ", " entries, "),
+            judged,
+            self.unknown,
+            plural(self.unknown, " unknown key, ", " unknown keys, "),
+            self.findings,
+            plural(self.findings, " finding", " findings"),
         )
     }
 }
@@ -79,9 +119,56 @@ struct Progress {
 }
 
 impl Progress {
+    /// Counts a finding, and writes the line of a setting whose key is misspelt.
+    fn write_misspelt<W: Write>(
+        &mut self,
+        options: &Options,
+        setting: &Setting<'_>,
+        unknown: &UnknownKey<'_>,
+        writer: &mut W,
+    ) -> Result<(), CheckError>
+        requires { HasRoomForFinding self.old.counts }
+        ensures counts { self.new.counts ≡ counted Warning self.old.counts }
+        ensures ok { OnOk result (Appends (W.contents writer.old) (W.contents writer.new)
+            (unknown_line options.now setting.now unknown.now)) }
+        ensures err { IfErr result (WritesPart (W.contents writer.old) (W.contents writer.new)
+            (λ line. line ≡ unknown_line options.now setting.now unknown.now)) }
+    {
+        self.counts = self.counts.with(Severity::Warning);
+        self.line.clear();
+        push_misspelt(&mut self.line, options, setting, unknown).map_err(CheckError::Memory)?;
+        write_out(writer, &self.line).map_err(CheckError::Write)
+    }
+
+    /// Counts a setting that no row covers, and writes its line if its key is misspelt.
+    fn report_unknown<W: Write>(
+        &mut self,
+        alloc: Global,
+        rows: &[Row<'_>],
+        options: &Options,
+        setting: &Setting<'_>,
+        writer: &mut W,
+    ) -> Result<(), CheckError>
+        requires room { HasRoom self.old.counts }
+        requires unknown { IsUnknown rows.now setting.now.key.items }
+        ensures ok { OnOk result (Reports rows.now options.now setting.now
+            self.old.counts self.new.counts (W.contents writer.old) (W.contents writer.new)) }
+        ensures err { IfErr result (ReportsPart rows.now options.now setting.now
+            self.old.counts (W.contents writer.old) (W.contents writer.new)) }
+    {
+        self.counts.entries += 1;
+        self.counts.unknown += 1;
+        match unknown_key(alloc, rows, &setting.key) {
+            Ok(Some(unknown)) => self.write_misspelt(options, setting, &unknown, writer),
+            Ok(None) => Ok(()),
+            Err(error) => Err(CheckError::Memory(error)),
+        }
+    }
+
     /// Counts a setting, and writes its line if something is wrong with it.
     fn report<W: Write>(
         &mut self,
+        alloc: Global,
         rows: &[Row<'_>],
         options: &Options,
         setting: &Setting<'_>,
@@ -93,18 +180,18 @@ impl Progress {
         ensures err { IfErr result (ReportsPart rows.now options.now setting.now
             self.old.counts (W.contents writer.old) (W.contents writer.new)) }
     {
-        self.counts.entries += 1;
         let Some(row) = row_for(rows, &setting.key) else {
-            self.counts.unknown += 1;
-            return Ok(());
+            return self.report_unknown(alloc, rows, options, setting, writer);
         };
+        self.counts.entries += 1;
         let Some(reason) = find(row, value_of(setting), options.canonical) else {
             return Ok(());
         };
-        self.counts.findings += 1;
+        let severity = reason.severity(row.goes_on);
+        self.counts = self.counts.with(severity);
         let finding = Finding {
             setting,
-            severity: reason.severity(row.goes_on),
+            severity,
             reason,
         };
         self.line.clear();
@@ -127,14 +214,14 @@ fn report_all<W: Write>(
         (W.contents writer.old) (W.contents writer.new)) }
     ensures err { IfErr result (ReportsFirst rows.now options.now settings.now
         (W.contents writer.old) (W.contents writer.new)) }
-    ensures room { IfOk result (λ counts. counts.findings + 1 < 2 ^ 64) }
+    ensures room { IfOk result HasRoomForFinding }
 {
     let mut progress = Progress {
         counts: Counts::default(),
         line: Vec::new(alloc),
     };
     for setting in settings {
-        progress.report(rows, options, setting, writer)?;
+        progress.report(alloc, rows, options, setting, writer)?;
     }
     Ok(progress.counts)
 }
@@ -148,7 +235,7 @@ fn tell<W: Write>(
     counts: Counts,
     writer: &mut W,
 ) -> Result<Counts, CheckError>
-    requires { counts.findings + 1 < 2 ^ 64 }
+    requires { HasRoomForFinding counts }
     ensures ok { IfOk result (λ after. Tells options.now file.now refused counts after
         (W.contents writer.old) (W.contents writer.new)) }
     ensures err { IfErr result (TellsPart options.now file.now refused counts
@@ -160,10 +247,7 @@ fn tell<W: Write>(
     let mut line = Vec::new(alloc);
     push_refusal(&mut line, options, file, error).map_err(CheckError::Memory)?;
     match write_out(writer, &line) {
-        Ok(()) => Ok(Counts {
-            findings: counts.findings + 1,
-            ..counts
-        }),
+        Ok(()) => Ok(counts.with(Severity::Error)),
         Err(error) => Err(CheckError::Write(error)),
     }
 }

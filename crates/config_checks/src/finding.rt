@@ -7,11 +7,13 @@ ghost use Rattle.config_checks.specs.Findings.{hex, is_control, piece_shown, sho
 ghost use Rattle.config_checks.specs.Findings.{range_text, words_text, no_word_front, no_word_text};
 ghost use Rattle.config_checks.specs.Findings.{reason_text, severity_text, painted};
 ghost use Rattle.config_checks.specs.Findings.{AppendsPart};
-ghost use Rattle.config_checks.specs.Report.{place, value_of, setting_shown, finding_line, fault_text, refused_line};
+ghost use Rattle.config_checks.specs.Report.{place, value_of, setting_shown, finding_line, unknown_line};
+ghost use Rattle.config_checks.specs.Report.{fault_text, refused_line};
 
 use crate::kind::{Form, WordList};
 use crate::options::Options;
 use crate::reason::{Reason, Severity};
+use crate::suggestion::{UnknownKey, push_unknown};
 use bstr::decode_utf8;
 use config_file::errors::{Error, Fault};
 use config_file::settings::Setting;
@@ -262,6 +264,23 @@ pub(crate) fn value_of<'s>(setting: &'s Setting<'_>) -> Option<&'s [u8]>
         Some(value) => Some(value.as_slice()),
         None => None,
     }
+}
+
+/// Appends the line of a setting whose key is misspelt.
+pub(crate) fn push_misspelt(
+    line: &mut Vec<u8>,
+    options: &Options,
+    setting: &Setting<'_>,
+    unknown: &UnknownKey<'_>,
+) -> Result<(), AllocError>
+    ensures { OnOk result (line.new.items ≡ line.old.items ++ unknown_line options.now setting.now unknown.now) }
+{
+    push_place(line, setting.file, setting.line)?;
+    push_severity(line, options.color, Severity::Warning)?;
+    push_shown(line, &setting.key)?;
+    line.extend_from_slice(b": ")?;
+    push_unknown(line, unknown)?;
+    line.extend_from_slice(b"\n")
 }
 
 /// What is said of a file that is refused.

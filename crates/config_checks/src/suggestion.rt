@@ -1,9 +1,10 @@
 //! Keys that no row covers, and the nearest keys of the rows.
-ghost use Rattle.std.specs.Prelude.{◌≡◌, ◌++◌, ◌↔◌, ℕ, IsTrue, MatchOption, IfOk, OnOk, OnErr, Some};
+ghost use Rattle.std.specs.Prelude.{◌≡◌, ◌<◌, ◌≤◌, ◌++◌, ◌↔◌, IsTrue, MatchOption, IfOk, OnOk, OnErr, Some};
 ghost use Rattle.config_checks.specs.Findings.{AppendsPart};
 ghost use Rattle.config_checks.specs.Suggestions.{edits, BetweenEdits, CoversLast, EditsAfter, SectionEdits};
 ghost use Rattle.config_checks.specs.Suggestions.{OnePartEdits, IsFar, IsNearest, Fills, FillsBetween};
 ghost use Rattle.config_checks.specs.Suggestions.{FillsKey, IsShared, IsOwn};
+ghost use Rattle.config_checks.specs.Reading.Steps.{IsFew};
 ghost use Rattle.config_checks.specs.Suggestions.{HasSection, IsPassed, IsUnknownKey, dotted, between_shown};
 ghost use Rattle.config_checks.specs.Suggestions.{after_shown, key_shown, asked, unknown_text};
 
@@ -16,26 +17,35 @@ use strsim::generic_levenshtein;
 /// The most edits that lead to a key which is still suggested.
 const MOST_EDITS: usize = 2;
 
-/// How many edits of one byte lead from one text to the other, ignoring ASCII case.
-fn edits(alloc: Global, from: &[u8], to: &[u8]) -> Result<usize, AllocError>
-    ensures { IfOk result (λ n. n ≡ edits from.now to.now) }
+/// How many edits of one byte lead from one text to the other, ignoring ASCII case, or `None` if more than two.
+// Texts whose lengths differ by more are never compared: that is most of them.
+fn few_edits(alloc: Global, from: &[u8], to: &[u8]) -> Result<Option<usize>, AllocError>
+    ensures { IfOk result (λ r. MatchOption r (2 < edits from.now to.now)
+        (λ n. (n ≡ edits from.now to.now) × (n ≤ 2))) }
 {
+    if from.len().abs_diff(to.len()) > MOST_EDITS {
+        return Ok(None);
+    }
     let from = from.to_ascii_lowercase(alloc)?;
     let to = to.to_ascii_lowercase(alloc)?;
-    generic_levenshtein(alloc, from.as_slice(), to.as_slice())
+    let edits = generic_levenshtein(alloc, from.as_slice(), to.as_slice())?;
+    if edits > MOST_EDITS {
+        return Ok(None);
+    }
+    Ok(Some(edits))
 }
 
-/// How many edits lead from one part between dots to the other, or `None` if one of them is not there.
+/// How many edits lead from one part between dots to the other, or `None` if more than two, or if one of them is not
+/// there.
 fn between_edits(
     alloc: Global,
     row: Option<&[u8]>,
     between: Option<&[u8]>,
 ) -> Result<Option<usize>, AllocError>
-    ensures { IfOk result (λ r. MatchOption r ((n : ℕ) → ¬ (BetweenEdits row.entry between.entry n))
-        (BetweenEdits row.entry between.entry)) }
+    ensures { IfOk result (λ r. IsFew (BetweenEdits row.entry between.entry) r) }
 {
     match (row, between) {
-        (Some(row), Some(between)) => Ok(Some(edits(alloc, row, between)?)),
+        (Some(row), Some(between)) => few_edits(alloc, row, between),
         _ => Ok(None),
     }
 }
@@ -47,16 +57,16 @@ fn covers_last(row: &[u8], last: &[u8]) -> bool
     row == ANY || is_same_word(row, last)
 }
 
-/// How many edits lead from the key of a row to a key of its section, if they differ in one part alone.
+/// How many edits lead from the key of a row to a key of its section, if they differ in one part alone, and by at most
+/// two.
 fn edits_after(alloc: Global, row: &Key<'_>, key: &Key<'_>) -> Result<Option<usize>, AllocError>
-    ensures { IfOk result (λ r. MatchOption r ((n : ℕ) → ¬ (EditsAfter row.now key.now n))
-        (EditsAfter row.now key.now)) }
+    ensures { IfOk result (λ r. IsFew (EditsAfter row.now key.now) r) }
 {
     match (
         covers_between(row.between, key.between),
         covers_last(row.last, key.last),
     ) {
-        (true, false) => Ok(Some(edits(alloc, row.last, key.last)?)),
+        (true, false) => few_edits(alloc, row.last, key.last),
         (false, true) => between_edits(alloc, row.between, key.between),
         _ => Ok(None),
     }
@@ -64,20 +74,18 @@ fn edits_after(alloc: Global, row: &Key<'_>, key: &Key<'_>) -> Result<Option<usi
 
 /// Whether one edit leads from one section to the other, or none: 1 or 0, and `None` for more.
 fn section_edits(alloc: Global, row: &[u8], section: &[u8]) -> Result<Option<usize>, AllocError>
-    ensures { IfOk result (λ r. MatchOption r ((n : ℕ) → ¬ (SectionEdits row.now section.now n))
-        (SectionEdits row.now section.now)) }
+    ensures { IfOk result (λ r. IsFew (SectionEdits row.now section.now) r) }
 {
-    match edits(alloc, row, section)? {
-        edits if edits <= 1 => Ok(Some(edits)),
+    match few_edits(alloc, row, section)? {
+        Some(edits) if edits <= 1 => Ok(Some(edits)),
         _ => Ok(None),
     }
 }
 
 /// How many edits lead from the key of a row to a key, if they differ in one part alone: at most one, if it is
-/// the section.
+/// the section, and at most two in another part.
 fn one_part_edits(alloc: Global, row: &Key<'_>, key: &Key<'_>) -> Result<Option<usize>, AllocError>
-    ensures { IfOk result (λ r. MatchOption r ((n : ℕ) → ¬ (OnePartEdits row.now key.now n))
-        (OnePartEdits row.now key.now)) }
+    ensures { IfOk result (λ r. IsFew (OnePartEdits row.now key.now) r) }
 {
     if is_same_word(row.section, key.section) {
         return edits_after(alloc, row, key);

@@ -1,5 +1,5 @@
 -- How far a check has come.
-use Rattle.std.specs.Prelude.{◌≡◌, ⊤, ℕ, ◌+◌, ◌^◌, ◌<◌, ◌≤◌, List, ◌++◌, Option}
+use Rattle.std.specs.Prelude.{◌≡◌, ⊤, ℕ, ◌+◌, ◌^◌, ◌<◌, ◌≤◌, List, ◌++◌, Option, None, Some}
 use Rattle.std.specs.Io.KnownBytes.{Appends}
 use Rattle.config_file.specs.declared.errors.Error as errors
 use Rattle.config_file.specs.declared.settings.Setting.{Setting}
@@ -11,11 +11,22 @@ use Rattle.config_checks.specs.declared.check.CheckError.TheVariants.{Write, Mem
 use Rattle.config_checks.specs.Findings.{AppendsPart}
 use Rattle.config_checks.specs.Report.{ReportsSetting, Report, EndsReport, MayLack}
 
+-- no count is over that of the entries
+pub record AreWithin (s : Counts) : Type 0 where
+  pub unknown : s.unknown ≤ s.entries
+  pub findings : s.findings ≤ s.entries
+  pub errors : s.errors ≤ s.entries
+  pub warnings : s.warnings ≤ s.entries
+
 -- each count fits, and leaves room for one more
 pub record HasRoom (s : Counts) : Type 0 where
   pub entries : s.entries + 1 < 2 ^ 64
-  pub unknown : s.unknown ≤ s.entries
-  pub findings : s.findings ≤ s.entries
+  pub others : AreWithin s
+
+pub record HasRoomForFinding (s : Counts) : Type 0 where
+  pub findings : s.findings + 1 < 2 ^ 64
+  pub errors : s.errors + 1 < 2 ^ 64
+  pub warnings : s.warnings + 1 < 2 ^ 64
 
 -- a setting was counted, and its line written
 abbrev pub Reports : List Row → Options → Setting → Counts → Counts → Option (List ℕ) → Option (List ℕ) → Type 0
@@ -57,6 +68,11 @@ pub record ReportsFirst (rows : List Row) (options : Options) (settings : List S
   pub s : Counts
   pub report : Report rows options first (output ++ missing) s
   pub lacks : MayLack e missing
+
+-- a number of edits that such edits have, if it is two at most
+abbrev pub IsFew : (ℕ → Type 0) → Option ℕ → Type 0
+IsFew AreEdits None = (n : ℕ) → AreEdits n → 2 < n
+IsFew AreEdits (Some n) = AreEdits n × (n ≤ 2)
 
 -- which error it is
 abbrev pub IsMemory : CheckError → Type 0

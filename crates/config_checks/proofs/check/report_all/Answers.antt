@@ -1,16 +1,20 @@
 use Rattle.std.proofs.Common.{arith, sym, subst, take, drop, suc}
 use Rattle.config_checks.specs.Reading.Steps.{ReportsAll, ReportsFirst}
-use Rattle.config_checks.proofs.CheckLemmas.{start, more, fails_here, adds_one, take_more, cut_at, passed_on}
+use Rattle.config_checks.proofs.CheckLemmas.{start, more, fails_here, adds_one, within_after, take_more, cut_at, passed_on}
 use Rattle.config_checks.proofs.check.report_all.Goals as goal
 
 pub loop-setting-init : goal.loop-setting-init
 loop-setting-init g c =
     let none = c.default.ensures in
     record {
-      so_far = start c.args.rows.now c.args.options.now (g.W.Write.contents c.args.writer.now) c.default.result none.0 none.1.0 none.1.1;
+      so_far = start c.args.rows.now c.args.options.now (g.W.Write.contents c.args.writer.now) c.default.result none.0 none.1.0 none.1.1.0 none.1.1.1.0 none.1.1.1.1;
       counted = none.0;
-      unknown = omega (arith, none.1.0);
-      findings = omega (arith, none.1.1);
+      within = record {
+        unknown = omega (arith, none.1.0);
+        findings = omega (arith, none.1.1.0);
+        errors = omega (arith, none.1.1.1.0);
+        warnings = omega (arith, none.1.1.1.1);
+      };
     }
 
 pub loop-setting-preserved : goal.loop-setting-preserved
@@ -22,9 +26,8 @@ loop-setting-preserved g c =
       so_far = subst (λ settings. ReportsAll c.args.rows.now c.args.options.now settings (g.W.Write.contents c.args.writer.now) (g.W.Write.contents c.report.new.writer) c.report.new.self.counts)
           (sym (take_more c.args.settings.now c.loop-setting.setting-index c.setting-item.result c.loop-setting-test.true (sym c.setting-item.is)))
           (more c.args.rows.now c.args.options.now (take c.loop-setting.setting-index c.args.settings.now) c.setting-item.result _ (g.W.Write.contents c.loop-setting.writer) _ c.loop-setting.progress.counts _ so_far.so_far reported);
-      counted = omega (arith, counts.0, so_far.counted);
-      unknown = omega (arith, counts.0, counts.1, so_far.unknown);
-      findings = omega (arith, counts.0, counts.2, so_far.findings);
+      counted = omega (arith, counts.entries, so_far.counted);
+      within = within_after _ _ so_far.within counts;
     }
 
 pub returns-in_err-report-clause-err : goal.returns-in_err-report-clause-err

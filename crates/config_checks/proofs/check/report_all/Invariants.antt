@@ -1,5 +1,5 @@
-use Rattle.std.proofs.Common.{◌≡◌, ◌≤◌, take}
-use Rattle.config_checks.specs.Reading.Steps.{ReportsAll}
+use Rattle.std.proofs.Common.{◌≡◌, take}
+use Rattle.config_checks.specs.Reading.Steps.{ReportsAll, AreWithin}
 use Rattle.config_checks.proofs.check.report_all.Given as goal
 
 abbrev pub invariant-loop-setting : goal.invariant-loop-setting
@@ -7,6 +7,5 @@ invariant-loop-setting g l = record {
   so_far : ReportsAll l.rows l.options (take l.setting-index l.settings) (g.W.Write.contents l.fn.writer)
       (g.W.Write.contents l.writer) l.progress.counts;
   counted : l.progress.counts.entries ≡ l.setting-index;
-  unknown : l.progress.counts.unknown ≤ l.progress.counts.entries;
-  findings : l.progress.counts.findings ≤ l.progress.counts.entries;
+  within : AreWithin l.progress.counts;
 }

@@ -1,4 +1,5 @@
-use Rattle.std.proofs.Common.{ℕ, sym, arith, subst, MatchOption}
+use Rattle.std.proofs.Common.{sym, arith, subst}
+use Rattle.config_checks.specs.Reading.Steps.{IsFew}
 use Rattle.config_checks.specs.Suggestions.{OnePartEdits}
 use Rattle.config_checks.proofs.SuggestionLemmas.{At, passes, keeps, betters, whole}
 use Rattle.config_checks.proofs.suggestion.nearest.Goals.{in-Some+then-edits-least, in-Some+else-edits-least, in_default}
@@ -13,14 +14,14 @@ loop-row-preserved c =
     let so_far = c.loop-row.invariant in
     elim c.match-branch-2.branch [
       | in-Some+then-edits-least w ↦
-          let edits : OnePartEdits row.key key w.in-Some.edits = subst (λ r. MatchOption r ((n : ℕ) → ¬ (OnePartEdits row.key key n)) (OnePartEdits row.key key)) w.in-Some.is c.in_ok-edits.ensures in
-          rw w.best-is (rw w.least-is (betters rows key c.loop-row.row-index c.loop-row.least w.in-Some.edits c.loop-row.best _ at so_far edits w.if-edits-least.true))
+          let edits = subst (IsFew (OnePartEdits row.key key)) w.in-Some.is c.in_ok-edits.ensures in
+          rw w.best-is (rw w.least-is (betters rows key c.loop-row.row-index c.loop-row.least w.in-Some.edits c.loop-row.best _ at so_far edits.0 w.if-edits-least.true))
       | in-Some+else-edits-least w ↦
-          let edits : OnePartEdits row.key key w.in-Some.edits = subst (λ r. MatchOption r ((n : ℕ) → ¬ (OnePartEdits row.key key n)) (OnePartEdits row.key key)) w.in-Some.is c.in_ok-edits.ensures in
-          rw w.best-is (rw w.least-is (keeps rows key c.loop-row.row-index c.loop-row.least w.in-Some.edits c.loop-row.best row at so_far edits w.if-edits-least.false))
+          let edits = subst (IsFew (OnePartEdits row.key key)) w.in-Some.is c.in_ok-edits.ensures in
+          rw w.best-is (rw w.least-is (keeps rows key c.loop-row.row-index c.loop-row.least w.in-Some.edits c.loop-row.best row at so_far edits.0 w.if-edits-least.false))
       | in_default w ↦
           rw w.best-is (rw w.least-is (passes rows key c.loop-row.row-index c.loop-row.least c.loop-row.best row at so_far
-          (subst (λ r. MatchOption r ((n : ℕ) → ¬ (OnePartEdits row.key key n)) (OnePartEdits row.key key)) w.in_default.is c.in_ok-edits.ensures)))
+          (subst (IsFew (OnePartEdits row.key key)) w.in_default.is c.in_ok-edits.ensures)))
     ]
 
 pub returns : goal.returns

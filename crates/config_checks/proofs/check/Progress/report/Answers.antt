@@ -21,7 +21,7 @@ returns-clause-ok g c = ok_mapped _ _ c.map_err-2.ensures.variant c.write_out.en
   c.deref-2.result.now,
   found c.in-Some.row.now c.in-Some-find.reason (subst (λ k. Decides c.args.rows.now k c.in-Some.row.now) c.deref.ensures.value c.in-Some.ensures)
       (subst (λ v. HasFinding c.args.options.now.canonical c.in-Some.row.now v (Some c.in-Some-find.reason)) c.value_of.ensures c.in-Some-find.ensures)
-      (search rules) refl,
+      (search rules) (search rules),
   appended,
 ))
 
