@@ -35,8 +35,6 @@ const char *gcv_status_text(gcv_status status)
         return "no name has the struct";
     case GCV_BAD_FLAG:
         return "a flag is neither 0 nor 1";
-    case GCV_NOT_UTF8:
-        return "a directory or the passwd text is not UTF-8";
     case GCV_BAD_LENGTHS:
         return "the lengths are not those of names and texts that fill the bytes";
     case GCV_SHORT_BUFFER:
@@ -247,16 +245,7 @@ gcv_status gcv_interpolate_with(const char *text, size_t length, const gcv_conte
 {
     gcv_context asked = *context;
     gcv_fault why = GCV_FAULT_NONE;
-    uint32_t is_optional = 0;
-    size_t start = 0;
-    gcv_cut_mark(text, length, &is_optional, &start);
-    /* only what the path asks for is read; a passwd text without users tells which path has one */
-    if (start == length || text[start] != '%') {
-        asked.install_dir = NULL;
-    }
-    if (start == length || text[start] != '~') {
-        asked.home = NULL;
-    }
+    /* a passwd text without users tells which path has one */
     asked.passwd = find ? "" : NULL;
     asked.passwd_length = 0;
     gcv_status status = gcv_interpolate(text, length, &asked, buffer, capacity, size, &why);

@@ -6,7 +6,8 @@ ghost use Rattle.std.specs.Prelude.{◌≡◌, ◌≢◌, [], IsUtf8, MatchResul
 ghost use Rattle.std.specs.Prelude.{option_copied, string_bytes, Some};
 ghost use Rattle.std.specs.Option.{ForSome};
 ghost use Rattle.config_path.specs.declared.interpolate.Place.TheVariants.{Whole};
-ghost use Rattle.config_path.specs.Interpolation.{PathResult, PathTable, HasForm, WhereUtf8, IsBelow, IsBelowUser, IsOneName};
+ghost use Rattle.config_path.specs.Interpolation.{PathResult, PathTable, HasForm, WhereUtf8, IsBelow};
+ghost use Rattle.config_path.specs.Interpolation.{IsBelowUser, IsOneName};
 ghost use Rattle.config_path.specs.Interpolation.{below, join, refusal, users_of, known_in};
 ghost use Rattle.config_path.specs.Interpolation.PathResult.{text as whole_text, ill_formed};
 ghost use Rattle.config_path.specs.Parts.{parts_text, parts_result, form_in, joint_text, joint_result};
@@ -86,6 +87,15 @@ pub fn text_at<'p>(place: Place, bytes: &'p [u8]) -> Result<&'p str, Error<'p>>
 }
 
 /// What follows a directory, and what of the two stays.
+///
+/// ```rust
+/// use gix_config_value::path::interpolate::Place;
+/// use gix_config_value::path::parts::joint_of;
+///
+/// let joint = joint_of(b"/home/ann", Some(b"x".as_slice()), Place::PastHome)?;
+/// assert!(rt; joint.has_dir && joint.has_slash);
+/// assert_eq!(rt; joint.rest, "x");
+/// ```
 #[derive(Clone, Copy)]
 pub struct Joint<'p> {
     /// Whether the directory stays: a rest that begins with `/` stands alone.
@@ -127,8 +137,8 @@ impl<'p> Joint<'p> {
     }
 }
 
-/// How a rest, if there is one, is put below a directory of any bytes. Fails with `IllFormed` at the place if the
-/// rest is not UTF-8.
+/// How a rest, if there is one, is put below a directory of any bytes. Fails with `IllFormed` at the place if
+/// the rest is not UTF-8.
 pub fn joint_of<'p>(dir: &[u8], rest: Option<&'p [u8]>, place: Place) -> Result<Joint<'p>, Error<'p>>
     ensures { (missing : PathResult) → IsBelow (record {
       dir = Some dir.now;
@@ -202,6 +212,13 @@ fn name_and_rest(path: &[u8]) -> (&[u8], Option<&[u8]>)
 }
 
 /// What a value is, by how it begins.
+///
+/// ```rust
+/// use gix_config_value::path::parts::{Form, form_of};
+///
+/// assert!(rt; matches!(form_of(b"~/x"), Form::BelowHome(Some(_))));
+/// assert!(rt; matches!(form_of(b"/etc/x"), Form::Other(_)));
+/// ```
 #[derive(Clone, Copy)]
 pub enum Form<'p> {
     /// It is empty.
@@ -217,13 +234,6 @@ pub enum Form<'p> {
 }
 
 /// The form of a value, which tells the directory that it asks for.
-///
-/// ```rust
-/// use gix_config_value::path::parts::{Form, form_of};
-///
-/// assert!(rt; matches!(form_of(b"~/x"), Form::BelowHome(Some(_))));
-/// assert!(rt; matches!(form_of(b"/etc/x"), Form::Other(_)));
-/// ```
 pub fn form_of(value: &[u8]) -> Form<'_>
     ensures { HasForm value.now (form_in result) }
 {

@@ -78,7 +78,7 @@ typedef GCV_ENUM(gcv_status) {
     GCV_BAD_SUFFIX = 8,     /* the number is not that of a suffix */
     GCV_BAD_NAME = 9,       /* the struct is not that of a name */
     GCV_BAD_FLAG = 10,      /* a flag is neither 0 nor 1 */
-    GCV_NOT_UTF8 = 11,      /* a directory or the passwd text is no UTF-8 */
+    /* 11 is no status */
     GCV_BAD_LENGTHS = 12,   /* the lengths are not those of names and texts that fill the bytes */
     GCV_SHORT_BUFFER = 13,  /* the buffer is shorter than the text */
     GCV_NO_MEMORY = 14,     /* memory was refused, or a path stands for more than there can be */
@@ -272,7 +272,7 @@ typedef struct gcv_setting {
     size_t line; /* the line of its entry, from 1 */
 } gcv_setting;
 
-/* What a path may refer to. What is null is not there, whatever its length; all 0 refers to nothing. */
+/* What a path may refer to, of any bytes. What is null is not there, whatever its length; all 0 refers to nothing. */
 typedef struct gcv_context {
     const char *install_dir; /* for %(prefix)/ */
     size_t install_dir_length;
@@ -331,8 +331,8 @@ GCV_CHECKED gcv_status gcv_escape_color(const gcv_color *value, char *GCV_RESTRI
 typedef const char *gcv_find_home(void *state, const char *name, size_t length);
 
 /* As gcv_interpolate, with what `find(state, ..)` finds in place of the passwd text, which is not read. It is called once
- * for ~user, and for no other path; a null `find` is as a null passwd text. GCV_NOT_UTF8 only for a directory that the
- * path asks for. A path of a user takes memory from malloc, and gives it back: GCV_NO_MEMORY if it is refused. */
+ * for ~user, and for no other path; a null `find` is as a null passwd text. A path of a user takes memory from malloc, and
+ * gives it back: GCV_NO_MEMORY if it is refused. */
 GCV_CHECKED gcv_status gcv_interpolate_with(const char *text, size_t length, const gcv_context *context,
                                             gcv_find_home *find, void *state, char *GCV_RESTRICT buffer,
                                             size_t capacity, size_t *size, gcv_fault *fault) GCV_NONNULL((3, 8));
@@ -491,7 +491,8 @@ GCV_RETURNS((4)) gcv_show_attribute(uint32_t bits, char *GCV_RESTRICT buffer, si
 }
 
 /* Writes the foreground, the background and the attributes, those that there are, with one space between. GCV_BAD_NAME
- * where the struct of one of its names is neither that of a name nor all 0. */
+ * where the struct of one of its names is neither that of a name nor all 0. No text reads to a background alone, which is
+ * shown as a foreground is, nor to bits without a word, which are left out: for such colors gcv_compose tells. */
 GCV_RETURNS((1, 4)) gcv_show_color(const gcv_color *value, char *GCV_RESTRICT buffer, size_t capacity, size_t *size)
 {
     char none[1] = {0};
@@ -685,9 +686,10 @@ GCV_CALL GCV_NONNULL((3, 4)) void gcv_cut_mark(const char *text, size_t length, 
 /* Writes what a path stands for. One mark is cut off first. %(prefix)/ stands for the install directory, ~ for the home
  * directory, and ~user for the home directory of that user in the passwd text.
  *
- * GCV_REFUSED where it stands for nothing: `*fault` is one of the faults of paths, and is as it was after any other
- * answer. GCV_NOT_UTF8 where a text of the context is no UTF-8. The call takes no memory; GCV_NO_MEMORY where what the
- * path stands for is longer than PTRDIFF_MAX. */
+ * GCV_REFUSED if it stands for nothing: `*fault` is one of the faults of paths, and is as it was after any other
+ * answer. What follows the directory has to be UTF-8, and so has a user's name; the directories and the passwd text may
+ * hold any bytes, and so may then what is written. The call takes no memory; GCV_NO_MEMORY if what the path stands for
+ * is longer than PTRDIFF_MAX. */
 GCV_RETURNS((3, 6)) gcv_interpolate(const char *text, size_t length, const gcv_context *context,
                                     char *GCV_RESTRICT buffer, size_t capacity, size_t *size, gcv_fault *fault)
 {

@@ -1,4 +1,5 @@
 pub mod Entries
+pub mod GivenRepository
 pub mod Lookup
 pub mod NameTags
 pub mod NumbersApart

@@ -28,12 +28,13 @@ use Rattle.gix_config_value_c.specs.Faults.{place_number, path_fault_number, num
 pub told_apart : {V C : Type 0} (f : V → C) (found : C → Option V) → ((v : V) → found (f v) ≡ Some v) → TellsApart f
 told_apart f found again v w same = same_Some v w (sym (again v) ∙ (ap found same ∙ again w))
 
+-- by their numbers; no status has the number 11
 abbrev all_statuses : List Status
 all_statuses =
     statuses.Ok ∷ statuses.Refused ∷ statuses.Overflow ∷ statuses.NoText ∷ statuses.TooManyNames ∷ statuses.Absent
     ∷ statuses.UnknownKind ∷ statuses.UnknownFault ∷ statuses.BadSuffix ∷ statuses.BadName ∷ statuses.BadFlag
-    ∷ statuses.NotUtf8 ∷ statuses.BadLengths ∷ statuses.ShortBuffer ∷ statuses.NoMemory
-    ∷ statuses.BadLine ∷ statuses.Nul ∷ []
+    ∷ statuses.Ok ∷ statuses.BadLengths ∷ statuses.ShortBuffer ∷ statuses.NoMemory
+    ∷ statuses.BadLine ∷ statuses.Nul ∷ statuses.NoInclude ∷ statuses.NoValue ∷ statuses.NoDirectory ∷ []
 
 pub statuses_apart : TellsApart status_number
 statuses_apart = told_apart status_number (λ n. slice_get all_statuses n) again where

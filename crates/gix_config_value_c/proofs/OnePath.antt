@@ -5,56 +5,35 @@ use Rattle.config_path.specs.Laws.Interpolation.{one_result_of}
 use Rattle.gix_config_value.specs.Path.{Marked}
 use Rattle.gix_config_value.specs.Interpolation.{PathResult, PathTable, HaveOneHome}
 use Rattle.gix_config_value.specs.Interpolation.PathResult.{text, fault as path_fault, ill_formed}
-use Rattle.gix_config_value_c.specs.declared.status.Status.{Status}
 use Rattle.gix_config_value_c.specs.declared.status.Status.TheVariants as statuses
 use Rattle.gix_config_value_c.specs.Answers.{HasOneAnswer}
-use Rattle.gix_config_value_c.specs.Buffers.{PutsText, LeavesBuffer}
-use Rattle.gix_config_value_c.specs.Paths.{IsGiven, IsBad, IsFirstBad, users_in, known_of, longest_block}
+use Rattle.gix_config_value_c.specs.Buffers.{PutsText}
+use Rattle.gix_config_value_c.specs.Numbers.{flag_number}
+use Rattle.gix_config_value_c.specs.Values.{IsNoValue}
+use Rattle.gix_config_value_c.specs.Paths.{IsGiven, HasBadFlag, users_in, known_of, longest_block}
 use Rattle.gix_config_value_c.specs.Paths.{IsPathFault, PutsPath, InterpolatesInto}
-use Rattle.gix_config_value_c.specs.Paths.IsBad.{bad_flag, not_utf8}
 use Rattle.gix_config_value_c.specs.Paths.PutsPath.{put, too_long, refused}
-use Rattle.gix_config_value_c.specs.Paths.InterpolatesInto.{interpolated, bad}
+use Rattle.gix_config_value_c.specs.Paths.InterpolatesInto.{interpolated, bad_flag}
 use Rattle.gix_config_value_c.proofs.OneAnswer.{puts_once, left_once}
 
--- ---- what is given, and what is bad
+-- ---- what is given, and a bad flag
 
 given_once : (given : ℕ × List ℕ) (t u : Option (List ℕ)) → IsGiven given t → IsGiven given u → t ≡ u
 given_once given None None p q = refl
 given_once given None (Some u) p q = absurd (let e = sym p ∙ q.0 in cc (e))
 given_once given (Some t) None p q = absurd (let e = sym q ∙ p.0 in cc (e))
-given_once given (Some t) (Some u) p q = ap Some (p.2 ∙ sym q.2)
+given_once given (Some t) (Some u) p q = ap Some (p.1 ∙ sym q.1)
 
-not_bad : (given : ℕ × List ℕ) (t : Option (List ℕ)) (said : Status) → IsGiven given t → ¬ (IsBad said given)
-not_bad given None said p (bad_flag is never) = never false p
-not_bad given None said p (not_utf8 is one other) = let e = sym p ∙ one in cc (e)
-not_bad given (Some t) said p (bad_flag is never) = never true p.0
-not_bad given (Some t) said p (not_utf8 is one other) = other p.1
+not_bad : (given : ℕ × List ℕ) (t : Option (List ℕ)) → IsGiven given t → ¬ (IsNoValue flag_number given.0)
+not_bad given None p never = never false p
+not_bad given (Some t) p never = never true p.0
 
-bad_once : (given : ℕ × List ℕ) (said other : Status) → IsBad said given → IsBad other given → said ≡ other
-bad_once given said other (bad_flag is never) (bad_flag also neither) = is ∙ sym also
-bad_once given said other (bad_flag is never) (not_utf8 also one bytes) = absurd (never true one)
-bad_once given said other (not_utf8 is one bytes) (bad_flag also never) = absurd (never true one)
-bad_once given said other (not_utf8 is one bytes) (not_utf8 also one' bytes') = is ∙ sym also
-
-first_once : (all : List (ℕ × List ℕ)) (said other : Status) → IsFirstBad said all → IsFirstBad other all
-    → said ≡ other
-first_once [] said other p q = absurd p
-first_once (given ∷ more) said other (inl p) (inl q) = bad_once given said other p q
-first_once (given ∷ more) said other (inl p) (inr q) = absurd (not_bad given q.0 said q.1 p)
-first_once (given ∷ more) said other (inr p) (inl q) = absurd (not_bad given p.0 other p.1 q)
-first_once (given ∷ more) said other (inr p) (inr q) = first_once more said other p.2 q.2
-
-never_first : (a b c : ℕ × List ℕ) (i h p : Option (List ℕ)) (said : Status) → IsGiven a i → IsGiven b h
-    → IsGiven c p → ¬ (IsFirstBad said (a ∷ b ∷ c ∷ []))
-never_first a b c i h p said x y z (inl w) = not_bad a i said x w
-never_first a b c i h p said x y z (inr w) = second w.2 where
-  third : ¬ (IsFirstBad said (c ∷ []))
-  third (inl w) = not_bad c p said z w
-  third (inr w) = w.2
-
-  second : ¬ (IsFirstBad said (b ∷ c ∷ []))
-  second (inl w) = not_bad b h said y w
-  second (inr w) = third w.2
+never_bad : (a b c : ℕ × List ℕ) (i h p : Option (List ℕ)) → IsGiven a i → IsGiven b h → IsGiven c p
+    → ¬ (HasBadFlag (a.0 ∷ b.0 ∷ c.0 ∷ []))
+never_bad a b c i h p x y z (inl w) = not_bad a i x w
+never_bad a b c i h p x y z (inr (inl w)) = not_bad b h y w
+never_bad a b c i h p x y z (inr (inr (inl w))) = not_bad c p z w
+never_bad a b c i h p x y z (inr (inr (inr w))) = w
 
 -- ---- what is put
 
@@ -116,11 +95,10 @@ interpolates_once t install_dir home passwd out a b size m n s r (interpolated i
     let same = one_table i h p j k q v w x y (given_once install_dir i j gi gj) (given_once home h k gh gk) (given_once passwd p q gp gq) (mark_once t o u v w mark marked) table told in
     let one = path_once longest_block x out.0 a.0 b.0 size m n out.1 a.1 b.1 s r puts (subst (λ z. PutsPath longest_block z out.0 b.0 size n out.1 b.1 r) (sym same) more) in
     (λ i. (one.0 i, one.2 i), one.1, one.3)
-interpolates_once t install_dir home passwd out a b size m n s r (interpolated i h p o v x gi gh gp mark table puts) (bad said first left kept) =
-    absurd (never_first install_dir home passwd i h p said gi gh gp first)
-interpolates_once t install_dir home passwd out a b size m n s r (bad said first left kept) (interpolated i h p o v x gi gh gp mark table puts) =
-    absurd (never_first install_dir home passwd i h p said gi gh gp first)
-interpolates_once t install_dir home passwd out a b size m n s r (bad said first left kept) (bad other also gone same) =
-    let e = first_once (install_dir ∷ home ∷ passwd ∷ []) said other first also in
-    let one = left_once said out.0 a.0 b.0 size m n s r left (subst (λ x. LeavesBuffer x out.0 b.0 size n r) (sym e) gone) in
+interpolates_once t install_dir home passwd out a b size m n s r (interpolated i h p o v x gi gh gp mark table puts) (bad_flag flag left kept) =
+    absurd (never_bad install_dir home passwd i h p gi gh gp flag)
+interpolates_once t install_dir home passwd out a b size m n s r (bad_flag flag left kept) (interpolated i h p o v x gi gh gp mark table puts) =
+    absurd (never_bad install_dir home passwd i h p gi gh gp flag)
+interpolates_once t install_dir home passwd out a b size m n s r (bad_flag flag left kept) (bad_flag also gone same) =
+    let one = left_once statuses.BadFlag out.0 a.0 b.0 size m n s r left gone in
     (λ i. (one.0 i, (kept ∙ sym same) i), one.1, one.2)

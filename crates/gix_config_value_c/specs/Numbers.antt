@@ -27,12 +27,14 @@ status_number statuses.UnknownFault = 7
 status_number statuses.BadSuffix = 8
 status_number statuses.BadName = 9
 status_number statuses.BadFlag = 10
-status_number statuses.NotUtf8 = 11
 status_number statuses.BadLengths = 12
 status_number statuses.ShortBuffer = 13
 status_number statuses.NoMemory = 14
 status_number statuses.BadLine = 15
 status_number statuses.Nul = 16
+status_number statuses.NoInclude = 17
+status_number statuses.NoValue = 18
+status_number statuses.NoDirectory = 19
 
 -- a kind
 abbrev pub kind_number : Kind → ℕ

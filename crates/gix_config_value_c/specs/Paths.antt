@@ -1,12 +1,14 @@
 -- Paths in C: the mark, and what stands in a path value for its directories.
 use Rattle.std.specs.Prelude.{◌≡◌, ◌≤◌, ◌<◌, ◌-◌, ◌^◌, ◌⊎◌, ℕ, List, [], ◌∷◌, length, Bool, Option, None, Some}
-use Rattle.std.specs.Prelude.{IsUtf8, drop}
+use Rattle.std.specs.Prelude.{◌++◌, codes, if◌then◌else◌, Result, Ok, Err, drop}
+use Rattle.config_path.specs.declared.interpolate.Error.{Error}
+use Rattle.config_path.specs.Interpolation.{refusal}
 use Rattle.gix_config_value.specs.Path.{Marked}
 use Rattle.gix_config_value.specs.Passwd.{IsHomeIn}
 use Rattle.gix_config_value.specs.Interpolation.{Users, Known, PathResult, PathTable}
 use Rattle.gix_config_value.specs.Interpolation.Users.{no_lookup, looked_up}
 use Rattle.gix_config_value.specs.Interpolation.PathResult.{text, fault as path_fault, ill_formed}
-use Rattle.gix_config_value_c.specs.declared.status.Status.{Status}
+use Rattle.gix_config_value_c.specs.declared.paths.Parts.{Parts}
 use Rattle.gix_config_value_c.specs.declared.status.Status.TheVariants as statuses
 use Rattle.gix_config_value_c.specs.Buffers.{PutsText, LeavesBuffer}
 use Rattle.gix_config_value_c.specs.Faults.{path_fault_number, place_number}
@@ -19,22 +21,16 @@ CutsMark t optional start =
     (is_optional : Bool) × (optional ≡ flag_number is_optional) × Marked t is_optional (drop start t)
     × (start ≤ length t)
 
--- ---- what a path may refer to: a flag, and the text that is there where it is 1
+-- ---- what is given: a flag, and the bytes that are there if it is 1
 
 abbrev pub IsGiven : ℕ × List ℕ → Option (List ℕ) → Type 0
 IsGiven given None = given.0 ≡ 0
-IsGiven given (Some t) = (given.0 ≡ 1) × IsUtf8 given.1 × (t ≡ given.1)
+IsGiven given (Some bytes) = (given.0 ≡ 1) × (bytes ≡ given.1)
 
--- the flag is neither 0 nor 1, or the text that is there is no UTF-8
-pub data IsBad (said : Status) (given : ℕ × List ℕ) : Type 0 where
-  bad_flag : said ≡ statuses.BadFlag → IsNoValue flag_number given.0 → IsBad said given
-  not_utf8 : said ≡ statuses.NotUtf8 → given.0 ≡ 1 → ¬ (IsUtf8 given.1) → IsBad said given
-
--- this is the status of the first of these that is bad: what precedes it is given
-abbrev pub IsFirstBad : Status → List (ℕ × List ℕ) → Type 0
-IsFirstBad said [] = ⊥
-IsFirstBad said (given ∷ more) =
-    IsBad said given ⊎ ((t : Option (List ℕ)) × IsGiven given t × IsFirstBad said more)
+-- one of these flags is neither 0 nor 1
+abbrev pub HasBadFlag : List ℕ → Type 0
+HasBadFlag [] = ⊥
+HasBadFlag (flag ∷ flags) = IsNoValue flag_number flag ⊎ HasBadFlag flags
 
 -- the users of a passwd text, if there is one
 abbrev pub users_in : Option (List ℕ) → Users
@@ -45,6 +41,21 @@ users_in (Some passwd) = looked_up (IsHomeIn passwd)
 abbrev pub known_of : (install_dir home passwd : Option (List ℕ)) → Known
 known_of install_dir home passwd =
     record { install_dir = install_dir; home_dir = home; users = users_in passwd }
+
+-- ---- the parts of a path
+
+-- what follows a directory: a `/`, or nothing
+abbrev pub slash_bytes : Bool → List ℕ
+slash_bytes has_slash = if has_slash then codes "/" else []
+
+-- the bytes of the parts
+abbrev pub parts_bytes : Parts → List ℕ
+parts_bytes p = p.dir.now ++ slash_bytes p.has_slash ++ p.rest.now
+
+-- parts, or an error, as a result of the path table
+abbrev pub parts_result : Result Parts Error → PathResult
+parts_result (Ok p) = text (parts_bytes p)
+parts_result (Err e) = refusal e
 
 -- ---- the answer
 
@@ -71,8 +82,7 @@ pub data PutsPath (longest : ℕ) (result : PathResult) (buffer buffer' : List �
   refused : IsPathFault result fault' → LeavesBuffer statuses.Refused buffer buffer' size size' status
       → PutsPath longest result buffer buffer' size size' fault fault' status
 
--- what the path without its mark is interpolated to is put; or the first bad one of what was given has this
--- status, and all is left alone
+-- what the path without its mark is interpolated to is put; or a flag is bad, and all is left alone
 pub data InterpolatesInto (t : List ℕ) (install_dir home passwd : ℕ × List ℕ) (buffer buffer' : List ℕ)
     (size size' fault fault' status : ℕ) : Type 0 where
   interpolated : (i h p : Option (List ℕ)) (is_optional : Bool) (value : List ℕ) (result : PathResult)
@@ -80,6 +90,6 @@ pub data InterpolatesInto (t : List ℕ) (install_dir home passwd : ℕ × List 
       → PathTable (known_of i h p) value result
       → PutsPath longest_block result buffer buffer' size size' fault fault' status
       → InterpolatesInto t install_dir home passwd buffer buffer' size size' fault fault' status
-  bad : (said : Status) → IsFirstBad said (install_dir ∷ home ∷ passwd ∷ [])
-      → LeavesBuffer said buffer buffer' size size' status → fault' ≡ fault
+  bad_flag : HasBadFlag (install_dir.0 ∷ home.0 ∷ passwd.0 ∷ [])
+      → LeavesBuffer statuses.BadFlag buffer buffer' size size' status → fault' ≡ fault
       → InterpolatesInto t install_dir home passwd buffer buffer' size size' fault fault' status

@@ -9,6 +9,7 @@ mod buffer;
 mod colors;
 mod faults;
 mod files;
+mod includes;
 mod json;
 pub mod laws;
 mod numbers;

@@ -1,20 +1,22 @@
 //! Path values: the mark of an optional path, and the directories that a path refers to.
-ghost use Rattle.std.specs.Prelude.{◌≡◌, ℕ, MatchResult, option_copied, Some, None};
-ghost use Rattle.config_path.specs.Parts.{parts_text, parts_result};
+ghost use Rattle.std.specs.Prelude.{◌≡◌, ◌++◌, ℕ, MatchOption, option_copied};
+ghost use Rattle.config_path.specs.declared.interpolate.Place.TheVariants.{Whole};
+ghost use Rattle.config_path.specs.Interpolation.{WhereUtf8, IsBelow, IsBelowUser, refusal};
+ghost use Rattle.config_path.specs.Parts.{joint_text};
 ghost use Rattle.gix_config_value.specs.Interpolation.{PathTable};
 ghost use Rattle.gix_config_value.specs.Interpolation.PathResult.{text as whole_text};
-ghost use Rattle.gix_config_value_c.specs.declared.status.Status.{Status};
-ghost use Rattle.gix_config_value_c.specs.Numbers.{status_number};
-ghost use Rattle.gix_config_value_c.specs.Paths.{CutsMark, IsGiven, IsBad, known_of, PutsPath};
-ghost use Rattle.gix_config_value_c.specs.Paths.{InterpolatesInto};
+ghost use Rattle.gix_config_value_c.specs.Numbers.{flag_number};
+ghost use Rattle.gix_config_value_c.specs.Values.{IsNoValue};
+ghost use Rattle.gix_config_value_c.specs.Paths.{CutsMark, IsGiven, users_in, known_of, slash_bytes, parts_bytes};
+ghost use Rattle.gix_config_value_c.specs.Paths.{parts_result, PutsPath, InterpolatesInto};
 
 use crate::buffer::push;
 use crate::faults::path_fault_number;
 use crate::numbers::{flag_number, flag_of};
 use crate::status::Status;
 use gix_config_value::path::cut_mark;
-use gix_config_value::path::interpolate::{Context, Error, absent, home_for_user};
-use gix_config_value::path::parts::{Parts, parts_of};
+use gix_config_value::path::interpolate::{Error, Place, home_in_passwd};
+use gix_config_value::path::parts::{Form, Joint, form_of, joint_of, text_at};
 
 /// The bytes of the longest block of memory, and so of the longest text.
 const LONGEST_BLOCK: usize = usize::MAX / 2;
@@ -30,86 +32,128 @@ pub extern "C" fn gcv_raw_cut_mark(text: &[u8], optional: &mut u32, start: &mut 
     *start = text.len() - path.len();
 }
 
-/// The text if the flag is 1, and nothing if it is 0. Fails with `BadFlag` if it is neither, and with
-/// `NotUtf8` if the text is not UTF-8.
-fn given<'a>(flag: u32, bytes: &'a [u8]) -> Result<Option<&'a str>, u32>
-    ensures { MatchResult result
-        (λ text. IsGiven (flag, bytes.now) (option_copied text))
-        (λ number. (said : Status) × IsBad said (flag, bytes.now) × (number ≡ status_number said)) }
+/// The bytes if the flag is 1, and nothing if it is 0. `None` if it is neither.
+pub(crate) fn given<'a>(flag: u32, bytes: &'a [u8]) -> Option<Option<&'a [u8]>>
+    ensures { MatchOption result
+        (IsNoValue flag_number flag)
+        (λ given. IsGiven (flag, bytes.now) (option_copied given)) }
 {
-    let Some(is_given) = flag_of(flag) else {
-        return Err(Status::BadFlag as u32);
-    };
-    if !is_given {
-        return Ok(None);
+    if flag_of(flag)? {
+        return Some(Some(bytes));
     }
-    match str::from_utf8(bytes) {
-        Ok(text) => Ok(Some(text)),
-        Err(_) => Err(Status::NotUtf8 as u32),
+    Some(None)
+}
+
+/// What a path stands for, in three parts, one after the other.
+#[derive(Clone, Copy)]
+struct Parts<'a, 'p> {
+    /// The directory, or nothing.
+    dir: &'a [u8],
+    /// Whether a `/` follows the directory.
+    has_slash: bool,
+    /// What follows.
+    rest: &'p str,
+}
+
+/// The parts of a directory and what follows it.
+fn parts_with<'a, 'p>(dir: &'a [u8], joint: Joint<'p>) -> Parts<'a, 'p>
+    ensures { parts_bytes result ≡ joint_text dir.now joint.entry }
+{
+    Parts {
+        dir: if joint.has_dir { dir } else { &[] },
+        has_slash: joint.has_slash,
+        rest: joint.rest,
     }
 }
 
-/// The parts of what a path stands for, where users are looked up in a passwd text.
-fn with_users<'a, 'p>(
-    path: &'p [u8],
-    install_dir: Option<&'a str>,
-    home: Option<&'a str>,
-    passwd: &'a str,
+/// The directory, or the directory and the rest joined. Fails with `missing` if there is no directory, and
+/// with `IllFormed` at the place if the rest is not UTF-8.
+fn below_dir<'a, 'p>(
+    dir: Option<&'a [u8]>,
+    missing: Error<'p>,
+    rest: Option<&'p [u8]>,
+    place: Place,
 ) -> Result<Parts<'a, 'p>, Error<'p>>
-    ensures { PathTable (known_of (option_copied install_dir.entry) (option_copied home.entry)
-        (Some passwd.now)) path.now (parts_result result) }
+    ensures { IsBelow (record {
+      dir = option_copied dir.entry;
+      missing = refusal missing.entry;
+      rest = option_copied rest.entry;
+      place = place;
+    }) (parts_result result) }
 {
-    let context = Context {
-        git_install_dir: install_dir,
-        home_dir: home,
-        home_for_user: Some(|name: &str| home_for_user(passwd, name)),
+    let Some(dir) = dir else {
+        return Err(missing);
     };
-    parts_of(path, context)
+    match joint_of(dir, rest, place) {
+        Ok(joint) => Ok(parts_with(dir, joint)),
+        Err(error) => Err(error),
+    }
 }
 
-/// The parts of what a path stands for, where no users are looked up.
-fn without_users<'a, 'p>(
-    path: &'p [u8],
-    install_dir: Option<&'a str>,
-    home: Option<&'a str>,
+/// The same below the home directory of the user of this name in the passwd text, if there is one.
+fn below_user<'a, 'p>(
+    passwd: Option<&'a [u8]>,
+    name: &'p [u8],
+    rest: Option<&'p [u8]>,
 ) -> Result<Parts<'a, 'p>, Error<'p>>
-    ensures { PathTable (known_of (option_copied install_dir.entry) (option_copied home.entry) None)
-        path.now (parts_result result) }
+    ensures { IsBelowUser (users_in (option_copied passwd.entry)) name.now (option_copied rest.entry)
+        (parts_result result) }
 {
-    let context = Context {
-        git_install_dir: install_dir,
-        home_dir: home,
-        home_for_user: absent(|_name: &str| None),
+    let Some(passwd) = passwd else {
+        return Err(Error::LookupMissing);
     };
-    parts_of(path, context)
+    let name = text_at(Place::Username, name)?;
+    let home = home_in_passwd(passwd, name.as_bytes());
+    below_dir(home, Error::UserNotFound, rest, Place::PastUser)
 }
 
-/// The parts of what a path stands for, where users are looked up in the passwd text, if there is one.
+/// The value itself. Fails with `IllFormed` if it is not UTF-8.
+fn unchanged<'a, 'p>(value: &'p [u8]) -> Result<Parts<'a, 'p>, Error<'p>>
+    ensures { WhereUtf8 Whole value.now (parts_result result ≡ whole_text value.now) (parts_result result) }
+{
+    Ok(Parts {
+        dir: b"",
+        has_slash: false,
+        rest: text_at(Place::Whole, value)?,
+    })
+}
+
+/// The parts of what a path stands for. Users are looked up in the passwd text, if there is one.
 fn interpolated<'a, 'p>(
     path: &'p [u8],
-    install_dir: Option<&'a str>,
-    home: Option<&'a str>,
-    passwd: Option<&'a str>,
+    install_dir: Option<&'a [u8]>,
+    home: Option<&'a [u8]>,
+    passwd: Option<&'a [u8]>,
 ) -> Result<Parts<'a, 'p>, Error<'p>>
     ensures { PathTable (known_of (option_copied install_dir.entry) (option_copied home.entry)
         (option_copied passwd.entry)) path.now (parts_result result) }
 {
-    match passwd {
-        Some(passwd) => with_users(path, install_dir, home, passwd),
-        None => without_users(path, install_dir, home),
+    match form_of(path) {
+        Form::Empty => Err(Error::PathMissing),
+        Form::BelowPrefix(rest) => {
+            let missing = Error::InstallDirMissing;
+            below_dir(install_dir, missing, Some(rest), Place::PastPrefix)
+        }
+        Form::BelowHome(rest) => below_dir(home, Error::HomeMissing, rest, Place::PastHome),
+        Form::BelowUser(name, rest) => below_user(passwd, name, rest),
+        Form::Other(whole) => unchanged(whole),
     }
 }
 
+/// What follows the directory: a `/` or nothing.
+#[inline(always)]
+fn slash_of(has_slash: bool) -> &'static str
+    ensures { result.now ≡ slash_bytes has_slash }
+{
+    if has_slash { "/" } else { "" }
+}
+
 /// Puts the text of the parts into the buffer. `NoMemory` if no block of memory could hold the text.
-fn put_parts(parts: Parts<'_, '_>, buffer: &mut [u8], length: &mut usize) -> u32
-    ensures { (fault : ℕ) → PutsPath LONGEST_BLOCK (whole_text (parts_text parts.entry))
+fn put_parts(dir: &[u8], has_slash: bool, rest: &str, buffer: &mut [u8], length: &mut usize) -> u32
+    ensures { (fault : ℕ) → PutsPath LONGEST_BLOCK (whole_text (dir.now ++ slash_bytes has_slash ++ rest.now))
         buffer.old buffer.new length.old length.new fault fault result }
 {
-    let (dir, slash, rest) = (
-        parts.dir.as_bytes(),
-        parts.slash().as_bytes(),
-        parts.rest.as_bytes(),
-    );
+    let (slash, rest) = (slash_of(has_slash).as_bytes(), rest.as_bytes());
     let size = dir.len() + slash.len() + rest.len();
     if size > LONGEST_BLOCK {
         return Status::NoMemory as u32;
@@ -135,7 +179,7 @@ fn put_path(
         buffer.old buffer.new length.old length.new fault.old fault.new result }
 {
     match answer {
-        Ok(parts) => put_parts(parts, buffer, length),
+        Ok(parts) => put_parts(parts.dir, parts.has_slash, parts.rest, buffer, length),
         Err(error) => {
             *fault = path_fault_number(error);
             Status::Refused as u32
@@ -145,11 +189,10 @@ fn put_path(
 
 /// Puts what a path value stands for into the buffer, and its length into `length`. One mark of an optional
 /// path is cut off first. Each of the install directory, the home directory and the passwd text is there
-/// where its flag is 1.
+/// if its flag is 1, and may hold any bytes.
 ///
-/// `BadFlag` if a flag is neither 0 nor 1, and `NotUtf8` if a text that is there is not UTF-8: the first of
-/// the three that is bad decides. `Refused` if the path stands for nothing: the number of the fault is put
-/// into `fault`. `NoMemory` if the text is longer than a block of memory can be; the call takes none.
+/// `BadFlag` if a flag is neither 0 nor 1. `Refused` if the path stands for nothing: the number of the fault
+/// is put into `fault`. `NoMemory` if the text is longer than a block of memory can be; the call takes none.
 /// `ShortBuffer` if the buffer is shorter than the text.
 #[unsafe(no_mangle)]
 pub extern "C" fn gcv_raw_interpolate(
@@ -168,17 +211,14 @@ pub extern "C" fn gcv_raw_interpolate(
         (has_passwd, passwd.now)
         buffer.old buffer.new length.old length.new fault.old fault.new result }
 {
-    let install_dir = match given(has_install_dir, install_dir) {
-        Ok(install_dir) => install_dir,
-        Err(status) => return status,
+    let Some(install_dir) = given(has_install_dir, install_dir) else {
+        return Status::BadFlag as u32;
     };
-    let home = match given(has_home, home) {
-        Ok(home) => home,
-        Err(status) => return status,
+    let Some(home) = given(has_home, home) else {
+        return Status::BadFlag as u32;
     };
-    let passwd = match given(has_passwd, passwd) {
-        Ok(passwd) => passwd,
-        Err(status) => return status,
+    let Some(passwd) = given(has_passwd, passwd) else {
+        return Status::BadFlag as u32;
     };
     let (_is_optional, path) = cut_mark(text);
     let answer = interpolated(path, install_dir, home, passwd);

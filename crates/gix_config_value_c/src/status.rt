@@ -25,8 +25,6 @@ pub enum Status {
     BadName = 9,
     /// A flag is neither 0 nor 1.
     BadFlag = 10,
-    /// A directory or the passwd text is not UTF-8.
-    NotUtf8 = 11,
     /// The lengths are not those of names and texts that fill the bytes.
     BadLengths = 12,
     /// The buffer is shorter than the text.
@@ -37,4 +35,10 @@ pub enum Status {
     BadLine = 15,
     /// A file has a NUL outside a comment.
     Nul = 16,
+    /// The entry includes no file.
+    NoInclude = 17,
+    /// The entry includes a file, and has no value.
+    NoValue = 18,
+    /// The path of an include begins with a user's name, or with a directory that is not there.
+    NoDirectory = 19,
 }

@@ -230,9 +230,15 @@ static void contexts(void)
         {{"x", {2, 0, 0}, {"", "", ""}}, GCV_BAD_FLAG, NULL},
         {{"x", {0, UINT32_MAX, 0}, {"", "", ""}}, GCV_BAD_FLAG, NULL},
         {{"x", {0, 0, 7}, {"", "", ""}}, GCV_BAD_FLAG, NULL},
-        {{"x", {1, 0, 0}, {"\xff", "", ""}}, GCV_NOT_UTF8, NULL},
-        {{"x", {0, 1, 0}, {"", "/h\xc0\x80", ""}}, GCV_NOT_UTF8, NULL},
-        {{"x", {0, 0, 1}, {"", "", "a:\xe2\x82"}}, GCV_NOT_UTF8, NULL},
+        /* directories and users of any bytes, as in Latin-1, and a path whose own bytes are no UTF-8 */
+        {{"/etc/x", {1, 1, 1}, {"\xff", "/J\xf6rg", "bob:x:1:1:J\xf6rg:/b:/sh\n"}}, GCV_OK, "/etc/x"},
+        {{"~/x", {1, 1, 1}, {"\xff", "/home", "bob:x:1:1:J\xf6rg:/b:/sh\n"}}, GCV_OK, "/home/x"},
+        {{"~/x", {0, 1, 0}, {"", "/J\xf6rg", ""}}, GCV_OK, "/J\xf6rg/x"},
+        {{"~", {0, 1, 0}, {"", "\xff", ""}}, GCV_OK, "\xff"},
+        {{"%(prefix)/x", {1, 0, 0}, {"/opt/\xe2\x82/", "", ""}}, GCV_OK, "/opt/\xe2\x82/x"},
+        {{"~bob/x", {0, 0, 1}, {"", "", "\xff\nb\xf6:x:1:1::/:\nbob:x:1:1:J\xf6rg:/b\xf6:/sh\n"}}, GCV_OK, "/b\xf6/x"},
+        {{"~/\xf6", {0, 1, 0}, {"", "/h", ""}}, GCV_REFUSED, NULL},
+        {{"~b\xf6/x", {0, 0, 1}, {"", "", "b\xf6:x:1:1::/b:\n"}}, GCV_REFUSED, NULL},
         {{"x", {0, 0, 0}, {"\xff", "\xff", "\xff"}}, GCV_OK, "x"},
     };
     for (size_t at = 0; at < sizeof rows / sizeof rows[0]; at++) {
@@ -283,18 +289,16 @@ static void users(void)
     count(!gcv_find_user(&room, "no such user", 12) && !gcv_find_user(&room, "root", 0) && !gcv_find_user(&room, "root\0", 5) &&
               !gcv_find_user(&room, long_name, sizeof long_name),
           "no user");
-    /* directories that the path does not ask for may be of any bytes */
-    gcv_context bad = {"\xff", 1, "\xff", 1, "\xff", 1};
-    static const struct {
-        const char *path;
-        gcv_status status;
-    } rows[] = {{"/etc/x", GCV_OK}, {"~/x", GCV_NOT_UTF8}, {"%(prefix)/x", GCV_NOT_UTF8}, {":(optional)x", GCV_OK}};
+    gcv_context any_bytes = {"\xff", 1, "\xfe", 1, NULL, 0};
+    static const char *const rows[][2] = {
+        {"/etc/x", "/etc/x"}, {"~/x", "\xfe/x"}, {"%(prefix)/x", "\xff/x"}, {":(optional)x", "x"}};
     for (size_t at = 0; at < 4; at++) {
         char text[64];
-        size_t size = 0;
-        count(gcv_interpolate_with(rows[at].path, strlen(rows[at].path), &bad, gcv_find_user, &room, text, sizeof text, &size,
-                                   NULL) == rows[at].status,
-              rows[at].path);
+        size_t size = 0, length = strlen(rows[at][1]);
+        count(gcv_interpolate_with(rows[at][0], strlen(rows[at][0]), &any_bytes, gcv_find_user, &room, text, sizeof text, &size,
+                                   NULL) == GCV_OK &&
+                  size == length && memcmp(text, rows[at][1], length) == 0,
+              rows[at][0]);
     }
 }
 
@@ -383,13 +387,13 @@ static void parsed(void)
 /* Each status has a text of its own, and other numbers have one together. */
 static void status_texts(void)
 {
-    const char *unknown = gcv_status_text((gcv_status)(GCV_NUL + 1));
+    const char *unknown = gcv_status_text((gcv_status)11);
     count(strcmp(unknown, "unknown status") == 0 && gcv_status_text((gcv_status)UINT32_MAX) == unknown, unknown);
-    for (uint32_t status = GCV_OK; status <= GCV_NUL; status++) {
+    for (uint32_t status = GCV_OK; status <= GCV_NO_DIRECTORY; status++) {
         const char *text = gcv_status_text((gcv_status)status);
         int differs = strlen(text) > 0;
-        for (uint32_t other = status + 1; other <= GCV_NUL + 1; other++) {
-            differs = differs && strcmp(text, gcv_status_text((gcv_status)other)) != 0;
+        for (uint32_t other = status + 1; other <= GCV_NO_DIRECTORY + 1; other++) {
+            differs = differs && (status == 11 || other == 11 || strcmp(text, gcv_status_text((gcv_status)other)) != 0);
         }
         count(differs, text);
     }
@@ -557,6 +561,79 @@ static void files(void)
           "a color of a subsection");
 }
 
+/* An entry, the file that it is in, and what that may ask for. */
+typedef struct entry {
+    const char *key;
+    const char *value;
+    const gcv_includer *from;
+} entry;
+
+static gcv_status include(const void *state, char *buffer, size_t capacity, size_t *size)
+{
+    const entry *of = (const entry *)state;
+    return gcv_include(of->key, strlen(of->key), of->value, of->value ? strlen(of->value) : 0, of->from, buffer, capacity, size);
+}
+
+/* By the section "Includes" of git-config(1). */
+static void includes(void)
+{
+    static const gcv_includer nothing = {NULL, 0, NULL, 0, NULL, 0, NULL, 0, NULL, 0, NULL, 0};
+    static const gcv_includer all = {"/J\xf6rg/.gitconfig", 16, "/usr", 4, "/home/u", 7, "/w/p/.git", 9,
+                                     "/real/p/.git",        12, "main/x", 6};
+    static const gcv_includer kept = {NULL, 0, NULL, 0, NULL, 0, "/w/p/.git", 9, NULL, 0, NULL, 0};
+    static const struct {
+        entry of;
+        gcv_status status;
+        const char *name;
+    } rows[] = {
+        {{"include.path", "a.inc", &all}, GCV_OK, "/J\xf6rg/a.inc"},
+        {{"include.path", "", &all}, GCV_OK, "/J\xf6rg/"},
+        {{"include.path", "~/b", &all}, GCV_OK, "/home/u/b"},
+        {{"include.path", "%(prefix)/etc/c", &all}, GCV_OK, "/usr/etc/c"},
+        {{"include.path", "/d\xff", &all}, GCV_OK, "/d\xff"},
+        {{"include.path", "~bob/x", &all}, GCV_NO_DIRECTORY, NULL},
+        {{"include.path", NULL, &all}, GCV_NO_VALUE, NULL},
+        {{"include.paths", "a.inc", &all}, GCV_NO_INCLUDE, NULL},
+        {{"core.bare", NULL, &all}, GCV_NO_INCLUDE, NULL},
+        {{"", "", &all}, GCV_NO_INCLUDE, NULL},
+        {{"includeif.gitdir:/w/.path", "e", &all}, GCV_OK, "/J\xf6rg/e"},
+        {{"includeif.gitdir:p/.path", "e", &all}, GCV_OK, "/J\xf6rg/e"},
+        {{"includeif.gitdir:/real/p/.git.path", "e", &all}, GCV_OK, "/J\xf6rg/e"},
+        {{"includeif.gitdir:/W/.path", "e", &all}, GCV_NO_INCLUDE, NULL},
+        {{"includeif.gitdir/i:/W/.path", "e", &all}, GCV_OK, "/J\xf6rg/e"},
+        {{"includeif.gitdir:/w/.path", NULL, &all}, GCV_NO_VALUE, NULL},
+        {{"includeif.gitdir:/v/.path", NULL, &all}, GCV_NO_INCLUDE, NULL},
+        {{"includeif.onbranch:main/.path", "e", &all}, GCV_OK, "/J\xf6rg/e"},
+        {{"includeif.onbranch:main.path", "e", &all}, GCV_NO_INCLUDE, NULL},
+        {{"includeif.hasconfig:remote.*.url:**.path", "e", &all}, GCV_NO_INCLUDE, NULL},
+        {{"include.path", "a.inc", &nothing}, GCV_OK, "a.inc"},
+        {{"include.path", "~/b", &nothing}, GCV_NO_DIRECTORY, NULL},
+        {{"include.path", "%(prefix)/c", &nothing}, GCV_NO_DIRECTORY, NULL},
+        {{"includeif.gitdir:/w/.path", "e", &nothing}, GCV_NO_INCLUDE, NULL},
+        {{"includeif.onbranch:**.path", "e", &nothing}, GCV_NO_INCLUDE, NULL},
+        {{"includeif.gitdir:/w/.path", "e", &kept}, GCV_OK, "e"},
+        {{"includeif.gitdir:/real/.path", "e", &kept}, GCV_NO_INCLUDE, NULL},
+        {{"includeif.onbranch:**.path", "e", &kept}, GCV_NO_INCLUDE, NULL},
+    };
+    for (size_t at = 0; at < sizeof rows / sizeof rows[0]; at++) {
+        if (rows[at].status == GCV_OK) {
+            count(writes(buffer_area, include, &rows[at].of, rows[at].name, strlen(rows[at].name)), rows[at].of.key);
+        } else {
+            count(writes_nothing(buffer_area, include, &rows[at].of, rows[at].status), rows[at].of.key);
+        }
+    }
+    for (size_t at = 0; at < 5; at++) {
+        uint32_t flags[5] = {1, 1, 1, 1, 1};
+        char name[8] = "?";
+        size_t size = UNTOUCHED;
+        flags[at] = (uint32_t)at + 2;
+        count(gcv_raw_include("include.path", 12, flags[0], "a", 1, "", 0, flags[1], "", 0, flags[2], "", 0, flags[3], "", 0, "", 0,
+                              flags[4], "", 0, name, sizeof name, &size) == GCV_BAD_FLAG &&
+                  size == UNTOUCHED && strcmp(name, "?") == 0,
+              "a bad flag of an include");
+    }
+}
+
 int main(void)
 {
     buffer_area = new_area(4096);
@@ -576,5 +653,6 @@ int main(void)
     fields();
     words();
     files();
+    includes();
     return finish();
 }

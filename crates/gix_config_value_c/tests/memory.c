@@ -121,6 +121,13 @@ static gcv_status add_file(const void *state, char *buffer, size_t capacity, siz
     return status;
 }
 
+static gcv_status include(const void *state, char *buffer, size_t capacity, size_t *size)
+{
+    static const gcv_includer from = {"/e/config", 9, NULL, 0, "/home/u", 7, "/w/.git", 7, NULL, 0, "main", 4};
+    (void)state;
+    return gcv_include("includeif.onbranch:ma*.path", 27, "~/x", 3, &from, buffer, capacity, size);
+}
+
 /* How often the call asks for memory; with each request refused in turn it writes nothing, and gives back what it took.
  * */
 static int asks(writer call, const char *text, unsigned long wanted)
@@ -155,5 +162,6 @@ int main(void)
     count(asks(read_and_show, "red bold", 0), "read_color and show_color");
     count(asks(normalize, "16k", 0), "normalize");
     count(asks(add_file, "a.b", 4), "add_file");
+    count(asks(include, "/home/u/x", 3), "include");
     return finish();
 }

@@ -28,24 +28,24 @@ filled dir slash rest old one two new first second end e f k e' f' k' e'' f'' k'
 
 pub returns-then-size-gt-LONGEST_BLOCK : goal.returns-then-size-gt-LONGEST_BLOCK
 returns-then-size-gt-LONGEST_BLOCK c = λ fault.
-    let size = length_of c.as_bytes-dir.result.now c.as_bytes-slash.result.now c.as_bytes-rest.result.now in
+    let size = length_of c.args.dir.now c.as_bytes-slash.result.now c.as_bytes-rest.result.now in
     too_long _
-    (is_text _ _ _ _ _ _ c.as_bytes-dir.ensures.value (c.as_bytes-slash.ensures.value ∙ c.slash.ensures) c.as_bytes-rest.ensures.value)
+    (is_text _ _ _ _ _ _ refl (c.as_bytes-slash.ensures.value ∙ c.slash_of.ensures) c.as_bytes-rest.ensures.value)
     (omega (arith, size, c.if-size-gt-LONGEST_BLOCK.true)) (refl, refl, refl) refl
 
 pub returns-then-buffer-size : goal.returns-then-buffer-size
 returns-then-buffer-size c = λ fault.
-    let size = length_of c.as_bytes-dir.result.now c.as_bytes-slash.result.now c.as_bytes-rest.result.now in
+    let size = length_of c.args.dir.now c.as_bytes-slash.result.now c.as_bytes-rest.result.now in
     put _
-    (is_text _ _ _ _ _ _ c.as_bytes-dir.ensures.value (c.as_bytes-slash.ensures.value ∙ c.slash.ensures) c.as_bytes-rest.ensures.value)
+    (is_text _ _ _ _ _ _ refl (c.as_bytes-slash.ensures.value ∙ c.slash_of.ensures) c.as_bytes-rest.ensures.value)
     (omega (arith, size, c.if-size-gt-LONGEST_BLOCK.false))
     (short (omega arith) refl (sym size) refl) refl
 
 pub returns : goal.returns
 returns c = λ fault.
-    let size = length_of c.as_bytes-dir.result.now c.as_bytes-slash.result.now c.as_bytes-rest.result.now in
+    let size = length_of c.args.dir.now c.as_bytes-slash.result.now c.as_bytes-rest.result.now in
     put _
-    (is_text _ _ _ _ _ _ c.as_bytes-dir.ensures.value (c.as_bytes-slash.ensures.value ∙ c.slash.ensures) c.as_bytes-rest.ensures.value)
+    (is_text _ _ _ _ _ _ refl (c.as_bytes-slash.ensures.value ∙ c.slash_of.ensures) c.as_bytes-rest.ensures.value)
     (omega (arith, size, c.if-size-gt-LONGEST_BLOCK.false))
     (whole (omega arith)
     (filled _ _ _ _ c.push-at.new.buffer c.push-at-2.new.buffer _ c.push-at.result c.push-at-2.result c.push.result c.push-at.ensures.end c.push-at.ensures.front c.push-at.ensures.behind c.push-at-2.ensures.end c.push-at-2.ensures.front c.push-at-2.ensures.behind c.push.ensures.end c.push.ensures.front c.push.ensures.behind)

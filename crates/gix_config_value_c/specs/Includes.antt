@@ -1,0 +1,66 @@
+-- Entries that include a file, in C: the name of that file.
+use Rattle.std.specs.Prelude.{◌≡◌, ⊤, ℕ, List, ◌∷◌, [], true, false, Option, None, Some, option_copied}
+use Rattle.config_file.specs.Path.{Expands, BeginsUnknown, IsIncludedName}
+use Rattle.config_file.specs.Walk.{Follows}
+use Rattle.config_file.specs.declared.include.Repository.{Repository}
+use Rattle.config_file.specs.declared.path.Directories.{Directories}
+use Rattle.gix_config_value_c.specs.declared.status.Status.{Status}
+use Rattle.gix_config_value_c.specs.declared.status.Status.TheVariants as statuses
+use Rattle.gix_config_value_c.specs.Buffers.{LeavesBuffer, AnswersText}
+use Rattle.gix_config_value_c.specs.Numbers.{status_number}
+use Rattle.gix_config_value_c.specs.Paths.{IsGiven, HasBadFlag}
+
+-- the name of the file that a value stands for in this file
+abbrev pub IsNameIn : Directories → List ℕ → List ℕ → List ℕ → Type 0
+IsNameIn directories file value name =
+    (path : List ℕ) × Expands (option_copied directories.home) (option_copied directories.install_dir) value path
+    × IsIncludedName file path name
+
+-- the value begins with a directory that is not known
+abbrev pub AsksUnknown : Directories → List ℕ → Type 0
+AsksUnknown directories value =
+    BeginsUnknown (option_copied directories.home) (option_copied directories.install_dir) value
+
+-- the entry of this key includes the file that its value stands for
+abbrev pub IsIncluded : Option Repository → Directories → List ℕ → List ℕ → Option (List ℕ) → List ℕ → Type 0
+IsIncluded repository directories file key value name = Follows repository key true
+    × ((text : List ℕ) × (value ≡ Some text) × IsNameIn directories file text name)
+
+-- why the entry of this key includes no file; any entry may need memory
+abbrev pub IsNotIncluded : Option Repository → Directories → List ℕ → Option (List ℕ) → Status → Type 0
+IsNotIncluded repository directories key value statuses.NoInclude = Follows repository key false
+IsNotIncluded repository directories key value statuses.NoValue = Follows repository key true × (value ≡ None)
+IsNotIncluded repository directories key value statuses.NoDirectory = Follows repository key true
+    × ((text : List ℕ) × (value ≡ Some text) × AsksUnknown directories text)
+IsNotIncluded repository directories key value statuses.NoMemory = ⊤
+IsNotIncluded repository directories key value _ = ⊥
+
+-- this number is that of a status that says why
+abbrev pub TellsWhyNot : Option Repository → Directories → List ℕ → Option (List ℕ) → ℕ → Type 0
+TellsWhyNot repository directories key value number =
+    (said : Status) × IsNotIncluded repository directories key value said × (number ≡ status_number said)
+
+-- the directories that are given
+abbrev pub AreGiven : (install_dir home : ℕ × List ℕ) → Directories → Type 0
+AreGiven install_dir home directories =
+    IsGiven install_dir (option_copied directories.install_dir) × IsGiven home (option_copied directories.home)
+
+-- the repository that is given: a flag with the git directory, that with links resolved, and the branch
+abbrev pub IsRepository : (git_dir : ℕ × List ℕ) (real_git_dir : List ℕ) (branch : ℕ × List ℕ) → Option Repository
+    → Type 0
+IsRepository git_dir real_git_dir branch None = git_dir.0 ≡ 0
+IsRepository git_dir real_git_dir branch (Some r) = IsGiven git_dir (Some r.git_dir.now)
+    × (r.real_git_dir.now ≡ real_git_dir) × IsGiven branch (option_copied r.branch)
+
+-- the name of the included file is put, or the status says why there is none; or a flag is bad, and all is left alone
+pub data IncludesInto (key : List ℕ) (value : ℕ × List ℕ) (file : List ℕ) (install_dir home git_dir : ℕ × List ℕ)
+    (real_git_dir : List ℕ) (branch : ℕ × List ℕ) (buffer buffer' : List ℕ) (size size' status : ℕ) : Type 0 where
+  told : (text : Option (List ℕ)) (directories : Directories) (repository : Option Repository)
+      → IsGiven value text → AreGiven install_dir home directories
+      → IsRepository git_dir real_git_dir branch repository
+      → AnswersText (IsIncluded repository directories file key text) (TellsWhyNot repository directories key text)
+      buffer buffer' size size' status
+      → IncludesInto key value file install_dir home git_dir real_git_dir branch buffer buffer' size size' status
+  bad_flag : HasBadFlag (value.0 ∷ install_dir.0 ∷ home.0 ∷ git_dir.0 ∷ branch.0 ∷ [])
+      → LeavesBuffer statuses.BadFlag buffer buffer' size size' status
+      → IncludesInto key value file install_dir home git_dir real_git_dir branch buffer buffer' size size' status
