@@ -133,11 +133,7 @@ fn add_repository(rt: &HostRuntime, files: &mut Vec<File>) -> io::Result<()> {
     let has_more = has_worktree_files(rt, &file)?;
     add(rt, files, Some(file))?;
     if has_more {
-        add(
-            rt,
-            files,
-            Some(inside(alloc, &git_dir, "config.worktree")?),
-        )?;
+        add(rt, files, Some(inside(alloc, &git_dir, "config.worktree")?))?;
     }
     Ok(())
 }
@@ -184,12 +180,7 @@ fn name_of(
 }
 
 /// Adds a file that exists, if it is not there yet.
-fn add_once(
-    rt: &HostRuntime,
-    files: &mut Vec<File>,
-    name: String,
-    depth: usize,
-) -> io::Result<()> {
+fn add_once(rt: &HostRuntime, files: &mut Vec<File>, name: String, depth: usize) -> io::Result<()> {
     if Path::new(&name).exists(rt) {
         let new = file_of(rt, name, depth)?;
         if !files.iter().any(|file| file.real == new.real) {

@@ -63,15 +63,13 @@ fn command<'a>(alloc: Global) -> Result<Command<'a>, AllocError> {
             "FILE",
             "Rows of further settings, which win over the built-in ones",
         ))?
-        .arg(
-            option(
-                alloc,
-                "fail-on",
-                "SEVERITY",
-                "The least severity at which the exit status is 1: note, which is the default, warning or error",
-            )
-            .value_parser(SEVERITIES),
+        .arg(option(
+            alloc,
+            "fail-on",
+            "SEVERITY",
+            "The least severity at which the exit status is 1: note, which is the default, warning or error",
         )
+        .value_parser(SEVERITIES))
 }
 
 /// Why a run ends with status 2.
@@ -193,7 +191,10 @@ impl Checker<'_, '_> {
             Ok(text) => text,
             Err(error) => {
                 outcome.is_unread = true;
-                tell(self.rt, format!(in self.rt.alloc(); "config_check: {file}: {error}"));
+                tell(
+                    self.rt,
+                    format!(in self.rt.alloc(); "config_check: {file}: {error}"),
+                );
                 return Ok(None);
             }
         };
