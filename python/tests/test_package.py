@@ -295,7 +295,7 @@ class Paths(unittest.TestCase):
         self.assertEqual(interpolate("~u/" + "x" * 5000, users={"u": "/h"}.get), "/h/" + "x" * 5000)
         self.assertRaises(ZeroDivisionError, interpolate, "~u", users=lambda name: 1 // 0)
         self.assertRaises(ValueError, interpolate, "~u", users={"u": "/h\0"}.get)
-        self.assertRaises(ValueError, interpolate, "~u", users={"u": b"/\xff"}.get)
+        self.assertEqual(interpolate("~u/x", users={"u": b"/\xff"}.get), "/\udcff/x")
         for call in (lambda: interpolate("~u", users=lambda name: 3), lambda: interpolate("~", home=3),
                      lambda: interpolate("~u", users=3), lambda: interpolate(3)):
             self.assertRaises(TypeError, call)
