@@ -54,10 +54,11 @@ pieces_are_utf8 separator ascii (suc n) text short utf8 =
           let at = position_or_len test text in
           let here = eqb-true _ separator (passes_at_first test text 0 inside) in
           let low : get_or text at 0 < 128 = rw here ascii in
-          subst (AllByRecursion IsUtf8) (sym (slice_split_first test text 0 inside))
-          (IsUtf8-take text at utf8 (IsCharBoundary-before_ascii text at inside low),
-          shorter (drop (at + 1) text) (omega (arith, length-drop (at + 1) text, short, inside))
-          (IsUtf8-drop text (at + 1) utf8 (IsCharBoundary-after_ascii text at utf8 inside low)))
+          subst (AllByRecursion IsUtf8) (sym (slice_split_first test text 0 inside)) (
+            IsUtf8-take text at utf8 (IsCharBoundary-before_ascii text at inside low),
+            shorter (drop (at + 1) text) (omega (arith, length-drop (at + 1) text, short, inside))
+                (IsUtf8-drop text (at + 1) utf8 (IsCharBoundary-after_ascii text at utf8 inside low)),
+          )
 
 told : (b : Bool) (x : Option (List ℕ)) (home : List ℕ) → (if b then None else x) ≡ Some home → x ≡ Some home
 told true x home e = absurd (cc (e))

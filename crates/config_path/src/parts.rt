@@ -139,7 +139,11 @@ impl<'p> Joint<'p> {
 
 /// How a rest, if there is one, is put below a directory of any bytes. Fails with `IllFormed` at the place if
 /// the rest is not UTF-8.
-pub fn joint_of<'p>(dir: &[u8], rest: Option<&'p [u8]>, place: Place) -> Result<Joint<'p>, Error<'p>>
+pub fn joint_of<'p>(
+    dir: &[u8],
+    rest: Option<&'p [u8]>,
+    place: Place,
+) -> Result<Joint<'p>, Error<'p>>
     ensures { (missing : PathResult) → IsBelow (record {
       dir = Some dir.now;
       missing = missing;
