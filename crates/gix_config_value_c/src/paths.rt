@@ -7,8 +7,8 @@ ghost use Rattle.gix_config_value.specs.Interpolation.{PathTable};
 ghost use Rattle.gix_config_value.specs.Interpolation.PathResult.{text as whole_text};
 ghost use Rattle.gix_config_value_c.specs.Numbers.{flag_number};
 ghost use Rattle.gix_config_value_c.specs.Values.{IsNoValue};
-ghost use Rattle.gix_config_value_c.specs.Paths.{CutsMark, IsGiven, users_in, known_of, slash_bytes, parts_bytes};
-ghost use Rattle.gix_config_value_c.specs.Paths.{parts_result, PutsPath, InterpolatesInto};
+ghost use Rattle.gix_config_value_c.specs.Paths.{CutsMark, IsGiven, users_in, known_of, slash_bytes};
+ghost use Rattle.gix_config_value_c.specs.Paths.{parts_bytes, parts_result, PutsPath, InterpolatesInto};
 
 use crate::buffer::push;
 use crate::faults::path_fault_number;

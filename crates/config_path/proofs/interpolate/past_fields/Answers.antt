@@ -1,5 +1,5 @@
 use Rattle.std.proofs.Common.{◌≡◌, ◌<◌, ◌≤◌, ◌+◌, ℕ, List, [], ◌∷◌, ◌++◌, length, refl, ap, ◌∙◌, sym}
-use Rattle.std.proofs.Common.{append_assoc, length-append, arith, subst, rules}
+use Rattle.std.proofs.Common.{append_assoc, length-append, arith, subst}
 use Rattle.config_path.specs.Passwd.{colon, pieces}
 use Rattle.config_path.specs.Reading.Fields.{FollowsFields}
 use Rattle.config_path.proofs.interpolate.past_fields.Goals as goal
