@@ -162,6 +162,6 @@ int main(void)
     count(asks(read_and_show, "red bold", 0), "read_color and show_color");
     count(asks(normalize, "16k", 0), "normalize");
     count(asks(add_file, "a.b", 4), "add_file");
-    count(asks(include, "/home/u/x", 3), "include");
+    count(asks(include, "/home/u/x", 4), "include");
     return finish();
 }
