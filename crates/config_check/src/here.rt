@@ -232,11 +232,7 @@ fn add_repository(rt: &HostRuntime, files: &mut Vec<File>) -> io::Result<()> {
     let has_more = has_worktree_files(rt, &file)?;
     add(rt, files, Some(file))?;
     if has_more {
-        add(
-            rt,
-            files,
-            Some(inside(alloc, &git_dir, "config.worktree")?),
-        )?;
+        add(rt, files, Some(inside(alloc, &git_dir, "config.worktree")?))?;
     }
     Ok(())
 }
@@ -250,8 +246,8 @@ pub fn files(rt: &HostRuntime) -> io::Result<Vec<File>> {
     Ok(files)
 }
 
-/// The name of the file that a value includes, or `None` if its folder is not known or it is not UTF-8, or if it is a
-/// relative one on standard input.
+/// The name of the file that a value includes. `None` if its folder is not known, if it is not UTF-8, or if it
+/// is a relative one on standard input.
 fn name_of(
     alloc: Global,
     home: Option<&str>,
@@ -283,12 +279,7 @@ fn name_of(
 }
 
 /// Adds a file that exists, if it is not there yet.
-fn add_once(
-    rt: &HostRuntime,
-    files: &mut Vec<File>,
-    name: String,
-    depth: usize,
-) -> io::Result<()> {
+fn add_once(rt: &HostRuntime, files: &mut Vec<File>, name: String, depth: usize) -> io::Result<()> {
     if Path::new(&name).exists(rt) {
         let new = file_of(rt, name, depth)?;
         if !files.iter().any(|file| file.real == new.real) {

@@ -63,15 +63,13 @@ fn command<'a>(alloc: Global) -> Result<Command<'a>, AllocError> {
             "FILE",
             "Rows of further settings, which win over the built-in ones",
         ))?
-        .arg(
-            option(
-                alloc,
-                "fail-on",
-                "SEVERITY",
-                "The least severity at which the exit status is 1: note, which is the default, warning or error",
-            )
-            .value_parser(SEVERITIES),
+        .arg(option(
+            alloc,
+            "fail-on",
+            "SEVERITY",
+            "The least severity that makes the exit status 1: note (the default), warning or error",
         )
+        .value_parser(SEVERITIES))
 }
 
 /// Why a run ends with status 2.
@@ -193,7 +191,10 @@ impl Checker<'_, '_> {
             Ok(text) => text,
             Err(error) => {
                 outcome.is_unread = true;
-                tell(self.rt, format!(in self.rt.alloc(); "config_check: {file}: {error}"));
+                tell(
+                    self.rt,
+                    format!(in self.rt.alloc(); "config_check: {file}: {error}"),
+                );
                 return Ok(None);
             }
         };
@@ -247,7 +248,8 @@ fn first_files(rt: &HostRuntime, names: Option<&[&str]>) -> Result<Vec<File>, Fa
     }
 }
 
-/// Checks the files that are named, or those that Git reads here, and prints the counts. Returns the exit status.
+/// Checks the files that are named, or those that Git reads here, and prints the counts. Returns the exit
+/// status.
 fn check_all(
     checker: &Checker<'_, '_>,
     names: Option<&[&str]>,
