@@ -298,7 +298,11 @@ pub fn add_included(
     text: &[u8],
 ) -> io::Result<()> {
     let alloc = rt.alloc();
-    let depth = files[index].depth + 1;
+    let Some(file) = files.get(index) else {
+        return Ok(());
+    };
+    let depth = file.depth.saturating_add(1);
+    let from = format!(in alloc; "{}", file.name)?;
     if depth > MAX_DEPTH {
         return Ok(());
     }
@@ -312,7 +316,7 @@ pub fn add_included(
             continue;
         };
         let value = value.to_vec(alloc)?;
-        let name = name_of(alloc, home.as_deref(), &files[index].name, &value)?;
+        let name = name_of(alloc, home.as_deref(), &from, &value)?;
         if let Some(name) = name {
             add_once(rt, files, name, depth)?;
         }
