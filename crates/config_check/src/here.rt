@@ -147,8 +147,8 @@ pub fn files(rt: &HostRuntime) -> io::Result<Vec<File>> {
     Ok(files)
 }
 
-/// The name of the file that a value includes, or `None` if its folder is not known or it is not UTF-8, or if it is a
-/// relative one on standard input.
+/// The name of the file that a value includes. `None` if its folder is not known, if it is not UTF-8, or if it
+/// is a relative one on standard input.
 fn name_of(
     alloc: Global,
     home: Option<&str>,
@@ -199,7 +199,11 @@ pub fn add_included(
     text: &[u8],
 ) -> io::Result<()> {
     let alloc = rt.alloc();
-    let depth = files[index].depth + 1;
+    let Some(file) = files.get(index) else {
+        return Ok(());
+    };
+    let depth = file.depth.saturating_add(1);
+    let from = format!(in alloc; "{}", file.name)?;
     if depth > MAX_DEPTH {
         return Ok(());
     }
@@ -213,7 +217,7 @@ pub fn add_included(
             continue;
         };
         let value = value.to_vec(alloc)?;
-        let name = name_of(alloc, home.as_deref(), &files[index].name, &value)?;
+        let name = name_of(alloc, home.as_deref(), &from, &value)?;
         if let Some(name) = name {
             add_once(rt, files, name, depth)?;
         }

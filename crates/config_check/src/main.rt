@@ -67,7 +67,7 @@ fn command<'a>(alloc: Global) -> Result<Command<'a>, AllocError> {
             alloc,
             "fail-on",
             "SEVERITY",
-            "The least severity at which the exit status is 1: note, which is the default, warning or error",
+            "The least severity that makes the exit status 1: note (the default), warning or error",
         )
         .value_parser(SEVERITIES))
 }
@@ -120,6 +120,25 @@ fn add_rows<'m, 't>(
     rows: &mut Vec<Row<'t>>,
 ) -> Result<(), Failure<'m>> {
     read_rows(alloc, text, rows).map_err(|bad| Failure::Row { file, bad })
+}
+
+/// The rows of a file of settings, if one is named, and then the built-in ones.
+fn all_rows<'m, 't>(
+    alloc: Global,
+    file: Option<&'m str>,
+    text: &'t [u8],
+) -> Result<Vec<Row<'t>>, Failure<'m>> {
+    let mut rows = Vec::new(alloc);
+    if let Some(file) = file {
+        add_rows(alloc, file, text, &mut rows)?;
+    }
+    add_rows(
+        alloc,
+        "the built-in settings",
+        SETTINGS.as_bytes(),
+        &mut rows,
+    )?;
+    Ok(rows)
 }
 
 /// The text of a file, or of standard input.
@@ -221,15 +240,16 @@ fn check_files(
     files: &mut Vec<File>,
     outcome: &mut Outcome,
 ) -> Result<(), Failure<'static>> {
-    let mut next = 0;
-    while next < files.len() {
-        let text = checker.check(&files[next].name, outcome)?;
+    for next in 0..usize::MAX {
+        let Some(file) = files.get(next) else {
+            break;
+        };
+        let text = checker.check(&file.name, outcome)?;
         if let Some(text) = text {
             if let Err(error) = here::add_included(checker.rt, files, next, &text) {
                 return Err(Failure::Here(error));
             }
         }
-        next += 1;
     }
     Ok(())
 }
@@ -248,7 +268,8 @@ fn first_files(rt: &HostRuntime, names: Option<&[&str]>) -> Result<Vec<File>, Fa
     }
 }
 
-/// Checks the files that are named, or those that Git reads here, and prints the counts. Returns the exit status.
+/// Checks the files that are named, or those that Git reads here, and prints the counts. Returns the exit
+/// status.
 fn check_all(
     checker: &Checker<'_, '_>,
     names: Option<&[&str]>,
@@ -290,16 +311,7 @@ fn run<'m>(rt: &HostRuntime, matches: &ArgMatches<'m>) -> Result<u8, Failure<'m>
     let alloc = rt.alloc();
     let file = matches.get_str("settings");
     let text = file_bytes(rt, file)?;
-    let mut rows = Vec::new(alloc);
-    if let Some(file) = file {
-        add_rows(alloc, file, &text, &mut rows)?;
-    }
-    add_rows(
-        alloc,
-        "the built-in settings",
-        SETTINGS.as_bytes(),
-        &mut rows,
-    )?;
+    let rows = all_rows(alloc, file, &text)?;
     let options = Options {
         canonical: matches.get_flag("canonical"),
         color: wants_color(rt),

@@ -6,8 +6,8 @@ ghost use Rattle.config_checks.specs.Report.{HasSettings};
 ghost use Rattle.config_checks.specs.declared.reason.Severity.TheVariants.{Warning};
 ghost use Rattle.config_checks.specs.Findings.{AppendsPart};
 ghost use Rattle.config_checks.specs.Rows.{IsUnknown};
-ghost use Rattle.config_checks.specs.Reading.Steps.{HasRoom, HasRoomForFinding, Reports, ReportsPart, Tells, TellsPart};
-ghost use Rattle.config_checks.specs.Reading.Steps.{ReportsAll, ReportsFirst, WritesPart, IsMemory, IsWrite};
+ghost use Rattle.config_checks.specs.Reading.Steps.{HasRoom, HasRoomForFinding, Reports, ReportsPart, Tells};
+ghost use Rattle.config_checks.specs.Reading.Steps.{TellsPart, ReportsAll, ReportsFirst, WritesPart, IsMemory, IsWrite};
 
 use crate::finding::{Finding, push_misspelt, push_refusal, value_of};
 use crate::options::Options;

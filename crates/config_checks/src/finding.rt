@@ -273,7 +273,8 @@ pub(crate) fn push_misspelt(
     setting: &Setting<'_>,
     unknown: &UnknownKey<'_>,
 ) -> Result<(), AllocError>
-    ensures { OnOk result (line.new.items ≡ line.old.items ++ unknown_line options.now setting.now unknown.now) }
+    ensures { OnOk result (line.new.items ≡ line.old.items
+        ++ unknown_line options.now setting.now unknown.now) }
 {
     push_place(line, setting.file, setting.line)?;
     push_severity(line, options.color, Severity::Warning)?;

@@ -17,7 +17,7 @@ use strsim::generic_levenshtein;
 /// The most edits that lead to a key which is still suggested.
 const MOST_EDITS: usize = 2;
 
-/// How many edits of one byte lead from one text to the other, ignoring ASCII case, or `None` if more than two.
+/// How many edits of one byte lead from one text to the other, ignoring ASCII case. `None` if more than two.
 // Texts whose lengths differ by more are never compared: that is most of them.
 fn few_edits(alloc: Global, from: &[u8], to: &[u8]) -> Result<Option<usize>, AllocError>
     ensures { IfOk result (λ r. MatchOption r (2 < edits from.now to.now)
@@ -35,8 +35,7 @@ fn few_edits(alloc: Global, from: &[u8], to: &[u8]) -> Result<Option<usize>, All
     Ok(Some(edits))
 }
 
-/// How many edits lead from one part between dots to the other, or `None` if more than two, or if one of them is not
-/// there.
+/// How many edits lead from one part between dots to the other. `None` if more than two, or if one is not there.
 fn between_edits(
     alloc: Global,
     row: Option<&[u8]>,
@@ -57,8 +56,8 @@ fn covers_last(row: &[u8], last: &[u8]) -> bool
     row == ANY || is_same_word(row, last)
 }
 
-/// How many edits lead from the key of a row to a key of its section, if they differ in one part alone, and by at most
-/// two.
+/// How many edits lead from the key of a row to a key of its section, if they differ in one part alone, and by
+/// at most two.
 fn edits_after(alloc: Global, row: &Key<'_>, key: &Key<'_>) -> Result<Option<usize>, AllocError>
     ensures { IfOk result (λ r. IsFew (EditsAfter row.now key.now) r) }
 {
