@@ -1,12 +1,10 @@
 //! Lists the entries of files, or prints one value of them.
 
 use crate::arguments::Request;
-use crate::includes::{Environment, Source, files, read_included, walk_first};
 use bstr::BStr;
 use config_file::entry::Entry;
 use config_file::reader::Entries;
 use config_file::settings::{AddError, Setting, Settings};
-use config_file::walk::Walked;
 use gix_config_value::canonical::{normalize, refusal};
 use std::alloc::Global;
 use std::fs;
@@ -55,7 +53,7 @@ fn read_file(rt: &HostRuntime, file: &str) -> io::Result<Option<Vec<u8>>> {
 fn write_entry<W: Write>(
     alloc: Global,
     writer: &mut W,
-    file: &[u8],
+    file: &str,
     entry: &Entry<'_>,
     null: bool,
 ) -> io::Result<()> {
@@ -64,8 +62,7 @@ fn write_entry<W: Write>(
     } else {
         (": ", "=", "\n")
     };
-    writer.write_all(file)?;
-    write!(writer, ":{}{place}", entry.line)?;
+    write!(writer, "{file}:{}{place}", entry.line)?;
     writer.write_all(entry.key_text(alloc)?.as_slice())?;
     if let Some(value) = &entry.value {
         writer.write_all(equals.as_bytes())?;
@@ -87,7 +84,7 @@ fn list_file<W: Write>(
     };
     for entry in Entries::new(&text) {
         match entry {
-            Ok(entry) => write_entry(rt.alloc(), writer, file.as_bytes(), &entry, null)?,
+            Ok(entry) => write_entry(rt.alloc(), writer, file, &entry, null)?,
             Err(error) => {
                 eprintln!(rt; "{file}:{error}")?;
                 return Ok(false);
@@ -163,61 +160,10 @@ fn get<W: Write>(
     Ok(true)
 }
 
-/// Adds the entries of files, as a walk gives them.
-fn add_walked<'a>(
-    alloc: Global,
-    walked: &[Walked<'a>],
-    settings: &mut Settings<'a>,
-) -> io::Result<()> {
-    for walked in walked {
-        if let Ok(file) = str::from_utf8(walked.file) {
-            let setting = Setting::of_entry(alloc, file, &walked.entry)?;
-            settings.entries.push(setting)?;
-        }
-    }
-    Ok(())
-}
-
-/// Does what is asked of the files and of those that they include, as `answer` does.
-fn answer_included<W: Write>(
-    rt: &HostRuntime,
-    writer: &mut W,
-    request: &Request<'_, '_>,
-) -> io::Result<bool> {
-    let alloc = rt.alloc();
-    let mut are_whole = true;
-    let mut sources = Vec::new(alloc);
-    for file in request.files {
-        match read_file(rt, *file)? {
-            Some(text) => sources.push(Source::asked_for(rt, *file, text)?)?,
-            None => are_whole = false,
-        }
-    }
-    let count = sources.len();
-    let environment = Environment::new(rt)?;
-    read_included(rt, &environment, &mut sources)?;
-    let files = files(alloc, &sources)?;
-    let mut walked = Vec::new(alloc);
-    are_whole &= walk_first(rt, &environment, &files, count, &mut walked)?;
-    let Some(key) = request.key else {
-        for walked in &walked {
-            write_entry(alloc, writer, walked.file, &walked.entry, request.null)?;
-        }
-        writer.flush()?;
-        return Ok(are_whole);
-    };
-    let mut settings = Settings::new(alloc);
-    add_walked(alloc, &walked, &mut settings)?;
-    Ok(are_whole && get(rt, writer, &settings, key, request)?)
-}
-
 /// Does what is asked of the files, and returns whether all of it succeeds. If a file is not read whole, no
 /// value is printed, since a later line could have another.
 fn answer(rt: &HostRuntime, request: &Request<'_, '_>) -> io::Result<bool> {
     let mut writer = BufWriter::with_capacity(rt.alloc(), ROOM, rt.stdout())?;
-    if request.includes {
-        return answer_included(rt, &mut writer, request);
-    }
     let Some(key) = request.key else {
         return list(rt, &mut writer, request.files, request.null);
     };

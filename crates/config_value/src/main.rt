@@ -3,7 +3,6 @@
 
 mod arguments;
 mod files;
-mod includes;
 
 use crate::arguments::{Request, command};
 use clap::ArgMatches;

@@ -4,7 +4,6 @@ use Rattle.config_file.specs.Path.{Expands, BeginsUnknown, IsIncludedName}
 use Rattle.config_file.specs.Walk.{Follows}
 use Rattle.config_file.specs.declared.include.Repository.{Repository}
 use Rattle.config_file.specs.declared.path.Directories.{Directories}
-use Rattle.config_file.specs.declared.walk.Place.{Place}
 use Rattle.gix_config_value_c.specs.declared.status.Status.{Status}
 use Rattle.gix_config_value_c.specs.declared.status.Status.TheVariants as statuses
 use Rattle.gix_config_value_c.specs.Buffers.{LeavesBuffer, AnswersText}
@@ -22,24 +21,24 @@ abbrev pub AsksUnknown : Directories → List ℕ → Type 0
 AsksUnknown directories value =
     BeginsUnknown (option_copied directories.home) (option_copied directories.install_dir) value
 
--- the entry of this key, in a file at this place, includes the file that its value stands for
-abbrev pub IsIncluded : Option Repository → Directories → Place → List ℕ → Option (List ℕ) → List ℕ → Type 0
-IsIncluded repository directories place key value name = Follows repository place.real_dir.now key true
-    × ((text : List ℕ) × (value ≡ Some text) × IsNameIn directories place.name.now text name)
+-- the entry of this key, in a file of this name and this real directory, includes the file that its value stands for
+abbrev pub IsIncluded : Option Repository → Directories → (file dir key : List ℕ) → Option (List ℕ) → List ℕ → Type 0
+IsIncluded repository directories file dir key value name = Follows repository dir key true
+    × ((text : List ℕ) × (value ≡ Some text) × IsNameIn directories file text name)
 
 -- why the entry of this key includes no file; any entry may need memory
-abbrev pub IsNotIncluded : Option Repository → Directories → Place → List ℕ → Option (List ℕ) → Status → Type 0
-IsNotIncluded repository directories place key value statuses.NoInclude = Follows repository place.real_dir.now key false
-IsNotIncluded repository directories place key value statuses.NoValue = Follows repository place.real_dir.now key true × (value ≡ None)
-IsNotIncluded repository directories place key value statuses.NoDirectory = Follows repository place.real_dir.now key true
+abbrev pub IsNotIncluded : Option Repository → Directories → (dir key : List ℕ) → Option (List ℕ) → Status → Type 0
+IsNotIncluded repository directories dir key value statuses.NoInclude = Follows repository dir key false
+IsNotIncluded repository directories dir key value statuses.NoValue = Follows repository dir key true × (value ≡ None)
+IsNotIncluded repository directories dir key value statuses.NoDirectory = Follows repository dir key true
     × ((text : List ℕ) × (value ≡ Some text) × AsksUnknown directories text)
-IsNotIncluded repository directories place key value statuses.NoMemory = ⊤
-IsNotIncluded repository directories place key value _ = ⊥
+IsNotIncluded repository directories dir key value statuses.NoMemory = ⊤
+IsNotIncluded repository directories dir key value _ = ⊥
 
 -- this number is that of a status that says why
-abbrev pub TellsWhyNot : Option Repository → Directories → Place → List ℕ → Option (List ℕ) → ℕ → Type 0
-TellsWhyNot repository directories place key value number =
-    (said : Status) × IsNotIncluded repository directories place key value said × (number ≡ status_number said)
+abbrev pub TellsWhyNot : Option Repository → Directories → (dir key : List ℕ) → Option (List ℕ) → ℕ → Type 0
+TellsWhyNot repository directories dir key value number =
+    (said : Status) × IsNotIncluded repository directories dir key value said × (number ≡ status_number said)
 
 -- the directories that are given
 abbrev pub AreGiven : (install_dir home : ℕ × List ℕ) → Directories → Type 0
@@ -58,11 +57,11 @@ IsRepository git_dir real_git_dir branch real_home (Some r) = IsGiven git_dir (S
 -- the name of the included file is put, or the status says why there is none; or a flag is bad, and all is left alone
 pub data IncludesInto (key : List ℕ) (value : ℕ × List ℕ) (file real_dir : List ℕ) (install_dir home git_dir : ℕ × List ℕ)
     (real_git_dir : List ℕ) (branch real_home : ℕ × List ℕ) (buffer buffer' : List ℕ) (size size' status : ℕ) : Type 0 where
-  told : (text : Option (List ℕ)) (directories : Directories) (repository : Option Repository) (place : Place)
+  told : (text : Option (List ℕ)) (directories : Directories) (repository : Option Repository)
       → IsGiven value text → AreGiven install_dir home directories
       → IsRepository git_dir real_git_dir branch real_home repository
-      → place.name.now ≡ file → place.real_dir.now ≡ real_dir
-      → AnswersText (IsIncluded repository directories place key text) (TellsWhyNot repository directories place key text)
+      → AnswersText (IsIncluded repository directories file real_dir key text)
+      (TellsWhyNot repository directories real_dir key text)
       buffer buffer' size size' status
       → IncludesInto key value file real_dir install_dir home git_dir real_git_dir branch real_home buffer buffer' size size' status
   bad_flag : HasBadFlag (value.0 ∷ install_dir.0 ∷ home.0 ∷ git_dir.0 ∷ branch.0 ∷ real_home.0 ∷ [])

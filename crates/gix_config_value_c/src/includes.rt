@@ -9,7 +9,7 @@ use crate::paths::given;
 use crate::status::Status;
 use config_file::include::{Condition, Repository};
 use config_file::path::{Directories, expand, included_name};
-use config_file::walk::{Place, holds};
+use config_file::walk::holds;
 use std::alloc::{AllocError, Global};
 
 /// Whether the entry of a key, in a file of this directory, includes a file, and its condition holds.
@@ -53,16 +53,17 @@ fn included(
     alloc: Global,
     repository: Option<Repository<'_>>,
     directories: Directories<'_>,
-    place: Place<'_>,
+    file: &[u8],
+    real_dir: &[u8],
     key: &[u8],
     value: Option<&[u8]>,
 ) -> Result<Vec<u8>, u32>
     ensures { MatchResult result
-        (λ name. IsIncluded repository.entry directories.entry place.entry key.now
+        (λ name. IsIncluded repository.entry directories.entry file.now real_dir.now key.now
         (option_copied value.entry) name.items)
-        (TellsWhyNot repository.entry directories.entry place.entry key.now (option_copied value.entry)) }
+        (TellsWhyNot repository.entry directories.entry real_dir.now key.now (option_copied value.entry)) }
 {
-    match is_followed(alloc, repository, place.real_dir, key) {
+    match is_followed(alloc, repository, real_dir, key) {
         Ok(true) => {}
         Ok(false) => return Err(Status::NoInclude as u32),
         Err(_) => return Err(Status::NoMemory as u32),
@@ -70,7 +71,7 @@ fn included(
     let Some(value) = value else {
         return Err(Status::NoValue as u32);
     };
-    match name_in(alloc, directories, place.name, value) {
+    match name_in(alloc, directories, file, value) {
         Ok(Some(name)) => Ok(name),
         Ok(None) => Err(Status::NoDirectory as u32),
         Err(_) => Err(Status::NoMemory as u32),
@@ -154,11 +155,7 @@ pub extern "C" fn gcv_raw_include(
     };
     let directories = Directories { home, install_dir };
     let repository = repository_of(git_dir, real_git_dir, branch, real_home);
-    let place = Place {
-        name: file,
-        real_dir,
-    };
-    match included(alloc, repository, directories, place, key, value) {
+    match included(alloc, repository, directories, file, real_dir, key, value) {
         Ok(name) => put(&name, buffer, length),
         Err(status) => status,
     }
