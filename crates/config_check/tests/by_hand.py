@@ -86,7 +86,7 @@ def keys(group, program):
         (made.line_of(key, b"x"), shown or listed(key), b"x", rows.INTEGER_FAULT) for key, shown in rows.KNOWN_KEYS])
     expect_unknown(group, program, how, rows.MISSPELT_KEYS + [(key, None) for key in rows.OWN_KEYS])
     expect_unknown(group, program, ["-"], rows.MISSPELT_BUILT_IN)
-    for key in rows.UNKNOWN_KEYS:
+    for key in rows.UNKNOWN_KEYS + rows.UNKNOWN_BUILT_IN:
         entry = made.line_of(key, b"x")
         group.expect(entry, ended(b"", (1, 0, 1, 0)), program.run(how, entry))
     expect_entries(group, program, how, [
