@@ -759,7 +759,7 @@ static PyObject *text_of(const char *bytes)
     return PyUnicode_DecodeUTF8(bytes, (Py_ssize_t)strlen(bytes), "surrogateescape");
 }
 
-/* The line, the key and the text of each setting, where the text of a key without `=` is None. */
+/* The line, the key and the text of each setting; the text of a key without `=` is None. */
 static PyObject *listed(const gcv_settings *settings)
 {
     PyObject *list = PyList_New((Py_ssize_t)settings->count);
@@ -877,7 +877,7 @@ static PyMethodDef functions[] = {
 static PyModuleDef definition = {
     PyModuleDef_HEAD_INIT, "gix_config_value._core", NULL, -1, functions, NULL, NULL, NULL, NULL};
 
-/* Makes a type of values, and puts it into the module. Its instances are neither changed nor subclassed. */
+/* Makes a type of values, and adds it to the module. Its instances are neither changed nor subclassed. */
 static PyTypeObject *add_type(PyObject *module, const char *name, PyType_Slot *slots)
 {
     PyType_Slot all[MOST_SLOTS];

@@ -4,7 +4,7 @@ SHOWN_INPUT = 64
 
 
 class Refused(ValueError):
-    """A text that has no value, or a path that stands for nothing.
+    """A text that has no value, or that means no path.
 
     `code` is a word for the fault, `fault` says why in a sentence, and `input` is the whole text as bytes. The message
     shows at most 64 bytes of it. If the text is that of an entry of a file, `file`, `line` and `key` tell which one,

@@ -56,9 +56,9 @@ def cut_mark(path):
 
 
 def interpolate(path, *, prefix=None, home=None, users=None):
-    """What a path stands for, as `str` or `bytes` as the path is.
+    """The path that a text means, as `str` or `bytes` as the text is.
 
-    One mark is cut off. `%(prefix)/` stands for `prefix`, `~` for `home`, and `~user` for what `users("user")` returns,
+    One mark is cut off. `%(prefix)/` means `prefix`, `~` means `home`, and `~user` what `users("user")` returns,
     which is called for such a path alone, at most once. It returns `None` for an unknown user. If a directory is
     needed and not there, `Refused` is raised.
 

@@ -11,7 +11,7 @@ program=$1
 prefix=${2:-}
 work=$(mktemp -d)
 trap 'rm -rf -- "$work"' EXIT
-# where a shell runs no EXIT trap at a signal
+# some shells run no EXIT trap after a signal
 trap 'exit 130' INT
 trap 'exit 143' TERM
 passed=0
@@ -135,7 +135,7 @@ answers() {
     cat "$work/answer"
     [ "$status" -eq "$wanted" ] && grep -q "^$text" "$work/answer"
 }
-# what a compiler refuses: refuses NAME CODE, where the code without what is wrong is taken
+# what a compiler refuses: refuses NAME CODE
 body() {
     printf '#define _DEFAULT_SOURCE\n#define GCV_WITH_USERS\n'
     printf '#include <gix_config_value.h>\n#include <string.h>\nint main(void)\n{\n    char t[64] = "1";\n'
@@ -241,7 +241,7 @@ if [ -n "$pythons" ]; then
         --no-deps --wheel-dir "$work/by_pip" "$work"/gix_config_value-*.tar.gz
 fi
 
-# the calls, under sanitizers where clang has them
+# the calls, under sanitizers if clang has them
 compiler=clang
 sanitizers="-g -fsanitize=address,undefined -fno-sanitize-recover=all"
 echo 'int main(void) { return 0; }' > "$work/empty.c"
@@ -268,6 +268,6 @@ if [ -x "$program" ]; then
     holds "the fuzzer's lines are written" python3 "$tests/mutated.py" "$program" "$work/mutated" "$work/answers"
     counted "the fuzzer's lines" "$work/lines" "$work/mutated" "$work/answers"
 else
-    echo "skipped: the fuzzer's lines, for want of the program $program"
+    echo "skipped: the fuzzer's lines, since there is no program $program"
 fi
 finish
