@@ -39,9 +39,10 @@ class Refused(ValueError):
 
 
 class InvalidFile(ValueError):
-    """A file that is no configuration, or that asks for another file which cannot be read.
+    """A file that is no configuration, or that includes a file which cannot be read.
 
-    `code` is a word for the fault, `fault` says why in a sentence, and `file` and `line` tell where.
+    `code` is bad_line, nul, no_value, no_directory, unreadable or too_deep, `fault` says why in a sentence, and `file`
+    and `line` tell where.
     """
 
     __module__ = "gix_config_value"

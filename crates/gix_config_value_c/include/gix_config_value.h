@@ -2,12 +2,12 @@
  *
  * A text is a pointer and a length. It may be any bytes, and needs no NUL at its end; if the length is 0, the pointer
  * may be null. Each call reads only the bytes that it is given, writes only what its comment says, and keeps no pointer
- * after it returns. There is no global state, so threads may call at once, if no memory that one call writes is used by
- * another.
+ * after it returns. There is no global state, so threads may call at the same time, if no memory that one call writes
+ * is used by another.
  *
  * What a call writes must not overlap what it reads, or what else it writes. Pointers to what it writes, and to the
  * structs that it reads, must not be null, except for `fault`, which may always be null, and a buffer of capacity 0. A
- * length, a capacity, and the size of an array of lengths are at most PTRDIFF_MAX bytes.
+ * length, a capacity, and the size of an array of lengths must be at most PTRDIFF_MAX bytes.
  *
  * A call returns GCV_OK, or another gcv_status that says why it failed. Unless its comment says otherwise, a call that
  * failed has written nothing.
@@ -17,9 +17,9 @@
  * GCV_SHORT_BUFFER, the buffer is unchanged, and `*size` is the capacity that the text needs. After any other status
  * the buffer and `*size` are unchanged.
  *
- * The calls are inline, and the library exports each of them too: with GCV_CALL defined as `extern`, a generator of
- * bindings finds them there. Each calls one with `gcv_raw_` in its name, which takes no null pointer, even if the
- * length is 0, and is proved to keep its contract. */
+ * Most calls are inline, and the library exports all of them. For a generator of bindings, but in no program, define
+ * GCV_CALL as `extern`: then it sees all. Most call one with `gcv_raw_` in its name, which takes no null pointer, even
+ * if the length is 0, and is proved to keep its contract. */
 #ifndef GIX_CONFIG_VALUE_H
 #define GIX_CONFIG_VALUE_H
 
@@ -71,7 +71,7 @@ typedef GCV_ENUM(gcv_status) {
     GCV_OK = 0,
     GCV_REFUSED = 1,        /* the text has no value of its kind, or means no path; see the fault */
     GCV_OVERFLOW = 2,       /* the product of an integer does not fit int64_t */
-    GCV_NO_TEXT = 3,        /* no text reads to one of the colors */
+    GCV_NO_TEXT = 3,        /* one of the colors has no text */
     GCV_TOO_MANY_NAMES = 4, /* the two colors have more than two names together */
     GCV_ABSENT = 5,         /* no entry has the name */
     GCV_UNKNOWN_KIND = 6,   /* the number is not that of a kind */
@@ -255,7 +255,7 @@ GCV_ASSERT(offsetof(gcv_file, line) == 16);
 GCV_ASSERT(sizeof(gcv_file) == 24);
 #undef GCV_ASSERT
 
-/* The settings of files in order, in two arrays of the caller. With `size` and `count` 0 there are no settings yet. */
+/* The settings of files in order, in two arrays of the caller. Begin with all members 0: no settings, and no room. */
 typedef struct gcv_settings {
     char *bytes;
     size_t capacity; /* of `bytes` */
@@ -266,7 +266,7 @@ typedef struct gcv_settings {
 } gcv_settings;
 
 /* A setting. Its key is as Git lists it: the section and the last part in lower case, the subsection as it is. NUL ends
- * both texts; a key without `=` has a null value, and not an empty one. They stay as long as the caller's bytes. */
+ * both texts; a key without `=` has a null value, not an empty one. They stay valid as long as the caller's bytes. */
 typedef struct gcv_setting {
     const char *key;
     const char *value;
@@ -304,10 +304,10 @@ typedef struct gcv_includer {
     size_t branch_length;
 } gcv_includer;
 
-/* The version of the library, which ends with NUL. */
+/* The version of the library, as a text that ends with NUL. */
 const char *gcv_version(void);
 
-/* What a status says, which ends with NUL: "unknown status" if no status has the number. */
+/* What a status says, as a text that ends with NUL: "unknown status" if no status has the number. */
 const char *gcv_status_text(gcv_status status);
 
 /* Writes the text of a fault, of at most GCV_LONGEST_TEXT bytes. GCV_UNKNOWN_FAULT if no fault has the number. */
@@ -325,13 +325,14 @@ GCV_CHECKED gcv_status gcv_parse_int64(const char *text, int64_t *GCV_RESTRICT o
 GCV_CHECKED gcv_status gcv_parse_color(const char *text, gcv_color *GCV_RESTRICT out, gcv_fault *fault)
     GCV_NONNULL((2));
 
-/* Writes the escape sequence that Git sends to a terminal for this color: its attributes, reset first, then its
- * foreground and its background. It is empty for a color that changes nothing. GCV_BAD_NAME as in gcv_show_color. */
+/* Writes the escape sequence that Git sends to a terminal for this color, of at most GCV_LONGEST_TEXT bytes: its
+ * attributes, reset first, its foreground, its background. It is empty for a color that changes nothing. GCV_BAD_NAME
+ * as in gcv_show_color. */
 GCV_CHECKED gcv_status gcv_escape_color(const gcv_color *value, char *GCV_RESTRICT buffer, size_t capacity,
                                         size_t *size) GCV_NONNULL((1, 4));
 
 /* Finds a user, whose name is UTF-8 and need not end with NUL. Returns the home directory, which ends with NUL and must
- * stay until the path call returns, or null if there is no such user. */
+ * stay valid until the path call returns, or null if there is no such user. */
 typedef const char *gcv_find_home(void *state, const char *name, size_t length);
 
 /* As gcv_interpolate, but `find(state, ..)` finds users, and the passwd text is not read. It is called once for ~user,
@@ -452,7 +453,7 @@ GCV_RETURNS((1, 2)) gcv_product(const gcv_integer *value, int64_t *GCV_RESTRICT 
     return gcv_raw_product(value, out);
 }
 
-/* Values as they are shown. If some text has the value, it is shown as the canonical one. */
+/* Values as texts. If some text reads to the value, the canonical one is written. */
 
 /* Writes k, m or g. GCV_BAD_SUFFIX if no suffix has the number. */
 GCV_RETURNS((4)) gcv_show_suffix(gcv_suffix suffix, char *GCV_RESTRICT buffer, size_t capacity, size_t *size)
@@ -489,7 +490,7 @@ GCV_RETURNS((1, 4)) gcv_show_name(const gcv_name *value, char *GCV_RESTRICT buff
     return gcv_raw_show_name(value, capacity == 0 ? none : buffer, capacity, size);
 }
 
-/* Writes the words of the known bits, by rising bit, with one space between. */
+/* Writes the words of the known bits, the lowest first, with one space between. */
 GCV_RETURNS((4)) gcv_show_attribute(uint32_t bits, char *GCV_RESTRICT buffer, size_t capacity, size_t *size)
 {
     char none[1] = {0};
@@ -497,7 +498,7 @@ GCV_RETURNS((4)) gcv_show_attribute(uint32_t bits, char *GCV_RESTRICT buffer, si
 }
 
 /* Writes the foreground, the background and the attributes, if the color has them, with one space between. GCV_BAD_NAME
- * if the struct of one of its names is not all 0, and no name has it. Two sorts of colors have no text, which
+ * if the struct of one of its names is neither all 0 nor that of a name. Two sorts of colors have no text, as
  * gcv_compose tells by GCV_NO_TEXT: a background alone is shown as a foreground, and unknown bits are left out. */
 GCV_RETURNS((1, 4)) gcv_show_color(const gcv_color *value, char *GCV_RESTRICT buffer, size_t capacity, size_t *size)
 {
@@ -563,9 +564,9 @@ GCV_RETURNS((6)) gcv_same(gcv_kind kind, const char *first, size_t first_length,
                         second_length, out);
 }
 
-/* Writes to `*out` the color of a text of the first one, white space, and a text of the second one. GCV_BAD_NAME if no
- * name has the struct of one of their names, GCV_NO_TEXT if one of them has no text (it has an unknown bit, or a
- * background alone), and GCV_TOO_MANY_NAMES if they have more than two names together. */
+/* Writes to `*out` the color of the text of the first one, white space, and the text of the second one. GCV_BAD_NAME
+ * as in gcv_show_color, GCV_NO_TEXT if one of them has no text (it has an unknown bit, or a background alone), and
+ * GCV_TOO_MANY_NAMES if they have more than two names together. */
 GCV_RETURNS((1, 2, 3)) gcv_compose(const gcv_color *first, const gcv_color *second, gcv_color *GCV_RESTRICT out)
 {
     return gcv_raw_compose(first, second, out);
@@ -591,9 +592,10 @@ GCV_RETURNS((8)) gcv_lookup(gcv_kind kind, const char *bytes, size_t bytes_lengt
 /* Appends the settings of a configuration file with this text, which decide over those before, and writes to `*out` how
  * many bytes and places they take.
  *
- * GCV_SHORT_BUFFER if one of the arrays has less room left than `*out` says. GCV_BAD_LINE or GCV_NUL if Git reads no
- * file with this text: then `*out` has the line, and 0 for the rest. Unless the call returns GCV_OK, the settings are
- * unchanged. It allocates memory, and frees it; GCV_NO_MEMORY if malloc fails, and then `*out` is unchanged. */
+ * GCV_SHORT_BUFFER if an array has less room left than they take: let `capacity` be at least `size + out->size`, and
+ * `room` at least `count + out->count`, and call again. GCV_BAD_LINE or GCV_NUL if Git would refuse the file: then
+ * `*out` has the line, and 0 for the rest. Unless the call returns GCV_OK, the settings are unchanged. It allocates
+ * memory, and frees it; GCV_NO_MEMORY if malloc fails, and then `*out` is unchanged. */
 GCV_RETURNS((1, 4)) gcv_add_file(gcv_settings *GCV_RESTRICT settings, const char *text, size_t length,
                                  gcv_file *GCV_RESTRICT out)
 {
@@ -615,7 +617,7 @@ GCV_RETURNS((1, 4)) gcv_add_file(gcv_settings *GCV_RESTRICT settings, const char
     return status;
 }
 
-/* Writes the setting of this index, from 0, to `*out`, and adds 1 to the index. GCV_ABSENT after the last setting. */
+/* Writes the setting at `*index`, from 0, to `*out`, and adds 1 to `*index`. GCV_ABSENT after the last setting. */
 GCV_RETURNS((1, 2, 3)) gcv_next_setting(const gcv_settings *settings, size_t *GCV_RESTRICT index,
                                         gcv_setting *GCV_RESTRICT out)
 {
@@ -630,8 +632,9 @@ GCV_RETURNS((1, 2, 3)) gcv_next_setting(const gcv_settings *settings, size_t *GC
     return GCV_OK;
 }
 
-/* Writes to `*out` the last setting of exactly this key, which ends with NUL: that setting decides. gcv_parse_bool and
- * its like read its value. GCV_ABSENT if no setting has the key. */
+/* Writes to `*out` the last setting of this key, which decides. The key ends with NUL, and must be as Git lists it:
+ * "core.autocrlf", not "core.autoCRLF". gcv_parse_bool and its like read the value. The setting is of the first file
+ * after which `size` was more than `out->key - bytes`. GCV_ABSENT if no setting has the key. */
 GCV_RETURNS((1, 2, 3)) gcv_lookup_setting(const gcv_settings *settings, const char *key,
                                           gcv_setting *GCV_RESTRICT out)
 {
@@ -650,7 +653,7 @@ GCV_RETURNS((1, 2, 3)) gcv_lookup_setting(const gcv_settings *settings, const ch
 }
 
 /* Writes the name of the file that an entry includes. If that file is there, its entries come directly after this one.
- * `key` is the key as Git lists it, as gcv_next_setting has it, and `value` the value, or null for a key without `=`.
+ * `key` is the key as gcv_next_setting writes it, and `value` the value, or null for a key without `=`.
  * The key, the value and the directories may be any bytes.
  *
  * GCV_NO_INCLUDE if the entry includes no file, or if its condition does not hold: without a repository only
@@ -697,8 +700,8 @@ GCV_CALL GCV_NONNULL((3, 4)) void gcv_cut_mark(const char *text, size_t length, 
  * directory, and ~user the home directory of that user in the passwd text.
  *
  * GCV_REFUSED if it means no path: then `*fault` is one of the faults of paths, and after any other status it is
- * unchanged. What follows the directory has to be UTF-8, and so has a user's name. The directories and the passwd text
- * may be any bytes, and so may then what is written. The call allocates nothing; GCV_NO_MEMORY if the path would be
+ * unchanged. What follows the directory must be UTF-8, and so must a user's name. The directories and the passwd text
+ * may be any bytes, and so what is written may be too. The call allocates nothing; GCV_NO_MEMORY if the path would be
  * longer than PTRDIFF_MAX. */
 GCV_RETURNS((3, 6)) gcv_interpolate(const char *text, size_t length, const gcv_context *context,
                                     char *GCV_RESTRICT buffer, size_t capacity, size_t *size, gcv_fault *fault)

@@ -181,7 +181,7 @@ for compiler in gcc clang g++ clang++; do
             *) set -- -L"$prefix/lib" -lgix_config_value ;;
         esac
         by="by $compiler, $linked"
-        for example in theme check setting; do
+        for example in theme check setting config; do
             # shellcheck disable=SC2086
             holds "$example $by" "$compiler" $language $warnings -I"$prefix/include" -o "$work/$example" \
                 "$root/examples/c/$example.c" -x none "$@"
@@ -193,6 +193,10 @@ for compiler in gcc clang g++ clang++; do
         holds "setting $by, runs" answers 0 '16384, by entry 1$' "$work/setting" core.limit
         holds "setting $by, has a default" answers 0 '4096, by default$' "$work/setting" core.other
         holds "setting $by, refuses" answers 1 '' "$work/setting" core.pager
+        printf '[a]\n\tb = rde\n' > "$work/settings"
+        holds "config $by, refuses" answers 1 "$work/settings:2: Colors are" "$work/config" a.b /dev/null "$work/settings"
+        printf '[a]\n\tb = red\n' > "$work/settings"
+        holds "config $by, runs" answers 0 '.\[31mred' "$work/config" a.b "$work/settings" /dev/null
     done
 done
 
