@@ -332,7 +332,6 @@ class Comparison:
             if line is not None and line not in listed.lines:
                 self.faults.append((text, listed, line))
 
-
     def follow(self, name, tree, difference=None):
         """Compares what includes give in a folder. In a class of differences Git may have more entries."""
         program, git = self.program.path, self.git.command
