@@ -56,7 +56,9 @@ pub fn included_name(alloc: Global, file: &[u8], path: &[u8]) -> Result<Vec<u8>,
 /// A directory of a path, and what follows it.
 #[derive(Clone, Copy)]
 pub struct Expanded<'e> {
+    /// The directory, or nothing if the path begins with none.
     pub directory: &'e [u8],
+    /// What follows the directory.
     pub rest: &'e [u8],
 }
 

@@ -40,7 +40,9 @@ pub struct Place<'a> {
 /// A file by its name.
 #[derive(Clone, Copy)]
 pub struct File<'a> {
+    /// Where it is.
     pub place: Place<'a>,
+    /// What is known of it.
     pub content: Content<'a>,
 }
 
@@ -58,11 +60,14 @@ pub struct Known<'a> {
 /// An entry, and the name of its file.
 #[derive(Clone, Copy)]
 pub struct Walked<'a> {
+    /// The name of the file, as it is included.
     pub file: &'a [u8],
+    /// The entry, with its line in that file.
     pub entry: Entry<'a>,
 }
 
-/// Whether a condition holds for an entry of a file whose directory is `real_dir`, as in [`Place`]. Without a repository only that of `include.path` does, and no remote is asked.
+/// Whether a condition holds for an entry of a file whose directory is `real_dir`, as in [`Place`]. Without a
+/// repository only that of `include.path` does. No remote is asked. It fails only if memory is refused.
 pub fn holds(
     alloc: Global,
     repository: Option<Repository<'_>>,
