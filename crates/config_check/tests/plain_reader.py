@@ -316,9 +316,18 @@ def row_for(rows, text):
 SHARED = [b"advice", b"core", b"credential", b"gui", b"user"]
 
 
+def is_swapped(one, other):
+    """Whether two texts differ by two neighbors alone, which have changed places."""
+    at = next((place for place in range(min(len(one), len(other))) if one[place] != other[place]), len(one))
+    swapped = one[:at] + one[at + 1:at + 2] + one[at:at + 1] + one[at + 2:]
+    return one != other and swapped == other
+
+
 def distance(one, other):
-    """How many bytes are put in, left out or replaced between two texts, ignoring ASCII case."""
+    """How many bytes are put in, left out or replaced between two texts, ignoring ASCII case; a swap counts as one."""
     one, other = one.lower(), other.lower()
+    if is_swapped(one, other):
+        return 1
     line = list(range(len(other) + 1))
     for row, byte in enumerate(one, 1):
         before, line[0] = line[0], row
@@ -332,13 +341,17 @@ def apart(pattern, key):
     is_middle = pattern.middle == key.middle or pattern.middle == b"*" and key.middle is not None
     is_last = pattern.last in (b"*", key.last)
     if pattern.first != key.first:
-        pair, most, is_one = (pattern.first, key.first), 1, is_middle and is_last
+        pair, is_one = (pattern.first, key.first), is_middle and is_last
     elif is_middle:
-        pair, most, is_one = (pattern.last, key.last), 2, not is_last
+        pair, is_one = (pattern.last, key.last), not is_last
     else:
-        pair, most, is_one = (pattern.middle, key.middle), 2, is_last and None not in (pattern.middle, key.middle)
+        pair, is_one = (pattern.middle, key.middle), is_last and None not in (pattern.middle, key.middle)
+    if not is_one:
+        return None
+    # one edit makes another word of a short part
+    most = 1 if pattern.first != key.first or min(map(len, pair)) < 5 else 2
     # lengths that differ by more need no look at the bytes
-    if not is_one or abs(len(pair[0]) - len(pair[1])) > most:
+    if abs(len(pair[0]) - len(pair[1])) > most:
         return None
     edits = distance(*pair)
     return edits if edits <= most else None

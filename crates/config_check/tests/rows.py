@@ -312,30 +312,30 @@ KNOWN_KEYS = [
     (b"any-last.x", None), (b"any-last.sub.x", None), (b"any-both.x.y", None), (b"any-both.a.b.c", None),
     (b"literal.a*.last", None),
 ]
-# keys that no row matches, and the key that is meant: of another section by one byte, or of another part by two at
-# most; the nearest row's, and the first of several
+# keys that no row matches, and the key that is meant: of another section by one edit, or of another part by two, and of
+# a part of fewer than five bytes by one; a swap of neighbors is one; the nearest row's, and the first of several
 MISSPELT_KEYS = [
     (b"test.in", b"test.int"), (b"test.intt", b"test.int"), (b"tes.int", b"test.int"), (b"testt.int", b"test.int"),
-    (b"test.nit", b"test.int"), (b"test.tni", b"test.int"), (b"test.sort-ky", b"test.sort-key"),
+    (b"test.nit", b"test.int"), (b"tset.int", b"test.int"), (b"test.sort-ky", b"test.sort-key"),
     (b"test.bol-or-wrd", b"test.bool-or-word"), (b"test.Colour", b"test.color"),
-    (b"any-last.sub.x.y", b"any-last.sub.y"),
-    (b"middle.x.las", b"middle.x.last"), (b"middle.x.lasttt", b"middle.x.last"), (b"mddle.X y.last", b"middle.X y.last"),
+    (b"middle.x.las", b"middle.x.last"),
+    (b"middle.x.lats", b"middle.x.last"), (b"mddle.X y.last", b"middle.X y.last"),
     (b"middle.exact.other", b"middle.Exact.Other"), (b"middle.EXact.other", b"middle.Exact.Other"),
     (b"middle.Exact.othr", b"middle.Exact.Other"), (b"middle.exat.other", b"middle.Exact.Other"),
     (b"middle.two.Parts.other", b"middle.two.parts.other"), (b"empty.x.middle", b"empty..middle"),
-    (b"empty.xx.middle", b"empty..middle"), (b"any-last.SUB.x", b"any-last.sub.x"), (b"any-lst.Sub", b"any-last.sub"),
+    (b"any-last.sbu.x", b"any-last.sub.x"), (b"any-last.SUB.x", b"any-last.sub.x"), (b"any-lst.Sub", b"any-last.sub"),
     (b"any-both-.x.y", b"any-both.x.y"), (b"literal.last-o", b"literal.last*"), (b"x.star", b"*.star"),
     (b"middle.\xff\t.lst", rb"middle.\xff\x09.last"), (b"middle.a\\b.lst", rb"middle.a\\b.last"),
 ]
 # keys of sections that only the rows have
-OWN_KEYS = [b"test.wrong", b"middle.last", b"empty.middle", b"any-both.y", b"literal.last-one"]
+OWN_KEYS = [b"test.wrong", b"test.tni", b"middle.last", b"empty.middle", b"any-both.y", b"literal.last-one"]
 UNKNOWN_KEYS = [
     b"test.x.int", b"test..int", b".test.int", b"..int", b"te.int", b"middle.Exact.x", b"middle.two.other",
-    b"empty.xxx.middle", b"any-last.x.y", b"any-last..x", b"literal.abcd.last", b"xx.star", b"tset.int",
-    b"other.key",
+    b"empty.xx.middle", b"any-last.x.y", b"any-last..x", b"any-last.sub.x.y", b"literal.abcd.last", b"xx.star",
+    b"middle.x.lasttt", b"other.key",
 ]
 # the same in sections of the built-in rows, which the second reader does not have
-UNKNOWN_BUILT_IN = [b"core.exclude", b"user.nickname"]
+UNKNOWN_BUILT_IN = [b"core.exclude", b"user.nickname", b"user.home", b"branch.x.base"]
 
 # which row decides: key, value, and the reason
 FIRST_ROWS = [
@@ -349,6 +349,7 @@ FIRST_ROWS = [
 MISSPELT_BUILT_IN = [
     (b"pull.rebas", b"pull.rebase"), (b"pul.rebase", b"pull.rebase"), (b"branch.main.remte", b"branch.main.remote"),
     (b"color.brnch.local", b"color.branch.local"), (b"core.autocrfl", b"core.autocrlf"), (b"pull.everything", None),
+    (b"psuh.default", b"push.default"), (b"alais.st", b"alias.st"), (b"branch.main.rebsae", b"branch.main.rebase"),
 ]
 
 # rows of the program itself: key, value, and how the reason begins

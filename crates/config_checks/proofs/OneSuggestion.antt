@@ -7,7 +7,7 @@ use Rattle.config_checks.specs.declared.key.Key.{Key}
 use Rattle.config_checks.specs.declared.row.Row.{Row}
 use Rattle.config_checks.specs.declared.suggestion.UnknownKey.{UnknownKey}
 use Rattle.config_checks.specs.Findings.{shown}
-use Rattle.config_checks.specs.Suggestions.{edits, BetweenEdits, CoversLast, EditsAfter, OnePartEdits, IsFar, IsNearest}
+use Rattle.config_checks.specs.Suggestions.{PartEdits, SectionEdits, BetweenEdits, CoversLast, EditsAfter, OnePartEdits, IsFar, IsNearest}
 use Rattle.config_checks.specs.Suggestions.{Fills, FillsBetween, FillsKey, IsAbsent, IsShared, HasSection, IsOwn, IsPassed, IsUnknownKey, Suggests}
 use Rattle.config_checks.specs.Suggestions.{dotted, between_shown, key_shown, suggestion_text, unknown_text}
 use Rattle.config_checks.specs.Suggestions.EditsAfter.{in_last, in_between}
@@ -21,12 +21,12 @@ between_moved : (row a b : Option (Bor (List ℕ))) (n : ℕ) → SameBetween a 
 between_moved None a b n same is = absurd is
 between_moved (Some row) None b n same is = absurd is
 between_moved (Some row) (Some a) None n same is = absurd same
-between_moved (Some row) (Some a) (Some b) n same is = is ∙ ap (edits row.now) same
+between_moved (Some row) (Some a) (Some b) n same is = subst (λ t. PartEdits row.now t n) same is
 
 after_moved : (row a b : Key) (n : ℕ) → SameKey a b → EditsAfter row a n → EditsAfter row b n
 after_moved row a b n same (in_last covers not is) =
     in_last (covers_between row.between a.between b.between same.between covers)
-    (λ l. not (subst (CoversLast row.last.now) (sym same.last) l)) (is ∙ ap (edits row.last.now) same.last)
+    (λ l. not (subst (CoversLast row.last.now) (sym same.last) l)) (subst (λ t. PartEdits row.last.now t n) same.last is)
 after_moved row a b n same (in_between not covers is) =
     in_between (λ c. not (covers_between row.between b.between a.between (same_back a b same).between c))
     (subst (CoversLast row.last.now) same.last covers) (between_moved row.between a.between b.between n same.between is)
@@ -37,7 +37,7 @@ moved row a b n same (in_rest s is) =
 moved row a b n same (in_section other between last is) =
     in_section (λ s. other (subst (SameWord row.section.now) (sym same.section) s))
     (covers_between row.between a.between b.between same.between between) (subst (CoversLast row.last.now) same.last last)
-    (is.0 ∙ ap (edits row.section.now) same.section, is.1)
+    (subst (λ t. SectionEdits row.section.now t n) same.section is)
 
 module _ (rows : List Row) where
   nearest_moved : (a b : Key) (row : Row) → SameKey a b → IsNearest rows a row → IsNearest rows b row

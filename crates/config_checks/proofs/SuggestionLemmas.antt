@@ -1,6 +1,6 @@
 -- The edits between the keys of rows and a key, and the nearest row.
 use Rattle.std.proofs.Common.{◌≡◌, ◌+◌, ◌<◌, ◌≤◌, ℕ, zero, suc, List, [], ◌∷◌, length, map, take, nat_eq, Result, Ok, Err, IfOk}
-use Rattle.std.proofs.Common.{MatchOption, Option, None, Some, Bor, refl, sym, ◌∙◌, subst, arith}
+use Rattle.std.proofs.Common.{MatchOption, Option, None, Some, Bor, refl, sym, ◌∙◌, subst, arith, ◌≢◌, ◌↔◌, IsTrue, Bool}
 use Rattle.std.proofs.lemmas.Int.{clamps}
 use Rattle.std.specs.Char.{to_ascii_lowercase}
 use Rattle.strsim.specs.Edits.{next_row, rows, cost_at}
@@ -10,14 +10,17 @@ use Rattle.std.proofs.lemmas.Bool.{false≢true, true≢false}
 use Rattle.std.proofs.lemmas.List.{length-map, take_all}
 use Rattle.std.proofs.lemmas.List.Elements.{All-more}
 use Rattle.std.specs.List.{All}
-use Rattle.std.specs.Prelude.{slice_index_or}
+use Rattle.std.specs.Prelude.{slice_index_or, MatchBool}
+use Rattle.std.specs.Cmp.Lexicographic.{pointwise, told_text}
 use Rattle.config_text.specs.SameWord.{SameWord}
 use Rattle.config_checks.specs.declared.key.Key.{Key}
 use Rattle.config_checks.specs.declared.row.Row.{Row}
 use Rattle.config_checks.specs.Rows.{Decides, IsUnknown}
 use Rattle.config_checks.specs.Suggestions.{IsPassed}
 use Rattle.config_checks.specs.Suggestions.IsPassed.{known}
-use Rattle.config_checks.specs.Suggestions.{edits, EditsAfter, OnePartEdits, BetweenEdits, IsFirstAt, IsFar, IsNearest}
+use Rattle.config_checks.specs.Suggestions.{Edits, IsSwap, lower, edits, EditsAfter, OnePartEdits, BetweenEdits, IsFirstAt, IsFar, IsNearest}
+use Rattle.config_checks.specs.Suggestions.Edits.{swapped, counted}
+use Rattle.config_checks.specs.Suggestions.IsSwap.{at_front, further}
 use Rattle.config_checks.specs.Suggestions.EditsAfter.{in_last, in_between}
 use Rattle.config_checks.specs.Suggestions.OnePartEdits.{in_rest, in_section}
 
@@ -63,16 +66,70 @@ lengths_apart a b =
       omega (arith, apart.1, length-map a to_ascii_lowercase, length-map b to_ascii_lowercase),
     )
 
+-- a swap keeps the length
+swap_length : (a b : List ℕ) → IsSwap a b → length a ≡ length b
+swap_length _ _ (at_front differ) = refl
+swap_length _ _ (further {x} {xs} {ys} swap) = rw (swap_length xs ys swap) refl
+
+same_first : (x y : ℕ) (xs ys : List ℕ) → x ≡ y → IsSwap (x ∷ xs) (y ∷ ys) → IsSwap xs ys
+same_first _ _ _ _ same (at_front differ) = absurd (differ same)
+same_first _ _ _ _ same (further swap) = swap
+
+-- after the same byte there is a swap if there is one in the rest
+pub swap_further : (r : Bool) (s t xs ys : List ℕ) (x y : ℕ) → s ≡ x ∷ xs → t ≡ y ∷ ys → x ≡ y
+    → (IsTrue r ↔ IsSwap xs ys) → IsTrue r ↔ IsSwap s t
+swap_further r s t xs ys x y front back same is = rw front (rw back (
+  λ yes. subst (λ z. IsSwap (x ∷ xs) (z ∷ ys)) same (further (is.0 yes)),
+  λ swap. is.1 (same_first x y xs ys same swap),
+))
+
+same_rest : (a b c d : ℕ) (xs ys : List ℕ) → a ≢ c → IsSwap (a ∷ b ∷ xs) (c ∷ d ∷ ys) → xs ≡ ys
+same_rest _ _ _ _ _ _ differ (at_front other) = refl
+same_rest _ _ _ _ _ _ differ (further swap) = absurd (differ refl)
+
+swapped_bytes : (a b : ℕ) (xs ys : List ℕ) (b' a' : ℕ) → a ≢ b → b' ≡ b → a' ≡ a → xs ≡ ys
+    → IsSwap (a ∷ b' ∷ xs) (b ∷ a' ∷ ys)
+swapped_bytes a b xs ys b' a' differ e f same = rw e (rw f (rw same (at_front differ)))
+
+same_told : (r : Bool) (xs ys : List ℕ) → MatchBool r (xs ≡ ys) (xs ≢ ys) → IsTrue r ↔ (xs ≡ ys)
+same_told true xs ys same = (λ yes. same, λ e. refl)
+same_told false xs ys other = (λ yes. absurd (false≢true yes), λ e. absurd (other e))
+
+-- two neighbors have changed places at the front if the rest is the same
+pub swap_front : (r : Bool) (s t s' t' xs ys : List ℕ) (a b b' a' : ℕ) → s ≡ a ∷ s' → t ≡ b ∷ t' → s' ≡ b' ∷ xs
+    → t' ≡ a' ∷ ys → a ≢ b → b' ≡ b → a' ≡ a → r ≡ pointwise nat_eq xs ys → IsTrue r ↔ IsSwap s t
+swap_front r s t s' t' xs ys a b b' a' p q p' q' differ e f told =
+    let is = same_told r xs ys (told_text xs ys r told) in rw p (rw q (rw p' (rw q' (
+      λ yes. swapped_bytes a b xs ys b' a' differ e f (is.0 yes),
+      λ swap. is.1 (same_rest a b' b a' xs ys differ swap),
+    ))))
+
+-- lengths are no further apart than such edits, a swap among them
+pub lengths_near : (a b : List ℕ) (n : ℕ) → Edits a b n → (length a ≤ n + length b) × (length b ≤ n + length a)
+lengths_near a b n (swapped swap is) =
+    let same = swap_length (lower a) (lower b) swap in (
+      omega (arith, same, length-map a to_ascii_lowercase, length-map b to_ascii_lowercase),
+      omega (arith, same, length-map a to_ascii_lowercase, length-map b to_ascii_lowercase),
+    )
+lengths_near a b n (counted not is) =
+    let apart = lengths_apart a b in (omega (arith, is, apart.0), omega (arith, is, apart.1))
+
 -- ---- there is one number of edits
+
+pub one_count : (a b : List ℕ) (m n : ℕ) → Edits a b m → Edits a b n → m ≡ n
+one_count a b m n (swapped swap is) (swapped also' also) = is ∙ sym also
+one_count a b m n (swapped swap is) (counted not also) = absurd (not swap)
+one_count a b m n (counted not is) (swapped swap also) = absurd (not swap)
+one_count a b m n (counted not is) (counted not' also) = is ∙ sym also
 
 one_between : (a b : Option (Bor (List ℕ))) (m n : ℕ) → BetweenEdits a b m → BetweenEdits a b n → m ≡ n
 one_between None None m n is also = absurd is
 one_between None (Some b) m n is also = absurd is
 one_between (Some a) None m n is also = absurd is
-one_between (Some a) (Some b) m n is also = is ∙ sym also
+one_between (Some a) (Some b) m n is also = one_count a.now b.now m n is.0 also.0
 
 one_after : (row key : Key) (m n : ℕ) → EditsAfter row key m → EditsAfter row key n → m ≡ n
-one_after row key m n (in_last covers not is) (in_last c d also) = is ∙ sym also
+one_after row key m n (in_last covers not is) (in_last c d also) = one_count row.last.now key.last.now m n is.0 also.0
 one_after row key m n (in_last covers not is) (in_between not' c also) = absurd (not' covers)
 one_after row key m n (in_between not covers is) (in_last c d also) = absurd (not c)
 one_after row key m n (in_between not covers is) (in_between c d also) = one_between row.between key.between m n is also
@@ -81,7 +138,8 @@ pub one_number : (row key : Key) (m n : ℕ) → OnePartEdits row key m → OneP
 one_number row key m n (in_rest s is) (in_rest t also) = one_after row key m n is also
 one_number row key m n (in_rest s is) (in_section other b l also) = absurd (other s)
 one_number row key m n (in_section other b l is) (in_rest t also) = absurd (other t)
-one_number row key m n (in_section other b l is) (in_section o c d also) = is.0 ∙ sym also.0
+one_number row key m n (in_section other b l is) (in_section o c d also) =
+    one_count row.section.now key.section.now m n is.0 also.0
 
 -- ---- the nearest of the first rows
 

@@ -1,6 +1,6 @@
 -- Keys that no row covers, and what is said of them: the nearest key of the rows.
 use Rattle.std.specs.Prelude.{◌≡◌, ◌≢◌, ◌⊎◌, ⊤, ℕ, ◌<◌, ◌≤◌, nat_eq, List, [], ◌∷◌, ◌++◌, codes, length, map, take}
-use Rattle.std.specs.Prelude.{Option, None, Some, slice_index_or, All}
+use Rattle.std.specs.Prelude.{Option, None, Some, slice_index_or, All, ◌||◌, nat_lt, if◌then◌else◌}
 use Rattle.std.specs.Char.{to_ascii_lowercase}
 use Rattle.std.specs.List.{Any}
 use Rattle.strsim.specs.Edits.{levenshtein_row}
@@ -15,9 +15,31 @@ use Rattle.config_checks.specs.Rows.{Decides, IsUnknown}
 
 -- ---- how far two keys are apart
 
--- the edits of one byte that lead from one text to the other, ignoring ASCII case: Levenshtein's distance
+-- ASCII case is ignored
+abbrev pub lower : List ℕ → List ℕ
+lower = map to_ascii_lowercase
+
+-- the bytes put in, left out or replaced: Levenshtein's distance
 abbrev pub edits : List ℕ → List ℕ → ℕ
-edits a b = levenshtein_row nat_eq (map to_ascii_lowercase a) (map to_ascii_lowercase b) (length (map to_ascii_lowercase b))
+edits a b = levenshtein_row nat_eq (lower a) (lower b) (length (lower b))
+
+-- two neighbors that differ have changed places, and all else is the same
+pub data IsSwap : List ℕ → List ℕ → Type 0 where
+  at_front : {x y : ℕ} {rest : List ℕ} → x ≢ y → IsSwap (x ∷ y ∷ rest) (y ∷ x ∷ rest)
+  further : {x : ℕ} {xs ys : List ℕ} → IsSwap xs ys → IsSwap (x ∷ xs) (x ∷ ys)
+
+-- so many edits lead from one text to the other: a swap is one edit
+pub data Edits (a b : List ℕ) (n : ℕ) : Type 0 where
+  swapped : IsSwap (lower a) (lower b) → n ≡ 1 → Edits a b n
+  counted : ¬ (IsSwap (lower a) (lower b)) → n ≡ edits a b → Edits a b n
+
+-- how many edits are few for two parts: one if a part is short, and otherwise two
+abbrev pub most_edits : List ℕ → List ℕ → ℕ
+most_edits row part = if nat_lt (length row) 5 || nat_lt (length part) 5 then 1 else 2
+
+-- so many edits, which are few, lead from one part to the other
+abbrev pub PartEdits : List ℕ → List ℕ → ℕ → Type 0
+PartEdits row part n = Edits row part n × (n ≤ most_edits row part)
 
 -- the last part of a row's key covers that of a key
 abbrev pub CoversLast : List ℕ → List ℕ → Type 0
@@ -25,19 +47,19 @@ CoversLast row last = (row ≡ codes "*") ⊎ SameWord row last
 
 -- so many edits lead from the one part between dots to the other
 abbrev pub BetweenEdits : Option (Bor (List ℕ)) → Option (Bor (List ℕ)) → ℕ → Type 0
-BetweenEdits (Some row) (Some between) n = n ≡ edits row.now between.now
+BetweenEdits (Some row) (Some between) n = PartEdits row.now between.now n
 BetweenEdits _ _ n = ⊥
 
 -- the key of a row and a key differ in one part after their section, by so many edits
 pub data EditsAfter (row key : Key) (n : ℕ) : Type 0 where
   in_last : CoversBetween row.between key.between → ¬ (CoversLast row.last.now key.last.now)
-      → n ≡ edits row.last.now key.last.now → EditsAfter row key n
+      → PartEdits row.last.now key.last.now n → EditsAfter row key n
   in_between : ¬ (CoversBetween row.between key.between) → CoversLast row.last.now key.last.now
       → BetweenEdits row.between key.between n → EditsAfter row key n
 
 -- so many edits, one at most, lead from the one section to the other
 abbrev pub SectionEdits : List ℕ → List ℕ → ℕ → Type 0
-SectionEdits row t n = (n ≡ edits row t) × (n ≤ 1)
+SectionEdits row t n = Edits row t n × (n ≤ 1)
 
 -- the key of a row and a key differ in one part, by so many edits
 pub data OnePartEdits (row key : Key) (n : ℕ) : Type 0 where

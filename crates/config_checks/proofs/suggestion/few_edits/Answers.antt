@@ -1,10 +1,9 @@
-use Rattle.std.proofs.Common.{arith}
-use Rattle.std.proofs.lemmas.Int.{clamps}
-use Rattle.config_checks.proofs.SuggestionLemmas.{lengths_apart}
+use Rattle.std.proofs.Common.{subst}
+use Rattle.config_checks.specs.Reading.Steps.{IsFew}
+use Rattle.config_checks.specs.Suggestions.{Edits}
 use Rattle.config_checks.proofs.suggestion.few_edits.Goals as goal
 
-pub returns-then-abs_diff-gt-MOST_EDITS : goal.returns-then-abs_diff-gt-MOST_EDITS
-returns-then-abs_diff-gt-MOST_EDITS c =
-    let apart = lengths_apart c.args.from.now c.args.to.now in
-    let far = c.if-abs_diff-gt-MOST_EDITS.true in
-    omega (arith, clamps, apart.0, apart.1, far, c.abs_diff.ensures)
+pub returns-in_default-2 : goal.returns-in_default-2
+returns-in_default-2 c =
+    let far = subst (IsFew (Edits c.args.row.now c.args.part.now)) c.in_default.is c.in_ok-edits.ensures in
+    λ n edits. far n edits.0
