@@ -50,6 +50,9 @@ def values(group, program):
     for key, reason, refused in rows.REPORTED:
         expect_values(group, program, how, key, refused, reason)
         expect_values(group, program, canonical, key, refused, reason)
+    for key, reason, near in rows.MEANT:
+        expect_entries(group, program, how, [
+            (made.line_of(key, value), key, shown(value), reason + b"; did you mean %s?" % word) for value, word in near.items()])
     for key, spellings in rows.SPELLINGS:
         expect_values(group, program, how, key, spellings, None)
         expect_entries(group, program, canonical, [

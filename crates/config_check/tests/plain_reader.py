@@ -224,6 +224,13 @@ FORMS = {b"word": b"not one of: ", b"bool-or-word": b"not a boolean, nor one of:
          b"date": b"not a date: it has no digit, nor one of: ", b"sort-key": b"not a key to sort by: "}
 
 
+def meant(words, text):
+    """What is said of the word that is nearest to a text, if one is near and can be meant."""
+    can_be = [len(word) > 2 and not word.endswith(b"*") for word in words]
+    found = nearest([few_edits(word, text, 2) if is_one else None for word, is_one in zip(words, can_be)])
+    return b"" if found is None else b"; did you mean %s?" % shown(words[found])
+
+
 def of_words(kind, words, text):
     """The canonical text: a word that differs in case alone is spelled as the row has it."""
     form, any_case = kind.removesuffix(ANY_CASE), kind.endswith(ANY_CASE)
@@ -232,7 +239,7 @@ def of_words(kind, words, text):
         return word if word.lower() == text.lower() else text
     spelling = spelled_by_form(form, words, text, any_case)
     if spelling is None:
-        raise Refused(FORMS[form] + b", ".join(map(shown, words)))
+        raise Refused(FORMS[form] + b", ".join(map(shown, words)) + meant(words, text))
     return spelling
 
 
@@ -336,25 +343,32 @@ def distance(one, other):
     return line[-1]
 
 
+def few_edits(one, other, most):
+    """How many edits lead from one text to the other, or None if they are more; more than one are many for a short text."""
+    most = min(most, 1 if min(len(one), len(other)) < 5 else 2)
+    # lengths that differ by more need no look at the bytes
+    if abs(len(one) - len(other)) > most:
+        return None
+    edits = distance(one, other)
+    return edits if edits <= most else None
+
+
 def apart(pattern, key):
     """How far a key is from the key of a row, if they differ in one part, and few bytes of it; None otherwise."""
     is_middle = pattern.middle == key.middle or pattern.middle == b"*" and key.middle is not None
     is_last = pattern.last in (b"*", key.last)
     if pattern.first != key.first:
-        pair, is_one = (pattern.first, key.first), is_middle and is_last
-    elif is_middle:
-        pair, is_one = (pattern.last, key.last), not is_last
-    else:
-        pair, is_one = (pattern.middle, key.middle), is_last and None not in (pattern.middle, key.middle)
-    if not is_one:
-        return None
-    # one edit makes another word of a short part
-    most = 1 if pattern.first != key.first or min(map(len, pair)) < 5 else 2
-    # lengths that differ by more need no look at the bytes
-    if abs(len(pair[0]) - len(pair[1])) > most:
-        return None
-    edits = distance(*pair)
-    return edits if edits <= most else None
+        return few_edits(pattern.first, key.first, 1) if is_middle and is_last else None
+    if is_middle:
+        return None if is_last else few_edits(pattern.last, key.last, 2)
+    is_near = is_last and None not in (pattern.middle, key.middle)
+    return few_edits(pattern.middle, key.middle, 2) if is_near else None
+
+
+def nearest(distances):
+    """The place of the first of the least distances; None where all are None."""
+    near = [(edits, place) for place, edits in enumerate(distances) if edits is not None]
+    return min(near)[1] if near else None
 
 
 def filled(pattern, key):
@@ -370,10 +384,9 @@ def unknown(rows, text):
     key = key_of(text)
     if key is None:
         return None
-    near = [(apart(row.key, key), number) for number, row in enumerate(rows)]
-    found = min((one for one in near if one[0] is not None), default=None)
+    found = nearest([apart(row.key, key) for row in rows])
     if found is not None:
-        return b"warning: unknown key; did you mean %s?" % shown(filled(rows[found[1]].text, key))
+        return b"warning: unknown key; did you mean %s?" % shown(filled(rows[found].text, key))
     is_own = key.middle is None and key.first not in SHARED and any(row.key.first == key.first for row in rows)
     return b"warning: unknown key" if is_own else None
 

@@ -1,4 +1,5 @@
 mod KeyLemmas
+mod NearestLemmas
 mod WordLemmas
 mod ShownLemmas
 mod SuggestionLemmas

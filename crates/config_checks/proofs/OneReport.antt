@@ -151,15 +151,15 @@ module _ (options : Options) where
   same_line : (f : Facts) (goes_on : Bool) (a b : Reason) → IsSameFinding (Some a) (Some b)
       → line_of f (severity_of goes_on a) (reason_text a) ≡ line_of f (severity_of goes_on b) (reason_text b)
   same_line f goes_on (NotCanonical c) (NotCanonical d) same = ap (λ l. line_of f Note (codes "should be " ++ l)) same
-  same_line f goes_on (NoWord l) (NoWord m) same =
-      ap (λ list. line_of f (severity_of goes_on (NoWord l)) (no_word_text list)) same
+  same_line f goes_on (NoWord l v) (NoWord m w) same =
+      λ i. line_of f (severity_of goes_on (NoWord l v)) (no_word_text (same.0 i) (same.1 i))
   same_line f goes_on a b same =
       let is : a ≡ b = cc in ap (λ r. line_of f (severity_of goes_on r) (reason_text r)) is
 
   same_severity : (goes_on : Bool) (a b : Reason) → IsSameFinding (Some a) (Some b)
       → severity_of goes_on a ≡ severity_of goes_on b
   same_severity goes_on (NotCanonical c) (NotCanonical d) same = refl
-  same_severity goes_on (NoWord l) (NoWord m) same = refl
+  same_severity goes_on (NoWord l v) (NoWord m w) same = refl
   same_severity goes_on a b same = let is : a ≡ b = cc in ap (severity_of goes_on) is
 
   module _ (rows : List Row) where

@@ -84,14 +84,25 @@ no_word_front forms.Words = codes "not a list of: "
 no_word_front forms.Date = codes "not a date: it has no digit, nor one of: "
 no_word_front forms.SortKey = codes "not a key to sort by: "
 
-abbrev pub no_word_text : WordList → List ℕ
-no_word_text list = no_word_front list.form ++ words_text list.words.items
+abbrev pub list_text : WordList → List ℕ
+list_text list = no_word_front list.form ++ words_text list.words.items
+
+abbrev pub word_asked : List ℕ → List ℕ
+word_asked word = shown word ++ codes "?"
+
+-- the word that is meant, if one is
+abbrev pub meant_text : Option (Bor (List ℕ)) → List ℕ
+meant_text None = []
+meant_text (Some word) = codes "; did you mean " ++ word_asked word.now
+
+abbrev pub no_word_text : WordList → Option (Bor (List ℕ)) → List ℕ
+no_word_text list meant = list_text list ++ meant_text meant
 
 abbrev pub reason_text : Reason → List ℕ
 reason_text NoValue = codes "no value"
 reason_text (Refused fault) = fault_text fault
 reason_text (OutOfRange low high) = range_text low high
-reason_text (NoWord list) = no_word_text list.now
+reason_text (NoWord list meant) = no_word_text list.now meant
 reason_text (NotCanonical canonical) = codes "should be " ++ canonical.bytes
 reason_text (OtherCase word) = codes "should be " ++ shown word.now
 

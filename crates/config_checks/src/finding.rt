@@ -1,10 +1,11 @@
 //! A finding, and the line that is written for it.
 ghost use Rattle.std.specs.Prelude.{◌≡◌, ◌<◌, ◌++◌, [], length, flat_map, option_copied};
-ghost use Rattle.std.specs.Prelude.{OnOk, OnErr, MatchOption, IfSome, Some};
+ghost use Rattle.std.specs.Prelude.{OnOk, OnErr, MatchOption, IfSome, Some, codes};
 ghost use Rattle.std.specs.Char.{digit_char};
 ghost use Rattle.std.specs.Fmt.{signed_decimal};
 ghost use Rattle.config_checks.specs.Findings.{hex, is_control, piece_shown, shown, value_shown};
-ghost use Rattle.config_checks.specs.Findings.{range_text, words_text, no_word_front, no_word_text};
+ghost use Rattle.config_checks.specs.Findings.{range_text, words_text, no_word_front, list_text, word_asked};
+ghost use Rattle.config_checks.specs.Findings.{meant_text, no_word_text};
 ghost use Rattle.config_checks.specs.Findings.{reason_text, severity_text, painted};
 ghost use Rattle.config_checks.specs.Findings.{AppendsPart};
 ghost use Rattle.config_checks.specs.Report.{place, value_of, setting_shown, finding_line, unknown_line};
@@ -147,14 +148,60 @@ fn no_word_front(form: Form) -> &'static str
     }
 }
 
-/// Appends that a text does not have the words of a list.
-fn push_no_word(out: &mut Vec<u8>, list: &WordList<'_>) -> Result<(), AllocError>
-    ensures ok { OnOk result (out.new.items ≡ out.old.items ++ no_word_text list.now) }
+/// Appends how a text should have the words of a list.
+fn push_list(out: &mut Vec<u8>, list: &WordList<'_>) -> Result<(), AllocError>
+    ensures ok { OnOk result (out.new.items ≡ out.old.items ++ list_text list.now) }
     ensures err { OnErr result
-        (AppendsPart (Some out.old.items) (Some out.new.items) (no_word_text list.now)) }
+        (AppendsPart (Some out.old.items) (Some out.new.items) (list_text list.now)) }
 {
     out.extend_from_slice(no_word_front(list.form).as_bytes())?;
     push_words(out, &list.words)
+}
+
+/// Appends a word, and a question mark.
+fn push_asked(out: &mut Vec<u8>, word: &[u8]) -> Result<(), AllocError>
+    ensures ok { OnOk result (out.new.items ≡ out.old.items ++ word_asked word.now) }
+    ensures err { OnErr result
+        (AppendsPart (Some out.old.items) (Some out.new.items) (word_asked word.now)) }
+{
+    push_shown(out, word)?;
+    out.extend_from_slice(b"?")
+}
+
+/// Appends a word that is meant.
+fn push_word_meant(out: &mut Vec<u8>, word: &[u8]) -> Result<(), AllocError>
+    ensures ok { OnOk result (out.new.items ≡ out.old.items ++ (codes "; did you mean " ++ word_asked word.now)) }
+    ensures err { OnErr result (AppendsPart (Some out.old.items) (Some out.new.items)
+        (codes "; did you mean " ++ word_asked word.now)) }
+{
+    out.extend_from_slice(b"; did you mean ")?;
+    push_asked(out, word)
+}
+
+/// Appends the word that is meant, if one is.
+fn push_meant(out: &mut Vec<u8>, meant: Option<&[u8]>) -> Result<(), AllocError>
+    ensures ok { OnOk result (out.new.items ≡ out.old.items ++ meant_text meant.entry) }
+    ensures err { OnErr result
+        (AppendsPart (Some out.old.items) (Some out.new.items) (meant_text meant.entry)) }
+{
+    match meant {
+        Some(word) => push_word_meant(out, word),
+        None => Ok(()),
+    }
+}
+
+/// Appends that a text does not have the words of a list, and the word that is meant, if one is.
+fn push_no_word(
+    out: &mut Vec<u8>,
+    list: &WordList<'_>,
+    meant: Option<&[u8]>,
+) -> Result<(), AllocError>
+    ensures ok { OnOk result (out.new.items ≡ out.old.items ++ no_word_text list.now meant.entry) }
+    ensures err { OnErr result
+        (AppendsPart (Some out.old.items) (Some out.new.items) (no_word_text list.now meant.entry)) }
+{
+    push_list(out, list)?;
+    push_meant(out, meant)
 }
 
 /// Appends the text of a reason. If there is no memory for all of it, `out` keeps what it had, and some first
@@ -168,7 +215,7 @@ pub fn push_reason(out: &mut Vec<u8>, reason: &Reason<'_, '_>) -> Result<(), All
         Reason::NoValue => out.extend_from_slice(b"no value"),
         Reason::Refused(fault) => out.extend_from_slice(fault.text().as_bytes()),
         Reason::OutOfRange { low, high } => push_range(out, *low, *high),
-        Reason::NoWord(list) => push_no_word(out, list),
+        Reason::NoWord { list, meant } => push_no_word(out, list, *meant),
         Reason::NotCanonical(canonical) => {
             out.extend_from_slice(b"should be ")?;
             out.extend_from_slice(canonical.as_str().as_bytes())
@@ -225,37 +272,6 @@ fn push_value(line: &mut Vec<u8>, value: Option<&[u8]>) -> Result<(), AllocError
     line.extend_from_slice(b"': ")
 }
 
-/// A setting, and what is wrong with it.
-#[derive(Clone, Copy)]
-pub(crate) struct Finding<'e, 't> {
-    pub setting: &'e Setting<'e>,
-    pub severity: Severity,
-    pub reason: Reason<'e, 't>,
-}
-
-impl Finding<'_, '_> {
-    /// Appends the key and the value.
-    fn push_setting(&self, line: &mut Vec<u8>) -> Result<(), AllocError>
-        ensures { OnOk result (line.new.items ≡ line.old.items ++ setting_shown self.now.setting.now) }
-    {
-        push_shown(line, &self.setting.key)?;
-        line.extend_from_slice(b": ")?;
-        push_value(line, value_of(self.setting))
-    }
-
-    /// Appends the line of this finding.
-    pub(crate) fn push_to(&self, line: &mut Vec<u8>, options: &Options) -> Result<(), AllocError>
-        ensures { OnOk result (line.new.items ≡ line.old.items
-            ++ finding_line options.now self.now.setting.now self.now.severity self.now.reason) }
-    {
-        push_place(line, self.setting.file, self.setting.line)?;
-        push_severity(line, options.color, self.severity)?;
-        self.push_setting(line)?;
-        push_reason(line, &self.reason)?;
-        line.extend_from_slice(b"\n")
-    }
-}
-
 /// The value of a setting, if it has one.
 pub(crate) fn value_of<'s>(setting: &'s Setting<'_>) -> Option<&'s [u8]>
     ensures { option_copied result ≡ value_of setting.now }
@@ -264,6 +280,33 @@ pub(crate) fn value_of<'s>(setting: &'s Setting<'_>) -> Option<&'s [u8]>
         Some(value) => Some(value.as_slice()),
         None => None,
     }
+}
+
+/// Appends the key and the value of a setting.
+fn push_setting(line: &mut Vec<u8>, setting: &Setting<'_>) -> Result<(), AllocError>
+    ensures { OnOk result (line.new.items ≡ line.old.items ++ setting_shown setting.now) }
+{
+    push_shown(line, &setting.key)?;
+    line.extend_from_slice(b": ")?;
+    push_value(line, value_of(setting))
+}
+
+/// Appends the line of a setting that is wrong.
+pub(crate) fn push_finding(
+    line: &mut Vec<u8>,
+    options: &Options,
+    setting: &Setting<'_>,
+    severity: Severity,
+    reason: &Reason<'_, '_>,
+) -> Result<(), AllocError>
+    ensures { OnOk result (line.new.items ≡ line.old.items
+        ++ finding_line options.now setting.now severity reason.now) }
+{
+    push_place(line, setting.file, setting.line)?;
+    push_severity(line, options.color, severity)?;
+    push_setting(line, setting)?;
+    push_reason(line, reason)?;
+    line.extend_from_slice(b"\n")
 }
 
 /// Appends the line of a setting whose key is misspelt.

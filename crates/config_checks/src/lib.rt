@@ -2,6 +2,7 @@
 #![tactic(auto)]
 
 pub mod check;
+mod edits;
 pub mod finding;
 pub mod git;
 pub mod key;

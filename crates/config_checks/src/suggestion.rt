@@ -1,84 +1,19 @@
 //! Keys that no row covers, and the nearest keys of the rows.
-ghost use Rattle.std.specs.Prelude.{◌≡◌, ◌<◌, ◌≤◌, ◌++◌, ◌↔◌, IsTrue, MatchOption, IfOk, OnOk, OnErr, Some};
+ghost use Rattle.std.specs.Prelude.{◌≡◌, ◌++◌, ◌↔◌, IsTrue, MatchOption, IfOk, OnOk, OnErr, Some};
 ghost use Rattle.config_checks.specs.Findings.{AppendsPart};
-ghost use Rattle.config_checks.specs.Suggestions.{Edits, IsSwap, PartEdits, most_edits, BetweenEdits, CoversLast};
-ghost use Rattle.config_checks.specs.Suggestions.{EditsAfter, SectionEdits};
-ghost use Rattle.config_checks.specs.Suggestions.{OnePartEdits, IsFar, IsNearest, Fills, FillsBetween};
+ghost use Rattle.config_checks.specs.Nearest.{AreFar, IsNearest};
+ghost use Rattle.config_checks.specs.Suggestions.{BetweenEdits, CoversLast, EditsAfter, SectionEdits};
+ghost use Rattle.config_checks.specs.Suggestions.{OnePartEdits, RowEdits, Fills, FillsBetween};
 ghost use Rattle.config_checks.specs.Suggestions.{FillsKey, IsShared, IsOwn};
 ghost use Rattle.config_checks.specs.Reading.Steps.{IsFew};
 ghost use Rattle.config_checks.specs.Suggestions.{HasSection, IsPassed, IsUnknownKey, dotted, between_shown};
 ghost use Rattle.config_checks.specs.Suggestions.{after_shown, key_shown, asked, unknown_text};
 
+use crate::edits::{MOST_EDITS, edits_between, few_edits};
 use crate::finding::push_shown;
 use crate::key::{ANY, Key, covers_between, is_same_word};
 use crate::row::{Row, row_for};
 use std::alloc::{AllocError, Global};
-use strsim::generic_levenshtein;
-
-/// The most edits that lead to a key which is still suggested.
-const MOST_EDITS: usize = 2;
-
-/// The bytes of a part that is short: one edit makes another word of it soon.
-const LONG: usize = 5;
-
-/// Whether two neighbors that differ have changed places, and all else is the same.
-fn is_swap(from: &[u8], to: &[u8]) -> bool
-    ensures { IsTrue result ↔ (IsSwap from.now to.now) }
-{
-    let (Some((a, after_a)), Some((b, after_b))) = (from.split_first(), to.split_first()) else {
-        return false;
-    };
-    if *a == *b {
-        return is_swap(after_a, after_b);
-    }
-    match (after_a.split_first(), after_b.split_first()) {
-        (Some((b_later, from)), Some((a_later, to))) => *b_later == *b
-            && *a_later == *a
-            && from == to,
-        _ => false,
-    }
-}
-
-/// How many edits are few for two parts: one if a part is short, and otherwise two.
-fn most_edits(row: &[u8], part: &[u8]) -> usize
-    ensures { result ≡ most_edits row.now part.now }
-{
-    if row.len() < LONG || part.len() < LONG {
-        1
-    } else {
-        MOST_EDITS
-    }
-}
-
-/// How many edits lead from one text to the other, ignoring ASCII case. `None` if more than two.
-// Texts whose lengths differ by more are never compared: that is most of them.
-fn edits_between(alloc: Global, from: &[u8], to: &[u8]) -> Result<Option<usize>, AllocError>
-    ensures { IfOk result (λ r. IsFew (Edits from.now to.now) r) }
-{
-    if from.len().abs_diff(to.len()) > MOST_EDITS {
-        return Ok(None);
-    }
-    let from = from.to_ascii_lowercase(alloc)?;
-    let to = to.to_ascii_lowercase(alloc)?;
-    if is_swap(&from, &to) {
-        return Ok(Some(1));
-    }
-    let edits = generic_levenshtein(alloc, from.as_slice(), to.as_slice())?;
-    if edits > MOST_EDITS {
-        return Ok(None);
-    }
-    Ok(Some(edits))
-}
-
-/// How many edits lead from one part to another, or `None` if they are not few.
-fn few_edits(alloc: Global, row: &[u8], part: &[u8]) -> Result<Option<usize>, AllocError>
-    ensures { IfOk result (λ r. IsFew (PartEdits row.now part.now) r) }
-{
-    match edits_between(alloc, row, part)? {
-        Some(edits) if edits <= most_edits(row, part) => Ok(Some(edits)),
-        _ => Ok(None),
-    }
-}
 
 /// How many edits lead from one part between dots to the other. `None` if more than two, or if one is not there.
 fn between_edits(
@@ -146,7 +81,8 @@ fn nearest<'r, 't>(
     rows: &'r [Row<'t>],
     key: &Key<'_>,
 ) -> Result<Option<&'r Row<'t>>, AllocError>
-    ensures { IfOk result (λ r. MatchOption r (IsFar rows.now key.now) (λ row. IsNearest rows.now key.now row.now)) }
+    ensures { IfOk result (λ r. MatchOption r (AreFar (RowEdits key.now) rows.now)
+        (λ row. IsNearest (RowEdits key.now) rows.now row.now)) }
 {
     let mut best = None;
     let mut least = MOST_EDITS + 1;

@@ -1,6 +1,6 @@
 use Rattle.std.proofs.Common.{subst}
 use Rattle.config_checks.specs.Reading.Steps.{IsFew}
-use Rattle.config_checks.specs.Suggestions.{Edits}
+use Rattle.config_checks.specs.Nearest.{Edits}
 use Rattle.config_checks.proofs.suggestion.section_edits.Goals as goal
 
 pub returns-in_default-2 : goal.returns-in_default-2

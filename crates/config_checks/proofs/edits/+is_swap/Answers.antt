@@ -1,8 +1,8 @@
 use Rattle.std.proofs.Common.{sym, ◌∙◌}
 use Rattle.std.proofs.lemmas.Bool.{eqb-true}
-use Rattle.config_checks.proofs.SuggestionLemmas.{swap_further, swap_front}
-use Rattle.config_checks.proofs.suggestion.+is_swap.Goals.{then-b_later-b, else-b_later-b}
-use Rattle.config_checks.proofs.suggestion.+is_swap.Goals as goal
+use Rattle.config_checks.proofs.NearestLemmas.{swap_further, swap_front}
+use Rattle.config_checks.proofs.edits.+is_swap.Goals.{then-b_later-b, else-b_later-b}
+use Rattle.config_checks.proofs.edits.+is_swap.Goals as goal
 
 pub returns-then-a-b : goal.returns-then-a-b
 returns-then-a-b t c =

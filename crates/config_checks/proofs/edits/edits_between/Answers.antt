@@ -1,7 +1,7 @@
 use Rattle.std.proofs.Common.{arith}
 use Rattle.std.proofs.lemmas.Int.{clamps}
-use Rattle.config_checks.proofs.SuggestionLemmas.{lengths_near}
-use Rattle.config_checks.proofs.suggestion.edits_between.Goals as goal
+use Rattle.config_checks.proofs.NearestLemmas.{lengths_near}
+use Rattle.config_checks.proofs.edits.edits_between.Goals as goal
 
 pub returns-then-abs_diff-gt-MOST_EDITS : goal.returns-then-abs_diff-gt-MOST_EDITS
 returns-then-abs_diff-gt-MOST_EDITS c n edits =
