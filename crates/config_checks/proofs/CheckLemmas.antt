@@ -15,7 +15,6 @@ use Rattle.config_checks.specs.declared.check.CheckError.{CheckError}
 use Rattle.config_checks.specs.declared.check.CheckError.TheVariants.{Write, Memory}
 use Rattle.config_checks.specs.Report.{finding_line, value_of, unknown_line, unknown, misspelt, right, found, Report, nothing, next}
 use Rattle.config_checks.specs.Report.{HasSettings, HasFirst, Completes, Fails, counted, no_counts}
-use Rattle.config_checks.specs.Findings.{AppendsPart}
 use Rattle.config_checks.specs.Reading.Steps.{Reports, ReportsPart, ReportsAll, ReportsFirst, Tells, TellsPart}
 use Rattle.config_checks.specs.Reading.Steps.{WritesPart, IsMemory, IsWrite, AreWithin}
 use Rattle.config_checks.specs.Rows.{Decides}
