@@ -307,12 +307,12 @@ fn flush<W: Write>(writer: &mut W) -> Result<(), CheckError>
 ///
 /// ```rust
 /// use config_checks::check::check_file;
-/// use config_checks::options::Options;
+/// use config_checks::options::{Format, Options};
 /// use config_checks::table::read_rows;
 ///
 /// let mut rows = Vec::new(alloc);
 /// assert!(rt; read_rows(alloc, b"push.default word nothing current", &mut rows).is_ok());
-/// let options = Options { canonical: false, color: false };
+/// let options = Options { canonical: false, format: Format::Text, color: false };
 /// let mut out = Vec::new(alloc);
 /// let counts = match check_file(alloc, &rows, &options, "f", b"[push]\ndefault = maybe", &mut out) {
 ///     Ok(counts) => counts,
