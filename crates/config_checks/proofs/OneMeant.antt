@@ -5,7 +5,7 @@ use Rattle.config_checks.specs.declared.row.Row.{Row}
 use Rattle.config_checks.specs.declared.suggestion.UnknownKey.{UnknownKey}
 use Rattle.config_checks.specs.Keys.{dot, between_text}
 use Rattle.config_checks.specs.Report.{key_text, key_meant}
-use Rattle.config_checks.specs.Suggestions.{FillsBetween, FillsKey, IsUnknownKey, Suggests}
+use Rattle.config_checks.specs.Suggestions.{RowEdits, FillsBetween, FillsKey, IsUnknownKey, Suggests}
 use Rattle.config_checks.proofs.OneKey.{SameBetween, SameKey, key_once}
 use Rattle.config_checks.proofs.NearestLemmas.{nearest_once, no_far}
 use Rattle.config_checks.proofs.OneSuggestion.{filled_once, nearest_moved, far_moved}
