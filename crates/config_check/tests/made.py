@@ -23,7 +23,7 @@ def keys():
 def values_by_key():
     """The values that the tables have for each key; the very long ones are left out."""
     found = {}
-    tables = rows.ACCEPTED + [(key, values) for key, _, values in rows.REPORTED] + rows.SPELLINGS
+    tables = rows.ACCEPTED + [(key, values) for key, _, values in rows.REPORTED + rows.MEANT] + rows.SPELLINGS
     tables += [(b"test.word", [value for value, _ in rows.SHOWN])]
     for key, values in tables:
         short = [value for value in values if value is None or len(value) <= LONGEST_PART]

@@ -224,6 +224,13 @@ FORMS = {b"word": b"not one of: ", b"bool-or-word": b"not a boolean, nor one of:
          b"date": b"not a date: it has no digit, nor one of: ", b"sort-key": b"not a key to sort by: "}
 
 
+def meant(words, text):
+    """What is said of the word that is nearest to a text, if one is near and can be meant."""
+    can_be = [len(word) > 2 and not word.endswith(b"*") for word in words]
+    found = nearest([few_edits(word, text, 2) if is_one else None for word, is_one in zip(words, can_be)])
+    return b"" if found is None else b"; did you mean %s?" % shown(words[found])
+
+
 def of_words(kind, words, text):
     """The canonical text: a word that differs in case alone is spelled as the row has it."""
     form, any_case = kind.removesuffix(ANY_CASE), kind.endswith(ANY_CASE)
@@ -232,7 +239,7 @@ def of_words(kind, words, text):
         return word if word.lower() == text.lower() else text
     spelling = spelled_by_form(form, words, text, any_case)
     if spelling is None:
-        raise Refused(FORMS[form] + b", ".join(map(shown, words)))
+        raise Refused(FORMS[form] + b", ".join(map(shown, words)) + meant(words, text))
     return spelling
 
 
@@ -316,9 +323,18 @@ def row_for(rows, text):
 SHARED = [b"advice", b"core", b"credential", b"gui", b"user"]
 
 
+def is_swapped(one, other):
+    """Whether two texts differ by two neighbors alone, which have changed places."""
+    at = next((place for place in range(min(len(one), len(other))) if one[place] != other[place]), len(one))
+    swapped = one[:at] + one[at + 1:at + 2] + one[at:at + 1] + one[at + 2:]
+    return one != other and swapped == other
+
+
 def distance(one, other):
-    """How many bytes are put in, left out or replaced between two texts, ignoring ASCII case."""
+    """How many bytes are put in, left out or replaced between two texts, ignoring ASCII case; a swap counts as one."""
     one, other = one.lower(), other.lower()
+    if is_swapped(one, other):
+        return 1
     line = list(range(len(other) + 1))
     for row, byte in enumerate(one, 1):
         before, line[0] = line[0], row
@@ -327,21 +343,32 @@ def distance(one, other):
     return line[-1]
 
 
+def few_edits(one, other, most):
+    """How many edits lead from one text to the other, or None if they are more; more than one are many for a short text."""
+    most = min(most, 1 if min(len(one), len(other)) < 5 else 2)
+    # lengths that differ by more need no look at the bytes
+    if abs(len(one) - len(other)) > most:
+        return None
+    edits = distance(one, other)
+    return edits if edits <= most else None
+
+
 def apart(pattern, key):
     """How far a key is from the key of a row, if they differ in one part, and few bytes of it; None otherwise."""
     is_middle = pattern.middle == key.middle or pattern.middle == b"*" and key.middle is not None
     is_last = pattern.last in (b"*", key.last)
     if pattern.first != key.first:
-        pair, most, is_one = (pattern.first, key.first), 1, is_middle and is_last
-    elif is_middle:
-        pair, most, is_one = (pattern.last, key.last), 2, not is_last
-    else:
-        pair, most, is_one = (pattern.middle, key.middle), 2, is_last and None not in (pattern.middle, key.middle)
-    # lengths that differ by more need no look at the bytes
-    if not is_one or abs(len(pair[0]) - len(pair[1])) > most:
-        return None
-    edits = distance(*pair)
-    return edits if edits <= most else None
+        return few_edits(pattern.first, key.first, 1) if is_middle and is_last else None
+    if is_middle:
+        return None if is_last else few_edits(pattern.last, key.last, 2)
+    is_near = is_last and None not in (pattern.middle, key.middle)
+    return few_edits(pattern.middle, key.middle, 2) if is_near else None
+
+
+def nearest(distances):
+    """The place of the first of the least distances; None where all are None."""
+    near = [(edits, place) for place, edits in enumerate(distances) if edits is not None]
+    return min(near)[1] if near else None
 
 
 def filled(pattern, key):
@@ -357,10 +384,9 @@ def unknown(rows, text):
     key = key_of(text)
     if key is None:
         return None
-    near = [(apart(row.key, key), number) for number, row in enumerate(rows)]
-    found = min((one for one in near if one[0] is not None), default=None)
+    found = nearest([apart(row.key, key) for row in rows])
     if found is not None:
-        return b"warning: unknown key; did you mean %s?" % shown(filled(rows[found[1]].text, key))
+        return b"warning: unknown key; did you mean %s?" % shown(filled(rows[found].text, key))
     is_own = key.middle is None and key.first not in SHARED and any(row.key.first == key.first for row in rows)
     return b"warning: unknown key" if is_own else None
 
@@ -491,17 +517,46 @@ def finding(line, key, value, why, name=b"-"):
     return b"%s:%d: %s: %s: %s%s\n" % (name, line, severity, key, quoted, text)
 
 
-def findings(rows, data, canonical=False):
-    """The output for standard input, and the counts: entries, judged ones, unknown keys and findings."""
+def told(rows, data, canonical=False):
+    """The line, the key, the value and the reason of each finding, and the counts: entries, judged ones, unknown keys
+    and findings. The line that Git cannot read has no key."""
     found, stopped = entries(data)
     judged, lines = 0, []
-    told = functools.cache(lambda key: unknown(rows, key))
+    said = functools.cache(lambda key: unknown(rows, key))
     for line, key, value in found:
         row = row_for(rows, key)
         judged += row is not None
-        why = told(key) if row is None else reason(row, value, canonical)
+        why = said(key) if row is None else reason(row, value, canonical)
         if why is not None:
-            lines.append(finding(line, shown(key), None if value is None or row is None else shown(value), why))
+            lines.append((line, key, None if row is None else value, why))
     if stopped is not None:
-        lines.append(b"-:%d: error: %s\n" % stopped)
-    return b"".join(lines), (len(found), judged, len(found) - judged, len(lines))
+        lines.append((stopped[0], None, None, b"error: " + stopped[1]))
+    return lines, (len(found), judged, len(found) - judged, len(lines))
+
+
+def findings(rows, data, canonical=False):
+    """The output for standard input, and the counts."""
+    lines, counts = told(rows, data, canonical)
+    return b"".join(b"-:%d: %s\n" % (line, why) if key is None
+                    else finding(line, shown(key), None if value is None else shown(value), why)
+                    for line, key, value, why in lines), counts
+
+
+# JSON
+
+SUGGESTION = re.compile(rb"note: should be (.*)|.*; did you mean (.*)\?", re.DOTALL)
+SHOWN = re.compile(rb"\\(?:\\|x(..))")
+
+
+def suggestion(why):
+    """The text that a reason suggests, as it is and not as it is shown; None where it suggests none."""
+    match = SUGGESTION.fullmatch(why)
+    return match and SHOWN.sub(lambda one: bytes.fromhex(one[1].decode()) if one[1] else b"\\", match[1] or match[2] or b"")
+
+
+def as_json(line, key, value, why):
+    """The members of a finding in standard input."""
+    severity, _, text = why.partition(b": ")
+    members = {"key": key, "reason": text, "severity": severity, "suggestion": suggestion(why), "value": value}
+    texts = {name: None if member is None else member.decode(errors="replace") for name, member in members.items()}
+    return {"file": "-", "line": line} | texts

@@ -172,35 +172,55 @@ REPORTED = [
     (b"test.color", COLOR_FAULT, NO_COLORS),
     (b"test.text", NO_VALUE, [None]),
     (b"test.word", NO_VALUE, [None]),
-    (b"test.word", NO_WORD, [b"", b"ONE", b"two", b"on", b"onee", b"one ", b" one", b"one Two", b"one, Two",
-                             b"yes", b"1"]),
-    (b"test.alone", b"error: not one of: alone", [b"", b"Alone", b"al"]),
+    (b"test.word", NO_WORD, [b"", b"one Two", b"one, Two", b"yes", b"1", b"ow", b"oen ", b"thr---3-"]),
+    (b"test.alone", b"error: not one of: alone", [b"", b"al"]),
     (b"test.word-any-case", NO_VALUE, [None]),
-    (b"test.word-any-case", NO_WORD_ANY_CASE, [b"", b"tw", b"twoo", b"two ", b"yes", b"1", KELVIN + b"ilo"]),
-    (b"test.bool-or-word", NO_BOOL_OR_WORD,
-     [b"Always", b"NEVER", b"alway", b"alwayss", b" auto", *NO_BOOLEANS, *NO_NUMBERS, *LARGE_PRODUCTS]),
+    (b"test.word-any-case", NO_WORD_ANY_CASE, [b"", b"yes", b"1", KELVIN + b"ilo"]),
+    (b"test.bool-or-word", NO_BOOL_OR_WORD, [*NO_BOOLEANS, *NO_NUMBERS, *LARGE_PRODUCTS]),
     (b"test.bool-or-word-any-case", NO_BOOL_OR_WORD_ANY_CASE,
-     [b"alway", b"never ", KELVIN + b"ilo", *NO_BOOLEANS, *NO_NUMBERS, *LARGE_PRODUCTS]),
-    (b"both.bytes", b"error: not a boolean, nor one of: yes, 1, auto", [b"Auto", b"maybe"]),
-    (b"both.any-case", b"error: not a boolean, nor one of: Yes, 0X10, auto", [b"aut", b"maybe"]),
+     [KELVIN + b"ilo", *NO_BOOLEANS, *NO_NUMBERS, *LARGE_PRODUCTS]),
+    (b"both.bytes", b"error: not a boolean, nor one of: yes, 1, auto", [b"maybe", b"2x", b"x"]),
+    (b"both.any-case", b"error: not a boolean, nor one of: Yes, 0X10, auto", [b"maybe"]),
     (b"test.int-or-word", NO_VALUE, [None]),
-    (b"test.int-or-word", NO_INT_OR_WORD, [b"", b"Auto", b"autoo", b"yes", b"2147483648", b"0X80000000", *NO_NUMBERS]),
+    (b"test.int-or-word", NO_INT_OR_WORD, [b"", b"yes", b"2147483648", *NO_NUMBERS]),
     (b"test.words", NO_VALUE, [None]),
-    (b"test.words", NOT_WORDS, [b"One", b"one;Two", b"three", b"--three", b"one,two", b"tab", b"TAB=1", b"L", b"xl"]),
-    (b"test.words-any-case", b"error: not a list of: one, tab=*", [b"on", b"one-tab="]),
+    (b"test.words", NOT_WORDS, [b"one;Two", b"one,two", b"tab", b"tab+*", b"TAB=1", b"L", b"xl"]),
+    (b"test.words-any-case", b"error: not a list of: one, tab=*", [b"one-tab="]),
     (b"test.date", NO_VALUE, [None]),
-    (b"test.date", NO_DATE, [b"", b"j", b"nowadays", b"snow", b"xja", b" ", b"\xc3\xa9"]),
+    (b"test.date", NO_DATE, [b"", b"j", b"nowadays", b"xja", b" ", b"\xc3\xa9"]),
     (b"test.sort-key", NO_VALUE, [None]),
-    (b"test.sort-key", NO_SORT_KEY, [b"", b"-", b"nam", b"namee", b"Name", b"--name", b"*-name", b"-:name", b" name",
-                                     b"v:version:name", b"name,date", b"versionname"]),
+    (b"test.sort-key", NO_SORT_KEY, [b"", b"-", b"--name", b"*-name", b"-:name", b"v:version:name", b"name,date",
+                                     b"versionname"]),
     (b"mark.needs", NO_VALUE, [None]),
     (b"mark.needs", BOOLEAN_FAULT, [b"x"]),
     (b"mark.warn", NO_VALUE, [None]),
     (b"mark.warn", b"warning: out of range: not from -1 to 16384", [b"-2", b"17k"]),
     (b"mark.warn", b"warning: " + plain_reader.INTEGER_FAULT, [b"", b"x"]),
-    (b"mark.both", b"warning: not one of: one", [b"", b"One"]),
+    (b"mark.both", b"warning: not one of: one", [b""]),
     (b"mark.needs-warn", NO_VALUE, [None]),
-    (b"mark.needs-warn", b"warning: not a boolean, nor one of: one", [b"One"]),
+    (b"mark.needs-warn", b"warning: not a boolean, nor one of: one", [b"x"]),
+]
+
+# key, the reason, and the values that are near a word, each with that word: by two edits, or one if either is short
+MEANT = [
+    (b"test.word", NO_WORD, {b"ONE": b"one", b"two": b"Two", b"on": b"one", b"onee": b"one", b"one ": b"one", b" one": b"one",
+                             b"noe": b"one", b"tow": b"Two", b"wo": b"Two", b"three": b"three-3", b"threee3": b"three-3",
+                             b"Trhee-3": b"three-3", b"thre3": b"three-3"}),
+    (b"test.alone", b"error: not one of: alone", {b"Alone": b"alone", b"aloen": b"alone", b"lone": b"alone"}),
+    (b"test.word-any-case", NO_WORD_ANY_CASE, {b"tw": b"Two", b"twoo": b"Two", b"two ": b"Two", b"KLIO": b"kilo"}),
+    (b"test.bool-or-word", NO_BOOL_OR_WORD, {b"Always": b"always", b"NEVER": b"never", b"alway": b"always", b"alwayss": b"always",
+                                             b" auto": b"auto", b"aluays ": b"always"}),
+    (b"test.bool-or-word-any-case", NO_BOOL_OR_WORD_ANY_CASE, {b"alway": b"always", b"never ": b"Never", b"ne\nve": b"Never"}),
+    (b"both.bytes", b"error: not a boolean, nor one of: yes, 1, auto", {b"Auto": b"auto", b"yess": b"yes", b"ye": b"yes"}),
+    (b"both.any-case", b"error: not a boolean, nor one of: Yes, 0X10, auto", {b"aut": b"auto", b"0x1t0": b"0X10"}),
+    (b"test.int-or-word", NO_INT_OR_WORD, {b"Auto": b"auto", b"autoo": b"auto", b"0X80000000": b"0x80000000"}),
+    (b"test.words", NOT_WORDS, {b"One": b"one", b"three": b"-three", b"--three": b"-three"}),
+    (b"test.words-any-case", b"error: not a list of: one, tab=*", {b"on": b"one"}),
+    (b"test.date", NO_DATE, {b"snow": b"now", b"no": b"now"}),
+    (b"test.sort-key", NO_SORT_KEY, {b"nam": b"name", b"namee": b"name", b"Name": b"name", b" name": b"name", b"dtae": b"date",
+                                     b"nate": b"name"}),
+    (b"mark.both", b"warning: not one of: one", {b"One": b"one"}),
+    (b"mark.needs-warn", b"warning: not a boolean, nor one of: one", {b"One": b"one"}),
 ]
 
 # key, and accepted values with their canonical texts
@@ -312,30 +332,30 @@ KNOWN_KEYS = [
     (b"any-last.x", None), (b"any-last.sub.x", None), (b"any-both.x.y", None), (b"any-both.a.b.c", None),
     (b"literal.a*.last", None),
 ]
-# keys that no row matches, and the key that is meant: of another section by one byte, or of another part by two at
-# most; the nearest row's, and the first of several
+# keys that no row matches, and the key that is meant: of another section by one edit, or of another part by two, and of
+# a part of fewer than five bytes by one; a swap of neighbors is one; the nearest row's, and the first of several
 MISSPELT_KEYS = [
     (b"test.in", b"test.int"), (b"test.intt", b"test.int"), (b"tes.int", b"test.int"), (b"testt.int", b"test.int"),
-    (b"test.nit", b"test.int"), (b"test.tni", b"test.int"), (b"test.sort-ky", b"test.sort-key"),
+    (b"test.nit", b"test.int"), (b"tset.int", b"test.int"), (b"test.sort-ky", b"test.sort-key"),
     (b"test.bol-or-wrd", b"test.bool-or-word"), (b"test.Colour", b"test.color"),
-    (b"any-last.sub.x.y", b"any-last.sub.y"),
-    (b"middle.x.las", b"middle.x.last"), (b"middle.x.lasttt", b"middle.x.last"), (b"mddle.X y.last", b"middle.X y.last"),
+    (b"middle.x.las", b"middle.x.last"),
+    (b"middle.x.lats", b"middle.x.last"), (b"mddle.X y.last", b"middle.X y.last"),
     (b"middle.exact.other", b"middle.Exact.Other"), (b"middle.EXact.other", b"middle.Exact.Other"),
     (b"middle.Exact.othr", b"middle.Exact.Other"), (b"middle.exat.other", b"middle.Exact.Other"),
     (b"middle.two.Parts.other", b"middle.two.parts.other"), (b"empty.x.middle", b"empty..middle"),
-    (b"empty.xx.middle", b"empty..middle"), (b"any-last.SUB.x", b"any-last.sub.x"), (b"any-lst.Sub", b"any-last.sub"),
+    (b"any-last.sbu.x", b"any-last.sub.x"), (b"any-last.SUB.x", b"any-last.sub.x"), (b"any-lst.Sub", b"any-last.sub"),
     (b"any-both-.x.y", b"any-both.x.y"), (b"literal.last-o", b"literal.last*"), (b"x.star", b"*.star"),
     (b"middle.\xff\t.lst", rb"middle.\xff\x09.last"), (b"middle.a\\b.lst", rb"middle.a\\b.last"),
 ]
 # keys of sections that only the rows have
-OWN_KEYS = [b"test.wrong", b"middle.last", b"empty.middle", b"any-both.y", b"literal.last-one"]
+OWN_KEYS = [b"test.wrong", b"test.tni", b"middle.last", b"empty.middle", b"any-both.y", b"literal.last-one"]
 UNKNOWN_KEYS = [
     b"test.x.int", b"test..int", b".test.int", b"..int", b"te.int", b"middle.Exact.x", b"middle.two.other",
-    b"empty.xxx.middle", b"any-last.x.y", b"any-last..x", b"literal.abcd.last", b"xx.star", b"tset.int",
-    b"other.key",
+    b"empty.xx.middle", b"any-last.x.y", b"any-last..x", b"any-last.sub.x.y", b"literal.abcd.last", b"xx.star",
+    b"middle.x.lasttt", b"other.key",
 ]
 # the same in sections of the built-in rows, which the second reader does not have
-UNKNOWN_BUILT_IN = [b"core.exclude", b"user.nickname"]
+UNKNOWN_BUILT_IN = [b"core.exclude", b"user.nickname", b"user.home", b"branch.x.base"]
 
 # which row decides: key, value, and the reason
 FIRST_ROWS = [
@@ -349,6 +369,7 @@ FIRST_ROWS = [
 MISSPELT_BUILT_IN = [
     (b"pull.rebas", b"pull.rebase"), (b"pul.rebase", b"pull.rebase"), (b"branch.main.remte", b"branch.main.remote"),
     (b"color.brnch.local", b"color.branch.local"), (b"core.autocrfl", b"core.autocrlf"), (b"pull.everything", None),
+    (b"psuh.default", b"push.default"), (b"alais.st", b"alias.st"), (b"branch.main.rebsae", b"branch.main.rebase"),
 ]
 
 # rows of the program itself: key, value, and how the reason begins
@@ -409,6 +430,25 @@ FILES = [
     (b"[test]\nint\nint = 1\0\n", b"-:2: error: test.int: no value\n-:3: " + NUL, (1, 1, 0, 2)),
 ]
 
+# a file, and its line of JSON
+JSON_LINE = (b'[test]\nint = "\\"\\\\\\n\x1b\xff\xc3\xa9"\n',
+             b'{"file":"-","key":"test.int","line":2,"reason":"Integers needs to be positive or negative numbers which may'
+             b' have a suffix like 1k, 42, or 50G","severity":"error","suggestion":null,'
+             b'"value":"\\"\\\\\\n\\u001b\xef\xbf\xbd\xc3\xa9"}\n')
+# files, and the line, severity, key, value, reason and suggestion of their findings
+JSON = [
+    (b"", []), (b"[test]\nint = 1\n[other]x\n", []),
+    (b"[test]\nint\n", [(2, "error", "test.int", None, "no value", None)]),
+    (b"[test]\nbool = yes\nword-any-case = TWO\n", [(2, "note", "test.bool", "yes", "should be true", "true"),
+                                                   (3, "note", "test.word-any-case", "TWO", "should be Two", "Two")]),
+    (b"[test]\nin = \"\"\nwrong\n", [(2, "warning", "test.in", None, "unknown key; did you mean test.int?", "test.int"),
+                                   (3, "warning", "test.wrong", None, "unknown key", None)]),
+    (b'[middle "\\",\\"line\\":9\\\\\xff"]\nlst\n', [
+        (2, "warning", 'middle.","line":9\\\ufffd.lst', None,
+         'unknown key; did you mean middle.","line":9\\\\\\xff.last?', 'middle.","line":9\\\ufffd.last')]),
+    (b"\n[test\n", [(2, "error", None, None, BAD_LINE.decode().removeprefix("error: ").strip(), None)]),
+]
+
 # a file, and the severities at which `--fail-on` gives the status 1
 FAIL_ON = [
     (b"[test]\nint = x\nbool = yes\n", ["note", "warning", "error"]), (b"[test\n", ["note", "warning", "error"]),
@@ -419,6 +459,7 @@ FAIL_ON = [
 # arguments that are wrong
 WRONG_ARGUMENTS = [["--no-such-argument"], ["-x"], ["--settings"], ["--show-scope"], ["--show-origin"], ["--canonical=maybe"],
                    ["--canonical", "--canonical"], ["--fail-on"], ["--fail-on", "fatal"], ["--fail-on", "note", "--fail-on", "note"],
+                   ["--format"], ["--format", "xml"], ["--format", "json", "--format", "json"],
                    ["--settings", "/dev/null", "--settings", "/dev/null"]]
 
 # arguments that are no UTF-8

@@ -1,5 +1,5 @@
 -- A check, setting by setting.
-use Rattle.std.proofs.Common.{◌≡◌, ◌+◌, ◌≤◌, ◌<◌, ℕ, List, [], ◌∷◌, ◌++◌, Option, None, refl, sym, inl, inr}
+use Rattle.std.proofs.Common.{◌≡◌, ◌+◌, ◌≤◌, ◌<◌, ℕ, List, [], ◌∷◌, ◌++◌, Option, None, Some, refl, sym, inl, inr}
 use Rattle.std.proofs.Common.{ap, subst, ◌∙◌, append_assoc, append-nil, arith, Result, Ok, Err, take, drop, drop-cons, zero, suc, length}
 use Rattle.std.proofs.Common.{IfErr, OnOk, OnErr, is_ok, IsErrAnd, take-append-drop, get_or}
 use Rattle.std.specs.Io.KnownBytes.{Appends, Keeps}
@@ -13,12 +13,13 @@ use Rattle.config_checks.specs.Suggestions.{IsUnknownKey}
 use Rattle.config_checks.specs.declared.check.Counts.{Counts}
 use Rattle.config_checks.specs.declared.check.CheckError.{CheckError}
 use Rattle.config_checks.specs.declared.check.CheckError.TheVariants.{Write, Memory}
-use Rattle.config_checks.specs.Report.{unknown_line, unknown, misspelt, right, found, Report, nothing, next}
+use Rattle.config_checks.specs.Report.{finding_line, value_of, unknown_line, unknown, misspelt, right, found, Report, nothing, next}
 use Rattle.config_checks.specs.Report.{HasSettings, HasFirst, Completes, Fails, counted, no_counts}
-use Rattle.config_checks.specs.Findings.{AppendsPart}
 use Rattle.config_checks.specs.Reading.Steps.{Reports, ReportsPart, ReportsAll, ReportsFirst, Tells, TellsPart}
 use Rattle.config_checks.specs.Reading.Steps.{WritesPart, IsMemory, IsWrite, AreWithin}
-use Rattle.config_checks.specs.Reasons.{severity_of}
+use Rattle.config_checks.specs.Rows.{Decides}
+use Rattle.config_checks.specs.Reasons.{HasFinding, severity_of}
+use Rattle.config_checks.specs.declared.reason.Reason.{Reason}
 use Rattle.config_checks.specs.declared.reason.Severity.{Severity}
 use Rattle.config_checks.specs.declared.reason.Severity.TheVariants.{Error, Warning, Note}
 use Rattle.config_file.specs.File.{Entry, IsFile}
@@ -70,12 +71,6 @@ module _ (rows : List Row) (options : Options) where
     report = subst (λ l. Report rows options settings l s) (sym (append-nil lines)) report;
     lacks = refl;
   }
-
--- a part of a line was written
-pub part_written : (IsLine : List ℕ → Type 0) (x x' : Option (List ℕ)) (e : CheckError) (line : List ℕ) → IsWrite e → IsLine line
-    → AppendsPart x x' line → WritesPart x x' IsLine e
-part_written IsLine x x' (Write e) line is line_is part = (line, line_is, part)
-part_written IsLine x x' (Memory e) line is line_is part = absurd is
 
 take_next : {X : Type 0} (xs : List X) (i : ℕ) (d : X) → i < length xs → take (suc i) xs ≡ take i xs ++ get_or xs i d ∷ []
 take_next [] i d below = absurd (omega arith)
@@ -312,13 +307,7 @@ pub passed_on : {T E : Type 0} (Q : E → Type 0) (r : Result T E) (e : E) → I
 passed_on Q (Ok v) e is q = tt
 passed_on Q (Err d) e is q = subst Q (sym is) q
 
--- what `map_err` keeps of a result
-pub ok_mapped : {T D E P R : Type 0} (r : Result T E) (m : Result T D) → is_ok m ≡ is_ok r → OnOk r P
-    → (P → R) → OnOk m R
-ok_mapped (Ok v) (Ok w) same p so = so p
-ok_mapped (Err e) (Ok w) same p so = absurd (cc (same))
-ok_mapped r (Err d) same p so = tt
-
+-- what another result with the same outcome keeps at an error
 pub err_mapped : {T D E P R : Type 0} (r : Result T E) (m : Result T D) → is_ok m ≡ is_ok r → OnErr r P
     → (P → R)
     → OnErr m R
@@ -335,6 +324,44 @@ pub err_with : {T E P : Type 0} {Q R : E → Type 0} (r : Result T E) → OnErr 
     → (P → (e : E) → Q e → R e) → IfErr r R
 err_with (Ok v) p q so = tt
 err_with (Err e) p q so = so p e q
+
+-- ---- a wrong value
+
+module _ (rows : List Row) (options : Options) (setting : Setting) (s : Counts) where
+  -- its line was written
+  pub told_finding : {T E : Type 0} (s' : Counts) (row : Row) (reason : Reason) (severity : Severity) (r : Result T E)
+      (x x' : Option (List ℕ)) → Decides rows setting.key.items row
+      → HasFinding options.canonical row (value_of setting) (Some reason) → severity ≡ severity_of row.goes_on reason
+      → s' ≡ counted severity (record s { entries = s.entries + 1 })
+      → OnOk r (Appends x x' (finding_line options setting severity reason)) → OnOk r (Reports rows options setting s s' x x')
+  told_finding s' row reason severity (Ok v) x x' decides bad is counts appended = (
+    finding_line options setting severity reason,
+    found row reason decides bad (ap (λ v. finding_line options setting v reason) is)
+        (counts ∙ ap (λ v. counted v (record s { entries = s.entries + 1 })) is),
+    appended,
+  )
+  told_finding s' row reason severity (Err e) x x' decides bad is counts appended = tt
+
+  -- a part of it was written
+  part_finding : (row : Row) (reason : Reason) (severity : Severity) (e : CheckError) (x x' : Option (List ℕ))
+      → Decides rows setting.key.items row → HasFinding options.canonical row (value_of setting) (Some reason)
+      → severity ≡ severity_of row.goes_on reason
+      → WritesPart x x' (λ line. line ≡ finding_line options setting severity reason) e
+      → ReportsPart rows options setting s x x' e
+  part_finding row reason severity (Write e) x x' decides bad is (line, same, part) = (
+    line,
+    (_, found row reason decides bad (same ∙ ap (λ v. finding_line options setting v reason) is) refl),
+    part,
+  )
+  part_finding row reason severity (Memory e) x x' decides bad is same = same
+
+  pub failed_finding : {T : Type 0} (row : Row) (reason : Reason) (severity : Severity) (r : Result T CheckError)
+      (x x' : Option (List ℕ)) → Decides rows setting.key.items row
+      → HasFinding options.canonical row (value_of setting) (Some reason) → severity ≡ severity_of row.goes_on reason
+      → IfErr r (WritesPart x x' (λ line. line ≡ finding_line options setting severity reason))
+      → IfErr r (ReportsPart rows options setting s x x')
+  failed_finding row reason severity (Ok v) x x' decides bad is part = tt
+  failed_finding row reason severity (Err e) x x' decides bad is part = part_finding row reason severity e x x' decides bad is part
 
 -- ---- a misspelt key
 

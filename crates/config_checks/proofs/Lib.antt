@@ -1,4 +1,5 @@
 mod KeyLemmas
+mod NearestLemmas
 mod WordLemmas
 mod ShownLemmas
 mod SuggestionLemmas
@@ -8,4 +9,5 @@ mod TableLemmas
 mod OneFinding
 mod OneKey
 mod OneSuggestion
+mod OneMeant
 mod OneReport

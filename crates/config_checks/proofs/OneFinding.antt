@@ -26,10 +26,11 @@ use Rattle.config_checks.specs.declared.reason.Reason.TheVariants.{NoValue, Refu
 use Rattle.config_checks.specs.declared.reason.Reason.TheVariants.{OtherCase}
 use Rattle.config_checks.specs.Kinds.{IsWord, IsFirstWord}
 use Rattle.config_checks.specs.Reasons.{IsJudged, IsWithin, IsJudgedWithin, IsJudgedBoolOrInt, IsJudgedByWords}
-use Rattle.config_checks.specs.Reasons.{IsJudgedText, HasReason}
+use Rattle.config_checks.specs.Reasons.{WordEdits, IsMeant, IsJudgedText, HasReason}
 use Rattle.config_checks.specs.Reasons.{IsRespelled, IsRespelledAs, IsRespelledByForm, IsRespelledByWords}
 use Rattle.config_checks.specs.Reasons.{HasSpelling, IsFoundBehind}
 use Rattle.config_checks.specs.Reasons.{HasFinding, IsSameFinding}
+use Rattle.config_checks.proofs.NearestLemmas.{nearest_once, no_far}
 use Rattle.config_checks.proofs.WordLemmas.{no_first}
 
 -- ---- why a text is wrong
@@ -94,7 +95,7 @@ module _ (low high : Amount) (t : List ℕ) where
 
 same_finding : (a : Option Reason) → IsSameFinding a a
 same_finding (Some (NotCanonical c)) = refl
-same_finding (Some (NoWord l)) = refl
+same_finding (Some (NoWord l v)) = (refl, refl)
 same_finding a = refl
 
 as_same : (a b : Option Reason) → a ≡ b → IsSameFinding a b
@@ -102,14 +103,22 @@ as_same a b same = subst (IsSameFinding a) same (same_finding a)
 
 -- ---- words
 
+meant_once : (words : List (Bor (List ℕ))) (t : List ℕ) (v w : Option (Bor (List ℕ))) → IsMeant words t v → IsMeant words t w
+    → v ≡ w
+meant_once words t None None p q = refl
+meant_once words t None (Some w) p q = absurd (no_far (WordEdits t) words w q p)
+meant_once words t (Some v) None p q = absurd (no_far (WordEdits t) words v p q)
+meant_once words t (Some v) (Some w) p q = ap (λ x. Some x) (nearest_once (WordEdits t) words v w p q)
+
 words_once : (list : WordList) (t : List ℕ) (a b : Option Reason) → IsJudgedByWords list t a
     → IsJudgedByWords list t b → IsSameFinding a b
 words_once list t None None p q = refl
-words_once list t None (Some (NoWord m)) p q = absurd (q.1 p)
+words_once list t None (Some (NoWord m w)) p q = absurd (q.1 p)
 words_once list t None (Some _) p q = absurd q
-words_once list t (Some (NoWord l)) None p q = absurd (p.1 q)
-words_once list t (Some (NoWord l)) (Some (NoWord m)) p q = p.0 ∙ sym q.0
-words_once list t (Some (NoWord l)) (Some _) p q = absurd q
+words_once list t (Some (NoWord l v)) None p q = absurd (p.1 q)
+words_once list t (Some (NoWord l v)) (Some (NoWord m w)) p q =
+    (p.0 ∙ sym q.0, meant_once list.words.items t v w p.2 q.2)
+words_once list t (Some (NoWord l v)) (Some _) p q = absurd q
 words_once list t (Some _) b p q = absurd p
 
 -- ---- the reason
@@ -226,7 +235,7 @@ none_with : (a : Reason) → ¬ (IsSameFinding (Some a) None)
 none_with NoValue same = absurd (cc)
 none_with (Refused f) same = absurd (cc)
 none_with (OutOfRange l h) same = absurd (cc)
-none_with (NoWord l) same = absurd (cc)
+none_with (NoWord l v) same = absurd (cc)
 none_with (NotCanonical c) same = absurd (cc)
 none_with (OtherCase w) same = absurd (cc)
 

@@ -1,18 +1,19 @@
 -- A key has one text that is said of it, if it is unknown.
-use Rattle.std.proofs.Common.{◌≡◌, ◌<◌, ◌≤◌, ◌++◌, ℕ, List, Option, None, Some, Bor, refl, sym, ap, subst, ◌∙◌, inl, inr, arith}
-use Rattle.std.proofs.Common.{codes, get_or}
-use Rattle.std.proofs.lemmas.List.{get_or-take, get_or_default, length-take}
+use Rattle.std.proofs.Common.{◌≡◌, ◌++◌, ℕ, List, Option, None, Some, Bor, refl, sym, ap, subst, ◌∙◌, inl, inr}
+use Rattle.std.proofs.Common.{codes}
 use Rattle.config_text.specs.SameWord.{SameWord}
 use Rattle.config_checks.specs.declared.key.Key.{Key}
 use Rattle.config_checks.specs.declared.row.Row.{Row}
 use Rattle.config_checks.specs.declared.suggestion.UnknownKey.{UnknownKey}
 use Rattle.config_checks.specs.Findings.{shown}
-use Rattle.config_checks.specs.Suggestions.{edits, BetweenEdits, CoversLast, EditsAfter, OnePartEdits, IsFar, IsNearest}
+use Rattle.config_checks.specs.Suggestions.{SectionEdits, BetweenEdits, CoversLast, EditsAfter, OnePartEdits, RowEdits}
+use Rattle.config_checks.specs.Nearest.{FewEdits, AreFar, IsNearest}
 use Rattle.config_checks.specs.Suggestions.{Fills, FillsBetween, FillsKey, IsAbsent, IsShared, HasSection, IsOwn, IsPassed, IsUnknownKey, Suggests}
 use Rattle.config_checks.specs.Suggestions.{dotted, between_shown, key_shown, suggestion_text, unknown_text}
 use Rattle.config_checks.specs.Suggestions.EditsAfter.{in_last, in_between}
 use Rattle.config_checks.specs.Suggestions.OnePartEdits.{in_rest, in_section}
 use Rattle.config_checks.specs.Suggestions.IsPassed.{no_key, known, foreign}
+use Rattle.config_checks.proofs.NearestLemmas.{nearest_once, no_far}
 use Rattle.config_checks.proofs.OneKey.{SameBetween, SameKey, same_back, key_once, covers_between, known_once}
 
 -- ---- the same key has the same nearest row
@@ -21,12 +22,12 @@ between_moved : (row a b : Option (Bor (List ℕ))) (n : ℕ) → SameBetween a 
 between_moved None a b n same is = absurd is
 between_moved (Some row) None b n same is = absurd is
 between_moved (Some row) (Some a) None n same is = absurd same
-between_moved (Some row) (Some a) (Some b) n same is = is ∙ ap (edits row.now) same
+between_moved (Some row) (Some a) (Some b) n same is = subst (λ t. FewEdits row.now t n) same is
 
 after_moved : (row a b : Key) (n : ℕ) → SameKey a b → EditsAfter row a n → EditsAfter row b n
 after_moved row a b n same (in_last covers not is) =
     in_last (covers_between row.between a.between b.between same.between covers)
-    (λ l. not (subst (CoversLast row.last.now) (sym same.last) l)) (is ∙ ap (edits row.last.now) same.last)
+    (λ l. not (subst (CoversLast row.last.now) (sym same.last) l)) (subst (λ t. FewEdits row.last.now t n) same.last is)
 after_moved row a b n same (in_between not covers is) =
     in_between (λ c. not (covers_between row.between b.between a.between (same_back a b same).between c))
     (subst (CoversLast row.last.now) same.last covers) (between_moved row.between a.between b.between n same.between is)
@@ -37,10 +38,10 @@ moved row a b n same (in_rest s is) =
 moved row a b n same (in_section other between last is) =
     in_section (λ s. other (subst (SameWord row.section.now) (sym same.section) s))
     (covers_between row.between a.between b.between same.between between) (subst (CoversLast row.last.now) same.last last)
-    (is.0 ∙ ap (edits row.section.now) same.section, is.1)
+    (subst (λ t. SectionEdits row.section.now t n) same.section is)
 
 module _ (rows : List Row) where
-  nearest_moved : (a b : Key) (row : Row) → SameKey a b → IsNearest rows a row → IsNearest rows b row
+  pub nearest_moved : (a b : Key) (row : Row) → SameKey a b → IsNearest (RowEdits a) rows row → IsNearest (RowEdits b) rows row
   nearest_moved a b row same p =
       let back = same_back a b same in
       record {
@@ -56,39 +57,12 @@ module _ (rows : List Row) where
         least = λ k d inside m is. p.least k d inside m (moved _ b a m back is);
       }
 
-  -- the row at its place is no nearer
-  no_nearer : (key : Key) (a b : Row) (p : IsNearest rows key a) (q : IsNearest rows key b) → p.edits ≤ q.edits
-  no_nearer key a b p q =
-      p.least q.at.place b q.at.inside q.edits (subst (λ r. OnePartEdits r.key key q.edits) (sym q.at.stands) q.at.apart)
-
-  row_before : (key : Key) (a b : Row) (p : IsNearest rows key a) (q : IsNearest rows key b)
-      → ¬ (p.at.place < q.at.place)
-  row_before key a b p q before =
-      let same = no_nearer key a b p q in
-      let less = q.at.first p.at.place a (omega (arith, length-take {A = Row}, before, q.at.inside)) p.edits
-      (subst (λ r. OnePartEdits r.key key p.edits)
-      (sym (get_or-take q.at.place rows p.at.place a before ∙ p.at.stands)) p.at.apart) in
-      let back = no_nearer key b a q p in
-      absurd (omega (arith, same, less, back))
-
-  nearest_once : (key : Key) (a b : Row) → IsNearest rows key a → IsNearest rows key b → a ≡ b
-  nearest_once key a b p q =
-      let less = row_before key a b p q in let more = row_before key b a q p in
-      let same : p.at.place ≡ q.at.place = omega (arith, less, more) in
-      sym p.at.stands ∙ ap (λ n. get_or rows n a) same ∙ get_or_default rows q.at.place a b q.at.inside ∙ q.at.stands
-
-  no_far : (key : Key) (row : Row) → IsNearest rows key row → ¬ (IsFar rows key)
-  no_far key row p far =
-      let beyond = far p.at.place row p.at.inside p.edits (subst (λ r. OnePartEdits r.key key p.edits) (sym p.at.stands) p.at.apart) in
-      let few = p.few in
-      omega (arith, beyond, few)
-
-  far_moved : (a b : Key) → SameKey a b → IsFar rows a → IsFar rows b
+  pub far_moved : (a b : Key) → SameKey a b → AreFar (RowEdits a) rows → AreFar (RowEdits b) rows
   far_moved a b same far = λ k d inside m is. far k d inside m (moved _ b a m (same_back a b same) is)
 
   -- ---- the same text is said
 
-  filled_once : (row a b x y : List ℕ) → a ≡ b → Fills row a x → Fills row b y → x ≡ y
+  pub filled_once : (row a b x y : List ℕ) → a ≡ b → Fills row a x → Fills row b y → x ≡ y
   filled_once row a b x y same (inl p) (inl q) = p.1 ∙ same ∙ sym q.1
   filled_once row a b x y same (inl p) (inr q) = absurd (q.0 p.0)
   filled_once row a b x y same (inr p) (inl q) = absurd (p.0 q.0)
@@ -119,11 +93,11 @@ module _ (rows : List Row) where
       → suggestion_text x ≡ suggestion_text y
   suggestion_once a b None None same p q = refl
   suggestion_once a b None (Some y) same p q =
-      absurd (no_far b q.0 q.1 (far_moved a b same p.0))
+      absurd (no_far (RowEdits b) rows q.0 q.1 (far_moved a b same p.0))
   suggestion_once a b (Some x) None same p q =
-      absurd (no_far b p.0 (nearest_moved a b p.0 same p.1) q.0)
+      absurd (no_far (RowEdits b) rows p.0 (nearest_moved a b p.0 same p.1) q.0)
   suggestion_once a b (Some x) (Some y) same (r, near, fills) (r', near', fills') =
-      let rows_same = nearest_once b r' r near' (nearest_moved a b r same near) in
+      let rows_same = nearest_once (RowEdits b) rows r' r near' (nearest_moved a b r same near) in
       ap (λ t. codes "unknown key; did you mean " ++ (t ++ codes "?"))
       (key_shown_once r.key a b x y same fills (subst (λ row. FillsKey row.key b y) rows_same fills'))
 
@@ -143,9 +117,9 @@ module _ (rows : List Row) where
     ((λ s. not (subst IsShared (sym same.section) s)), subst (HasSection rows) same.section has),
   )
 
-  suggests_far : (key : Key) (nearest : Option Key) → Suggests rows key nearest → IsFar rows key → IsOwn rows key
+  suggests_far : (key : Key) (nearest : Option Key) → Suggests rows key nearest → AreFar (RowEdits key) rows → IsOwn rows key
   suggests_far key None suggests far = suggests.1
-  suggests_far key (Some k) (row, near, fills) far = absurd (no_far key row near far)
+  suggests_far key (Some k) (row, near, fills) far = absurd (no_far (RowEdits key) rows row near far)
 
   pub not_passed : (t : List ℕ) (x : UnknownKey) → IsUnknownKey rows t x → ¬ (IsPassed rows t)
   not_passed t x p (no_key none) = none p.key p.is_key

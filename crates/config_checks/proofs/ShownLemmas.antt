@@ -7,7 +7,7 @@ use Rattle.std.proofs.Common.{Bor, Some, get_or}
 use Rattle.std.proofs.lemmas.List.{take_rest}
 use Rattle.config_checks.specs.declared.kind.WordList.{WordList}
 use Rattle.config_checks.specs.Findings.{AppendsPart, piece_shown, shown_past, shown, listed, words_text, no_word_front}
-use Rattle.config_checks.specs.Findings.{no_word_text}
+use Rattle.config_checks.specs.Findings.{list_text}
 use Rattle.config_checks.proofs.WriteLemmas.{part_after}
 
 -- what is shown past some bytes is what follows them
@@ -52,8 +52,8 @@ words_cut [] d some = absurd (omega arith)
 words_cut (w ∷ ws) d some = ap (λ l. shown w.now ++ listed l) (sym (take_rest (w ∷ ws) 1))
 
 -- after what stands before its words
-pub no_word_part : (old mid new : List ℕ) (list : WordList) (words : List (Bor (List ℕ)))
+pub list_part : (old mid new : List ℕ) (list : WordList) (words : List (Bor (List ℕ)))
     → words ≡ list.words.items → mid ≡ old ++ no_word_front list.form
-    → AppendsPart (Some mid) (Some new) (words_text words) → AppendsPart (Some old) (Some new) (no_word_text list)
-no_word_part old mid new list words same front part =
+    → AppendsPart (Some mid) (Some new) (words_text words) → AppendsPart (Some old) (Some new) (list_text list)
+list_part old mid new list words same front part =
     part_after (Some old) (Some mid) (Some new) (no_word_front list.form) (words_text list.words.items) front (rw same at part)

@@ -3,6 +3,10 @@ use Rattle.std.proofs.Common.{◌≡◌, ◌∙◌, ◌<◌, ℕ, List, [], ◌�
 use Rattle.std.proofs.lemmas.List.{append_cancel_right, take_more}
 use Rattle.std.proofs.lemmas.List.Elements.{All-push}
 use mathlib.Core.List.{map-append}
+use Rattle.std.proofs.Common.{MatchOption, Option, None, Some, option_copied}
+use Rattle.config_checks.specs.Nearest.{AreFar, IsNearest}
+use Rattle.config_checks.specs.Reasons.{WordEdits, IsMeant}
+use Rattle.config_checks.proofs.NearestLemmas.{one_count}
 use Rattle.config_checks.specs.declared.kind.WordList.{WordList}
 use Rattle.config_checks.specs.Kinds.{IsSame, IsPattern, IsWord, begins, itself, IsNoWord, IsFirstWord}
 
@@ -35,3 +39,14 @@ no_more list t place none inside here = λ k d within.
     subst (IsNoWord list t) (sym (take_more list.words.items place d inside))
     (All-push (λ w. ¬ (IsWord list t w.now)) (take place list.words.items) (get_or list.words.items place d) none (here d))
     k d within
+
+-- ---- the word that is meant
+
+pub one_number : (t : List ℕ) (word : Bor (List ℕ)) (m n : ℕ) → WordEdits t word m → WordEdits t word n → m ≡ n
+one_number t word m n p q = one_count word.now t m n p.edits.0 q.edits.0
+
+pub meant_of : (words : List (Bor (List ℕ))) (t : List ℕ) (best : Option (Bor (Bor (List ℕ))))
+    → MatchOption best (AreFar (WordEdits t) words) (λ word. IsNearest (WordEdits t) words word.now)
+    → IsMeant words t (option_copied best)
+meant_of words t None far = far
+meant_of words t (Some word) near = near

@@ -1,7 +1,8 @@
 -- The line of a finding.
 use Rattle.std.specs.Prelude.{◌≡◌, ℕ, zero, suc, ◌-◌, ◌/◌, ◌%◌, ◌==◌, ◌&&◌, ◌||◌, nat_lt, List, [], ◌∷◌, ◌++◌}
 use Rattle.std.specs.Prelude.{take, flat_map}
-use Rattle.std.specs.Fmt.{signed_decimal}
+use Rattle.std.specs.Prelude.{option_copied}
+use Rattle.std.specs.Fmt.{decimal, signed_decimal}
 use Rattle.std.specs.Prelude.{codes, Bool, true, false, Option, None, Some, if◌then◌else◌}
 use Rattle.std.specs.Char.{digit_char}
 use Rattle.std.specs.Io.KnownBytes.{Appends}
@@ -9,6 +10,7 @@ use denote.Ref.{Bor}
 use Rattle.bstr.specs.Utf8.{decoded}
 use Rattle.config_text.specs.Faults.{fault_text}
 use Rattle.config_integer.specs.declared.amount.Amount.{Amount}
+use Rattle.config_checks.specs.declared.finding.Finding as findings
 use Rattle.config_checks.specs.declared.kind.Form.{Form}
 use Rattle.config_checks.specs.declared.kind.Form.TheVariants as forms
 use Rattle.config_checks.specs.declared.kind.WordList.{WordList}
@@ -84,14 +86,25 @@ no_word_front forms.Words = codes "not a list of: "
 no_word_front forms.Date = codes "not a date: it has no digit, nor one of: "
 no_word_front forms.SortKey = codes "not a key to sort by: "
 
-abbrev pub no_word_text : WordList → List ℕ
-no_word_text list = no_word_front list.form ++ words_text list.words.items
+abbrev pub list_text : WordList → List ℕ
+list_text list = no_word_front list.form ++ words_text list.words.items
+
+abbrev pub word_asked : List ℕ → List ℕ
+word_asked word = shown word ++ codes "?"
+
+-- the word that is meant, if one is
+abbrev pub meant_text : Option (Bor (List ℕ)) → List ℕ
+meant_text None = []
+meant_text (Some word) = codes "; did you mean " ++ word_asked word.now
+
+abbrev pub no_word_text : WordList → Option (Bor (List ℕ)) → List ℕ
+no_word_text list meant = list_text list ++ meant_text meant
 
 abbrev pub reason_text : Reason → List ℕ
 reason_text NoValue = codes "no value"
 reason_text (Refused fault) = fault_text fault
 reason_text (OutOfRange low high) = range_text low high
-reason_text (NoWord list) = no_word_text list.now
+reason_text (NoWord list meant) = no_word_text list.now meant
 reason_text (NotCanonical canonical) = codes "should be " ++ canonical.bytes
 reason_text (OtherCase word) = codes "should be " ++ shown word.now
 
@@ -114,3 +127,42 @@ value_shown (Some t) = codes "'" ++ shown t ++ codes "': "
 abbrev pub painted : Bool → List ℕ → List ℕ
 painted true t = (0x1B ∷ codes "[31m") ++ t ++ (0x1B ∷ codes "[m")
 painted false t = t
+
+-- a file, and a line of it
+abbrev pub place : List ℕ → ℕ → List ℕ
+place file line = shown file ++ codes ":" ++ decimal line ++ codes ": "
+
+-- nothing where there is no key
+abbrev pub key_part : Option (List ℕ) → List ℕ
+key_part None = []
+key_part (Some key) = shown key ++ codes ": "
+
+-- ---- the line
+
+-- what is said of a line of a file: a key alone has no value, and a line that Git cannot read no key
+pub record Finding : Type 0 where
+  pub file : List ℕ
+  pub line : ℕ
+  pub severity : Severity
+  pub key : Option (List ℕ)
+  pub value : Option (List ℕ)
+  pub reason : List ℕ
+  pub suggestion : Option (List ℕ)
+
+abbrev pub finding_of : findings.Finding → Finding
+finding_of f = record {
+  file = f.file.now;
+  line = f.line;
+  severity = f.severity;
+  key = option_copied f.key;
+  value = option_copied f.value;
+  reason = f.reason.now;
+  suggestion = option_copied f.suggestion;
+}
+
+abbrev pub setting_shown : Finding → List ℕ
+setting_shown f = key_part f.key ++ value_shown f.value
+
+abbrev pub text_line : (color : Bool) → Finding → List ℕ
+text_line color f =
+    place f.file f.line ++ painted color (severity_text f.severity) ++ setting_shown f ++ f.reason ++ line_feed ∷ []

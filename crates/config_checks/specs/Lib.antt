@@ -1,8 +1,10 @@
 pub mod Keys
 pub mod Kinds
+pub mod Nearest
 pub mod Reasons
 pub mod Rows
 pub mod Findings
+pub mod Json
 pub mod Report
 pub mod Suggestions
 pub mod Reading

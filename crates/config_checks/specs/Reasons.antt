@@ -1,6 +1,6 @@
 -- What is wrong with a setting: by its row, over no value or a text, by the grammars of the values.
 use Rattle.std.specs.Prelude.{◌≡◌, ◌≢◌, ◌⊎◌, ℕ, pos, negsuc, ◌≤ℤ◌, List, Bool, true, false}
-use Rattle.std.specs.Prelude.{Option, None, Some, if◌then◌else◌}
+use Rattle.std.specs.Prelude.{Option, None, Some, if◌then◌else◌, ◌<◌, length}
 use denote.Ref.{Bor}
 use Rattle.config_text.specs.declared.errors.Fault.{Fault}
 use Rattle.config_text.specs.declared.errors.Fault.TheVariants as faults
@@ -23,7 +23,8 @@ use Rattle.config_checks.specs.declared.reason.Reason.TheVariants.{NoValue, Refu
 use Rattle.config_checks.specs.declared.reason.Reason.TheVariants.{NotCanonical, OtherCase}
 use Rattle.config_checks.specs.declared.reason.Severity.{Severity}
 use Rattle.config_checks.specs.declared.reason.Severity.TheVariants.{Error, Warning, Note}
-use Rattle.config_checks.specs.Kinds.{HasWord, IsNoWord, IsFirstWord, AreWords, HasDate, IsSortKey}
+use Rattle.config_checks.specs.Kinds.{IsPattern, HasWord, IsNoWord, IsFirstWord, AreWords, HasDate, IsSortKey}
+use Rattle.config_checks.specs.Nearest.{FewEdits, AreFar, IsNearest}
 
 -- ---- texts
 
@@ -83,9 +84,21 @@ IsTakenByForm list t forms.SortKey = IsSortKey list t
 abbrev pub IsTaken : WordList → List ℕ → Type 0
 IsTaken list t = HasWord list t ⊎ IsTakenByForm list t list.form
 
+-- so many edits, which are few, lead from a text to the word of a list; a word of one or two bytes is never meant, nor
+-- is one that stands for others
+pub record WordEdits (t : List ℕ) (word : Bor (List ℕ)) (n : ℕ) : Type 0 where
+  pub long : 2 < length word.now
+  pub no_pattern : (front : List ℕ) → ¬ (IsPattern word.now front)
+  pub edits : FewEdits word.now t n
+
+-- the word that is meant by a text: the nearest one, if one is near
+abbrev pub IsMeant : List (Bor (List ℕ)) → List ℕ → Option (Bor (List ℕ)) → Type 0
+IsMeant words t None = AreFar (WordEdits t) words
+IsMeant words t (Some word) = IsNearest (WordEdits t) words word
+
 abbrev pub IsJudgedByWords : WordList → List ℕ → Option Reason → Type 0
 IsJudgedByWords list t None = IsTaken list t
-IsJudgedByWords list t (Some (NoWord l)) = (l.now ≡ list) × ¬ (IsTaken list t)
+IsJudgedByWords list t (Some (NoWord l meant)) = (l.now ≡ list) × ¬ (IsTaken list t) × IsMeant list.words.items t meant
 IsJudgedByWords list t (Some _) = ⊥
 
 -- ---- the reason that a setting has by its row, if it has one
@@ -166,5 +179,5 @@ pub record HasFinding (wants_canonical : Bool) (row : Row) (value : Option (List
 -- the same finding: two that give canonical texts give the same bytes, and two that borrow a list the same list
 abbrev pub IsSameFinding : Option Reason → Option Reason → Type 0
 IsSameFinding (Some (NotCanonical c)) (Some (NotCanonical d)) = c.bytes ≡ d.bytes
-IsSameFinding (Some (NoWord l)) (Some (NoWord m)) = l.now ≡ m.now
+IsSameFinding (Some (NoWord l v)) (Some (NoWord m w)) = (l.now ≡ m.now) × (v ≡ w)
 IsSameFinding a b = a ≡ b

@@ -1,9 +1,6 @@
 -- Keys that no row covers, and what is said of them: the nearest key of the rows.
-use Rattle.std.specs.Prelude.{◌≡◌, ◌≢◌, ◌⊎◌, ⊤, ℕ, ◌<◌, ◌≤◌, nat_eq, List, [], ◌∷◌, ◌++◌, codes, length, map, take}
-use Rattle.std.specs.Prelude.{Option, None, Some, slice_index_or, All}
-use Rattle.std.specs.Char.{to_ascii_lowercase}
+use Rattle.std.specs.Prelude.{◌≡◌, ◌≢◌, ◌⊎◌, ⊤, ℕ, ◌≤◌, List, [], ◌∷◌, ◌++◌, codes, Option, None, Some}
 use Rattle.std.specs.List.{Any}
-use Rattle.strsim.specs.Edits.{levenshtein_row}
 use denote.Ref.{Bor}
 use Rattle.config_text.specs.SameWord.{SameWord}
 use Rattle.config_checks.specs.declared.key.Key.{Key}
@@ -11,13 +8,10 @@ use Rattle.config_checks.specs.declared.row.Row.{Row}
 use Rattle.config_checks.specs.declared.suggestion.UnknownKey.{UnknownKey}
 use Rattle.config_checks.specs.Findings.{shown}
 use Rattle.config_checks.specs.Keys.{dot, IsKey, CoversBetween}
+use Rattle.config_checks.specs.Nearest.{Edits, FewEdits, AreFar, IsNearest}
 use Rattle.config_checks.specs.Rows.{Decides, IsUnknown}
 
 -- ---- how far two keys are apart
-
--- the edits of one byte that lead from one text to the other, ignoring ASCII case: Levenshtein's distance
-abbrev pub edits : List ℕ → List ℕ → ℕ
-edits a b = levenshtein_row nat_eq (map to_ascii_lowercase a) (map to_ascii_lowercase b) (length (map to_ascii_lowercase b))
 
 -- the last part of a row's key covers that of a key
 abbrev pub CoversLast : List ℕ → List ℕ → Type 0
@@ -25,19 +19,19 @@ CoversLast row last = (row ≡ codes "*") ⊎ SameWord row last
 
 -- so many edits lead from the one part between dots to the other
 abbrev pub BetweenEdits : Option (Bor (List ℕ)) → Option (Bor (List ℕ)) → ℕ → Type 0
-BetweenEdits (Some row) (Some between) n = n ≡ edits row.now between.now
+BetweenEdits (Some row) (Some between) n = FewEdits row.now between.now n
 BetweenEdits _ _ n = ⊥
 
 -- the key of a row and a key differ in one part after their section, by so many edits
 pub data EditsAfter (row key : Key) (n : ℕ) : Type 0 where
   in_last : CoversBetween row.between key.between → ¬ (CoversLast row.last.now key.last.now)
-      → n ≡ edits row.last.now key.last.now → EditsAfter row key n
+      → FewEdits row.last.now key.last.now n → EditsAfter row key n
   in_between : ¬ (CoversBetween row.between key.between) → CoversLast row.last.now key.last.now
       → BetweenEdits row.between key.between n → EditsAfter row key n
 
 -- so many edits, one at most, lead from the one section to the other
 abbrev pub SectionEdits : List ℕ → List ℕ → ℕ → Type 0
-SectionEdits row t n = (n ≡ edits row t) × (n ≤ 1)
+SectionEdits row t n = Edits row t n × (n ≤ 1)
 
 -- the key of a row and a key differ in one part, by so many edits
 pub data OnePartEdits (row key : Key) (n : ℕ) : Type 0 where
@@ -47,28 +41,9 @@ pub data OnePartEdits (row key : Key) (n : ℕ) : Type 0 where
 
 -- ---- the nearest row
 
--- each of these rows is more edits away
-abbrev pub AreBeyond : ℕ → List Row → Key → Type 0
-AreBeyond n rows key = All (λ row. (m : ℕ) → OnePartEdits row.key key m → n < m) rows
-
--- no row is within two edits
-abbrev pub IsFar : List Row → Key → Type 0
-IsFar = AreBeyond 2
-
--- the first of the rows that is so many edits away
-pub record IsFirstAt (rows : List Row) (key : Key) (n : ℕ) (row : Row) : Type 0 where
-  pub place : ℕ
-  pub inside : place < length rows
-  pub stands : slice_index_or rows place row ≡ row
-  pub apart : OnePartEdits row.key key n
-  pub first : AreBeyond n (take place rows) key
-
--- the first row that is within two edits, and than which no other is nearer
-pub record IsNearest (rows : List Row) (key : Key) (row : Row) : Type 0 where
-  pub edits : ℕ
-  pub few : edits ≤ 2
-  pub at : IsFirstAt rows key edits row
-  pub least : All (λ other. (m : ℕ) → OnePartEdits other.key key m → edits ≤ m) rows
+-- the key of a row and a key differ in one part, by so many edits
+abbrev pub RowEdits : Key → Row → ℕ → Type 0
+RowEdits key row n = OnePartEdits row.key key n
 
 -- ---- the key that is suggested
 
@@ -108,8 +83,8 @@ IsOwn rows key = IsAbsent key.between × (¬ (IsShared key.section.now) × HasSe
 -- what is suggested for a key that no row covers: the nearest key of the rows, or nothing where all of them are far and
 -- only rows have settings in its section
 abbrev pub Suggests : List Row → Key → Option Key → Type 0
-Suggests rows key None = IsFar rows key × IsOwn rows key
-Suggests rows key (Some nearest) = (row : Row) × IsNearest rows key row × FillsKey row.key key nearest
+Suggests rows key None = AreFar (RowEdits key) rows × IsOwn rows key
+Suggests rows key (Some nearest) = (row : Row) × IsNearest (RowEdits key) rows row × FillsKey row.key key nearest
 
 -- the text is a key that no row covers
 pub record IsUnknownKey (rows : List Row) (t : List ℕ) (k : UnknownKey) : Type 0 where
@@ -122,7 +97,7 @@ pub record IsUnknownKey (rows : List Row) (t : List ℕ) (k : UnknownKey) : Type
 pub data IsPassed (rows : List Row) (t : List ℕ) : Type 0 where
   no_key : ((key : Key) → ¬ (IsKey t key)) → IsPassed rows t
   known : (row : Row) → Decides rows t row → IsPassed rows t
-  foreign : (key : Key) → IsKey t key → IsFar rows key → ¬ (IsOwn rows key) → IsPassed rows t
+  foreign : (key : Key) → IsKey t key → AreFar (RowEdits key) rows → ¬ (IsOwn rows key) → IsPassed rows t
 
 -- ---- what is said of them
 

@@ -1,7 +1,7 @@
 //! The check of the settings of a file.
 ghost use Rattle.std.specs.Prelude.{◌≡◌, ◌==◌, if◌then◌else◌, OnOk, OnErr, IfOk, IfErr, Some};
 ghost use Rattle.std.specs.Io.KnownBytes.{Appends, Keeps};
-ghost use Rattle.config_checks.specs.Report.{counted, counts_shown, unknown_line, Completes, Fails};
+ghost use Rattle.config_checks.specs.Report.{counted, counts_shown, finding_line, unknown_line, Completes, Fails};
 ghost use Rattle.config_checks.specs.Report.{HasSettings};
 ghost use Rattle.config_checks.specs.declared.reason.Severity.TheVariants.{Warning};
 ghost use Rattle.config_checks.specs.Findings.{AppendsPart};
@@ -9,9 +9,9 @@ ghost use Rattle.config_checks.specs.Rows.{IsUnknown};
 ghost use Rattle.config_checks.specs.Reading.Steps.{HasRoom, HasRoomForFinding, Reports, ReportsPart, Tells};
 ghost use Rattle.config_checks.specs.Reading.Steps.{TellsPart, ReportsAll, ReportsFirst, WritesPart, IsMemory, IsWrite};
 
-use crate::finding::{Finding, push_misspelt, push_refusal, value_of};
+use crate::finding::{push_finding, push_misspelt, push_refusal, value_of};
 use crate::options::Options;
-use crate::reason::{Severity, find};
+use crate::reason::{Reason, Severity, find};
 use crate::row::{Row, row_for};
 use crate::suggestion::{UnknownKey, unknown_key};
 use config_file::errors::Error;
@@ -140,6 +140,30 @@ impl Progress {
         write_out(writer, &self.line).map_err(CheckError::Write)
     }
 
+    /// Counts a finding, and writes the line of a setting that is wrong.
+    fn write_finding<W: Write>(
+        &mut self,
+        options: &Options,
+        setting: &Setting<'_>,
+        severity: Severity,
+        reason: &Reason<'_, '_>,
+        writer: &mut W,
+    ) -> Result<(), CheckError>
+        requires { HasRoomForFinding self.old.counts }
+        ensures counts { self.new.counts ≡ counted severity self.old.counts }
+        ensures ok { OnOk result (Appends (W.contents writer.old) (W.contents writer.new)
+            (finding_line options.now setting.now severity reason.now)) }
+        ensures err { IfErr result (WritesPart (W.contents writer.old) (W.contents writer.new)
+            (λ line. line ≡ finding_line options.now setting.now severity reason.now)) }
+    {
+        self.counts = self.counts.with(severity);
+        self.line.clear();
+        push_finding(&mut self.line, options, setting, severity, reason).map_err(
+            CheckError::Memory,
+        )?;
+        write_out(writer, &self.line).map_err(CheckError::Write)
+    }
+
     /// Counts a setting that no row covers, and writes its line if its key is misspelt.
     fn report_unknown<W: Write>(
         &mut self,
@@ -184,21 +208,14 @@ impl Progress {
             return self.report_unknown(alloc, rows, options, setting, writer);
         };
         self.counts.entries += 1;
-        let Some(reason) = find(row, value_of(setting), options.canonical) else {
-            return Ok(());
-        };
-        let severity = reason.severity(row.goes_on);
-        self.counts = self.counts.with(severity);
-        let finding = Finding {
-            setting,
-            severity,
-            reason,
-        };
-        self.line.clear();
-        finding
-            .push_to(&mut self.line, options)
-            .map_err(CheckError::Memory)?;
-        write_out(writer, &self.line).map_err(CheckError::Write)
+        match find(alloc, row, value_of(setting), options.canonical) {
+            Ok(Some(reason)) => {
+                let severity = reason.severity(row.goes_on);
+                self.write_finding(options, setting, severity, &reason, writer)
+            }
+            Ok(None) => Ok(()),
+            Err(error) => Err(CheckError::Memory(error)),
+        }
     }
 }
 
@@ -290,12 +307,12 @@ fn flush<W: Write>(writer: &mut W) -> Result<(), CheckError>
 ///
 /// ```rust
 /// use config_checks::check::check_file;
-/// use config_checks::options::Options;
+/// use config_checks::options::{Format, Options};
 /// use config_checks::table::read_rows;
 ///
 /// let mut rows = Vec::new(alloc);
 /// assert!(rt; read_rows(alloc, b"push.default word nothing current", &mut rows).is_ok());
-/// let options = Options { canonical: false, color: false };
+/// let options = Options { canonical: false, format: Format::Text, color: false };
 /// let mut out = Vec::new(alloc);
 /// let counts = match check_file(alloc, &rows, &options, "f", b"[push]\ndefault = maybe", &mut out) {
 ///     Ok(counts) => counts,

@@ -129,7 +129,7 @@ fn first_bytes(text: &[u8], count: usize) -> &[u8]
 }
 
 /// What a word of a list has before the `*` at its end, or `None` if it does not end in one.
-fn pattern_front(word: &[u8]) -> Option<&[u8]>
+pub(crate) fn pattern_front(word: &[u8]) -> Option<&[u8]>
     ensures { MatchOption result ((front : List ℕ) → ¬ (IsPattern word.now front)) (λ front. IsPattern word.now front.now) }
 {
     word.strip_suffix(b"*")

@@ -1,22 +1,28 @@
 //! Why a setting is wrong.
-ghost use Rattle.std.specs.Prelude.{◌≡◌, ◌↔◌, IsTrue, option_copied, None, Some};
+ghost use Rattle.std.specs.Prelude.{◌≡◌, ◌↔◌, IsTrue, IfOk, option_copied, None, Some};
 ghost use Rattle.config_text.specs.declared.errors.Fault.TheVariants as faults;
 ghost use Rattle.gix_config_value.specs.Kinds.{KindGrammar, KindCanonical};
 ghost use Rattle.config_text.specs.Value.{IsAccepted};
 ghost use Rattle.gix_config_value.specs.Boolean.{BooleanText};
 ghost use Rattle.config_checks.specs.Reasons.{IsWithin, IsJudged, IsJudgedWithin, IsJudgedBoolOrInt, IsInt};
-ghost use Rattle.config_checks.specs.Reasons.{IsJudgedByWords, IsTakenByForm, IsTaken, IsJudgedText};
-ghost use Rattle.config_checks.specs.Reasons.{HasReason, HasSpelling, HasFinding, severity_of};
+ghost use Rattle.config_checks.specs.Reasons.{WordEdits, IsMeant, IsJudgedByWords, IsTakenByForm, IsTaken, IsJudgedText};
+ghost use Rattle.config_checks.specs.Reasons.{HasReason, HasSpelling, IsFoundBehind, HasFinding, severity_of};
 ghost use Rattle.config_checks.specs.Reasons.{IsRespelled, IsRespelledBoolOrInt, IsRespelledAs};
 ghost use Rattle.config_checks.specs.Reasons.{IsRespelledByForm, IsRespelledByWords};
+ghost use Rattle.config_checks.specs.Reading.Steps.{IsFew};
 
+use crate::edits::{MOST_EDITS, few_edits};
 use crate::key::is_same_word;
-use crate::kind::{Form, SettingKind, WordList};
+use crate::kind::{Form, SettingKind, WordList, pattern_front};
 use crate::row::Row;
 use bstr::BStr;
 use gix_config_value::canonical::{CanonicalText, Kind, TryRead, Value, normalize};
 use gix_config_value::integer::Amount;
 use gix_config_value::{Boolean, Color, Fault};
+use std::alloc::{AllocError, Global};
+
+/// The most bytes of a word that is never meant: one edit makes another word of it.
+const SHORT: usize = 2;
 
 /// Why a setting is wrong, or how it should be spelled.
 #[derive(Clone, Copy)]
@@ -26,9 +32,15 @@ pub enum Reason<'r, 't> {
     /// The reader of its kind refuses its text.
     Refused(Fault),
     /// It is a number, but not from `low` to `high`.
-    OutOfRange { low: Amount, high: Amount },
-    /// It does not have the words of this list as the list asks for.
-    NoWord(&'r WordList<'t>),
+    OutOfRange {
+        low: Amount,
+        high: Amount,
+    },
+    /// It does not have the words of this list as the list asks for. `meant` is the nearest word, if one is near.
+    NoWord {
+        list: &'r WordList<'t>,
+        meant: Option<&'t [u8]>,
+    },
     /// It is valid, and this is its canonical text.
     NotCanonical(CanonicalText),
     /// It is valid, and its list spells the word like this.
@@ -142,38 +154,84 @@ fn is_taken_by_form(list: &WordList<'_>, text: &[u8]) -> bool
     }
 }
 
+/// How many edits lead from a word of a list to a text. `None` if they are not few, or if the word is never meant: it
+/// is short, or ends in `*`.
+fn word_edits(alloc: Global, word: &[u8], text: &[u8]) -> Result<Option<usize>, AllocError>
+    ensures { IfOk result (λ r. IsFew (WordEdits text.now word.entry) r) }
+{
+    match pattern_front(word) {
+        None if word.len() > SHORT => few_edits(alloc, word, text),
+        _ => Ok(None),
+    }
+}
+
+/// The first of the words that the fewest edits lead from, if they are few.
+fn nearest_word<'t>(
+    alloc: Global,
+    words: &[&'t [u8]],
+    text: &[u8],
+) -> Result<Option<&'t [u8]>, AllocError>
+    ensures { IfOk result (IsMeant words.now text.now) }
+{
+    let mut best = None;
+    let mut least = MOST_EDITS + 1;
+    for word in words {
+        if let Some(edits) = word_edits(alloc, word, text)? {
+            if edits < least {
+                least = edits;
+                best = Some(word);
+            }
+        }
+    }
+    Ok(best.copied())
+}
+
 /// Why a text is wrong that has to have the words of a list.
-fn word_reason<'r, 't>(list: &'r WordList<'t>, text: &[u8]) -> Option<Reason<'r, 't>>
-    ensures { IsJudgedByWords list.now text.now result }
+fn word_reason<'r, 't>(
+    alloc: Global,
+    list: &'r WordList<'t>,
+    text: &[u8],
+) -> Result<Option<Reason<'r, 't>>, AllocError>
+    ensures { IfOk result (IsJudgedByWords list.now text.now) }
 {
     if list.has(text) || is_taken_by_form(list, text) {
-        return None;
+        return Ok(None);
     }
-    Some(Reason::NoWord(list))
+    let meant = nearest_word(alloc, &list.words, text)?;
+    Ok(Some(Reason::NoWord { list, meant }))
 }
 
 /// Why a text is wrong as the value of a setting of a kind.
-fn text_reason<'r, 't>(kind: &'r SettingKind<'t>, text: &[u8]) -> Option<Reason<'r, 't>>
-    ensures { IsJudgedText kind.now text.now result }
+fn text_reason<'r, 't>(
+    alloc: Global,
+    kind: &'r SettingKind<'t>,
+    text: &[u8],
+) -> Result<Option<Reason<'r, 't>>, AllocError>
+    ensures { IfOk result (IsJudgedText kind.now text.now) }
 {
     match kind {
-        SettingKind::Text => None,
-        SettingKind::Bool => refusal_by::<Boolean>(text),
-        SettingKind::Int { low, high } => number_reason(text, *low, *high),
-        SettingKind::BoolOrInt => boolean_or_number_reason(text),
-        SettingKind::Color => refusal_by::<Color>(text),
-        SettingKind::Word(list) => return word_reason(list, text),
+        SettingKind::Text => Ok(None),
+        SettingKind::Bool => Ok(refusal_by::<Boolean>(text)),
+        SettingKind::Int { low, high } => Ok(number_reason(text, *low, *high)),
+        SettingKind::BoolOrInt => Ok(boolean_or_number_reason(text)),
+        SettingKind::Color => Ok(refusal_by::<Color>(text)),
+        SettingKind::Word(list) => word_reason(alloc, list, text),
     }
 }
 
-/// Why the value of a setting is wrong by its row, or `None` if it is valid. `value` is `None` for a key alone.
-pub fn judge<'r, 't>(row: &'r Row<'t>, value: Option<&[u8]>) -> Option<Reason<'r, 't>>
-    ensures { HasReason row.now (option_copied value.entry) result }
+/// Why the value of a setting is wrong by its row, or `None` if it is valid. `value` is `None` for a key alone. An error
+/// if there was no memory to find the word that is meant.
+pub fn judge<'r, 't>(
+    alloc: Global,
+    row: &'r Row<'t>,
+    value: Option<&[u8]>,
+) -> Result<Option<Reason<'r, 't>>, AllocError>
+    ensures { IfOk result (HasReason row.now (option_copied value.entry)) }
 {
     match value {
-        Some(text) => text_reason(&row.kind, text),
-        None if row.takes_no_value => None,
-        None => Some(Reason::NoValue),
+        Some(text) => text_reason(alloc, &row.kind, text),
+        None if row.takes_no_value => Ok(None),
+        None => Ok(Some(Reason::NoValue)),
     }
 }
 
@@ -248,18 +306,34 @@ fn respelled<'r, 't>(kind: &SettingKind<'t>, text: &[u8]) -> Option<Reason<'r, '
     }
 }
 
-/// Why the value of a setting is wrong by its row or, if it is valid and canonical texts are wanted, how it should be
-/// spelled. `None` if nothing is wrong.
-pub fn find<'r, 't>(
+/// How a valid value should be spelled, if canonical texts are wanted. `None` if it has no other spelling.
+fn spelled<'r, 't>(
     row: &'r Row<'t>,
     value: Option<&[u8]>,
     wants_canonical: bool,
 ) -> Option<Reason<'r, 't>>
-    ensures { HasFinding wants_canonical row.now (option_copied value.entry) result }
+    requires { HasReason row.now (option_copied value) None }
+    ensures { IsFoundBehind wants_canonical row.now.kind (option_copied value.entry) None result }
 {
-    let reason = judge(row, value);
-    if reason.is_some() || !wants_canonical {
-        return reason;
+    if !wants_canonical {
+        return None;
     }
     respelled(&row.kind, value?)
+}
+
+/// Why the value of a setting is wrong by its row or, if it is valid and canonical texts are wanted, how it should be
+/// spelled. `None` if nothing is wrong. An error if there was no memory to find the word that is meant.
+pub fn find<'r, 't>(
+    alloc: Global,
+    row: &'r Row<'t>,
+    value: Option<&[u8]>,
+    wants_canonical: bool,
+) -> Result<Option<Reason<'r, 't>>, AllocError>
+    ensures { IfOk result (HasFinding wants_canonical row.now (option_copied value.entry)) }
+{
+    match judge(alloc, row, value) {
+        Ok(None) => Ok(spelled(row, value, wants_canonical)),
+        Ok(Some(reason)) => Ok(Some(reason)),
+        Err(error) => Err(error),
+    }
 }

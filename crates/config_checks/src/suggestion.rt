@@ -1,39 +1,19 @@
 //! Keys that no row covers, and the nearest keys of the rows.
-ghost use Rattle.std.specs.Prelude.{◌≡◌, ◌<◌, ◌≤◌, ◌++◌, ◌↔◌, IsTrue, MatchOption, IfOk, OnOk, OnErr, Some};
+ghost use Rattle.std.specs.Prelude.{◌≡◌, ◌++◌, ◌↔◌, IsTrue, MatchOption, IfOk, OnOk, OnErr, Some};
 ghost use Rattle.config_checks.specs.Findings.{AppendsPart};
-ghost use Rattle.config_checks.specs.Suggestions.{edits, BetweenEdits, CoversLast, EditsAfter, SectionEdits};
-ghost use Rattle.config_checks.specs.Suggestions.{OnePartEdits, IsFar, IsNearest, Fills, FillsBetween};
+ghost use Rattle.config_checks.specs.Nearest.{AreFar, IsNearest};
+ghost use Rattle.config_checks.specs.Suggestions.{BetweenEdits, CoversLast, EditsAfter, SectionEdits};
+ghost use Rattle.config_checks.specs.Suggestions.{OnePartEdits, RowEdits, Fills, FillsBetween};
 ghost use Rattle.config_checks.specs.Suggestions.{FillsKey, IsShared, IsOwn};
 ghost use Rattle.config_checks.specs.Reading.Steps.{IsFew};
 ghost use Rattle.config_checks.specs.Suggestions.{HasSection, IsPassed, IsUnknownKey, dotted, between_shown};
 ghost use Rattle.config_checks.specs.Suggestions.{after_shown, key_shown, asked, unknown_text};
 
+use crate::edits::{MOST_EDITS, edits_between, few_edits};
 use crate::finding::push_shown;
 use crate::key::{ANY, Key, covers_between, is_same_word};
 use crate::row::{Row, row_for};
 use std::alloc::{AllocError, Global};
-use strsim::generic_levenshtein;
-
-/// The most edits that lead to a key which is still suggested.
-const MOST_EDITS: usize = 2;
-
-/// How many edits of one byte lead from one text to the other, ignoring ASCII case. `None` if more than two.
-// Texts whose lengths differ by more are never compared: that is most of them.
-fn few_edits(alloc: Global, from: &[u8], to: &[u8]) -> Result<Option<usize>, AllocError>
-    ensures { IfOk result (λ r. MatchOption r (2 < edits from.now to.now)
-        (λ n. (n ≡ edits from.now to.now) × (n ≤ 2))) }
-{
-    if from.len().abs_diff(to.len()) > MOST_EDITS {
-        return Ok(None);
-    }
-    let from = from.to_ascii_lowercase(alloc)?;
-    let to = to.to_ascii_lowercase(alloc)?;
-    let edits = generic_levenshtein(alloc, from.as_slice(), to.as_slice())?;
-    if edits > MOST_EDITS {
-        return Ok(None);
-    }
-    Ok(Some(edits))
-}
 
 /// How many edits lead from one part between dots to the other. `None` if more than two, or if one is not there.
 fn between_edits(
@@ -75,7 +55,7 @@ fn edits_after(alloc: Global, row: &Key<'_>, key: &Key<'_>) -> Result<Option<usi
 fn section_edits(alloc: Global, row: &[u8], section: &[u8]) -> Result<Option<usize>, AllocError>
     ensures { IfOk result (λ r. IsFew (SectionEdits row.now section.now) r) }
 {
-    match few_edits(alloc, row, section)? {
+    match edits_between(alloc, row, section)? {
         Some(edits) if edits <= 1 => Ok(Some(edits)),
         _ => Ok(None),
     }
@@ -101,7 +81,8 @@ fn nearest<'r, 't>(
     rows: &'r [Row<'t>],
     key: &Key<'_>,
 ) -> Result<Option<&'r Row<'t>>, AllocError>
-    ensures { IfOk result (λ r. MatchOption r (IsFar rows.now key.now) (λ row. IsNearest rows.now key.now row.now)) }
+    ensures { IfOk result (λ r. MatchOption r (AreFar (RowEdits key.now) rows.now)
+        (λ row. IsNearest (RowEdits key.now) rows.now row.now)) }
 {
     let mut best = None;
     let mut least = MOST_EDITS + 1;

@@ -1,11 +1,9 @@
-use Rattle.std.proofs.Common.{◌≡◌, ◌++◌, refl, rules}
-use Rattle.config_checks.specs.Findings.{no_word_front}
+use Rattle.std.proofs.Common.{Some, refl}
+use Rattle.config_checks.specs.Findings.{list_text, meant_text}
 use Rattle.config_checks.proofs.CheckLemmas.{err_mapped}
-use Rattle.config_checks.proofs.ShownLemmas.{no_word_part}
+use Rattle.config_checks.proofs.WriteLemmas.{part_after}
 use Rattle.config_checks.proofs.finding.push_no_word.Goals as goal
 
 pub returns-clause-err : goal.returns-clause-err
-returns-clause-err c =
-    let front : c.extend_from_slice.new.self.items ≡ c.args.out.now.items ++ no_word_front c.args.list.now.form = search rules in
-    err_mapped c.push_words.result c.push_words.result refl c.push_words.ensures.err
-    (no_word_part _ _ _ c.args.list.now _ c.deref.ensures.value front)
+returns-clause-err c = err_mapped c.push_meant.result c.push_meant.result refl c.push_meant.ensures.err
+    (part_after (Some _) (Some _) (Some _) (list_text c.args.list.now) (meant_text c.args.meant) c.in_ok-push_list.ensures.ok)

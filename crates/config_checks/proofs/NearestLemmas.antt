@@ -1,0 +1,209 @@
+-- The edits between texts, and the nearest of several things.
+use Rattle.std.proofs.Common.{◌≡◌, ◌+◌, ◌<◌, ◌≤◌, ℕ, zero, suc, List, [], ◌∷◌, length, map, take, nat_eq, get_or}
+use Rattle.std.proofs.Common.{MatchOption, Option, None, Some, Bor, refl, sym, ap, ◌∙◌, subst, arith, ◌≢◌, ◌↔◌, IsTrue, Bool}
+use Rattle.std.proofs.lemmas.Int.{clamps}
+use Rattle.std.specs.Char.{to_ascii_lowercase}
+use Rattle.strsim.specs.Edits.{next_row, rows, cost_at}
+use Rattle.std.proofs.Common.{true, false}
+use Rattle.std.proofs.lemmas.Bool.{false≢true}
+use Rattle.std.proofs.lemmas.List.{length-map, take_all, get_or-take, get_or_default, length-take}
+use Rattle.std.proofs.lemmas.List.Elements.{All-more}
+use Rattle.std.specs.List.{All}
+use Rattle.std.specs.Prelude.{slice_index_or, MatchBool}
+use Rattle.std.specs.Cmp.Lexicographic.{pointwise, told_text}
+use Rattle.config_checks.specs.Nearest.{Edits, IsSwap, lower, edits, IsFirstAt, AreFar, IsNearest}
+use Rattle.config_checks.specs.Nearest.Edits.{swapped, counted}
+use Rattle.config_checks.specs.Nearest.IsSwap.{at_front, further}
+
+-- the places of a row of the table are no further apart than the edits there
+next_row_apart : (c before : ℕ → ℕ) (n : ℕ) → ((j : ℕ) → (n ≤ before j + j) × (j ≤ before j + n)) → (k : ℕ)
+    → (suc n ≤ next_row c before (suc n) k + k) × (k ≤ next_row c before (suc n) k + suc n)
+unfolding next_row
+next_row_apart c before n apart zero = (omega arith, omega arith)
+next_row_apart c before n apart (suc k) =
+    let left = next_row_apart c before n apart k in
+    let above = apart (suc k) in
+    let across = apart k in
+    (omega (arith, clamps, left.0, above.0, across.0), omega (arith, clamps, left.1, above.1, across.1))
+
+rows_apart : (xs ys : List ℕ) (n : ℕ) (before : ℕ → ℕ) → ((j : ℕ) → (n ≤ before j + j) × (j ≤ before j + n)) → (k : ℕ)
+    → (n + length xs ≤ rows nat_eq xs ys n before k + k) × (k ≤ rows nat_eq xs ys n before k + (n + length xs))
+unfolding rows
+rows_apart [] ys n before apart k = (omega (arith, (apart k).0), omega (arith, (apart k).1))
+rows_apart (x ∷ xs) ys n before apart k =
+    let more = rows_apart xs ys (suc n) (next_row (cost_at nat_eq x ys) before (suc n))
+    (next_row_apart (cost_at nat_eq x ys) before n apart) k in
+    (omega (arith, more.0), omega (arith, more.1))
+
+-- lengths are no further apart than the edits
+pub lengths_apart : (a b : List ℕ) → (length a ≤ edits a b + length b) × (length b ≤ edits a b + length a)
+lengths_apart a b =
+    let apart = rows_apart (map to_ascii_lowercase a) (map to_ascii_lowercase b) 0 (λ j. j) (λ j. (omega arith, omega arith))
+    (length (map to_ascii_lowercase b)) in (
+      omega (arith, apart.0, length-map a to_ascii_lowercase, length-map b to_ascii_lowercase),
+      omega (arith, apart.1, length-map a to_ascii_lowercase, length-map b to_ascii_lowercase),
+    )
+
+-- a swap keeps the length
+swap_length : (a b : List ℕ) → IsSwap a b → length a ≡ length b
+swap_length _ _ (at_front differ) = refl
+swap_length _ _ (further {x} {xs} {ys} swap) = rw (swap_length xs ys swap) refl
+
+same_first : (x y : ℕ) (xs ys : List ℕ) → x ≡ y → IsSwap (x ∷ xs) (y ∷ ys) → IsSwap xs ys
+same_first _ _ _ _ same (at_front differ) = absurd (differ same)
+same_first _ _ _ _ same (further swap) = swap
+
+-- after the same byte there is a swap if there is one in the rest
+pub swap_further : (r : Bool) (s t xs ys : List ℕ) (x y : ℕ) → s ≡ x ∷ xs → t ≡ y ∷ ys → x ≡ y
+    → (IsTrue r ↔ IsSwap xs ys) → IsTrue r ↔ IsSwap s t
+swap_further r s t xs ys x y front back same is = rw front (rw back (
+  λ yes. subst (λ z. IsSwap (x ∷ xs) (z ∷ ys)) same (further (is.0 yes)),
+  λ swap. is.1 (same_first x y xs ys same swap),
+))
+
+same_rest : (a b c d : ℕ) (xs ys : List ℕ) → a ≢ c → IsSwap (a ∷ b ∷ xs) (c ∷ d ∷ ys) → xs ≡ ys
+same_rest _ _ _ _ _ _ differ (at_front other) = refl
+same_rest _ _ _ _ _ _ differ (further swap) = absurd (differ refl)
+
+swapped_bytes : (a b : ℕ) (xs ys : List ℕ) (b' a' : ℕ) → a ≢ b → b' ≡ b → a' ≡ a → xs ≡ ys
+    → IsSwap (a ∷ b' ∷ xs) (b ∷ a' ∷ ys)
+swapped_bytes a b xs ys b' a' differ e f same = rw e (rw f (rw same (at_front differ)))
+
+same_told : (r : Bool) (xs ys : List ℕ) → MatchBool r (xs ≡ ys) (xs ≢ ys) → IsTrue r ↔ (xs ≡ ys)
+same_told true xs ys same = (λ yes. same, λ e. refl)
+same_told false xs ys other = (λ yes. absurd (false≢true yes), λ e. absurd (other e))
+
+-- two neighbors have changed places at the front if the rest is the same
+pub swap_front : (r : Bool) (s t s' t' xs ys : List ℕ) (a b b' a' : ℕ) → s ≡ a ∷ s' → t ≡ b ∷ t' → s' ≡ b' ∷ xs
+    → t' ≡ a' ∷ ys → a ≢ b → b' ≡ b → a' ≡ a → r ≡ pointwise nat_eq xs ys → IsTrue r ↔ IsSwap s t
+swap_front r s t s' t' xs ys a b b' a' p q p' q' differ e f told =
+    let is = same_told r xs ys (told_text xs ys r told) in rw p (rw q (rw p' (rw q' (
+      λ yes. swapped_bytes a b xs ys b' a' differ e f (is.0 yes),
+      λ swap. is.1 (same_rest a b' b a' xs ys differ swap),
+    ))))
+
+-- lengths are no further apart than such edits, a swap among them
+pub lengths_near : (a b : List ℕ) (n : ℕ) → Edits a b n → (length a ≤ n + length b) × (length b ≤ n + length a)
+lengths_near a b n (swapped swap is) =
+    let same = swap_length (lower a) (lower b) swap in (
+      omega (arith, same, length-map a to_ascii_lowercase, length-map b to_ascii_lowercase),
+      omega (arith, same, length-map a to_ascii_lowercase, length-map b to_ascii_lowercase),
+    )
+lengths_near a b n (counted not is) =
+    let apart = lengths_apart a b in (omega (arith, is, apart.0), omega (arith, is, apart.1))
+
+-- there is one number of edits
+pub one_count : (a b : List ℕ) (m n : ℕ) → Edits a b m → Edits a b n → m ≡ n
+one_count a b m n (swapped swap is) (swapped also' also) = is ∙ sym also
+one_count a b m n (swapped swap is) (counted not also) = absurd (not swap)
+one_count a b m n (counted not is) (swapped swap also) = absurd (not swap)
+one_count a b m n (counted not is) (counted not' also) = is ∙ sym also
+
+-- ---- the nearest of the first ones
+
+abbrev pub At : {A : Type 0} → List A → ℕ → A → Type 0
+At items i item = (i < length items) × (slice_index_or items i item ≡ item)
+
+module _ {A : Type 0} (Apart : A → ℕ → Type 0) where
+  abbrev pub IsNoNearer : ℕ → A → Type 0
+  IsNoNearer least item = (m : ℕ) → Apart item m → least ≤ m
+
+  abbrev Found : List A → Option (Bor A) → ℕ → Type 0
+  Found items best least = MatchOption best (least ≡ 3) (λ item. (least ≤ 2) × IsFirstAt Apart items least item.now)
+
+  -- of the first ones none is nearer than so many edits, and the best one is the first so near; it is there below 3
+  pub record IsBest (items : List A) (i : ℕ) (best : Option (Bor A)) (least : ℕ) : Type 0 where
+    pub none_nearer : All (IsNoNearer least) (take i items)
+    pub found : Found items best least
+
+  one_more : (items : List A) (i least : ℕ) (item : A) → At items i item → All (IsNoNearer least) (take i items)
+      → IsNoNearer least item → All (IsNoNearer least) (take (i + 1) items)
+  one_more items i least item at so_far here =
+      All-more (IsNoNearer least) items i item at.0 so_far (subst (IsNoNearer least) (sym at.1) here)
+
+  at_most_3 : (items : List A) (least : ℕ) (best : Option (Bor A)) → Found items best least → least ≤ 3
+  at_most_3 items least None found = omega (arith, found)
+  at_most_3 items least (Some item) found = let few = found.0 in omega (arith, few)
+
+  pub passes : (items : List A) (i least : ℕ) (best : Option (Bor A)) (item : A) → At items i item
+      → IsBest items i best least → ((n : ℕ) → Apart item n → 2 < n) → IsBest items (i + 1) best least
+  passes items i least best item at so_far none = record {
+    none_nearer = one_more items i least item at so_far.none_nearer
+        (λ m edits. let far = none m edits in let few = at_most_3 items least best so_far.found in omega (arith, far, few));
+    found = so_far.found;
+  }
+
+  pub nothing : (items : List A) → IsBest items 0 None 3
+  nothing items = record { none_nearer = λ k d inside. absurd (omega (arith, inside)); found = refl }
+
+  pub whole : (items : List A) (i least : ℕ) (best : Option (Bor A)) → length items ≤ i → IsBest items i best least
+      → MatchOption best (AreFar Apart items) (λ item. IsNearest Apart items item.now)
+  whole items i least None all so_far =
+      subst (λ l. All (IsNoNearer l) items) so_far.found
+      (subst (All (IsNoNearer least)) (take_all i items all) so_far.none_nearer)
+  whole items i least (Some item) all so_far = record {
+    edits = least;
+    few = so_far.found.0;
+    at = so_far.found.1;
+    least = subst (All (IsNoNearer least)) (take_all i items all) so_far.none_nearer;
+  }
+
+  -- where each has one number of edits
+  module _ (one : (item : A) (m n : ℕ) → Apart item m → Apart item n → m ≡ n) where
+    pub keeps : (items : List A) (i least n : ℕ) (best : Option (Bor A)) (item : A) → At items i item
+        → IsBest items i best least → Apart item n → least ≤ n → IsBest items (i + 1) best least
+    keeps items i least n best item at so_far edits not = record {
+      none_nearer = one_more items i least item at so_far.none_nearer
+          (λ m also. let same = one item m n also edits in omega (arith, same, not));
+      found = so_far.found;
+    }
+
+    below_3 : (items : List A) (least n : ℕ) (best : Option (Bor A)) → Found items best least → n < least → n ≤ 2
+    below_3 items least n None found below = omega (arith, found, below)
+    below_3 items least n (Some item) found below = let few = found.0 in omega (arith, few, below)
+
+    pub betters : (items : List A) (i least n : ℕ) (best : Option (Bor A)) (item : Bor A) → At items i item.now
+        → IsBest items i best least → Apart item.now n → n < least → IsBest items (i + 1) (Some item) n
+    betters items i least n best item at so_far edits below = record {
+      none_nearer = one_more items i n item.now at
+          (λ k d inside m also. let no_nearer = so_far.none_nearer k d inside m also in omega (arith, no_nearer, below))
+          (λ m also. let same = one item.now m n also edits in omega (arith, same));
+      found = (
+        below_3 items least n best so_far.found below,
+        record {
+          place = i;
+          inside = at.0;
+          stands = at.1;
+          apart = edits;
+          first = λ k d inside m also. let no_nearer = so_far.none_nearer k d inside m also in omega (arith, no_nearer, below);
+        },
+      );
+    }
+
+  -- ---- one is the nearest
+
+  -- the one at its place is no nearer
+  no_nearer : (items : List A) (a b : A) (p : IsNearest Apart items a) (q : IsNearest Apart items b) → p.edits ≤ q.edits
+  no_nearer items a b p q =
+      p.least q.at.place b q.at.inside q.edits (subst (λ r. Apart r q.edits) (sym q.at.stands) q.at.apart)
+
+  one_before : (items : List A) (a b : A) (p : IsNearest Apart items a) (q : IsNearest Apart items b)
+      → ¬ (p.at.place < q.at.place)
+  one_before items a b p q before =
+      let same = no_nearer items a b p q in
+      let less = q.at.first p.at.place a (omega (arith, length-take {A = A}, before, q.at.inside)) p.edits
+      (subst (λ r. Apart r p.edits) (sym (get_or-take q.at.place items p.at.place a before ∙ p.at.stands)) p.at.apart) in
+      let back = no_nearer items b a q p in
+      absurd (omega (arith, same, less, back))
+
+  pub nearest_once : (items : List A) (a b : A) → IsNearest Apart items a → IsNearest Apart items b → a ≡ b
+  nearest_once items a b p q =
+      let less = one_before items a b p q in let more = one_before items b a q p in
+      let same : p.at.place ≡ q.at.place = omega (arith, less, more) in
+      sym p.at.stands ∙ ap (λ n. get_or items n a) same ∙ get_or_default items q.at.place a b q.at.inside ∙ q.at.stands
+
+  pub no_far : (items : List A) (item : A) → IsNearest Apart items item → ¬ (AreFar Apart items)
+  no_far items item p far =
+      let beyond = far p.at.place item p.at.inside p.edits (subst (λ r. Apart r p.edits) (sym p.at.stands) p.at.apart) in
+      let few = p.few in
+      omega (arith, beyond, few)

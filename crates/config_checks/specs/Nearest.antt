@@ -1,0 +1,58 @@
+-- The edits between texts, and which of several things is the nearest.
+use Rattle.std.specs.Prelude.{◌≡◌, ◌≢◌, ℕ, ◌<◌, ◌≤◌, nat_eq, List, ◌∷◌, length, map, take, slice_index_or, All}
+use Rattle.std.specs.Prelude.{◌||◌, nat_lt, if◌then◌else◌}
+use Rattle.std.specs.Char.{to_ascii_lowercase}
+use Rattle.strsim.specs.Edits.{levenshtein_row}
+
+-- ---- how far two texts are apart
+
+-- ASCII case is ignored
+abbrev pub lower : List ℕ → List ℕ
+lower = map to_ascii_lowercase
+
+-- the bytes put in, left out or replaced: Levenshtein's distance
+abbrev pub edits : List ℕ → List ℕ → ℕ
+edits a b = levenshtein_row nat_eq (lower a) (lower b) (length (lower b))
+
+-- two neighbors that differ have changed places, and all else is the same
+pub data IsSwap : List ℕ → List ℕ → Type 0 where
+  at_front : {x y : ℕ} {rest : List ℕ} → x ≢ y → IsSwap (x ∷ y ∷ rest) (y ∷ x ∷ rest)
+  further : {x : ℕ} {xs ys : List ℕ} → IsSwap xs ys → IsSwap (x ∷ xs) (x ∷ ys)
+
+-- so many edits lead from one text to the other: a swap is one edit
+pub data Edits (a b : List ℕ) (n : ℕ) : Type 0 where
+  swapped : IsSwap (lower a) (lower b) → n ≡ 1 → Edits a b n
+  counted : ¬ (IsSwap (lower a) (lower b)) → n ≡ edits a b → Edits a b n
+
+-- how many edits are few for two texts: one if a text is short, and otherwise two
+abbrev pub most_edits : List ℕ → List ℕ → ℕ
+most_edits a b = if nat_lt (length a) 5 || nat_lt (length b) 5 then 1 else 2
+
+-- so many edits, which are few, lead from one text to the other
+abbrev pub FewEdits : List ℕ → List ℕ → ℕ → Type 0
+FewEdits a b n = Edits a b n × (n ≤ most_edits a b)
+
+-- ---- the nearest of several
+
+-- each of these is more edits away
+abbrev pub AreBeyond : {A : Type 0} → (A → ℕ → Type 0) → ℕ → List A → Type 0
+AreBeyond Apart n items = All (λ item. (m : ℕ) → Apart item m → n < m) items
+
+-- none of them is within two edits
+abbrev pub AreFar : {A : Type 0} → (A → ℕ → Type 0) → List A → Type 0
+AreFar Apart = AreBeyond Apart 2
+
+-- the first of them that is so many edits away
+pub record IsFirstAt {A : Type 0} (Apart : A → ℕ → Type 0) (items : List A) (n : ℕ) (item : A) : Type 0 where
+  pub place : ℕ
+  pub inside : place < length items
+  pub stands : slice_index_or items place item ≡ item
+  pub apart : Apart item n
+  pub first : AreBeyond Apart n (take place items)
+
+-- the first of them that is within two edits, and than which no other is nearer
+pub record IsNearest {A : Type 0} (Apart : A → ℕ → Type 0) (items : List A) (item : A) : Type 0 where
+  pub edits : ℕ
+  pub few : edits ≤ 2
+  pub at : IsFirstAt Apart items edits item
+  pub least : All (λ other. (m : ℕ) → Apart other m → edits ≤ m) items
