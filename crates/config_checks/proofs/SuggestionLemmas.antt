@@ -1,7 +1,6 @@
 -- The edits between the keys of rows and a key.
-use Rattle.std.proofs.Common.{◌≡◌, ◌<◌, ◌≤◌, ◌⊎◌, ℕ, Result, Ok, Err, IfOk, List, MatchOption, Option, None, Some, Bor, Bool, true, false}
-use Rattle.std.proofs.Common.{is_some, ◌∙◌, sym, arith, length}
-use Rattle.std.specs.Prelude.{◌||◌, nat_lt, if◌then◌else◌}
+use Rattle.std.proofs.Common.{◌≡◌, ◌<◌, ℕ, Result, Ok, Err, IfOk, List, MatchOption, Option, None, Some, Bor, true, false}
+use Rattle.std.proofs.Common.{is_some, ◌∙◌, sym}
 use Rattle.std.proofs.lemmas.Bool.{false≢true, true≢false}
 use Rattle.config_checks.specs.Reading.Steps.{IsFew}
 use Rattle.config_text.specs.SameWord.{SameWord}
@@ -9,8 +8,7 @@ use Rattle.config_checks.specs.declared.key.Key.{Key}
 use Rattle.config_checks.specs.declared.row.Row.{Row}
 use Rattle.config_checks.specs.Rows.{Decides, IsUnknown}
 use Rattle.config_checks.specs.Keys.{CoversBetween}
-use Rattle.config_checks.specs.Nearest.{FewEdits, LacksWord}
-use Rattle.config_checks.specs.Suggestions.{CoversLast, IsPassed, IsAbsent, LastEdits, EditsAfter, OnePartEdits, BetweenEdits}
+use Rattle.config_checks.specs.Suggestions.{CoversLast, IsPassed, LastEdits, EditsAfter, OnePartEdits, BetweenEdits}
 use Rattle.config_checks.specs.Suggestions.LastEdits.{few, by_word}
 use Rattle.config_checks.specs.Suggestions.IsPassed.{known}
 use Rattle.config_checks.specs.Suggestions.EditsAfter.{in_last, in_between}
