@@ -227,7 +227,7 @@ FORMS = {b"word": b"not one of: ", b"bool-or-word": b"not a boolean, nor one of:
 def meant(words, text):
     """What is said of the word that is nearest to a text, if one is near and can be meant."""
     can_be = [len(word) > 2 and not word.endswith(b"*") for word in words]
-    found = nearest([few_edits(word, text, 2) if is_one else None for word, is_one in zip(words, can_be)])
+    found = nearest([few_edits(word, text) if is_one else None for word, is_one in zip(words, can_be)])
     return b"" if found is None else b"; did you mean %s?" % shown(words[found])
 
 
@@ -343,9 +343,9 @@ def distance(one, other):
     return line[-1]
 
 
-def few_edits(one, other, most):
-    """How many edits lead from one text to the other, or None if they are more; more than one are many for a short text."""
-    most = min(most, 1 if min(len(one), len(other)) < 5 else 2)
+def few_edits(one, other, long=5):
+    """How many edits lead from one text to the other, or None if they are more: more than one are many if one is short."""
+    most = 1 if min(len(one), len(other)) < long else 2
     # lengths that differ by more need no look at the bytes
     if abs(len(one) - len(other)) > most:
         return None
@@ -353,16 +353,29 @@ def few_edits(one, other, most):
     return edits if edits <= most else None
 
 
+def lacks_word(short, long):
+    """Whether one text is the other without some bytes that stand together, and has five bytes or more."""
+    cuts = range(len(short) + 1) if 5 <= len(short) <= len(long) else []
+    return any(long.startswith(short[:at]) and long.endswith(short[at:]) for at in cuts)
+
+
+def last_apart(pattern, key):
+    """How far the last parts of two keys are apart; a word that one lacks is three edits, if they are the second."""
+    edits = few_edits(pattern.last, key.last)
+    is_word = key.middle is None and (lacks_word(pattern.last, key.last) or lacks_word(key.last, pattern.last))
+    return 3 if edits is None and is_word else edits
+
+
 def apart(pattern, key):
     """How far a key is from the key of a row, if they differ in one part, and few bytes of it; None otherwise."""
     is_middle = pattern.middle == key.middle or pattern.middle == b"*" and key.middle is not None
     is_last = pattern.last in (b"*", key.last)
     if pattern.first != key.first:
-        return few_edits(pattern.first, key.first, 1) if is_middle and is_last else None
+        return few_edits(pattern.first, key.first, 8) if is_middle and is_last else None
     if is_middle:
-        return None if is_last else few_edits(pattern.last, key.last, 2)
+        return None if is_last else last_apart(pattern, key)
     is_near = is_last and None not in (pattern.middle, key.middle)
-    return few_edits(pattern.middle, key.middle, 2) if is_near else None
+    return few_edits(pattern.middle, key.middle) if is_near else None
 
 
 def nearest(distances):

@@ -332,8 +332,9 @@ KNOWN_KEYS = [
     (b"any-last.x", None), (b"any-last.sub.x", None), (b"any-both.x.y", None), (b"any-both.a.b.c", None),
     (b"literal.a*.last", None),
 ]
-# keys that no row matches, and the key that is meant: of another section by one edit, or of another part by two, and of
-# a part of fewer than five bytes by one; a swap of neighbors is one; the nearest row's, and the first of several
+# keys that no row matches, and the key that is meant: one part differs by one edit, or by two if both texts have five
+# bytes, or eight in a section; a swap of neighbors is one, and a word in the last part of two three; the nearest row's
+# key, and the first of several
 MISSPELT_KEYS = [
     (b"test.in", b"test.int"), (b"test.intt", b"test.int"), (b"tes.int", b"test.int"), (b"testt.int", b"test.int"),
     (b"test.nit", b"test.int"), (b"tset.int", b"test.int"), (b"test.sort-ky", b"test.sort-key"),
@@ -346,16 +347,19 @@ MISSPELT_KEYS = [
     (b"any-last.sbu.x", b"any-last.sub.x"), (b"any-last.SUB.x", b"any-last.sub.x"), (b"any-lst.Sub", b"any-last.sub"),
     (b"any-both-.x.y", b"any-both.x.y"), (b"literal.last-o", b"literal.last*"), (b"x.star", b"*.star"),
     (b"middle.\xff\t.lst", rb"middle.\xff\x09.last"), (b"middle.a\\b.lst", rb"middle.a\\b.last"),
+    (b"test.word-case", b"test.word-any-case"), (b"test.OR-WORD", b"test.bool-or-word"), (b"test.wordless", b"test.words"),
+    (b"test.int-or-words-first", b"test.int-or-word"), (b"any-lasted.x", b"any-last.x"), (b"ay-lastt.x", b"any-last.x"),
 ]
 # keys of sections that only the rows have
-OWN_KEYS = [b"test.wrong", b"test.tni", b"middle.last", b"empty.middle", b"any-both.y", b"literal.last-one"]
+OWN_KEYS = [b"test.wrong", b"test.tni", b"middle.last", b"empty.middle", b"any-both.y", b"literal.last-one", b"test.key", b"test.sort"]
 UNKNOWN_KEYS = [
     b"test.x.int", b"test..int", b".test.int", b"..int", b"te.int", b"middle.Exact.x", b"middle.two.other",
     b"empty.xx.middle", b"any-last.x.y", b"any-last..x", b"any-last.sub.x.y", b"literal.abcd.last", b"xx.star",
-    b"middle.x.lasttt", b"other.key",
+    b"middle.x.lasttt", b"middle.Exact.Other-word", b"an-lats.x", b"other.key",
 ]
 # the same in sections of the built-in rows, which the second reader does not have
-UNKNOWN_BUILT_IN = [b"core.exclude", b"user.nickname", b"user.home", b"branch.x.base"]
+UNKNOWN_BUILT_IN = [b"core.crlf", b"user.nickname", b"user.home", b"user.username", b"branch.x.base", b"branch.x.rebase-merges",
+                    b"gitlab.url", b"alien.x"]
 
 # which row decides: key, value, and the reason
 FIRST_ROWS = [
@@ -370,6 +374,8 @@ MISSPELT_BUILT_IN = [
     (b"pull.rebas", b"pull.rebase"), (b"pul.rebase", b"pull.rebase"), (b"branch.main.remte", b"branch.main.remote"),
     (b"color.brnch.local", b"color.branch.local"), (b"core.autocrfl", b"core.autocrlf"), (b"pull.everything", None),
     (b"psuh.default", b"push.default"), (b"alais.st", b"alias.st"), (b"branch.main.rebsae", b"branch.main.rebase"),
+    (b"push.autoSetup", b"push.autoSetupRemote"), (b"core.exclude", b"core.excludesFile"), (b"push.default-mode", b"push.default"),
+    (b"maintainance.auto", b"maintenance.auto"), (b"diff.renam", b"diff.renames"), (b"core.longpath", b"core.longpaths"),
 ]
 
 # rows of the program itself: key, value, and how the reason begins

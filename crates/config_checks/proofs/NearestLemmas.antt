@@ -1,5 +1,5 @@
 -- The edits between texts, and the nearest of several things.
-use Rattle.std.proofs.Common.{◌≡◌, ◌+◌, ◌<◌, ◌≤◌, ℕ, zero, suc, List, [], ◌∷◌, length, map, take, nat_eq, get_or}
+use Rattle.std.proofs.Common.{◌≡◌, ◌+◌, ◌<◌, ◌≤◌, ℕ, zero, suc, List, [], ◌∷◌, ◌++◌, length, map, take, nat_eq, get_or}
 use Rattle.std.proofs.Common.{MatchOption, Option, None, Some, Bor, refl, sym, ap, ◌∙◌, subst, arith, ◌≢◌, ◌↔◌, IsTrue, Bool}
 use Rattle.std.proofs.lemmas.Int.{clamps}
 use Rattle.std.specs.Char.{to_ascii_lowercase}
@@ -11,9 +11,10 @@ use Rattle.std.proofs.lemmas.List.Elements.{All-more}
 use Rattle.std.specs.List.{All}
 use Rattle.std.specs.Prelude.{slice_index_or, MatchBool}
 use Rattle.std.specs.Cmp.Lexicographic.{pointwise, told_text}
-use Rattle.config_checks.specs.Nearest.{Edits, IsSwap, lower, edits, IsFirstAt, AreFar, IsNearest}
+use Rattle.config_checks.specs.Nearest.{Edits, IsSwap, LeavesOut, lower, edits, IsFirstAt, AreFar, IsNearest}
 use Rattle.config_checks.specs.Nearest.Edits.{swapped, counted}
 use Rattle.config_checks.specs.Nearest.IsSwap.{at_front, further}
+use Rattle.config_checks.specs.Nearest.LeavesOut.{skipped, kept}
 
 -- the places of a row of the table are no further apart than the edits there
 next_row_apart : (c before : ℕ → ℕ) (n : ℕ) → ((j : ℕ) → (n ≤ before j + j) × (j ≤ before j + n)) → (k : ℕ)
@@ -92,6 +93,21 @@ lengths_near a b n (swapped swap is) =
 lengths_near a b n (counted not is) =
     let apart = lengths_apart a b in (omega (arith, is, apart.0), omega (arith, is, apart.1))
 
+-- ---- a word left out
+
+left_rest : (x y : ℕ) (xs ys : List ℕ) → ((word : List ℕ) → y ∷ ys ≢ word ++ (x ∷ xs)) → LeavesOut (x ∷ xs) (y ∷ ys)
+    → LeavesOut xs ys
+left_rest x y xs ys none (skipped word e) = absurd (none word e)
+left_rest x y xs ys none (kept left) = left
+
+-- where no word stands in front, it is left out of the rest
+pub left_further : (r : Bool) (s t xs ys : List ℕ) (x y : ℕ) → s ≡ x ∷ xs → t ≡ y ∷ ys → x ≡ y
+    → ((word : List ℕ) → t ≢ word ++ s) → (IsTrue r ↔ LeavesOut xs ys) → IsTrue r ↔ LeavesOut s t
+left_further r s t xs ys x y front back same none is = rw front (rw back (
+  λ yes. subst (λ z. LeavesOut (x ∷ xs) (z ∷ ys)) same (kept (is.0 yes)),
+  λ left. is.1 (left_rest x y xs ys (λ word e. none word (back ∙ e ∙ ap (λ l. word ++ l) (sym front))) left),
+))
+
 -- there is one number of edits
 pub one_count : (a b : List ℕ) (m n : ℕ) → Edits a b m → Edits a b n → m ≡ n
 one_count a b m n (swapped swap is) (swapped also' also) = is ∙ sym also
@@ -109,9 +125,9 @@ module _ {A : Type 0} (Apart : A → ℕ → Type 0) where
   IsNoNearer least item = (m : ℕ) → Apart item m → least ≤ m
 
   abbrev Found : List A → Option (Bor A) → ℕ → Type 0
-  Found items best least = MatchOption best (least ≡ 3) (λ item. (least ≤ 2) × IsFirstAt Apart items least item.now)
+  Found items best least = MatchOption best (least ≡ 4) (λ item. (least ≤ 3) × IsFirstAt Apart items least item.now)
 
-  -- of the first ones none is nearer than so many edits, and the best one is the first so near; it is there below 3
+  -- of the first ones none is nearer than so many edits, and the best one is the first so near; it is there below 4
   pub record IsBest (items : List A) (i : ℕ) (best : Option (Bor A)) (least : ℕ) : Type 0 where
     pub none_nearer : All (IsNoNearer least) (take i items)
     pub found : Found items best least
@@ -121,19 +137,19 @@ module _ {A : Type 0} (Apart : A → ℕ → Type 0) where
   one_more items i least item at so_far here =
       All-more (IsNoNearer least) items i item at.0 so_far (subst (IsNoNearer least) (sym at.1) here)
 
-  at_most_3 : (items : List A) (least : ℕ) (best : Option (Bor A)) → Found items best least → least ≤ 3
-  at_most_3 items least None found = omega (arith, found)
-  at_most_3 items least (Some item) found = let few = found.0 in omega (arith, few)
+  at_most_4 : (items : List A) (least : ℕ) (best : Option (Bor A)) → Found items best least → least ≤ 4
+  at_most_4 items least None found = omega (arith, found)
+  at_most_4 items least (Some item) found = let few = found.0 in omega (arith, few)
 
   pub passes : (items : List A) (i least : ℕ) (best : Option (Bor A)) (item : A) → At items i item
-      → IsBest items i best least → ((n : ℕ) → Apart item n → 2 < n) → IsBest items (i + 1) best least
+      → IsBest items i best least → ((n : ℕ) → Apart item n → 3 < n) → IsBest items (i + 1) best least
   passes items i least best item at so_far none = record {
     none_nearer = one_more items i least item at so_far.none_nearer
-        (λ m edits. let far = none m edits in let few = at_most_3 items least best so_far.found in omega (arith, far, few));
+        (λ m edits. let far = none m edits in let few = at_most_4 items least best so_far.found in omega (arith, far, few));
     found = so_far.found;
   }
 
-  pub nothing : (items : List A) → IsBest items 0 None 3
+  pub nothing : (items : List A) → IsBest items 0 None 4
   nothing items = record { none_nearer = λ k d inside. absurd (omega (arith, inside)); found = refl }
 
   pub whole : (items : List A) (i least : ℕ) (best : Option (Bor A)) → length items ≤ i → IsBest items i best least
@@ -158,9 +174,9 @@ module _ {A : Type 0} (Apart : A → ℕ → Type 0) where
       found = so_far.found;
     }
 
-    below_3 : (items : List A) (least n : ℕ) (best : Option (Bor A)) → Found items best least → n < least → n ≤ 2
-    below_3 items least n None found below = omega (arith, found, below)
-    below_3 items least n (Some item) found below = let few = found.0 in omega (arith, few, below)
+    below_4 : (items : List A) (least n : ℕ) (best : Option (Bor A)) → Found items best least → n < least → n ≤ 3
+    below_4 items least n None found below = omega (arith, found, below)
+    below_4 items least n (Some item) found below = let few = found.0 in omega (arith, few, below)
 
     pub betters : (items : List A) (i least n : ℕ) (best : Option (Bor A)) (item : Bor A) → At items i item.now
         → IsBest items i best least → Apart item.now n → n < least → IsBest items (i + 1) (Some item) n
@@ -169,7 +185,7 @@ module _ {A : Type 0} (Apart : A → ℕ → Type 0) where
           (λ k d inside m also. let no_nearer = so_far.none_nearer k d inside m also in omega (arith, no_nearer, below))
           (λ m also. let same = one item.now m n also edits in omega (arith, same));
       found = (
-        below_3 items least n best so_far.found below,
+        below_4 items least n best so_far.found below,
         record {
           place = i;
           inside = at.0;

@@ -1,15 +1,16 @@
 -- A key has one text that is said of it, if it is unknown.
-use Rattle.std.proofs.Common.{◌≡◌, ◌++◌, ℕ, List, Option, None, Some, Bor, refl, sym, ap, subst, ◌∙◌, inl, inr}
+use Rattle.std.proofs.Common.{◌≡◌, ◌⊎◌, ◌++◌, ℕ, List, Option, None, Some, Bor, refl, sym, ap, subst, ◌∙◌, inl, inr}
 use Rattle.std.proofs.Common.{codes}
 use Rattle.config_text.specs.SameWord.{SameWord}
 use Rattle.config_checks.specs.declared.key.Key.{Key}
 use Rattle.config_checks.specs.declared.row.Row.{Row}
 use Rattle.config_checks.specs.declared.suggestion.UnknownKey.{UnknownKey}
 use Rattle.config_checks.specs.Findings.{shown}
-use Rattle.config_checks.specs.Suggestions.{SectionEdits, BetweenEdits, CoversLast, EditsAfter, OnePartEdits, RowEdits}
-use Rattle.config_checks.specs.Nearest.{FewEdits, AreFar, IsNearest}
+use Rattle.config_checks.specs.Suggestions.{SectionEdits, BetweenEdits, CoversLast, LastEdits, EditsAfter, OnePartEdits, RowEdits}
+use Rattle.config_checks.specs.Nearest.{FewEdits, LacksWord, AreFar, IsNearest}
 use Rattle.config_checks.specs.Suggestions.{Fills, FillsBetween, FillsKey, IsAbsent, IsShared, HasSection, IsOwn, IsPassed, IsUnknownKey, Suggests}
 use Rattle.config_checks.specs.Suggestions.{dotted, between_shown, key_shown, suggestion_text, unknown_text}
+use Rattle.config_checks.specs.Suggestions.LastEdits.{few, by_word}
 use Rattle.config_checks.specs.Suggestions.EditsAfter.{in_last, in_between}
 use Rattle.config_checks.specs.Suggestions.OnePartEdits.{in_rest, in_section}
 use Rattle.config_checks.specs.Suggestions.IsPassed.{no_key, known, foreign}
@@ -22,12 +23,24 @@ between_moved : (row a b : Option (Bor (List ℕ))) (n : ℕ) → SameBetween a 
 between_moved None a b n same is = absurd is
 between_moved (Some row) None b n same is = absurd is
 between_moved (Some row) (Some a) None n same is = absurd same
-between_moved (Some row) (Some a) (Some b) n same is = subst (λ t. FewEdits row.now t n) same is
+between_moved (Some row) (Some a) (Some b) n same is = subst (λ t. FewEdits 5 row.now t n) same is
+
+absent_moved : (a b : Option (Bor (List ℕ))) → SameBetween a b → IsAbsent a → IsAbsent b
+absent_moved None None same is = is
+absent_moved None (Some b) same is = absurd same
+absent_moved (Some a) b same is = absurd is
+
+last_moved : (row a b : Key) (n : ℕ) → SameKey a b → LastEdits row a n → LastEdits row b n
+last_moved row a b n same (few is) = few (subst (λ t. FewEdits 5 row.last.now t n) same.last is)
+last_moved row a b n same (by_word many absent lacks is) =
+    by_word (λ m edits. many m (subst (λ t. FewEdits 5 row.last.now t m) (sym same.last) edits))
+    (absent_moved a.between b.between same.between absent)
+    (subst (λ t. LacksWord row.last.now t ⊎ LacksWord t row.last.now) same.last lacks) is
 
 after_moved : (row a b : Key) (n : ℕ) → SameKey a b → EditsAfter row a n → EditsAfter row b n
 after_moved row a b n same (in_last covers not is) =
     in_last (covers_between row.between a.between b.between same.between covers)
-    (λ l. not (subst (CoversLast row.last.now) (sym same.last) l)) (subst (λ t. FewEdits row.last.now t n) same.last is)
+    (λ l. not (subst (CoversLast row.last.now) (sym same.last) l)) (last_moved row a b n same is)
 after_moved row a b n same (in_between not covers is) =
     in_between (λ c. not (covers_between row.between b.between a.between (same_back a b same).between c))
     (subst (CoversLast row.last.now) same.last covers) (between_moved row.between a.between b.between n same.between is)
@@ -105,11 +118,6 @@ module _ (rows : List Row) where
       → unknown_text x ≡ unknown_text y
   text_once t x y p q =
       suggestion_once p.key q.key x.nearest y.nearest (key_once t p.key q.key p.is_key q.is_key) p.suggests q.suggests
-
-  absent_moved : (a b : Option (Bor (List ℕ))) → SameBetween a b → IsAbsent a → IsAbsent b
-  absent_moved None None same is = is
-  absent_moved None (Some b) same is = absurd same
-  absent_moved (Some a) b same is = absurd is
 
   own_moved : (a b : Key) → SameKey a b → IsOwn rows a → IsOwn rows b
   own_moved a b same (absent, (not, has)) = (

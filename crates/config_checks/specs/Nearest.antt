@@ -1,5 +1,5 @@
 -- The edits between texts, and which of several things is the nearest.
-use Rattle.std.specs.Prelude.{◌≡◌, ◌≢◌, ℕ, ◌<◌, ◌≤◌, nat_eq, List, ◌∷◌, length, map, take, slice_index_or, All}
+use Rattle.std.specs.Prelude.{◌≡◌, ◌≢◌, ℕ, ◌<◌, ◌≤◌, nat_eq, List, ◌∷◌, ◌++◌, length, map, take, slice_index_or, All}
 use Rattle.std.specs.Prelude.{◌||◌, nat_lt, if◌then◌else◌}
 use Rattle.std.specs.Char.{to_ascii_lowercase}
 use Rattle.strsim.specs.Edits.{levenshtein_row}
@@ -24,13 +24,22 @@ pub data Edits (a b : List ℕ) (n : ℕ) : Type 0 where
   swapped : IsSwap (lower a) (lower b) → n ≡ 1 → Edits a b n
   counted : ¬ (IsSwap (lower a) (lower b)) → n ≡ edits a b → Edits a b n
 
--- how many edits are few for two texts: one if a text is short, and otherwise two
-abbrev pub most_edits : List ℕ → List ℕ → ℕ
-most_edits a b = if nat_lt (length a) 5 || nat_lt (length b) 5 then 1 else 2
+-- how many edits are few for two texts: two if both are long, by so many bytes, and otherwise one
+abbrev pub most_edits : ℕ → List ℕ → List ℕ → ℕ
+most_edits long a b = if nat_lt (length a) long || nat_lt (length b) long then 1 else 2
 
 -- so many edits, which are few, lead from one text to the other
-abbrev pub FewEdits : List ℕ → List ℕ → ℕ → Type 0
-FewEdits a b n = Edits a b n × (n ≤ most_edits a b)
+abbrev pub FewEdits : ℕ → List ℕ → List ℕ → ℕ → Type 0
+FewEdits long a b n = Edits a b n × (n ≤ most_edits long a b)
+
+-- the first text is the second one without some bytes that stand together
+pub data LeavesOut : List ℕ → List ℕ → Type 0 where
+  skipped : {a b : List ℕ} (word : List ℕ) → b ≡ word ++ a → LeavesOut a b
+  kept : {x : ℕ} {xs ys : List ℕ} → LeavesOut xs ys → LeavesOut (x ∷ xs) (x ∷ ys)
+
+-- the first text lacks a word of the second one, and is long without it
+abbrev pub LacksWord : List ℕ → List ℕ → Type 0
+LacksWord a b = (5 ≤ length a) × LeavesOut (lower a) (lower b)
 
 -- ---- the nearest of several
 
@@ -38,9 +47,9 @@ FewEdits a b n = Edits a b n × (n ≤ most_edits a b)
 abbrev pub AreBeyond : {A : Type 0} → (A → ℕ → Type 0) → ℕ → List A → Type 0
 AreBeyond Apart n items = All (λ item. (m : ℕ) → Apart item m → n < m) items
 
--- none of them is within two edits
+-- none of them is within three edits
 abbrev pub AreFar : {A : Type 0} → (A → ℕ → Type 0) → List A → Type 0
-AreFar Apart = AreBeyond Apart 2
+AreFar Apart = AreBeyond Apart 3
 
 -- the first of them that is so many edits away
 pub record IsFirstAt {A : Type 0} (Apart : A → ℕ → Type 0) (items : List A) (n : ℕ) (item : A) : Type 0 where
@@ -50,9 +59,9 @@ pub record IsFirstAt {A : Type 0} (Apart : A → ℕ → Type 0) (items : List A
   pub apart : Apart item n
   pub first : AreBeyond Apart n (take place items)
 
--- the first of them that is within two edits, and than which no other is nearer
+-- the first of them that is within three edits, and than which no other is nearer
 pub record IsNearest {A : Type 0} (Apart : A → ℕ → Type 0) (items : List A) (item : A) : Type 0 where
   pub edits : ℕ
-  pub few : edits ≤ 2
+  pub few : edits ≤ 3
   pub at : IsFirstAt Apart items edits item
   pub least : All (λ other. (m : ℕ) → Apart other m → edits ≤ m) items

@@ -89,7 +89,7 @@ IsTaken list t = HasWord list t ⊎ IsTakenByForm list t list.form
 pub record WordEdits (t : List ℕ) (word : Bor (List ℕ)) (n : ℕ) : Type 0 where
   pub long : 2 < length word.now
   pub no_pattern : (front : List ℕ) → ¬ (IsPattern word.now front)
-  pub edits : FewEdits word.now t n
+  pub edits : FewEdits 5 word.now t n
 
 -- the word that is meant by a text: the nearest one, if one is near
 abbrev pub IsMeant : List (Bor (List ℕ)) → List ℕ → Option (Bor (List ℕ)) → Type 0

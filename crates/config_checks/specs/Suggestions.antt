@@ -1,5 +1,5 @@
 -- Keys that no row covers, and what is said of them: the nearest key of the rows.
-use Rattle.std.specs.Prelude.{◌≡◌, ◌≢◌, ◌⊎◌, ⊤, ℕ, ◌≤◌, List, [], ◌∷◌, ◌++◌, codes, Option, None, Some}
+use Rattle.std.specs.Prelude.{◌≡◌, ◌≢◌, ◌⊎◌, ⊤, ℕ, List, [], ◌∷◌, ◌++◌, codes, Option, None, Some}
 use Rattle.std.specs.List.{Any}
 use denote.Ref.{Bor}
 use Rattle.config_text.specs.SameWord.{SameWord}
@@ -8,7 +8,7 @@ use Rattle.config_checks.specs.declared.row.Row.{Row}
 use Rattle.config_checks.specs.declared.suggestion.UnknownKey.{UnknownKey}
 use Rattle.config_checks.specs.Findings.{shown}
 use Rattle.config_checks.specs.Keys.{dot, IsKey, CoversBetween}
-use Rattle.config_checks.specs.Nearest.{Edits, FewEdits, AreFar, IsNearest}
+use Rattle.config_checks.specs.Nearest.{FewEdits, LacksWord, AreFar, IsNearest}
 use Rattle.config_checks.specs.Rows.{Decides, IsUnknown}
 
 -- ---- how far two keys are apart
@@ -19,19 +19,30 @@ CoversLast row last = (row ≡ codes "*") ⊎ SameWord row last
 
 -- so many edits lead from the one part between dots to the other
 abbrev pub BetweenEdits : Option (Bor (List ℕ)) → Option (Bor (List ℕ)) → ℕ → Type 0
-BetweenEdits (Some row) (Some between) n = FewEdits row.now between.now n
+BetweenEdits (Some row) (Some between) n = FewEdits 5 row.now between.now n
 BetweenEdits _ _ n = ⊥
+
+abbrev pub IsAbsent : Option (Bor (List ℕ)) → Type 0
+IsAbsent None = ⊤
+IsAbsent (Some between) = ⊥
+
+-- so many edits lead from the one last part to the other; in a key of two parts, a word that is missing or put in counts
+-- as three
+pub data LastEdits (row key : Key) (n : ℕ) : Type 0 where
+  few : FewEdits 5 row.last.now key.last.now n → LastEdits row key n
+  by_word : ((m : ℕ) → ¬ (FewEdits 5 row.last.now key.last.now m)) → IsAbsent key.between
+      → LacksWord row.last.now key.last.now ⊎ LacksWord key.last.now row.last.now → n ≡ 3 → LastEdits row key n
 
 -- the key of a row and a key differ in one part after their section, by so many edits
 pub data EditsAfter (row key : Key) (n : ℕ) : Type 0 where
   in_last : CoversBetween row.between key.between → ¬ (CoversLast row.last.now key.last.now)
-      → FewEdits row.last.now key.last.now n → EditsAfter row key n
+      → LastEdits row key n → EditsAfter row key n
   in_between : ¬ (CoversBetween row.between key.between) → CoversLast row.last.now key.last.now
       → BetweenEdits row.between key.between n → EditsAfter row key n
 
--- so many edits, one at most, lead from the one section to the other
+-- so many edits lead from the one section to the other
 abbrev pub SectionEdits : List ℕ → List ℕ → ℕ → Type 0
-SectionEdits row t n = Edits row t n × (n ≤ 1)
+SectionEdits = FewEdits 8
 
 -- the key of a row and a key differ in one part, by so many edits
 pub data OnePartEdits (row key : Key) (n : ℕ) : Type 0 where
@@ -71,10 +82,6 @@ IsShared t = SameWord (codes "advice") t ⊎ (SameWord (codes "core") t ⊎ (Sam
 
 abbrev pub HasSection : List Row → List ℕ → Type 0
 HasSection rows t = Any (λ row. SameWord row.key.section.now t) rows
-
-abbrev pub IsAbsent : Option (Bor (List ℕ)) → Type 0
-IsAbsent None = ⊤
-IsAbsent (Some between) = ⊥
 
 -- a key with no part between dots, in a section where only the rows have settings
 abbrev pub IsOwn : List Row → Key → Type 0

@@ -1,16 +1,16 @@
 //! The edits that lead from one text to another.
-ghost use Rattle.std.specs.Prelude.{◌≡◌, ◌<◌, ◌≤◌, ◌↔◌, IsTrue, IfOk};
-ghost use Rattle.config_checks.specs.Nearest.{Edits, IsSwap, FewEdits, most_edits};
+ghost use Rattle.std.specs.Prelude.{◌≡◌, ◌≢◌, ◌<◌, ◌≤◌, ◌↔◌, ◌++◌, ℕ, List, IsTrue, IfOk, MatchOption};
+ghost use Rattle.config_checks.specs.Nearest.{Edits, IsSwap, FewEdits, most_edits, LeavesOut, LacksWord};
 ghost use Rattle.config_checks.specs.Reading.Steps.{IsFew};
 
 use std::alloc::{AllocError, Global};
 use strsim::generic_levenshtein;
 
-/// The most edits that lead to a text which is still suggested.
-pub(crate) const MOST_EDITS: usize = 2;
+/// The most edits that are counted: a word that is missing counts as so many.
+pub(crate) const MOST_EDITS: usize = 3;
 
-/// The bytes of a text that is not short: of a short one few edits make another word.
-const LONG: usize = 5;
+/// The bytes of a text that is long: of a shorter one few edits make another word.
+pub(crate) const LONG: usize = 5;
 
 /// Whether two neighbors that differ have changed places, and all else is the same.
 fn is_swap(from: &[u8], to: &[u8]) -> bool
@@ -30,18 +30,18 @@ fn is_swap(from: &[u8], to: &[u8]) -> bool
     }
 }
 
-/// How many edits are few for two texts: one if a text is short, and otherwise two.
-fn most_edits(from: &[u8], to: &[u8]) -> usize
-    ensures { result ≡ most_edits from.now to.now }
+/// How many edits are few for two texts: two if both have so many bytes, and otherwise one.
+fn most_edits(long: usize, from: &[u8], to: &[u8]) -> usize
+    ensures { result ≡ most_edits long from.now to.now }
 {
-    if from.len() < LONG || to.len() < LONG {
+    if from.len() < long || to.len() < long {
         1
     } else {
-        MOST_EDITS
+        2
     }
 }
 
-/// How many edits lead from one text to the other, ignoring ASCII case. `None` if more than two.
+/// How many edits lead from one text to the other, ignoring ASCII case. `None` if more than three.
 // Texts whose lengths differ by more are never compared: that is most of them.
 pub(crate) fn edits_between(
     alloc: Global,
@@ -65,12 +65,50 @@ pub(crate) fn edits_between(
     Ok(Some(edits))
 }
 
-/// How many edits lead from one text to the other, or `None` if they are not few.
-pub(crate) fn few_edits(alloc: Global, from: &[u8], to: &[u8]) -> Result<Option<usize>, AllocError>
-    ensures { IfOk result (λ r. IsFew (FewEdits from.now to.now) r) }
+/// How many edits lead from one text to the other, or `None` if they are not few for texts of this length.
+pub(crate) fn few_edits(
+    alloc: Global,
+    long: usize,
+    from: &[u8],
+    to: &[u8],
+) -> Result<Option<usize>, AllocError>
+    ensures { IfOk result (λ r. IsFew (FewEdits long from.now to.now) r) }
 {
     match edits_between(alloc, from, to)? {
-        Some(edits) if edits <= most_edits(from, to) => Ok(Some(edits)),
+        Some(edits) if edits <= most_edits(long, from, to) => Ok(Some(edits)),
         _ => Ok(None),
     }
+}
+
+/// What precedes the end of a text, or `None` if it ends otherwise.
+fn before_end<'a>(text: &'a [u8], end: &[u8]) -> Option<&'a [u8]>
+    ensures { MatchOption result ((front : List ℕ) → text.now ≢ front ++ end.now)
+        (λ front. text.now ≡ front.now ++ end.now) }
+{
+    text.strip_suffix(end)
+}
+
+/// Whether the first text is the second one without some bytes that stand together.
+fn leaves_out(short: &[u8], long: &[u8]) -> bool
+    ensures { IsTrue result ↔ (LeavesOut short.now long.now) }
+{
+    if let Some(_) = before_end(long, short) {
+        return true;
+    }
+    match (short.split_first(), long.split_first()) {
+        (Some((a, short)), Some((b, long))) if *a == *b => leaves_out(short, long),
+        _ => false,
+    }
+}
+
+/// Whether the first text lacks a word of the second one, and is long without it.
+pub(crate) fn lacks_word(alloc: Global, short: &[u8], long: &[u8]) -> Result<bool, AllocError>
+    ensures { IfOk result (λ r. IsTrue r ↔ (LacksWord short.now long.now)) }
+{
+    if short.len() < LONG {
+        return Ok(false);
+    }
+    let short = short.to_ascii_lowercase(alloc)?;
+    let long = long.to_ascii_lowercase(alloc)?;
+    Ok(leaves_out(&short, &long))
 }

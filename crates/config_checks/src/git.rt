@@ -1118,6 +1118,9 @@ stash.index                         bool
 status.compareBranches              text
 submodule.*.gitdir                  text
 # Settings of other tools in these sections, and of Gits before 2.39
+core.fscache                        bool
+core.fsyncRefFiles                  alone text
+core.longpaths                      bool
 diff.compactionHeuristic            alone text
 gc.prunePackExpire                  alone text
 http.allowNTLMAuth                  alone text

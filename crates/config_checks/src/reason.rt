@@ -11,7 +11,7 @@ ghost use Rattle.config_checks.specs.Reasons.{IsRespelled, IsRespelledBoolOrInt,
 ghost use Rattle.config_checks.specs.Reasons.{IsRespelledByForm, IsRespelledByWords};
 ghost use Rattle.config_checks.specs.Reading.Steps.{IsFew};
 
-use crate::edits::{MOST_EDITS, few_edits};
+use crate::edits::{LONG, MOST_EDITS, few_edits};
 use crate::key::is_same_word;
 use crate::kind::{Form, SettingKind, WordList, pattern_front};
 use crate::row::Row;
@@ -160,7 +160,7 @@ fn word_edits(alloc: Global, word: &[u8], text: &[u8]) -> Result<Option<usize>, 
     ensures { IfOk result (λ r. IsFew (WordEdits text.now word.entry) r) }
 {
     match pattern_front(word) {
-        None if word.len() > SHORT => few_edits(alloc, word, text),
+        None if word.len() > SHORT => few_edits(alloc, LONG, word, text),
         _ => Ok(None),
     }
 }

@@ -1,21 +1,24 @@
 //! Keys that no row covers, and the nearest keys of the rows.
-ghost use Rattle.std.specs.Prelude.{◌≡◌, ◌++◌, ◌↔◌, IsTrue, MatchOption, IfOk, OnOk, OnErr, Some};
+ghost use Rattle.std.specs.Prelude.{◌≡◌, ◌⊎◌, ◌++◌, ◌↔◌, IsTrue, MatchOption, IfOk, OnOk, OnErr, Some};
 ghost use Rattle.config_checks.specs.Findings.{AppendsPart};
-ghost use Rattle.config_checks.specs.Nearest.{AreFar, IsNearest};
-ghost use Rattle.config_checks.specs.Suggestions.{BetweenEdits, CoversLast, EditsAfter, SectionEdits};
+ghost use Rattle.config_checks.specs.Nearest.{LacksWord, AreFar, IsNearest};
+ghost use Rattle.config_checks.specs.Suggestions.{BetweenEdits, CoversLast, LastEdits, EditsAfter};
 ghost use Rattle.config_checks.specs.Suggestions.{OnePartEdits, RowEdits, Fills, FillsBetween};
 ghost use Rattle.config_checks.specs.Suggestions.{FillsKey, IsShared, IsOwn};
 ghost use Rattle.config_checks.specs.Reading.Steps.{IsFew};
 ghost use Rattle.config_checks.specs.Suggestions.{HasSection, IsPassed, IsUnknownKey, dotted, between_shown};
 ghost use Rattle.config_checks.specs.Suggestions.{after_shown, key_shown, asked, unknown_text};
 
-use crate::edits::{MOST_EDITS, edits_between, few_edits};
+use crate::edits::{LONG, MOST_EDITS, few_edits, lacks_word};
 use crate::finding::push_shown;
 use crate::key::{ANY, Key, covers_between, is_same_word};
 use crate::row::{Row, row_for};
 use std::alloc::{AllocError, Global};
 
-/// How many edits lead from one part between dots to the other. `None` if more than two, or if one is not there.
+/// The bytes of a section that is long.
+const LONG_SECTION: usize = 8;
+
+/// How many edits lead from one part between dots to the other. `None` if they are not few, or if one is not there.
 fn between_edits(
     alloc: Global,
     row: Option<&[u8]>,
@@ -24,7 +27,7 @@ fn between_edits(
     ensures { IfOk result (λ r. IsFew (BetweenEdits row.entry between.entry) r) }
 {
     match (row, between) {
-        (Some(row), Some(between)) => few_edits(alloc, row, between),
+        (Some(row), Some(between)) => few_edits(alloc, LONG, row, between),
         _ => Ok(None),
     }
 }
@@ -36,8 +39,32 @@ fn covers_last(row: &[u8], last: &[u8]) -> bool
     row == ANY || is_same_word(row, last)
 }
 
-/// How many edits lead from the key of a row to a key of its section, if they differ in one part alone, and by
-/// at most two.
+/// As how many edits a word counts that one last part lacks. `None` if neither lacks a word.
+fn edits_of_word(alloc: Global, row: &[u8], last: &[u8]) -> Result<Option<usize>, AllocError>
+    ensures { IfOk result (λ r. MatchOption r (¬ (LacksWord row.now last.now ⊎ LacksWord last.now row.now))
+        (λ n. (LacksWord row.now last.now ⊎ LacksWord last.now row.now) × (n ≡ 3))) }
+{
+    if lacks_word(alloc, row, last)? || lacks_word(alloc, last, row)? {
+        return Ok(Some(MOST_EDITS));
+    }
+    Ok(None)
+}
+
+/// How many edits lead from the one last part to the other. `None` if they are not few, nor one part lacks a word.
+fn last_edits(alloc: Global, row: &Key<'_>, key: &Key<'_>) -> Result<Option<usize>, AllocError>
+    ensures { IfOk result (λ r. IsFew (LastEdits row.now key.now) r) }
+{
+    if let Some(edits) = few_edits(alloc, LONG, row.last, key.last)? {
+        return Ok(Some(edits));
+    }
+    match key.between {
+        Some(_) => Ok(None),
+        None => edits_of_word(alloc, row.last, key.last),
+    }
+}
+
+/// How many edits lead from the key of a row to a key of its section, if they differ in one part alone. `None` if
+/// they are not few.
 fn edits_after(alloc: Global, row: &Key<'_>, key: &Key<'_>) -> Result<Option<usize>, AllocError>
     ensures { IfOk result (λ r. IsFew (EditsAfter row.now key.now) r) }
 {
@@ -45,24 +72,13 @@ fn edits_after(alloc: Global, row: &Key<'_>, key: &Key<'_>) -> Result<Option<usi
         covers_between(row.between, key.between),
         covers_last(row.last, key.last),
     ) {
-        (true, false) => few_edits(alloc, row.last, key.last),
+        (true, false) => last_edits(alloc, row, key),
         (false, true) => between_edits(alloc, row.between, key.between),
         _ => Ok(None),
     }
 }
 
-/// Whether one edit leads from one section to the other, or none: 1 or 0, and `None` for more.
-fn section_edits(alloc: Global, row: &[u8], section: &[u8]) -> Result<Option<usize>, AllocError>
-    ensures { IfOk result (λ r. IsFew (SectionEdits row.now section.now) r) }
-{
-    match edits_between(alloc, row, section)? {
-        Some(edits) if edits <= 1 => Ok(Some(edits)),
-        _ => Ok(None),
-    }
-}
-
-/// How many edits lead from the key of a row to a key, if they differ in one part alone: at most one, if it is
-/// the section, and at most two in another part.
+/// How many edits lead from the key of a row to a key, if they differ in one part alone. `None` if they are not few.
 fn one_part_edits(alloc: Global, row: &Key<'_>, key: &Key<'_>) -> Result<Option<usize>, AllocError>
     ensures { IfOk result (λ r. IsFew (OnePartEdits row.now key.now) r) }
 {
@@ -70,12 +86,12 @@ fn one_part_edits(alloc: Global, row: &Key<'_>, key: &Key<'_>) -> Result<Option<
         return edits_after(alloc, row, key);
     }
     if covers_last(row.last, key.last) && covers_between(row.between, key.between) {
-        return section_edits(alloc, row.section, key.section);
+        return few_edits(alloc, LONG_SECTION, row.section, key.section);
     }
     Ok(None)
 }
 
-/// The first of the rows whose key the fewest edits lead from, at most two, or `None` if there is no such row.
+/// The first of the rows whose key the fewest edits lead from, or `None` if none is near.
 fn nearest<'r, 't>(
     alloc: Global,
     rows: &'r [Row<'t>],
@@ -158,14 +174,14 @@ fn is_own(rows: &[Row<'_>], key: &Key<'_>) -> bool
 /// A key that no row covers.
 #[derive(Clone, Copy)]
 pub struct UnknownKey<'k> {
-    /// The nearest key of the rows, if there is one within two edits.
+    /// The nearest key of the rows, if one is near.
     pub nearest: Option<Key<'k>>,
 }
 
 /// A key that is misspelt: no row covers it, and it is near a row's key, or it has no part between dots and a
-/// section in which only the rows have settings. Near are keys that differ in one part: in the section by one
-/// edit, or by at most two between the dots or in the last part. `None` for any other key. An error if there was
-/// no memory.
+/// section in which only the rows have settings. Near are keys that differ in one part: by one edit, by two if the
+/// part is long in both, or in the last one of two by a word that one of them lacks. `None` for any other key. An
+/// error if there was no memory.
 pub fn unknown_key<'k>(
     alloc: Global,
     rows: &[Row<'k>],

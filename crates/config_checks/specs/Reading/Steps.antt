@@ -69,10 +69,10 @@ pub record ReportsFirst (rows : List Row) (options : Options) (settings : List S
   pub report : Report rows options first (output ++ missing) s
   pub lacks : MayLack e missing
 
--- a number of edits that such edits have, if it is two at most
+-- a number of edits that such edits have, if it is three at most
 abbrev pub IsFew : (ℕ → Type 0) → Option ℕ → Type 0
-IsFew AreEdits None = (n : ℕ) → AreEdits n → 2 < n
-IsFew AreEdits (Some n) = AreEdits n × (n ≤ 2)
+IsFew AreEdits None = (n : ℕ) → AreEdits n → 3 < n
+IsFew AreEdits (Some n) = AreEdits n × (n ≤ 3)
 
 -- which error it is
 abbrev pub IsMemory : CheckError → Type 0
