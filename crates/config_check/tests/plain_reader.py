@@ -417,7 +417,7 @@ def character_shown(match):
 
 
 def shown(text):
-    """A text as it stands in a field of a finding."""
+    """A text as a field of a finding shows it."""
     return UNSHOWN.sub(character_shown, text.decode(errors="surrogateescape")).encode()
 
 

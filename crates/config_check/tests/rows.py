@@ -404,8 +404,8 @@ OWN_ROWS = [
 
 # what is said of a line that is no row
 NO_DOT, NO_KIND, NO_SUCH_KIND, NO_WORDS, WORDS, BOUNDS = (
-    b"no dot stands in the key", b"no kind stands behind the key", b"no such kind", b"no words stand behind the kind",
-    b"words stand behind a kind that takes none", b"the bounds are not two integers")
+    b"no dot in the key", b"no kind after the key", b"no such kind", b"no words after the kind",
+    b"words after a kind without words", b"the bounds are not two integers")
 # texts of settings with such a line, its number, and what is said of it
 BAD_ROWS = [
     (b"nodot bool\n", 1, NO_DOT), (b"test.x\n", 1, NO_KIND), (b"test.x \n", 1, NO_KIND), (b"nodot\n", 1, NO_DOT),

@@ -7,7 +7,8 @@ ghost use Rattle.config_checks.specs.Findings.{hex, is_control, piece_shown, sho
 ghost use Rattle.config_checks.specs.Findings.{range_text, words_text, no_word_front, list_text, word_asked};
 ghost use Rattle.config_checks.specs.Findings.{meant_text, no_word_text};
 ghost use Rattle.config_checks.specs.Findings.{reason_text, severity_text, painted};
-ghost use Rattle.config_checks.specs.Findings.{AppendsPart, place, key_part, setting_shown, text_line, finding_of};
+ghost use Rattle.config_checks.specs.Findings.{AppendsPart, place, key_part, setting_shown, text_line};
+ghost use Rattle.config_checks.specs.Findings.{finding_of};
 ghost use Rattle.config_checks.specs.Report.{line_of, value_of, suggestion_of, key_text, key_meant};
 ghost use Rattle.config_checks.specs.Report.{finding_line, unknown_line};
 ghost use Rattle.config_checks.specs.Report.{fault_text, refused_line};
@@ -173,7 +174,8 @@ fn push_asked(out: &mut Vec<u8>, word: &[u8]) -> Result<(), AllocError>
 
 /// Appends a word that is meant.
 fn push_word_meant(out: &mut Vec<u8>, word: &[u8]) -> Result<(), AllocError>
-    ensures ok { OnOk result (out.new.items ≡ out.old.items ++ (codes "; did you mean " ++ word_asked word.now)) }
+    ensures ok { OnOk result (out.new.items ≡ out.old.items
+        ++ (codes "; did you mean " ++ word_asked word.now)) }
     ensures err { OnErr result (AppendsPart (Some out.old.items) (Some out.new.items)
         (codes "; did you mean " ++ word_asked word.now)) }
 {

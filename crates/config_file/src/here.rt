@@ -92,7 +92,8 @@ fn git_dir_in(rt: &HostRuntime, folder: &str) -> io::Result<Option<String>> {
     Ok(None)
 }
 
-/// The git directory: GIT_DIR, or the first from the current folder upwards. It may be relative to that folder.
+/// The git directory: GIT_DIR, or the first from the current folder upwards. It may be relative to that
+/// folder.
 pub fn find_git_dir(rt: &HostRuntime) -> io::Result<Option<String>> {
     if let Some(git_dir) = variable(rt, "GIT_DIR")? {
         return Ok(Some(linked(rt, "", git_dir)?));

@@ -186,8 +186,8 @@ fn sources(rt: &HostRuntime, files: &[&str]) -> io::Result<Vec<Source>> {
     Ok(sources)
 }
 
-/// Does what is asked of the first files, so many, and of those that they include. Reports where the walks stop, and
-/// returns whether all of it succeeds.
+/// Does what is asked of the first files, so many, and of those that they include. Reports where the walks
+/// stop, and returns whether all of it succeeds.
 fn answer_known<W: Write>(
     rt: &HostRuntime,
     writer: &mut W,

@@ -63,7 +63,8 @@ impl Source {
     }
 }
 
-/// The directory of a file with its links resolved and no `/` at its end, or nothing if the file does not exist.
+/// The directory of a file with its links resolved and no `/` at its end, or nothing if the file does not
+/// exist.
 fn real_dir(rt: &HostRuntime, name: &str) -> io::Result<String> {
     let path = match here::real_path(rt, name)? {
         Some(path) => path,
@@ -75,7 +76,8 @@ fn real_dir(rt: &HostRuntime, name: &str) -> io::Result<String> {
     }
 }
 
-/// Reads a file of this name. A file that is missing, as is one below a file, differs from one that cannot be read.
+/// Reads a file of this name. A file that is missing, as is one below a file, differs from one that cannot be
+/// read.
 fn find(rt: &HostRuntime, name: &str) -> io::Result<Found> {
     match fs::read(rt, name) {
         Ok(text) => Ok(Found::Text(text)),
@@ -147,8 +149,8 @@ pub fn files<'s>(alloc: Global, sources: &'s [Source]) -> Result<Vec<File<'s>>, 
     Ok(files)
 }
 
-/// Appends the entries of the first files, so many, and of those that they include, in Git's order. Returns where the
-/// walks stop.
+/// Appends the entries of the first files, so many, and of those that they include, in Git's order. Returns
+/// where the walks stop.
 pub fn walk_first<'w>(
     alloc: Global,
     known: &Known<'w>,
@@ -187,8 +189,8 @@ fn unread(
     Ok(None)
 }
 
-/// Reads the files that these include, and those that the read ones include, each once: a walk tells which one it
-/// comes to, and then begins again.
+/// Reads the files that these include, and those that the read ones include, each once: a walk tells which
+/// one it comes to, and then begins again.
 pub fn read_included(
     rt: &HostRuntime,
     environment: &Environment,
