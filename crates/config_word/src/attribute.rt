@@ -148,8 +148,8 @@ fn shown_words() -> &'static [Shown]
     &SHOWN
 }
 
-/// How many rows one loop shows. The compiler writes out a loop of eight rows, each with a copy of known length,
-/// and does not write out one of fifteen.
+/// How many rows one loop shows. The compiler writes out a loop of eight rows, each with a copy of known
+/// length, and does not write out one of fifteen.
 const HALF: usize = 8;
 
 /// How many bytes all words of [`SHOWN`] have with a space between each two. That is the longest text without
