@@ -110,7 +110,7 @@ CALLS(up_paths, (room->size = up_interpolate(UP_TEXT, room->up_text)) != SIZE_MA
 CALLS(gcv_paths, gcv_interpolate(TEXT, &CONTEXT, BUFFER, NULL) == GCV_OK)
 CALLS(gcv_sameness, gcv_same(row->kind, TEXT, SECOND, &room->number) == GCV_OK)
 CALLS(gcv_composed, gcv_compose(&row->color, &row->second_color, &room->color) == GCV_OK)
-CALLS(gcv_settings, gcv_lookup(row->kind, entries, entries_length, lengths, 2 * ENTRIES, TEXT, &room->entry) == GCV_OK)
+CALLS(gcv_lookups, gcv_lookup(row->kind, entries, entries_length, lengths, 2 * ENTRIES, TEXT, &room->entry) == GCV_OK)
 
 static int write_name(char *to, gcv_name name)
 {
@@ -196,7 +196,7 @@ static const struct call {
     {"path", write_text, {up_paths, gcv_paths, NULL}},
     {"same", write_bits, {NULL, gcv_sameness, NULL}},
     {"compose", write_color, {NULL, gcv_composed, NULL}},
-    {"lookup", write_entry, {NULL, gcv_settings, NULL}},
+    {"lookup", write_entry, {NULL, gcv_lookups, NULL}},
 };
 
 static const struct call *call_of(const char *name)
