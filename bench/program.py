@@ -38,14 +38,14 @@ def answers(program, file):
         return subprocess.run([program], stdin=given, stdout=subprocess.PIPE, check=False).stdout
 
 
-def usage(measuring, program, file):
+def usage(measuring, *command, file=os.devnull):
     """The seconds of processor time of a run, and its peak memory in KiB."""
     with open(file, "rb") as given:
-        command = [measuring, program]
+        command = [measuring, *command]
         ran = subprocess.run(command, stdin=given, stdout=subprocess.DEVNULL, stderr=subprocess.PIPE, check=True)
     seconds, memory, status = ran.stderr.decode().splitlines()[-1].split()
     if status not in ("0", "1"):
-        sys.exit(f"{program} ended with status {status}")
+        sys.exit(f"{command[1]} ended with status {status}")
     return float(seconds), int(memory)
 
 
@@ -63,7 +63,7 @@ def writes(program, file):
 
 def rows(measuring, programs, file, runs):
     """For each program its least milliseconds, the middle of its ratios to the first one, its writes and its peak."""
-    measured = [[usage(measuring, program, file) for program in programs] for _ in range(runs)]
+    measured = [[usage(measuring, program, file=file) for program in programs] for _ in range(runs)]
     for place, program in enumerate(programs):
         times = [runs_of[place][0] for runs_of in measured]
         ratios = [runs_of[place][0] / max(runs_of[0][0], 1e-6) for runs_of in measured]
