@@ -2,7 +2,7 @@
  *
  * Each line of standard input is the name of a call, the number of a kind, and two texts as hexadecimal digits, with
  * tabs between. First each library is asked once, and the answers must agree. Then each is called in batches of so many
- * milliseconds, in turn, for so many rounds. A line is answered by the least nanoseconds of a call, for the Rust crate,
+ * milliseconds, in turn, for so many rounds. The answer to a line is the least nanoseconds of a call, for the Rust crate,
  * this library and plain C, and the middle of the rounds' ratios to the Rust crate, for this library and plain C. What
  * is not there is `-`. */
 #define _GNU_SOURCE
@@ -46,7 +46,7 @@ struct room {
     size_t size;
 };
 
-/* The entries that are looked through: names and texts, one behind the other. */
+/* The entries that are looked through: names and texts, each after the one before. */
 static char entries[64 * ENTRIES];
 static size_t lengths[2 * ENTRIES], entries_length;
 

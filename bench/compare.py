@@ -1,4 +1,4 @@
-"""Measures the calls of the C interface beside the Rust crate's and plain C, and writes a Markdown table.
+"""Measures the calls of the C interface, the Rust crate's and plain C, and writes a Markdown table.
 
 python3 compare.py [--rounds N] [--milliseconds N] [--prefix PREFIX] [--only WORD]
 
@@ -11,7 +11,7 @@ The three libraries are linked into one process and called in batches, in turn, 
 four layouts: the code of each library at its place, or 16 bytes further on. The nanoseconds are the least of all rounds,
 the call and its loop among them. A ratio of a layout is the middle one of its rounds' ratios; `This to Rust` is the
 middle of the layouts, and `Over the layouts` has the least and the greatest. limit.c is plain C without proofs: about
-how low the ratio beside it can get. `-` stands where a library has no such call. For `normalize` the Rust crate's reader
+how low the ratio before it can get. `-` means that a library has no such call. For `normalize` the Rust crate's reader
 and its `Display` are measured, and a refusal costs the Rust crate an error with a copy of the text.
 """
 import argparse
@@ -103,7 +103,7 @@ def load():
 
 
 def head(before):
-    """What stands above a table, once all is measured."""
+    """What precedes a table, once all is measured."""
     return f"{machine()}; load {before} before and {load()} after; {datetime.date.today().isoformat()}.\n"
 
 

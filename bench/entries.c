@@ -3,7 +3,7 @@
 #include <stdio.h>
 #include <stdlib.h>
 
-/* Behind the end of a value: of its line, if no backslash goes before. */
+/* After the end of a value, which is that of its line if no backslash precedes it. */
 static const char *past_value(const char *at)
 {
     for (int quoted = 0; *at != '\n'; at++) {

@@ -1,4 +1,4 @@
-"""Measures builds of config_value beside the Rust crate's program: python3 program.py PROGRAM.. [--runs N].
+"""Measures builds of config_value and the Rust crate's program: python3 program.py PROGRAM.. [--runs N].
 
 `rt ci` leaves the builds of both compilers, as out/config_value and out/config_value.by-rattle. The processor time is
 the least of the runs, which are taken in turn, and the ratio the middle one of the runs' ratios to the Rust crate's

@@ -1,4 +1,4 @@
-/* The calls of the Rust crate gix-config-value 0.21.1 behind C functions, to measure them beside others in one process.
+/* The calls of the Rust crate gix-config-value 0.21.1 as C functions, to measure them beside others in one process.
    A text is handed in as a pointer and its length; the pointer is valid also where the length is 0, and is not kept.
    A reader writes the value and answers 1, or writes nothing and answers 0 where it refuses the text. */
 #ifndef UP_H
