@@ -2,9 +2,9 @@
  *
  * Each line of standard input is the name of a call, the number of a kind, and two texts as hexadecimal digits, with
  * tabs between. First each library is asked once, and the answers must agree. Then each is called in batches of so many
- * milliseconds, in turn, for so many rounds. The answer to a line is the least nanoseconds of a call, for the Rust crate,
- * this library and plain C, and the middle of the rounds' ratios to the Rust crate, for this library and plain C. What
- * is not there is `-`. */
+ * milliseconds, in turn, for so many rounds. The answer to a line is the least nanoseconds of a call, for the Rust
+ * crate, this library and plain C, and the middle of the rounds' ratios to the Rust crate, for this library and plain C.
+ * What is not there is `-`. */
 #define _GNU_SOURCE
 #include "gix_config_value.h"
 #include "limit.h"

@@ -1,6 +1,7 @@
 """Measures reading and checking files: python3 files.py CONFIG_VALUE CONFIG_CHECK [--runs N].
 
-They are compared with `git config --list -z`, plain C that makes no entries (entries.c), and dulwich if Python has it. The processor time is the least of the runs, which are taken in turn; the start of a program and the
+The two programs are compared with `git config --list -z`, plain C that makes no entries (entries.c), and dulwich if
+Python has it. The processor time is the least of the runs, which are taken in turn; the start of a program and the
 writing of what it lists are part of it. If the list of config_value is not Git's, the status is 1.
 """
 import argparse
