@@ -2,10 +2,11 @@
 
 python3 compare.py [--rounds N] [--milliseconds N] [--prefix PREFIX] [--only WORD]
 
-Run it while the machine does nothing else. PREFIX is where crates/gix_config_value_c/build.sh has put the library;
-without it, the library is proved and built into a folder of its own. --only takes the rows of rows.tsv with that word.
-upstream/build.py builds the Rust crate's side, and says how to name its sources; where the crate cannot be had it says
-`skipped` and why. Answers that differ end it with status 1.
+A batch is so short that other programs interrupt few: beside them most ratios change by less than a tenth. PREFIX is
+where crates/gix_config_value_c/build.sh has put the library; without it, the library is proved and built into a folder
+of its own. --only takes the rows of rows.tsv with that word. upstream/build.py builds the Rust crate's side, and says
+how to name its sources; where the crate cannot be had it says `skipped` and why. Answers that differ end it with
+status 1.
 
 The three libraries are linked into one process and called in batches, in turn, for as many rounds as --rounds says, in
 four layouts: the code of each library at its place, or 16 bytes further on. The nanoseconds are the least of all rounds,
@@ -123,8 +124,8 @@ def span(of_layouts):
 
 def main():
     arguments = argparse.ArgumentParser()
-    arguments.add_argument("--rounds", type=int, default=5, help="for each layout")
-    arguments.add_argument("--milliseconds", type=float, default=4, help="how long a batch takes")
+    arguments.add_argument("--rounds", type=int, default=60, help="for each layout")
+    arguments.add_argument("--milliseconds", type=float, default=0.3, help="how long a batch takes")
     arguments.add_argument("--prefix", type=pathlib.Path)
     arguments.add_argument("--only", default="", help="a word that the row or its call has")
     arguments = arguments.parse_args()
