@@ -11,3 +11,4 @@ mod OneKey
 mod OneSuggestion
 mod OneMeant
 mod OneReport
+mod OneLine

@@ -1,5 +1,6 @@
 -- A finding as JSON.
-use Rattle.std.specs.Prelude.{List, ℕ, ◌∷◌, [], ◌++◌, codes, Option, None, Some}
+use Rattle.std.specs.Prelude.{◌≢◌, List, ℕ, ◌∷◌, [], ◌++◌, codes, Option, None, Some}
+use Rattle.std.specs.List.{AllByRecursion}
 use Rattle.std.specs.Str.Lossy.{utf8_lossy}
 use Rattle.serde_json.specs.Data.{Data, null, number, unsigned, string, object, member, no_members}
 use Rattle.serde_json.specs.Written.{compact_text}
@@ -33,3 +34,7 @@ finding_json f =
 
 abbrev pub json_line : Finding → List ℕ
 json_line f = compact_text (finding_json f) ++ line_feed ∷ []
+
+-- no byte ends the line
+abbrev pub IsOneLine : List ℕ → Type 0
+IsOneLine = AllByRecursion (λ b. b ≢ line_feed)

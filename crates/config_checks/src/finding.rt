@@ -13,7 +13,7 @@ ghost use Rattle.config_checks.specs.Report.{line_of, value_of, suggestion_of, k
 ghost use Rattle.config_checks.specs.Report.{finding_line, unknown_line};
 ghost use Rattle.config_checks.specs.Report.{fault_text, refused_line};
 
-use crate::json::push_json;
+use crate::json_line::push_json;
 use crate::key::Key;
 use crate::kind::{Form, WordList};
 use crate::options::{Format, Options};

@@ -5,6 +5,7 @@ ghost use Rattle.serde_json.specs.View.{view};
 ghost use Rattle.serde_json.specs.Written.{compact_text};
 ghost use Rattle.config_checks.specs.Findings.{finding_of};
 ghost use Rattle.config_checks.specs.Json.{severity_name, text_json, text_or_null, finding_json, json_line};
+ghost use Rattle.config_checks.specs.Json.{IsOneLine};
 
 use crate::finding::Finding;
 use crate::reason::Severity;
@@ -54,10 +55,11 @@ fn finding_json(alloc: Global, finding: &Finding<'_>) -> Result<Value, AllocErro
     })
 }
 
-/// The JSON text of a finding. Whatever the finding says, the text reads back to its fields, and to no other.
+/// The JSON text of a finding, which is one line. Whatever the finding says, the text reads back to its fields.
 pub fn json_text(alloc: Global, finding: &Finding<'_>) -> Result<Vec<u8>, AllocError>
     ensures text { IfOk result (λ t. t.items ≡ compact_text (finding_json (finding_of finding.now))) }
     ensures reads_back { IfOk result (λ t. read t.items ≡ Some (finding_json (finding_of finding.now))) }
+    ensures one_line { IfOk result (λ t. IsOneLine t.items) }
 {
     finding_json(alloc, finding)?.to_vec(alloc)
 }
