@@ -55,7 +55,7 @@ fn finding_json(alloc: Global, finding: &Finding<'_>) -> Result<Value, AllocErro
     })
 }
 
-/// The JSON text of a finding, which is one line. Whatever the finding says, the text reads back to its fields.
+/// The JSON text of a finding, which is one line. Whatever the finding says, it reads back to its fields.
 pub fn json_text(alloc: Global, finding: &Finding<'_>) -> Result<Vec<u8>, AllocError>
     ensures text { IfOk result (λ t. t.items ≡ compact_text (finding_json (finding_of finding.now))) }
     ensures reads_back { IfOk result (λ t. read t.items ≡ Some (finding_json (finding_of finding.now))) }
