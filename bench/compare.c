@@ -2,9 +2,9 @@
  *
  * Each line of standard input is the name of a call, the number of a kind, and two texts as hexadecimal digits, with
  * tabs between. First each library is asked once, and the answers must agree. Then each is called in batches of so many
- * milliseconds, in turn, for so many rounds. A line is answered by the least nanoseconds of a call, for the Rust crate,
- * this library and plain C, and the middle of the rounds' ratios to the Rust crate, for this library and plain C. What
- * is not there is `-`. */
+ * milliseconds, in turn, for so many rounds. The answer to a line is the least nanoseconds of a call, for the Rust
+ * crate, this library and plain C, and the middle of the rounds' ratios to the Rust crate, for this library and plain C.
+ * What is not there is `-`. */
 #define _GNU_SOURCE
 #include "gix_config_value.h"
 #include "limit.h"
@@ -46,7 +46,7 @@ struct room {
     size_t size;
 };
 
-/* The entries that are looked through: names and texts, one behind the other. */
+/* The entries that are looked through: names and texts, each after the one before. */
 static char entries[64 * ENTRIES];
 static size_t lengths[2 * ENTRIES], entries_length;
 
@@ -110,7 +110,7 @@ CALLS(up_paths, (room->size = up_interpolate(UP_TEXT, room->up_text)) != SIZE_MA
 CALLS(gcv_paths, gcv_interpolate(TEXT, &CONTEXT, BUFFER, NULL) == GCV_OK)
 CALLS(gcv_sameness, gcv_same(row->kind, TEXT, SECOND, &room->number) == GCV_OK)
 CALLS(gcv_composed, gcv_compose(&row->color, &row->second_color, &room->color) == GCV_OK)
-CALLS(gcv_settings, gcv_lookup(row->kind, entries, entries_length, lengths, 2 * ENTRIES, TEXT, &room->entry) == GCV_OK)
+CALLS(gcv_lookups, gcv_lookup(row->kind, entries, entries_length, lengths, 2 * ENTRIES, TEXT, &room->entry) == GCV_OK)
 
 static int write_name(char *to, gcv_name name)
 {
@@ -196,7 +196,7 @@ static const struct call {
     {"path", write_text, {up_paths, gcv_paths, NULL}},
     {"same", write_bits, {NULL, gcv_sameness, NULL}},
     {"compose", write_color, {NULL, gcv_composed, NULL}},
-    {"lookup", write_entry, {NULL, gcv_settings, NULL}},
+    {"lookup", write_entry, {NULL, gcv_lookups, NULL}},
 };
 
 static const struct call *call_of(const char *name)

@@ -1,17 +1,18 @@
-"""Measures the calls of the C interface beside the Rust crate's and plain C, and writes a Markdown table.
+"""Measures the calls of the C interface, the Rust crate's and plain C, and writes a Markdown table.
 
 python3 compare.py [--rounds N] [--milliseconds N] [--prefix PREFIX] [--only WORD]
 
-Run it while the machine does nothing else. PREFIX is where crates/gix_config_value_c/build.sh has put the library;
-without it, the library is proved and built into a folder of its own. --only takes the rows of rows.tsv with that word.
-upstream/build.py builds the Rust crate's side, and says how to name its sources; where the crate cannot be had it says
-`skipped` and why. Answers that differ end it with status 1.
+A batch is so short that other programs interrupt few: beside them most ratios change by less than a tenth. PREFIX is
+where crates/gix_config_value_c/build.sh has put the library; without it, the library is proved and built into a folder
+of its own. --only takes the rows of rows.tsv with that word. upstream/build.py builds the Rust crate's side, and says
+how to name its sources; where the crate cannot be had it says `skipped` and why. Answers that differ end it with
+status 1.
 
 The three libraries are linked into one process and called in batches, in turn, for as many rounds as --rounds says, in
 four layouts: the code of each library at its place, or 16 bytes further on. The nanoseconds are the least of all rounds,
 the call and its loop among them. A ratio of a layout is the middle one of its rounds' ratios; `This to Rust` is the
 middle of the layouts, and `Over the layouts` has the least and the greatest. limit.c is plain C without proofs: about
-how low the ratio beside it can get. `-` stands where a library has no such call. For `normalize` the Rust crate's reader
+how low the ratio before it can get. `-` means that a library has no such call. For `normalize` the Rust crate's reader
 and its `Display` are measured, and a refusal costs the Rust crate an error with a copy of the text.
 """
 import argparse
@@ -103,7 +104,7 @@ def load():
 
 
 def head(before):
-    """What stands above a table, once all is measured."""
+    """What precedes a table, once all is measured."""
     return f"{machine()}; load {before} before and {load()} after; {datetime.date.today().isoformat()}.\n"
 
 
@@ -123,8 +124,8 @@ def span(of_layouts):
 
 def main():
     arguments = argparse.ArgumentParser()
-    arguments.add_argument("--rounds", type=int, default=5, help="for each layout")
-    arguments.add_argument("--milliseconds", type=float, default=4, help="how long a batch takes")
+    arguments.add_argument("--rounds", type=int, default=60, help="for each layout")
+    arguments.add_argument("--milliseconds", type=float, default=0.3, help="how long a batch takes")
     arguments.add_argument("--prefix", type=pathlib.Path)
     arguments.add_argument("--only", default="", help="a word that the row or its call has")
     arguments = arguments.parse_args()

@@ -2,7 +2,7 @@
 
 Each input is measured at its size and at twice that size, side by side, and the smallest processor time of all runs is
 taken, less that of an empty input. A ratio near 2 says that the time grows as the input does. A long line takes less
-time than a process to start, so it stands in its input as often as the table says.
+time than a process to start, so its input repeats it as often as the table says.
 """
 import argparse
 import os

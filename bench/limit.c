@@ -15,7 +15,7 @@ static inline unsigned digit_of(char byte)
     return DIGITS[(unsigned char)byte] - 1u;
 }
 
-/* The place behind a run of one byte, which stands in all eight of `run`, but for at most seven of them. */
+/* The place after a run of one byte, which all eight of `run` are, but for at most seven of them. */
 static inline const char *skip(const char *at, const char *end, uint64_t run)
 {
     uint64_t eight;
@@ -24,7 +24,7 @@ static inline const char *skip(const char *at, const char *end, uint64_t run)
     return at;
 }
 
-/* Reads digits, and answers the place behind them; null where there are none or the number is above `most`. */
+/* Reads digits, and returns the place after them; null if there are none or the number is above `most`. */
 INLINE const char *digits(const char *at, const char *end, unsigned base, uint64_t most, uint64_t *number)
 {
     const char *first = at;
@@ -280,7 +280,7 @@ int limit_attribute(const char *text, size_t length, uint32_t *bits)
 
 /* Colors. */
 
-/* How many bytes of white space stand here, where the first one is no ASCII. */
+/* How many bytes of white space are here, if the first one is no ASCII. */
 static size_t wide_space(const unsigned char *at, const unsigned char *end)
 {
     if (end - at < 2)

@@ -1,5 +1,5 @@
 /* Readers of the same values in plain C, of which nothing is proved: the limit that the library is held against. They
-   keep no fault and check no buffer. A reader answers 1 and puts the value, or 0 where it refuses the text. */
+   keep no fault and check no buffer. A reader returns 1 and writes the value, or 0 if it refuses the text. */
 #ifndef LIMIT_H
 #define LIMIT_H
 
@@ -18,7 +18,7 @@ int limit_name(const char *text, size_t length, gcv_name *value);
 int limit_attribute(const char *text, size_t length, uint32_t *bits);
 int limit_color(const char *text, size_t length, gcv_color *value);
 
-/* Writes the text of a color, and answers its length. */
+/* Writes the text of a color, and returns its length. */
 size_t limit_show_color(const gcv_color *value, char *text);
 
 #endif

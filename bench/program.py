@@ -1,4 +1,4 @@
-"""Measures builds of config_value beside the Rust crate's program: python3 program.py PROGRAM.. [--runs N].
+"""Measures builds of config_value and the Rust crate's program: python3 program.py PROGRAM.. [--runs N].
 
 `rt ci` leaves the builds of both compilers, as out/config_value and out/config_value.by-rattle. The processor time is
 the least of the runs, which are taken in turn, and the ratio the middle one of the runs' ratios to the Rust crate's
@@ -38,14 +38,14 @@ def answers(program, file):
         return subprocess.run([program], stdin=given, stdout=subprocess.PIPE, check=False).stdout
 
 
-def usage(measuring, program, file):
+def usage(measuring, *command, file=os.devnull):
     """The seconds of processor time of a run, and its peak memory in KiB."""
     with open(file, "rb") as given:
-        command = [measuring, program]
+        command = [measuring, *command]
         ran = subprocess.run(command, stdin=given, stdout=subprocess.DEVNULL, stderr=subprocess.PIPE, check=True)
     seconds, memory, status = ran.stderr.decode().splitlines()[-1].split()
     if status not in ("0", "1"):
-        sys.exit(f"{program} ended with status {status}")
+        sys.exit(f"{command[1]} ended with status {status}")
     return float(seconds), int(memory)
 
 
@@ -63,7 +63,7 @@ def writes(program, file):
 
 def rows(measuring, programs, file, runs):
     """For each program its least milliseconds, the middle of its ratios to the first one, its writes and its peak."""
-    measured = [[usage(measuring, program, file) for program in programs] for _ in range(runs)]
+    measured = [[usage(measuring, program, file=file) for program in programs] for _ in range(runs)]
     for place, program in enumerate(programs):
         times = [runs_of[place][0] for runs_of in measured]
         ratios = [runs_of[place][0] / max(runs_of[0][0], 1e-6) for runs_of in measured]

@@ -1,4 +1,4 @@
-"""Measures the Python package beside plain Python: python3 bench/python.py FOLDER..
+"""Measures the Python package and plain Python: python3 bench/python.py FOLDER..
 
 Each FOLDER holds a package, as pip's --target makes it; that of 0.1.0 (ctypes) is measured too, if it finds its library
 by GIX_CONFIG_VALUE_LIBRARY. A row has the least of seven turns, in microseconds of a processor, all in one run. The

@@ -1,6 +1,6 @@
-/* usage PROGRAM < INPUT > OUTPUT: runs a program, and writes to standard error its processor time in seconds, its own
-   and the system's for it, its peak memory in KiB, and its status. It is a small process, since one that Python starts
-   begins with the peak of Python. */
+/* usage PROGRAM WORD.. < INPUT > OUTPUT: runs a program, and writes to standard error its processor time in seconds,
+   its own and the system's for it, its peak memory in KiB, and its status. It is a small process, since one that Python
+   starts begins with the peak of Python. */
 #define _DEFAULT_SOURCE
 #include <stdio.h>
 #include <sys/resource.h>
@@ -14,7 +14,7 @@ static double seconds(struct timeval time)
 
 int main(int count, char **arguments)
 {
-    pid_t child = count == 2 ? fork() : -1;
+    pid_t child = count > 1 ? fork() : -1;
     if (child == 0) {
         execv(arguments[1], arguments + 1);
         _exit(127);

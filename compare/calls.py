@@ -16,7 +16,7 @@ def digits(text):
 
 
 def line(value, install, home, users):
-    """A call; `None` stands for a directory or a lookup that is missing."""
+    """A call; `None` is a directory or a lookup that is missing."""
     known = None if users is None else b",".join(digits(name) + b"=" + digits(users[name]) for name in users)
     return b"\t".join([digits(value), digits(install), digits(home), b"-" if known is None else known])
 

@@ -3,8 +3,8 @@
 Run as a program, it compares the page: each class has one row, with its versions, a text in which it is shown and what
 was run. Its last line is 'N passed, M failed'.
 
-A class is decided by a rule over a question and its two answers; no two rules hold of one. It is expected in the
-versions that it names: where they run it has to be seen, in others it must not be.
+A rule over a question and its two answers decides a class, and no two rules hold for one. A class is expected in the
+versions that it names: there it has to be seen, and in other versions it must not be.
 """
 import collections
 import pathlib
@@ -24,7 +24,7 @@ Class = collections.namedtuple("Class", "name kinds when rule shown plain reader
 # the versions of what, from which one on, and up to which one; None: without an end
 When = collections.namedtuple("When", "of since before", defaults=["Git", None, None])
 
-# what Git answers where the value counts as not set
+# what Git answers if the value counts as not set
 NOT_SET = "not set"
 NUMBERS = ("int", "bool", "bool-or-int")
 SMALL_NUMBERS = ("bool", "bool-or-int")
@@ -57,7 +57,7 @@ def number_shown(kind, number):
 
 
 def is_number_of_ours_alone(case):
-    """The library answers the number that the text is, and Git refuses it."""
+    """The library reads the number, and Git refuses it."""
     number = amount(case.question.text)
     return number is not None and case.git is None and case.ours == number_shown(case.question.kind, number)
 
@@ -127,14 +127,14 @@ def plain_color(text):
 # paths
 
 def directory_and_rest(case):
-    """The directory that a `~` or a `~user` stands for, and what is behind its slash; None where there is none."""
+    """The directory that a `~` or a `~user` means, and what follows its slash, or None."""
     name, slash, rest = case.question.text.partition(b"/")
     directory = case.question.home if name == b"~" else case.user
     return (directory, rest) if slash and name.startswith(b"~") and directory is not None else None
 
 
 def is_expanded_by_git(case):
-    """Git put the rest behind a directory and a slash; behind the prefix alone it takes an absolute rest for itself."""
+    """Git put the rest after a directory and a slash; only after the prefix it keeps an absolute rest as it is."""
     text = case.question.text
     if text.startswith(PREFIX):
         rest = text[len(PREFIX):]
@@ -169,7 +169,7 @@ def no_utf8(case):
 
 
 def is_marked(case):
-    """The text has the mark; a second one, behind it, the library takes for a part of the path."""
+    """The text has the mark; the library takes a second one for a part of the path."""
     text = case.question.text
     rest = text.removeprefix(MARK)
     is_kept = case.ours == (rest if is_utf8(rest) else None)
@@ -185,7 +185,7 @@ def file_is_missing(case):
 
 
 def without_mark(text):
-    """The path behind the mark, or the text itself where that would be marked again."""
+    """The path after the mark, or the text itself if that would have a mark again."""
     rest = text.removeprefix(MARK)
     return text if rest.startswith(MARK) else rest
 

@@ -1,6 +1,6 @@
 """Compares how configuration files are read, by the built program and by the installed Git.
 
-python3 config_file.py PROGRAM [--seed N] [--files N] [--short] [--git COMMAND]
+python3 config_file.py PROGRAM [--seed N] [--files N] [--short] [--patterns N] [--git COMMAND]
 
 PROGRAM is config_value, which lists many files in one call; Git lists one in a call. Both have to give the same
 entries in the same order, and to refuse a file at the same line after the same entries. Git tells the line of an entry
@@ -9,9 +9,12 @@ where its value is no color; the program has to give an entry this line.
 The files are those of config_files.txt, as many changed ones by chance as --files says, and as many of the short texts,
 which are all texts of up to 4 bytes of LETTERS; with --short it is all of these.
 
-The one class of differences is a NUL outside a comment: Git ends a value or a key there, and the program refuses the
-file. The run is the same for the same seed and number of files. The last line is 'N passed, M failed'. Without such a
-Git it says `skipped` and why, and nothing has passed.
+Then both follow includes: in the folders of includes.txt, and as often as --patterns says in a folder whose file has
+PATTERNS conditions by chance on a git directory whose name is drawn, too.
+
+The classes of differences are a NUL outside a comment, where Git ends a value or a key, and the program refuses the
+file; and the condition hasconfig, which the program does not follow. The run is the same for the same seed and numbers.
+The last line is 'N passed, M failed'. Without such a Git it says `skipped` and why, and nothing has passed.
 """
 import argparse
 import collections
@@ -29,6 +32,7 @@ import tempfile
 from programs import Missing, Wrong, counted
 
 ROWS = pathlib.Path(__file__).with_name("config_files.txt")
+TREES = ROWS.with_name("includes.txt")
 LETTERS = [bytes([byte]) for byte in b'[]"\\=#;\n\r \ta1.-']
 LONGEST = 4
 PIECES = [*LETTERS, b"\r\n", b"\\\n", b"\\\r\n", b'\\"', b"\\\\", b"\\n", b"\\t", b"\\b", b"\\x", b"\0", b"\v", b"\f",
@@ -53,6 +57,14 @@ SHOWN = 20
 REFUSED = 128
 REFUSAL = re.compile(rb"fatal: bad config line (\d+) in file ")
 NUL = "a NUL outside a comment"
+HASCONFIG = "the condition hasconfig"
+TOO_DEEP = "too deep"
+PATTERNS = 150
+NAMES = [*"aabAB1-[]!^*?:,_~", " ", "\\", "/", "/", "\u00e9"]
+PARTS = [" ", *r"""a b A B 1 - ! ^ : , _ ? * / ] \ é ** /**/ **/ /** [ [] [! [^ [a-c] [!a] [A-Z] [a- []-a] [\]] [--9]
+         [a-\c] [/] \* \A \[ [:alpha:] [[: :] :]] [[:upper:]a]""".split(), *(
+             f"[{no}[:{name}:]]" for no in ("", "!") for name in
+             "alnum alpha blank cntrl digit graph lower print punct space upper xdigit word ALPHA".split())]
 
 # what a reader gives: keys and values, the latter None for a key alone, and the line of the refusal, or None
 Answer = collections.namedtuple("Answer", "entries refused")
@@ -134,6 +146,12 @@ class Git:
             return list(pool.map(self.line, names))
 
 
+def is_part(some, entries):
+    """Some of the entries, in their order."""
+    left = iter(entries)
+    return all(one in left for one in some)
+
+
 def is_cut(listed, git):
     """The program refuses a NUL, and Git has the entries before it, or refuses the file at another line."""
     entries = listed.answer.entries
@@ -178,6 +196,111 @@ def files(arguments):
     return [*texts, *short, *(changed(draw, [*known, LONG]) for _ in range(arguments.files))]
 
 
+class Folder:
+    """A folder of files that include others, as a line of includes.txt has it."""
+
+    def __init__(self, path, line):
+        self.path, self.main, self.known, self.line = path, "p", {"PATH": os.environ["PATH"], "LC_ALL": "C"}, line
+        path.mkdir(parents=True)
+        asked, names = "", []
+        for field in line.encode().decode("unicode_escape").split(" | "):
+            word, _, rest = field.partition(" ")
+            if field.startswith("?"):
+                asked += f'[includeIf "{field[1:]}"]path=h\n'
+            elif word.startswith("@"):
+                getattr(self, word[1:])(*rest.split())
+            else:
+                name, _, text = field.partition("=")
+                names.append(name)
+                self.write(name, text)
+        if asked:
+            self.write("p", asked)
+            self.write("h", "[hit]k=1\n")
+        if names and self.main == "p":
+            self.main = names[0]
+
+    def write(self, name, text):
+        (self.path / name).parent.mkdir(parents=True, exist_ok=True)
+        (self.path / name).write_bytes(text.encode("latin-1"))
+
+    def read(self, name):
+        self.main = name
+
+    def branch(self, name=None):
+        known = self.known | {"HOME": str(self.path), "GIT_CONFIG_NOSYSTEM": "1"}
+        words = ["git", "init", "-q", *(["-b", name] if name else [])]
+        subprocess.run(words, cwd=self.path, env=known, check=True, capture_output=True)
+        if name is None:
+            (self.path / ".git/HEAD").write_text("0" * 39 + "1\n", "ascii")
+
+    def git_dir(self, name):
+        """Makes a git directory in place of the one that is found from here."""
+        for part in ("objects", "refs"):
+            (self.path / name / part).mkdir(parents=True)
+        (self.path / name / "HEAD").write_text("ref: refs/heads/main\n", "ascii")
+        self.known["GIT_DIR"] = str(self.path / name)
+
+    def home(self, name):
+        self.known["HOME"] = str(self.path / name)
+
+    def chain(self, length):
+        for number in range(int(length) + 1):
+            self.write(str(number) if number else "p", f"[a]k={number}\n[include]path={number + 1}\n")
+
+    def link(self, name, target):
+        (self.path / name).parent.mkdir(parents=True, exist_ok=True)
+        (self.path / name).symlink_to(target)
+
+    def folder(self, name):
+        (self.path / name).mkdir()
+
+    def run(self, *words):
+        return subprocess.run(words, cwd=self.path, env=self.known, capture_output=True, check=False)
+
+    def by_program(self, program):
+        """The entries with their files, and where the program stops: a file and a line, or None."""
+        run = self.run(program, "--file", self.main, "--includes", "--null")
+        parts = run.stdout.split(b"\0")
+        stopped = re.fullmatch(rb"(.+):(\d+): (.*)\n", run.stderr, re.DOTALL)
+        if run.returncode != bool(stopped) or bool(run.stderr) != bool(stopped):
+            raise Wrong(f"{self.line}: {program} ended with status {run.returncode} and {run.stderr!r}")
+        place = stopped and (TOO_DEEP if b"too deep" in stopped[3] else (stopped[1], int(stopped[2])))
+        return [(name.rsplit(b":", 1)[0], entry(data)) for name, data in zip(parts[::2], parts[1::2])], place
+
+    def by_git(self, git):
+        """The same by Git."""
+        run = self.run(git, "config", "--file", self.main, "--includes", "--list", "--null", "--show-origin")
+        parts = run.stdout.split(b"\0")
+        stopped = re.search(rb"fatal: bad config line (\d+) in file (.+)\n", run.stderr)
+        deep = b"fatal: exceeded maximum include depth" in run.stderr
+        if run.returncode != (REFUSED if stopped or deep else 0):
+            raise Wrong(f"{self.line}: git ended with status {run.returncode}: {run.stderr!r}")
+        place = TOO_DEEP if deep else stopped and (stopped[2], int(stopped[1]))
+        return [(name.removeprefix(b"file:"), entry(data)) for name, data in zip(parts[::2], parts[1::2])], place
+
+    def values(self, program, git):
+        """The value of the last entry that has one, by its key: as the program gives it, and Git."""
+        keys = [key for _, (key, value) in self.by_git(git)[0] if value is not None and key.count(b".") == 1]
+        ours = [self.run(program, "--file", self.main, key, "--includes").stdout for key in keys[-1:]]
+        return ours, [self.run(git, "config", "--file", self.main, "--includes", key).stdout for key in keys[-1:]]
+
+
+def lines_of_trees():
+    return [line for line in TREES.read_text("ascii").splitlines() if not line.startswith("#")]
+
+
+def drawn(draw, pieces, length):
+    return "".join(draw.choice(pieces) for _ in range(draw.randint(1, length)))
+
+
+def conditions(draw):
+    """A name, and a line whose conditions ask for it by patterns."""
+    name = "/".join(part for part in drawn(draw, NAMES, 5).split("/") if part) or "a"
+    quoted = [drawn(draw, PARTS, 4).replace("\\", "\\\\") for _ in range(PATTERNS)]
+    fields = [f"?gitdir{'/i' * draw.randrange(2)}:./{pattern}" for pattern in quoted]
+    return name, " | ".join(fields).encode("unicode_escape").decode("ascii")
+
+
 class Comparison:
     """What was compared, and what came of it."""
 
@@ -209,6 +332,34 @@ class Comparison:
             if line is not None and line not in listed.lines:
                 self.faults.append((text, listed, line))
 
+    def follow(self, name, tree, difference=None):
+        """Compares what includes give in a folder. In a class of differences Git may have more entries."""
+        program, git = self.program.path, self.git.command
+        ours, other = tree.by_program(program), tree.by_git(git)
+        if ours != other and difference and is_part(ours[0], other[0]):
+            self.counts[difference] += 1
+        elif ours != other:
+            self.faults.append((tree.line[:200], ours, other))
+        else:
+            self.counts[name] += 1
+            if other[1] is None:
+                ours, other = tree.values(program, git)
+                self.counts["values"] += ours == other
+                if ours != other:
+                    self.faults.append((tree.line[:200], ours, other))
+
+    def follow_all(self, arguments, folder):
+        """Compares the folders of includes.txt, and folders whose git directory is asked for by patterns."""
+        for number, line in enumerate(lines_of_trees()):
+            difference = HASCONFIG if "hasconfig" in line else NUL if r"\x00" in line else None
+            self.follow("folders", Folder(folder / f"f{number}" / "R", line), difference)
+        draw = random.Random(arguments.seed)
+        for number in range(arguments.patterns):
+            name, line = conditions(draw)
+            tree = Folder(folder / f"p{number}", line)
+            tree.git_dir(name)
+            self.follow(f"folders with {PATTERNS} patterns", tree)
+
 
 def compare(arguments, folder):
     git = Git(arguments.git, folder)
@@ -217,6 +368,7 @@ def compare(arguments, folder):
     texts = files(arguments)
     for at in range(0, len(texts), BATCH):
         comparison.ask(texts[at:at + BATCH])
+    comparison.follow_all(arguments, folder / "includes")
     for name, count in comparison.counts.items():
         print(f"{count:>7,} {name}")
     for text, listed, other in comparison.faults[:SHOWN]:
@@ -231,6 +383,7 @@ def main():
     arguments.add_argument("--seed", type=int, default=1)
     arguments.add_argument("--files", type=int, default=1500)
     arguments.add_argument("--short", action="store_true")
+    arguments.add_argument("--patterns", type=int, default=30)
     arguments.add_argument("--git", default="git")
     arguments = arguments.parse_args()
     with tempfile.TemporaryDirectory() as folder:

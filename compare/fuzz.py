@@ -5,13 +5,13 @@ python3 fuzz.py PROGRAM [--seed N] [--lines N] [--seconds S]
 One process of the program answers everything, batch by batch. Each text is asked of every kind. It is checked that
 
 - the process lives, gives one answer a line, and ends with the status of its answers;
-- an answer is `ok` and at most 127 printable bytes, `refused`, or `unknown kind`, the last exactly where the line
+- an answer is `ok` and at most 127 printable bytes, `refused`, or `unknown kind`, the last exactly if the line
   names no kind;
 - an `ok` text is answered by itself;
 - a color name and an attribute word are colors with the same text;
 - an amount is an integer, and is what decides a boolean; no suffix alone is an integer;
-- a text of two accepted color texts joined by white space is accepted exactly where they have at most two color
-  words together, and is answered by the words of both; joined by a near miss of white space it is refused.
+- a text of two accepted color texts joined by white space is accepted exactly if they have at most two color
+  words together, and its answer has the words of both; joined by a near miss of white space it is refused.
 
 The run is the same for the same seed and number of lines; with --seconds it goes on until the time is over. It prints
 the first faults, a table of what was tried, and last 'N passed, M failed', counted in batches.

@@ -32,7 +32,7 @@ def of_palette(number, ground):
 
 
 def of_name(name, ground):
-    """The code of a foreground, at 0, or of a background; None where the color stays as it is."""
+    """The code of a foreground, at 0, or of a background; None if the color stays the same."""
     if name == "normal":
         return None
     if name == "default":
@@ -148,7 +148,7 @@ class Git:
         return [text for text, carried in zip(wanted, given) if text != carried]
 
     def install(self):
-        """The directory that stands for the prefix; where Git does not know the prefix, any."""
+        """The directory that the prefix means; any, if Git does not know the prefix."""
         given = self.answer("prefix", Question("path", calls.PREFIX))
         return b"/usr" if given in (None, calls.PREFIX) else given.removesuffix(b"/")
 
@@ -173,6 +173,6 @@ def users():
 
 
 def c_library():
-    """The version of glibc, or one below all where the machine has another C library."""
+    """The version of glibc, or one below all if the machine has another C library."""
     name, version = platform.libc_ver()
     return tuple(map(int, version.split("."))) if name == "glibc" else (0,)

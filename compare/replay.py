@@ -4,11 +4,11 @@ python3 replay.py PROGRAM [FOLDER]     feeds the lines to the program, and compa
 python3 replay.py --again              asks the crate again for them, and for the calls of crates/path_answers/stdin
 python3 replay.py --make FOLDER [--seed N] [--lines N] [--calls N]     draws others, and has the crate answer them
 
-The first two print the first differences, and last 'N passed, M failed'; where the crate cannot be had they say
+The first two print the first differences, and last 'N passed, M failed'; if the crate cannot be had they say
 `skipped` and why. --make writes lines.txt and answers.txt, which PROGRAM FOLDER replays, and calls.txt and
 call_answers.txt for path_answers. The lines are mutated as in fuzz.py, short texts in full and long ones among them; of
-each kind as many are drawn as of another, half of them accepted where there are so many. The same seed and numbers give
-the same files. A path that is no UTF-8 is answered by the rule of calls.py where the crate keeps it.
+each kind as many are drawn as of another, half of them accepted if there are so many. The same seed and numbers give
+the same files. The rule of calls.py answers a path that is no UTF-8, if the crate keeps it.
 """
 import argparse
 import pathlib

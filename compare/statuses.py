@@ -1,6 +1,6 @@
 #!/usr/bin/env python3
-"""The exit status of the built program: python3 statuses.py PROGRAM. It is 0 where each line has a value, 1 where some
-line has none, and 2 where the input cannot be read or the output cannot be written. The last line is
+"""The exit status of the built program: python3 statuses.py PROGRAM. It is 0 if each line has a value, 1 if some
+line has no value, and 2 if the input cannot be read or the output cannot be written. The last line is
 'N passed, M failed'."""
 import os
 import pathlib
@@ -8,14 +8,14 @@ import subprocess
 import sys
 
 FULL = pathlib.Path("/dev/full")
-# a line, or nothing, is answered where it can be, and the status is that of the answers
+# a line, or nothing, is answered if possible, and the status is that of the answers
 ANSWERED = [
     ("no line", b"", b"", 0),
     ("a line with a value", b"integer 0x10k\n", b"ok 16k\n", 0),
     ("two lines with values", b"boolean yes\ninteger 1", b"ok true\nok 1\n", 0),
     ("a line without a value", b"integer 08\n", b"refused\n", 1),
     ("a line of no kind", b"number 1\n", b"unknown kind\n", 1),
-    ("a value behind a refusal", b"integer 08\ninteger 1\n", b"refused\nok 1\n", 1),
+    ("a value after a refusal", b"integer 08\ninteger 1\n", b"refused\nok 1\n", 1),
 ]
 # each line has a value, or has none: what is not written decides alone
 UNWRITTEN = [b"integer 1\n", b"integer 08\n"]

@@ -7,7 +7,7 @@ from classes import CLASSES, NUMBERS, Question
 
 SUFFIXES = ["", "k", "m", "g", "K", "M", "G"]
 SIGNS = ["", "-", "+"]
-# how a number is written, by what stands before its digits
+# how a number is written, by what precedes its digits
 FORMS = {"": "d", "0": "o", "0x": "x", "0X": "X", "0b": "b"}
 EDGES = sorted({(1 << bits) // unit + more for bits in (31, 32, 63, 64) for unit in (1, 1 << 10, 1 << 20, 1 << 30)
                 for more in (-1, 0, 1)})
@@ -32,7 +32,7 @@ LETTERS = {"number": [b"0", b"1", b"8", b"x", b"b", b"k", b"+", b"-", b" "],
 
 
 def is_carried(text):
-    """Whether the file can carry the text; only a NUL ends a value there, whatever stands around it."""
+    """Whether the file can carry the text; only a NUL ends a value there, whatever is around it."""
     return b"\0" not in text
 
 
@@ -119,7 +119,7 @@ MADE = {"number": number_text, "color": color_text, "path": path_text}
 
 
 def texts(draw, kind, first, count):
-    """So many different texts, or those that come first, if they are more: behind them the short ones up to a third of
+    """So many different texts, or those that come first, if they are more: after them the short ones up to a third of
     all, and others by chance."""
     found = dict.fromkeys(first)
     for text in itertools.islice(short(LETTERS[kind]), count // 3):

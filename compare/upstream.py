@@ -12,7 +12,7 @@ on Unix. They are held to that rule, and counted.
 
 The run is the same for the same seed and numbers. The first difference is shrunk: to the first text of at most two
 bytes that differs, or else until no part of it can be taken out or be one space or zero. The last line is 'N passed, M
-failed', counted in batches; where the crate cannot be had it says `skipped` and why, and nothing has passed.
+failed', counted in batches; if the crate cannot be had it says `skipped` and why, and nothing has passed.
 """
 import argparse
 import itertools

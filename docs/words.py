@@ -156,7 +156,7 @@ def declared(crate, path):
 
 @functools.lru_cache(maxsize=None)
 def looked_up(module, name):
-    """The word of that name that a module has or passes on, or None where it is the prover's own."""
+    """The word of that name that a module has or passes on, or None if it is the prover's own."""
     parts = module.split(".")
     if parts[2:4] == ["specs", "declared"]:
         path = [it for it in parts[4:] if it != "TheConstants"]

@@ -396,7 +396,7 @@ static PyGetSetDef name_fields[] = {
 
 static PyMethodDef name_methods[] = {
     {"parse", read_name, METH_O | METH_CLASS,
-     "parse($type, text, /)\n--\n\nThe name that a text is a text of."},
+     "parse($type, text, /)\n--\n\nThe name that a text reads to."},
     SHARED_METHODS,
 };
 
@@ -515,8 +515,8 @@ static PyMethodDef attribute_methods[] = {
 
 static PyType_Slot attribute_slots[] = {
     {Py_tp_doc, "Attribute(bits=0)\n--\n\nA set of the fifteen attributes. Operators are |, &, ^, - and ~; "
-                "in, len() and iteration\n"
-                "see its attributes by rising bit, and int() is its bits."},
+                "`in` tells subsets too,\n"
+                "iteration begins with the lowest bit, and int() gives the bits."},
     {Py_tp_new, attribute_new},
     {Py_tp_repr, attribute_repr},
     {Py_tp_iter, attribute_iter},
@@ -590,7 +590,7 @@ static PyObject *color_compose(PyObject *self, PyObject *other)
 static PyGetSetDef color_fields[] = {
     {"foreground", color_foreground, NULL, "The first Name, or None.", NULL},
     {"background", color_background, NULL, "The second Name, or None.", NULL},
-    {"attributes", color_attributes, NULL, "The Attribute of all words that are attributes.", NULL},
+    {"attributes", color_attributes, NULL, "All attributes, as one Attribute.", NULL},
     {NULL, NULL, NULL, NULL, NULL},
 };
 
@@ -607,18 +607,17 @@ static PyMethodDef color_methods[] = {
     {"parse", read_color, METH_O | METH_CLASS,
      "parse($type, text, /)\n--\n\nThe color that a text reads to."},
     {"compose", color_compose, METH_O,
-     "compose($self, other, /)\n--\n\nThe color that a text of this one, a space and a text of the other one "
-     "reads to.\n"
+     "compose($self, other, /)\n--\n\nThe color of the text of this one, a space, and the text of the other one.\n"
      "ValueError if they have more than two names together."},
     {"escape", color_escape, METH_NOARGS,
-     "escape($self, /)\n--\n\nThe escape sequence that gives a terminal this color, as Git has it."},
+     "escape($self, /)\n--\n\nThe escape sequence that gives a terminal this color, as Git writes it."},
     SHARED_METHODS,
 };
 
 static PyType_Slot color_slots[] = {
     {Py_tp_doc, "Color(foreground=None, background=None, attributes=None)\n--\n\nA foreground, a "
                 "background and attributes.\n"
-                "ValueError if there is a background without a foreground, to which no text reads."},
+                "ValueError if there is a background without a foreground: it has no text."},
     {Py_tp_new, color_new},
     {Py_tp_repr, represented},
     {Py_tp_getset, color_fields},
@@ -759,7 +758,7 @@ static PyObject *text_of(const char *bytes)
     return PyUnicode_DecodeUTF8(bytes, (Py_ssize_t)strlen(bytes), "surrogateescape");
 }
 
-/* The line, the key and the text of each setting, where the text of a key without `=` is None. */
+/* The line, the key and the text of each setting; the text of a key without `=` is None. */
 static PyObject *listed(const gcv_settings *settings)
 {
     PyObject *list = PyList_New((Py_ssize_t)settings->count);
@@ -857,13 +856,13 @@ static PyObject *included(PyObject *Py_UNUSED(module), PyObject *args)
 static PyMethodDef functions[] = {
     {"suffix", read_suffix, METH_O, "suffix(text, /)\n--\n\nThe suffix that a text names: 'k', 'm' or 'g'."},
     {"integer", read_amount, METH_O,
-     "integer(text, /)\n--\n\nThe number that a text writes, times the factor of its suffix, of 64 bits."},
+     "integer(text, /)\n--\n\nThe number in a text, times the factor of its suffix; it fits 64 bits."},
     {"integer_parts", read_integer_parts, METH_O,
-     "integer_parts(text, /)\n--\n\nThe number that a text writes, and its suffix: 'k', 'm', 'g' or None."},
+     "integer_parts(text, /)\n--\n\nThe number in a text, and its suffix: 'k', 'm', 'g' or None."},
     {"boolean", read_boolean, METH_O,
-     "boolean(text, /)\n--\n\nThe truth value that a word or a number writes."},
+     "boolean(text, /)\n--\n\nThe truth value of a word or a number."},
     {"normalize", normalized, METH_VARARGS,
-     "normalize(kind, text, /)\n--\n\nThe one canonical text of the value of a text of this kind."},
+     "normalize(kind, text, /)\n--\n\nThe canonical text of what a text of this kind means."},
     {"same", same, METH_VARARGS,
      "same(kind, first, second, /)\n--\n\nWhether two texts of this kind mean the same."},
     {"encode", encoded, METH_O, NULL},
@@ -877,7 +876,7 @@ static PyMethodDef functions[] = {
 static PyModuleDef definition = {
     PyModuleDef_HEAD_INIT, "gix_config_value._core", NULL, -1, functions, NULL, NULL, NULL, NULL};
 
-/* Makes a type of values, and puts it into the module. Its instances are neither changed nor subclassed. */
+/* Makes a type of values, and adds it to the module. Its instances are neither changed nor subclassed. */
 static PyTypeObject *add_type(PyObject *module, const char *name, PyType_Slot *slots)
 {
     PyType_Slot all[MOST_SLOTS];

@@ -130,7 +130,7 @@ def build_wheel(wheel_directory, config_settings=None, metadata_directory=None):
 
 
 def build_sdist(sdist_directory, config_settings=None):
-    """The name of an archive of the sources, once it is written. A wheel is made of it where the C library is."""
+    """The name of an archive of the sources, once it is written. A wheel is made of it if the C library is there."""
     name = f"{_said('name')}-{_said('version')}"
     files = {**_package(), **{source: (HERE / source).read_bytes() for source in SOURCES},
              **{license: _license(license) for license in LICENSES}, "PKG-INFO": _metadata()}

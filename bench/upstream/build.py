@@ -20,7 +20,7 @@ class Missing(Exception):
 
 
 class Broken(Exception):
-    """The crate is there, and what stands on it is not built."""
+    """The crate is there, and what uses it is not built."""
 
 
 def is_the_crate(folder):

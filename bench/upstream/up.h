@@ -1,6 +1,6 @@
-/* The calls of the Rust crate gix-config-value 0.21.1 behind C functions, to measure them beside others in one process.
-   A text is handed in as a pointer and its length; the pointer is valid also where the length is 0, and is not kept.
-   A reader writes the value and answers 1, or writes nothing and answers 0 where it refuses the text. */
+/* The calls of the Rust crate gix-config-value 0.21.1 as C functions, to measure them beside others in one process.
+   A text is handed in as a pointer and its length; the pointer is valid even if the length is 0, and is not kept.
+   A reader writes the value and returns 1, or writes nothing and returns 0 if it refuses the text. */
 #ifndef UP_H
 #define UP_H
 
@@ -44,16 +44,16 @@ uint32_t up_name_read(const uint8_t *text, size_t length, up_name *value);
 uint32_t up_attribute_read(const uint8_t *text, size_t length, uint32_t *value);
 uint32_t up_color_read(const uint8_t *text, size_t length, up_color *value);
 
-/* Writes what `Display` shows of a color, and answers its length. */
+/* Writes what `Display` shows of a color, and returns its length. */
 size_t up_color_show(const up_color *value, uint8_t *text);
 
 /* kind: 1 suffix, 2 integer, 3 amount, 4 boolean, 5 name, 6 attribute, 7 color. Reads the text and writes what
- * `Display` shows of the value, and answers its length, or SIZE_MAX where the text is refused. The crate has no one
+ * `Display` shows of the value, and returns its length, or SIZE_MAX if the text is refused. The crate has no one
  * call for it. */
 size_t up_normalize(uint32_t kind, const uint8_t *text, size_t length, uint8_t *shown);
 
 /* Makes a `Path` of the value and interpolates it: the install directory is /usr/lib/git, the home /home/bob, and the
-   lookup knows alice, whose home is /home/alice. Writes the path and answers its length, or SIZE_MAX where the value is
+   lookup knows alice, whose home is /home/alice. Writes the path and returns its length, or SIZE_MAX if the value is
    refused or its path needs more room. */
 size_t up_interpolate(const uint8_t *value, size_t length, uint8_t *path);
 

@@ -55,7 +55,7 @@ if ! rt=$(command -v rt); then
     echo "rt, the command of the toolchain, is not in PATH" >&2
     exit 2
 fi
-# the toolchain's heap, which stands between the library and malloc, realloc and free
+# the toolchain's heap, by which the library calls malloc, realloc and free
 heap=$(dirname -- "$(dirname -- "$(readlink -f -- "$rt")")")/c/liblibc_c.a
 if [ ! -f "$heap" ]; then
     echo "the toolchain has no $heap" >&2
@@ -63,7 +63,7 @@ if [ ! -f "$heap" ]; then
 fi
 work=$(mktemp -d)
 trap 'rm -rf -- "$work"' EXIT
-# where a shell runs no EXIT trap at a signal
+# some shells run no EXIT trap after a signal
 trap 'exit 130' INT
 trap 'exit 143' TERM
 

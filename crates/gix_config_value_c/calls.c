@@ -16,11 +16,11 @@ const char *gcv_status_text(gcv_status status)
     case GCV_OK:
         return "no error";
     case GCV_REFUSED:
-        return "the text has no value of its kind, or the path stands for nothing";
+        return "the text has no value of its kind, or means no path";
     case GCV_OVERFLOW:
-        return "the product leaves 64 bits";
+        return "the product does not fit 64 bits";
     case GCV_NO_TEXT:
-        return "no text reads to one of the colors";
+        return "one of the colors has no text";
     case GCV_TOO_MANY_NAMES:
         return "the colors have more than two names together";
     case GCV_ABSENT:
@@ -40,7 +40,7 @@ const char *gcv_status_text(gcv_status status)
     case GCV_SHORT_BUFFER:
         return "the buffer is too short";
     case GCV_NO_MEMORY:
-        return "memory was refused, or the path is too long";
+        return "out of memory, or the path is too long";
     case GCV_BAD_LINE:
         return "a line of the file is invalid";
     case GCV_NUL:
@@ -70,7 +70,7 @@ static gcv_status write_text(const char *text, size_t length, char *buffer, size
 
 gcv_status gcv_fault_text(gcv_fault fault, char *GCV_RESTRICT buffer, size_t capacity, size_t *size)
 {
-    /* that of a refused suffix, which has no text where the contracts are proved */
+    /* that of a refused suffix, whose fault has no text in the proved library */
     static const char suffix[] = "Suffixes need to be 'k', 'm' or 'g'";
     char none[1] = {0};
     if (fault == GCV_FAULT_NONE) {
@@ -121,7 +121,7 @@ gcv_status gcv_parse_color(const char *text, gcv_color *GCV_RESTRICT out, gcv_fa
     return gcv_read_color(or_true(text), strlen(or_true(text)), out, fault);
 }
 
-/* An escape sequence as far as it is written. */
+/* An escape sequence, as far as it is built. */
 typedef struct sequence {
     char text[GCV_LONGEST_TEXT];
     size_t length;
@@ -141,7 +141,7 @@ static void put_number(sequence *to, unsigned number)
     put_digits(to, number);
 }
 
-/* A code, after what begins the sequence or a separator. That of reset is empty. */
+/* A code, after the beginning of the sequence or a separator. That of reset is empty. */
 static void put_code(sequence *to, unsigned code)
 {
     if (to->length > 0) {
@@ -158,7 +158,7 @@ static void put_code(sequence *to, unsigned code)
 /* The codes of a name; `ground` is 0 for a foreground, and 10 for a background. */
 static void put_name(sequence *to, const gcv_name *name, unsigned ground)
 {
-    /* of a word: the eight basic colors, each with its bright one after it */
+    /* for a word: the eight basic colors, each followed by its bright one */
     unsigned place = (unsigned)name->tag - GCV_BLACK;
     unsigned number = name->tag == GCV_ANSI ? name->palette : place / 2 + 8 * (place % 2);
     if (name->tag == GCV_DEFAULT) {
@@ -207,7 +207,7 @@ gcv_status gcv_escape_color(const gcv_color *value, char *GCV_RESTRICT buffer, s
     return write_text(to.text, to.length, buffer, capacity, size);
 }
 
-/* A path of a user: it stands for what `~` and the rest stand for, if the home is that of the user. */
+/* A path of a user: it means what `~` and the rest mean with the home of that user. */
 static gcv_status interpolate_user(const char *text, size_t length, gcv_find_home *find, void *state, char *buffer,
                                    size_t capacity, size_t *size, gcv_fault *fault)
 {

@@ -52,7 +52,7 @@ class Configuration(dict):
     """The texts of settings by their keys, and the entries that they come from.
 
     A key is as Git lists it, `branch.Main.rebase`, and its section and its last part may be in any case. The last entry
-    with the key decides. Its text is `None` if the key has no `=`. What is here cannot be changed.
+    with the key decides. Its text is `None` if the key has no `=`. A configuration cannot be changed.
 
     >>> config = Configuration([Entry("config", 2, "core.bare", "yes")])
     >>> config["core.bare"], config.get("Core.Bare", "boolean")
@@ -94,7 +94,7 @@ class Configuration(dict):
             for entry in self._entries:
                 by_key.setdefault(entry.key, []).append(entry)
             self._by_key = by_key
-        return tuple(self._by_key.get(_listed(key), ()))
+        return tuple(self._by_key.get(key) or self._by_key.get(_listed(key), ()))
 
     def get(self, key, kind="text", default=None):
         """The value of the last entry with a key, or the default if there is none.
@@ -124,14 +124,18 @@ class Configuration(dict):
                 raise refused.of(entry) from None
         return values
 
+    def copy(self):
+        """This configuration itself, as it cannot be changed."""
+        return self
+
     def _unchanged(self, *_args, **_keywords):
         raise TypeError("a Configuration cannot be changed")
 
-    __setitem__ = __delitem__ = __ior__ = clear = pop = popitem = setdefault = update = _unchanged
+    __setitem__ = __delitem__ = __or__ = __ror__ = __ior__ = clear = pop = popitem = setdefault = update = _unchanged
 
 
 def _text_of(name):
-    with open(name, "rb") as file:
+    with open(os.fsdecode(name), "rb") as file:
         return file.read()
 
 
@@ -185,10 +189,10 @@ def _known(repository):
 
 
 def read(*paths, includes=False, repository=None):
-    """The configuration of files, of which the later ones decide.
+    """The configuration of files: later ones decide over earlier ones.
 
-    With `includes` the files that they include are read too, each one after the entry that includes it. Conditions hold
-    for the repository of the folder `repository`; without it those of `includeIf` do not hold, and no remote is asked.
+    With `includes` the files that they include are read too, each one after the entry that includes it. Conditions ask
+    the repository of the folder `repository`; without it no `includeIf` holds. Those on remotes never hold.
 
     `OSError` if a file cannot be read, and `InvalidFile` if Git would not read one, with the place of the fault.
     """
@@ -213,8 +217,8 @@ def _add_present(entries, file, known, skipped=()):
 def read_repository(path="."):
     """The configuration that `git -C path config --list` reads from files, with what they include.
 
-    These are the files of the system, of the user, of the repository and of its worktree; outside of a repository there
-    are only the first two. Git's variables for them count, such as GIT_CONFIG_GLOBAL and GIT_DIR.
+    These are the files of the system, of the user, of the repository and of its worktree; outside a repository only the
+    first two. Git's variables for them count, such as GIT_CONFIG_GLOBAL and GIT_DIR.
 
     Errors are those of `read`, but a file that does not exist is skipped.
     """

@@ -4,7 +4,7 @@ SHOWN_INPUT = 64
 
 
 class Refused(ValueError):
-    """A text that has no value, or a path that stands for nothing.
+    """A text that has no value, or that means no path.
 
     `code` is a word for the fault, `fault` says why in a sentence, and `input` is the whole text as bytes. The message
     shows at most 64 bytes of it. If the text is that of an entry of a file, `file`, `line` and `key` tell which one,
@@ -39,9 +39,10 @@ class Refused(ValueError):
 
 
 class InvalidFile(ValueError):
-    """A file that is no configuration, or that asks for another file which cannot be read.
+    """A file that is no configuration, or that includes a file which cannot be read.
 
-    `code` is a word for the fault, `fault` says why in a sentence, and `file` and `line` tell where.
+    `code` is bad_line, nul, no_value, no_directory, unreadable or too_deep, `fault` says why in a sentence, and `file`
+    and `line` tell where.
     """
 
     __module__ = "gix_config_value"

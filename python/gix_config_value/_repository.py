@@ -95,6 +95,7 @@ def _candidates(folder):
 
 def find(folder):
     """The repository in which Git works in a folder, or `None`."""
+    os.stat(os.path.join(folder, os.curdir))  # Git works in no folder that is not there
     return next((candidate for candidate in _candidates(folder) if candidate.is_there()), None)
 
 
@@ -102,7 +103,8 @@ def system_file(folder):
     """The configuration file of the system, or `None` if it is not read."""
     if _is_on("GIT_CONFIG_NOSYSTEM"):
         return None
-    return os.path.join(folder, os.environ.get("GIT_CONFIG_SYSTEM", "/etc/gitconfig"))
+    name = os.environ.get("GIT_CONFIG_SYSTEM", "/etc/gitconfig")
+    return os.path.join(folder, name) if name else None
 
 
 def files_of_user(folder):
@@ -113,4 +115,4 @@ def files_of_user(folder):
     else:
         names = [f"{own}/git/config"] if own else [f"{home}/.config/git/config"] if home is not None else []
         names += [f"{home}/.gitconfig"] if home is not None else []
-    return [os.path.join(folder, name) for name in names]
+    return [os.path.join(folder, name) for name in names if name]

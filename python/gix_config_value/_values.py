@@ -22,8 +22,9 @@ READERS = Readers(suffix=suffix, integer=integer, amount=integer, boolean=boolea
 def lookup(kind, entries, name, default=None):
     """The value of a setting, or the default if no entry has this name.
 
-    The entries are a mapping, or pairs of a name and a text, of which the last one with the name decides. A text of
-    `None` is that of a key without `=`: as a boolean it is true, and no other kind has a value for it.
+    The kinds are `KINDS`; an integer and an amount are both the product. The entries are a mapping, or pairs of a name
+    and a text, of which the last one with the name decides. A text of `None` is that of a key without `=`: as a boolean
+    it is true, and no other kind has a value for it.
 
     >>> lookup("boolean", {"core.bare": "yes"}, "core.bare")
     True
@@ -56,11 +57,11 @@ def cut_mark(path):
 
 
 def interpolate(path, *, prefix=None, home=None, users=None):
-    """What a path stands for, as `str` or `bytes` as the path is.
+    """The path that a text means, as `str` or `bytes` as the text is.
 
-    One mark is cut off. `%(prefix)/` stands for `prefix`, `~` for `home`, and `~user` for what `users("user")` returns,
-    which is called for such a path alone, at most once. It returns `None` for an unknown user. If a directory is
-    needed and not there, `Refused` is raised.
+    One mark is cut off. `%(prefix)/` means `prefix`, `~` means `home`, and `~user` what `users("user")` returns,
+    which is called only for such a path, at most once. It returns `None` for an unknown user. `Refused` if the path
+    needs a directory that is `None`: the default of `home` is not HOME.
 
     >>> interpolate("~/x", home="/home/me")
     '/home/me/x'
@@ -77,5 +78,5 @@ def home_of_user(name):
 
     try:
         return pwd.getpwnam(name).pw_dir
-    except KeyError:
+    except (KeyError, ValueError):
         return None

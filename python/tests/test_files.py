@@ -186,6 +186,15 @@ class AsGit(Files):
         self.assertIn(f"bad config line 2 in file {self.root}/home/c",
                       self.git("-C", "r", "config", "--list", fails=True))
 
+    def test_names_of_folders(self):
+        self.git("init", "-q", "r")
+        with mock.patch.dict(os.environ, GIT_CONFIG_GLOBAL="", GIT_CONFIG_SYSTEM=""):
+            self.assertEqual({entry.file for entry in read_repository("r").entries}, {"r/.git/config"})
+        self.assertRaises(NotADirectoryError, read_repository, "r/.git/config")
+        with self.assertRaises(FileNotFoundError) as raised:
+            read("none")
+        self.assertEqual(raised.exception.filename, "none")
+
     def test_typed(self):
         self.write({"main": TYPED})
         config = read("main")

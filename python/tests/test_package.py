@@ -1,6 +1,6 @@
 """The package over the stored answers of the Rust crate, and as a value of Python.
 
-Run: python -W error -bb -m unittest discover -s tests, where the package can be imported.
+Run: PYTHONPATH=SITE python -W error -bb -m unittest discover -s python/tests, where SITE has the installed package.
 """
 import array
 import copy

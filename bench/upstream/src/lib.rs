@@ -1,4 +1,4 @@
-//! The Rust crate gix-config-value, behind the formats of this repository's programs and behind C functions.
+//! The Rust crate gix-config-value, with the formats of this repository's programs, and as C functions.
 
 mod c_functions;
 pub mod lines;

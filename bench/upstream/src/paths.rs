@@ -2,7 +2,7 @@
 //!
 //! A call is four fields between tabs, texts in hexadecimal digits: the value, the install directory or `-`, the home
 //! directory or `-`, and what the lookup knows, as `user=directory` between commas, or `-` where there is no lookup.
-//! The answer is the flag, the value behind the mark, how often the lookup was called, and the text or the error.
+//! The answer is the flag, the value after the mark, how often the lookup was called, and the text or the error.
 
 use gix_config_value::Path;
 use gix_config_value::path::interpolate::Context;
@@ -12,7 +12,7 @@ use std::fmt::Display;
 use std::os::unix::ffi::{OsStrExt, OsStringExt};
 use std::path::PathBuf;
 
-/// How the text of each error of the crate begins, and what an answer calls it. What begins another stands behind it.
+/// How the text of each error of the crate begins, and what an answer calls it. What begins another comes after it.
 const ERRORS: [(&str, &str); 10] = [
     ("path is missing", "PathMissing"),
     ("git install dir is missing", "InstallDirMissing"),
@@ -38,7 +38,7 @@ struct User {
     home: PathBuf,
 }
 
-// the crate takes a plain function as its lookup, so what this one knows stands outside of it
+// the crate takes a plain function as its lookup, so what this one knows is outside of it
 thread_local! {
     static USERS: RefCell<Vec<User>> = const { RefCell::new(Vec::new()) };
     static CALLS: Cell<u32> = const { Cell::new(0) };

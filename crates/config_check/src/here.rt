@@ -147,8 +147,8 @@ pub fn files(rt: &HostRuntime) -> io::Result<Vec<File>> {
     Ok(files)
 }
 
-/// The name of the file that a value includes. `None` if its folder is not known, if it is not UTF-8, or if it
-/// is a relative one on standard input.
+/// The name of the file that a value includes. `None` if its folder is not known, if it is not UTF-8, or if
+/// it is a relative one on standard input.
 fn name_of(
     alloc: Global,
     home: Option<&str>,

@@ -8,7 +8,7 @@ use clap::{Arg, ArgAction, ArgMatches, Command};
 use config_checks::check::{CheckError, Counts, check_file};
 use config_checks::finding::push_shown;
 use config_checks::git::SETTINGS;
-use config_checks::options::Options;
+use config_checks::options::{Format, Options};
 use config_checks::reason::Severity;
 use config_checks::row::Row;
 use config_checks::table::{BadRow, read_rows};
@@ -38,6 +38,9 @@ fn option<'a>(alloc: Global, name: &'a str, value: &'a str, help: &'a str) -> Ar
 
 /// The values of `--fail-on`.
 const SEVERITIES: &[&str] = &["note", "warning", "error"];
+
+/// The values of `--format`.
+const FORMATS: &[&str] = &["text", "json"];
 
 /// The command line of the program.
 fn command<'a>(alloc: Global) -> Result<Command<'a>, AllocError> {
@@ -69,7 +72,14 @@ fn command<'a>(alloc: Global) -> Result<Command<'a>, AllocError> {
             "SEVERITY",
             "The least severity that makes the exit status 1: note (the default), warning or error",
         )
-        .value_parser(SEVERITIES))
+        .value_parser(SEVERITIES))?
+        .arg(option(
+            alloc,
+            "format",
+            "FORMAT",
+            "How findings are written: text (the default), or json: an object a line",
+        )
+        .value_parser(FORMATS))
 }
 
 /// Why a run ends with status 2.
@@ -306,6 +316,14 @@ fn fails_on(matches: &ArgMatches<'_>) -> Severity {
     }
 }
 
+/// The format of `--format`.
+fn format_of(matches: &ArgMatches<'_>) -> Format {
+    match matches.get_str("format") {
+        Some("json") => Format::Json,
+        _ => Format::Text,
+    }
+}
+
 /// Checks the files by the rows of a file, if one is named, and the built-in ones. Returns the exit status.
 fn run<'m>(rt: &HostRuntime, matches: &ArgMatches<'m>) -> Result<u8, Failure<'m>> {
     let alloc = rt.alloc();
@@ -314,6 +332,7 @@ fn run<'m>(rt: &HostRuntime, matches: &ArgMatches<'m>) -> Result<u8, Failure<'m>
     let rows = all_rows(alloc, file, &text)?;
     let options = Options {
         canonical: matches.get_flag("canonical"),
+        format: format_of(matches),
         color: wants_color(rt),
     };
     let checker = Checker {

@@ -3,7 +3,7 @@ import re
 
 import made
 import rows
-from checking import CANNOT, Ended, arguments, ended, summary, with_errors_cut
+from checking import CANNOT, Ended, arguments, ended, expect_json, summary, with_errors_cut
 from plain_reader import finding, key_of, shown
 
 ROWS = 10_000
@@ -113,6 +113,16 @@ def files(group, program):
         group.expect(more, (2, True), (came.status, b"\\x1b[31m\\x0a: " in came.errors and b"\x1b" not in came.errors))
 
 
+def as_json(group, program):
+    """Findings as JSON: one to the byte, and the members of others."""
+    how = arguments(program.settings(rows.SETTINGS), canonical=True)
+    data, output = rows.JSON_LINE
+    group.expect(data, ended(output, (1, 1, 0, 1)), program.run(["--format", "json", *how], data))
+    for data, members in rows.JSON:
+        objects = [dict(zip(("line", "severity", "key", "value", "reason", "suggestion"), one), file="-") for one in members]
+        expect_json(group, program, how, data, objects)
+
+
 def fail_on(group, program):
     """At which severity the status is 1."""
     how = arguments(program.settings(rows.SETTINGS), canonical=True)
@@ -167,5 +177,5 @@ def wrong_and_other_arguments(group, program):
 
 
 def check(group, program):
-    for part in (values, escapes, keys, files, fail_on, built_in, settings_files, wrong_and_other_arguments):
+    for part in (values, escapes, keys, files, as_json, fail_on, built_in, settings_files, wrong_and_other_arguments):
         part(group, program)

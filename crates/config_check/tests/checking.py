@@ -1,6 +1,7 @@
 """What all tests use: how the program is run, how it has to end, and how what passed is counted."""
 import collections
 import itertools
+import json
 import os
 import pathlib
 import subprocess
@@ -66,6 +67,22 @@ def ended(output, counts):
 def by_plain_reader(rows, data, canonical=False):
     """How a run over standard input has to end by the plain reader."""
     return ended(*plain_reader.findings(rows, data, canonical))
+
+
+def read_json(output):
+    """The members of the objects that lines of JSON are, in their order; None where they are no such lines."""
+    *lines, rest = output.split(b"\n")
+    try:
+        return None if rest else [json.loads(line, object_pairs_hook=list) for line in lines]
+    except ValueError:
+        return None
+
+
+def expect_json(group, program, how, data, objects):
+    """Lines of JSON, with the members in the order of their names."""
+    came = program.run(["--format", "json", *how], data)
+    group.expect((how, data, "json"), (int(bool(objects)), [sorted(one.items()) for one in objects]),
+                 (came.status, read_json(came.output)))
 
 
 def arguments(settings, canonical=False):

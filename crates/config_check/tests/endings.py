@@ -115,6 +115,8 @@ def terminal(group, program, how):
     red = plain._replace(output=plain.output.replace(b" error: ", b" " + RED + b"error: " + PLAIN))
     for more, wanted in (({}, red), ({"NO_COLOR": ""}, red), ({"NO_COLOR": "0"}, plain), ({"TERM": "dumb"}, plain)):
         group.expect(("a terminal", more), wanted, on_terminal(program, how, data, environment | more))
+    came = on_terminal(program, ["--format", "json", *how], data, environment)
+    group.expect("JSON on a terminal", (1, 3, False), (came.status, came.output.count(b"\n"), b"\x1b" in came.output))
     group.expect("a pipe", plain, program.run(how, data, env=environment))
 
 

@@ -4,8 +4,9 @@ import threading
 import time
 
 import made
+import plain_reader
 import rows
-from checking import arguments, by_plain_reader
+from checking import arguments, by_plain_reader, expect_json
 
 ENTRIES_OF_A_FILE = 1000
 TINY_FILES = 300
@@ -87,5 +88,9 @@ def mutated(group, program, draw, count):
     for size in sizes + [None] * TINY_FILES:
         canonical = draw.choice((False, True))
         data = made.tiny(draw) if size is None else made.many(draw, size)
-        compare(group, program, arguments(settings, canonical), data, canonical=canonical)
+        how = arguments(settings, canonical)
+        compare(group, program, how, data, canonical=canonical)
+        if size is None:
+            lines, _ = plain_reader.told(made.ROWS, data, canonical)
+            expect_json(group, program, how, data, [plain_reader.as_json(*line) for line in lines])
     group.notes.append(f"{count:,} entries")

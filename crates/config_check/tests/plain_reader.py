@@ -417,7 +417,7 @@ def character_shown(match):
 
 
 def shown(text):
-    """A text as it stands in a field of a finding."""
+    """A text as a field of a finding shows it."""
     return UNSHOWN.sub(character_shown, text.decode(errors="surrogateescape")).encode()
 
 
@@ -530,17 +530,46 @@ def finding(line, key, value, why, name=b"-"):
     return b"%s:%d: %s: %s: %s%s\n" % (name, line, severity, key, quoted, text)
 
 
-def findings(rows, data, canonical=False):
-    """The output for standard input, and the counts: entries, judged ones, unknown keys and findings."""
+def told(rows, data, canonical=False):
+    """The line, the key, the value and the reason of each finding, and the counts: entries, judged ones, unknown keys
+    and findings. The line that Git cannot read has no key."""
     found, stopped = entries(data)
     judged, lines = 0, []
-    told = functools.cache(lambda key: unknown(rows, key))
+    said = functools.cache(lambda key: unknown(rows, key))
     for line, key, value in found:
         row = row_for(rows, key)
         judged += row is not None
-        why = told(key) if row is None else reason(row, value, canonical)
+        why = said(key) if row is None else reason(row, value, canonical)
         if why is not None:
-            lines.append(finding(line, shown(key), None if value is None or row is None else shown(value), why))
+            lines.append((line, key, None if row is None else value, why))
     if stopped is not None:
-        lines.append(b"-:%d: error: %s\n" % stopped)
-    return b"".join(lines), (len(found), judged, len(found) - judged, len(lines))
+        lines.append((stopped[0], None, None, b"error: " + stopped[1]))
+    return lines, (len(found), judged, len(found) - judged, len(lines))
+
+
+def findings(rows, data, canonical=False):
+    """The output for standard input, and the counts."""
+    lines, counts = told(rows, data, canonical)
+    return b"".join(b"-:%d: %s\n" % (line, why) if key is None
+                    else finding(line, shown(key), None if value is None else shown(value), why)
+                    for line, key, value, why in lines), counts
+
+
+# JSON
+
+SUGGESTION = re.compile(rb"note: should be (.*)|.*; did you mean (.*)\?", re.DOTALL)
+SHOWN = re.compile(rb"\\(?:\\|x(..))")
+
+
+def suggestion(why):
+    """The text that a reason suggests, as it is and not as it is shown; None where it suggests none."""
+    match = SUGGESTION.fullmatch(why)
+    return match and SHOWN.sub(lambda one: bytes.fromhex(one[1].decode()) if one[1] else b"\\", match[1] or match[2] or b"")
+
+
+def as_json(line, key, value, why):
+    """The members of a finding in standard input."""
+    severity, _, text = why.partition(b": ")
+    members = {"key": key, "reason": text, "severity": severity, "suggestion": suggestion(why), "value": value}
+    texts = {name: None if member is None else member.decode(errors="replace") for name, member in members.items()}
+    return {"file": "-", "line": line} | texts

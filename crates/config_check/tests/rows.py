@@ -404,8 +404,8 @@ OWN_ROWS = [
 
 # what is said of a line that is no row
 NO_DOT, NO_KIND, NO_SUCH_KIND, NO_WORDS, WORDS, BOUNDS = (
-    b"no dot stands in the key", b"no kind stands behind the key", b"no such kind", b"no words stand behind the kind",
-    b"words stand behind a kind that takes none", b"the bounds are not two integers")
+    b"no dot in the key", b"no kind after the key", b"no such kind", b"no words after the kind",
+    b"words after a kind without words", b"the bounds are not two integers")
 # texts of settings with such a line, its number, and what is said of it
 BAD_ROWS = [
     (b"nodot bool\n", 1, NO_DOT), (b"test.x\n", 1, NO_KIND), (b"test.x \n", 1, NO_KIND), (b"nodot\n", 1, NO_DOT),
@@ -436,6 +436,25 @@ FILES = [
     (b"[test]\nint\nint = 1\0\n", b"-:2: error: test.int: no value\n-:3: " + NUL, (1, 1, 0, 2)),
 ]
 
+# a file, and its line of JSON
+JSON_LINE = (b'[test]\nint = "\\"\\\\\\n\x1b\xff\xc3\xa9"\n',
+             b'{"file":"-","key":"test.int","line":2,"reason":"Integers needs to be positive or negative numbers which may'
+             b' have a suffix like 1k, 42, or 50G","severity":"error","suggestion":null,'
+             b'"value":"\\"\\\\\\n\\u001b\xef\xbf\xbd\xc3\xa9"}\n')
+# files, and the line, severity, key, value, reason and suggestion of their findings
+JSON = [
+    (b"", []), (b"[test]\nint = 1\n[other]x\n", []),
+    (b"[test]\nint\n", [(2, "error", "test.int", None, "no value", None)]),
+    (b"[test]\nbool = yes\nword-any-case = TWO\n", [(2, "note", "test.bool", "yes", "should be true", "true"),
+                                                   (3, "note", "test.word-any-case", "TWO", "should be Two", "Two")]),
+    (b"[test]\nin = \"\"\nwrong\n", [(2, "warning", "test.in", None, "unknown key; did you mean test.int?", "test.int"),
+                                   (3, "warning", "test.wrong", None, "unknown key", None)]),
+    (b'[middle "\\",\\"line\\":9\\\\\xff"]\nlst\n', [
+        (2, "warning", 'middle.","line":9\\\ufffd.lst', None,
+         'unknown key; did you mean middle.","line":9\\\\\\xff.last?', 'middle.","line":9\\\ufffd.last')]),
+    (b"\n[test\n", [(2, "error", None, None, BAD_LINE.decode().removeprefix("error: ").strip(), None)]),
+]
+
 # a file, and the severities at which `--fail-on` gives the status 1
 FAIL_ON = [
     (b"[test]\nint = x\nbool = yes\n", ["note", "warning", "error"]), (b"[test\n", ["note", "warning", "error"]),
@@ -446,6 +465,7 @@ FAIL_ON = [
 # arguments that are wrong
 WRONG_ARGUMENTS = [["--no-such-argument"], ["-x"], ["--settings"], ["--show-scope"], ["--show-origin"], ["--canonical=maybe"],
                    ["--canonical", "--canonical"], ["--fail-on"], ["--fail-on", "fatal"], ["--fail-on", "note", "--fail-on", "note"],
+                   ["--format"], ["--format", "xml"], ["--format", "json", "--format", "json"],
                    ["--settings", "/dev/null", "--settings", "/dev/null"]]
 
 # arguments that are no UTF-8

@@ -9,4 +9,5 @@ mod TableLemmas
 mod OneFinding
 mod OneKey
 mod OneSuggestion
+mod OneMeant
 mod OneReport

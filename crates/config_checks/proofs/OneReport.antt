@@ -1,6 +1,6 @@
 -- A file has one report.
 use Rattle.std.proofs.Common.{◌≡◌, ◌≢◌, ◌+◌, ℕ, inl, inr, ◌⊎◌, List, [], ◌∷◌, ◌++◌, Bool, map}
-use Rattle.std.proofs.Common.{Option, None, Some, refl, sym, ap, subst, ◌∙◌, append_assoc, append-nil, codes}
+use Rattle.std.proofs.Common.{Option, None, Some, option_copied, refl, sym, ap, subst, ◌∙◌, append_assoc, append-nil, codes}
 use Rattle.std.specs.Bool.{⊤}
 use Rattle.std.specs.Char.{to_ascii_lowercase}
 use Rattle.std.specs.List.{AllByRecursion, AllZip}
@@ -27,11 +27,13 @@ use Rattle.config_checks.specs.declared.check.CheckError.{CheckError}
 use Rattle.config_checks.specs.Rows.{Decides, IsUnknown}
 use Rattle.config_checks.specs.Suggestions.{IsPassed, IsUnknownKey, unknown_text}
 use Rattle.config_checks.specs.Reasons.{HasFinding, IsSameFinding, severity_of}
-use Rattle.config_checks.specs.Findings.{line_feed, shown, value_shown, severity_text, reason_text, no_word_text, painted}
-use Rattle.config_checks.specs.Report.{place, value_of, counted, finding_line, ReportsSetting, unknown, misspelt, right, found}
+use Rattle.config_checks.specs.Findings.{reason_text, no_word_text}
+use Rattle.config_checks.specs.Report.{line_of, value_of, suggestion_of, key_meant, counted, finding_line}
+use Rattle.config_checks.specs.Report.{ReportsSetting, unknown, misspelt, right, found}
 use Rattle.config_checks.specs.Report.{Report, nothing, next, EndsReport, HasSettings, IsReport, BeginsReport}
 use Rattle.config_checks.proofs.OneFinding.{finding_once}
 use Rattle.config_checks.proofs.OneKey.{known_once, row_once}
+use Rattle.config_checks.proofs.OneMeant.{meant_once}
 use Rattle.config_checks.proofs.OneSuggestion.{text_once, not_passed}
 
 -- ---- the settings of a file
@@ -139,22 +141,30 @@ no_finding reason same = absurd (cc)
 
 module _ (options : Options) where
   -- the line of a setting with these facts
-  abbrev line_of : Facts → Severity → List ℕ → List ℕ
-  line_of f severity text = place f.0 f.1 ++ painted options.color (severity_text severity)
-      ++ (shown f.2 ++ codes ": " ++ value_shown f.3) ++ text ++ line_feed ∷ []
+  abbrev line_for : Facts → Severity → List ℕ → Option (List ℕ) → List ℕ
+  line_for f severity text suggestion = line_of options (record {
+    file = f.0;
+    line = f.1;
+    severity = severity;
+    key = Some f.2;
+    value = f.3;
+    reason = text;
+    suggestion = suggestion;
+  })
 
   -- the line of a setting with these facts, whose key is misspelt
-  abbrev key_line : Facts → List ℕ → List ℕ
-  key_line f text = place f.0 f.1 ++ painted options.color (severity_text Warning)
-      ++ shown f.2 ++ codes ": " ++ text ++ line_feed ∷ []
+  abbrev key_line : Facts → List ℕ → Option (List ℕ) → List ℕ
+  key_line f text meant = line_for (f.0, f.1, f.2, None) Warning text meant
 
   same_line : (f : Facts) (goes_on : Bool) (a b : Reason) → IsSameFinding (Some a) (Some b)
-      → line_of f (severity_of goes_on a) (reason_text a) ≡ line_of f (severity_of goes_on b) (reason_text b)
-  same_line f goes_on (NotCanonical c) (NotCanonical d) same = ap (λ l. line_of f Note (codes "should be " ++ l)) same
+      → line_for f (severity_of goes_on a) (reason_text a) (suggestion_of a)
+      ≡ line_for f (severity_of goes_on b) (reason_text b) (suggestion_of b)
+  same_line f goes_on (NotCanonical c) (NotCanonical d) same =
+      ap (λ l. line_for f Note (codes "should be " ++ l) (Some l)) same
   same_line f goes_on (NoWord l v) (NoWord m w) same =
-      λ i. line_of f (severity_of goes_on (NoWord l v)) (no_word_text (same.0 i) (same.1 i))
+      λ i. line_for f (severity_of goes_on (NoWord l v)) (no_word_text (same.0 i) (same.1 i)) (option_copied (same.1 i))
   same_line f goes_on a b same =
-      let is : a ≡ b = cc in ap (λ r. line_of f (severity_of goes_on r) (reason_text r)) is
+      let is : a ≡ b = cc in ap (λ r. line_for f (severity_of goes_on r) (reason_text r) (suggestion_of r)) is
 
   same_severity : (goes_on : Bool) (a b : Reason) → IsSameFinding (Some a) (Some b)
       → severity_of goes_on a ≡ severity_of goes_on b
@@ -170,14 +180,14 @@ module _ (options : Options) where
         unknown (subst (IsUnknown rows) (ap (λ f. f.2) same) u) (subst (IsPassed rows) (ap (λ f. f.2) same) passed) none is
     moved a b s s' line same (misspelt key is_key shown is) =
         misspelt key (subst (λ k. IsUnknownKey rows k key) (ap (λ f. f.2) same) is_key)
-        (shown ∙ ap (λ f. key_line f (unknown_text key)) same) is
+        (shown ∙ ap (λ f. key_line f (unknown_text key) (key_meant key)) same) is
     moved a b s s' line same (right row decides good none is) =
         right row (subst (λ k. Decides rows k row) (ap (λ f. f.2) same) decides)
         (subst (λ v. HasFinding options.canonical row v None) (ap (λ f. f.3) same) good) none is
     moved a b s s' line same (found row reason decides bad shown is) =
         found row reason (subst (λ k. Decides rows k row) (ap (λ f. f.2) same) decides)
         (subst (λ v. HasFinding options.canonical row v (Some reason)) (ap (λ f. f.3) same) bad)
-        (shown ∙ ap (λ f. line_of f (severity_of row.goes_on reason) (reason_text reason)) same) is
+        (shown ∙ ap (λ f. line_for f (severity_of row.goes_on reason) (reason_text reason) (suggestion_of reason)) same) is
 
     setting_once : (setting : Setting) (s : Counts) (line line' : List ℕ) (t t' : Counts)
         → ReportsSetting rows options setting s line t → ReportsSetting rows options setting s line' t'
@@ -193,8 +203,9 @@ module _ (options : Options) where
     setting_once setting s line line' t t' (misspelt key is_key shown is) (unknown u passed none is') =
         absurd (not_passed rows setting.key.items key is_key passed)
     setting_once setting s line line' t t' (misspelt key is_key shown is) (misspelt key' is_key' shown' is') =
-        let text = ap (key_line (facts setting)) (text_once rows setting.key.items key key' is_key is_key') in
-        (shown ∙ text ∙ sym shown', is ∙ sym is')
+        let text = text_once rows setting.key.items key key' is_key is_key' in
+        let meant = meant_once rows setting.key.items key key' is_key is_key' in
+        (shown ∙ (λ i. key_line (facts setting) (text i) (meant i)) ∙ sym shown', is ∙ sym is')
     setting_once setting s line line' t t' (misspelt key is_key shown is) (right row decides good none' is') =
         absurd (known_once rows setting.key.items row decides is_key.unknown)
     setting_once setting s line line' t t' (misspelt key is_key shown is) (found row reason decides bad shown' is') =

@@ -54,7 +54,7 @@ moved row a b n same (in_section other between last is) =
     (subst (λ t. SectionEdits row.section.now t n) same.section is)
 
 module _ (rows : List Row) where
-  nearest_moved : (a b : Key) (row : Row) → SameKey a b → IsNearest (RowEdits a) rows row → IsNearest (RowEdits b) rows row
+  pub nearest_moved : (a b : Key) (row : Row) → SameKey a b → IsNearest (RowEdits a) rows row → IsNearest (RowEdits b) rows row
   nearest_moved a b row same p =
       let back = same_back a b same in
       record {
@@ -70,12 +70,12 @@ module _ (rows : List Row) where
         least = λ k d inside m is. p.least k d inside m (moved _ b a m back is);
       }
 
-  far_moved : (a b : Key) → SameKey a b → AreFar (RowEdits a) rows → AreFar (RowEdits b) rows
+  pub far_moved : (a b : Key) → SameKey a b → AreFar (RowEdits a) rows → AreFar (RowEdits b) rows
   far_moved a b same far = λ k d inside m is. far k d inside m (moved _ b a m (same_back a b same) is)
 
   -- ---- the same text is said
 
-  filled_once : (row a b x y : List ℕ) → a ≡ b → Fills row a x → Fills row b y → x ≡ y
+  pub filled_once : (row a b x y : List ℕ) → a ≡ b → Fills row a x → Fills row b y → x ≡ y
   filled_once row a b x y same (inl p) (inl q) = p.1 ∙ same ∙ sym q.1
   filled_once row a b x y same (inl p) (inr q) = absurd (q.0 p.0)
   filled_once row a b x y same (inr p) (inl q) = absurd (p.0 q.0)

@@ -1,7 +1,8 @@
 -- The line of a finding.
 use Rattle.std.specs.Prelude.{◌≡◌, ℕ, zero, suc, ◌-◌, ◌/◌, ◌%◌, ◌==◌, ◌&&◌, ◌||◌, nat_lt, List, [], ◌∷◌, ◌++◌}
 use Rattle.std.specs.Prelude.{take, flat_map}
-use Rattle.std.specs.Fmt.{signed_decimal}
+use Rattle.std.specs.Prelude.{option_copied}
+use Rattle.std.specs.Fmt.{decimal, signed_decimal}
 use Rattle.std.specs.Prelude.{codes, Bool, true, false, Option, None, Some, if◌then◌else◌}
 use Rattle.std.specs.Char.{digit_char}
 use Rattle.std.specs.Io.KnownBytes.{Appends}
@@ -9,6 +10,7 @@ use denote.Ref.{Bor}
 use Rattle.bstr.specs.Utf8.{decoded}
 use Rattle.config_text.specs.Faults.{fault_text}
 use Rattle.config_integer.specs.declared.amount.Amount.{Amount}
+use Rattle.config_checks.specs.declared.finding.Finding as findings
 use Rattle.config_checks.specs.declared.kind.Form.{Form}
 use Rattle.config_checks.specs.declared.kind.Form.TheVariants as forms
 use Rattle.config_checks.specs.declared.kind.WordList.{WordList}
@@ -125,3 +127,42 @@ value_shown (Some t) = codes "'" ++ shown t ++ codes "': "
 abbrev pub painted : Bool → List ℕ → List ℕ
 painted true t = (0x1B ∷ codes "[31m") ++ t ++ (0x1B ∷ codes "[m")
 painted false t = t
+
+-- a file, and a line of it
+abbrev pub place : List ℕ → ℕ → List ℕ
+place file line = shown file ++ codes ":" ++ decimal line ++ codes ": "
+
+-- nothing where there is no key
+abbrev pub key_part : Option (List ℕ) → List ℕ
+key_part None = []
+key_part (Some key) = shown key ++ codes ": "
+
+-- ---- the line
+
+-- what is said of a line of a file: a key alone has no value, and a line that Git cannot read no key
+pub record Finding : Type 0 where
+  pub file : List ℕ
+  pub line : ℕ
+  pub severity : Severity
+  pub key : Option (List ℕ)
+  pub value : Option (List ℕ)
+  pub reason : List ℕ
+  pub suggestion : Option (List ℕ)
+
+abbrev pub finding_of : findings.Finding → Finding
+finding_of f = record {
+  file = f.file.now;
+  line = f.line;
+  severity = f.severity;
+  key = option_copied f.key;
+  value = option_copied f.value;
+  reason = f.reason.now;
+  suggestion = option_copied f.suggestion;
+}
+
+abbrev pub setting_shown : Finding → List ℕ
+setting_shown f = key_part f.key ++ value_shown f.value
+
+abbrev pub text_line : (color : Bool) → Finding → List ℕ
+text_line color f =
+    place f.file f.line ++ painted color (severity_text f.severity) ++ setting_shown f ++ f.reason ++ line_feed ∷ []

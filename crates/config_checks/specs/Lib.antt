@@ -4,6 +4,7 @@ pub mod Nearest
 pub mod Reasons
 pub mod Rows
 pub mod Findings
+pub mod Json
 pub mod Report
 pub mod Suggestions
 pub mod Reading

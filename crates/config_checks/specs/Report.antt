@@ -1,5 +1,5 @@
 -- What a check of a file writes: a line for each finding, in the order of the entries.
-use Rattle.std.specs.Prelude.{◌≡◌, ◌⊎◌, ⊤, ℕ, ◌+◌, ◌-◌, ◌==◌, if◌then◌else◌, codes, List, [], ◌∷◌, ◌++◌, Option, None, Some, option_map}
+use Rattle.std.specs.Prelude.{◌≡◌, ◌⊎◌, ⊤, ℕ, ◌+◌, ◌-◌, ◌==◌, if◌then◌else◌, codes, List, [], ◌∷◌, ◌++◌, Bool, Option, None, Some, option_map, option_copied}
 use Rattle.std.specs.Fmt.{decimal}
 use Rattle.std.specs.List.{AllZip}
 use Rattle.std.specs.Io.KnownBytes.{Appends}
@@ -9,43 +9,76 @@ use Rattle.config_file.specs.declared.errors.Fault.TheVariants.{BadLine, Nul}
 use Rattle.config_file.specs.declared.settings.Setting.{Setting}
 use Rattle.config_file.specs.File.{Entry, IsFile}
 use Rattle.config_file.specs.Settings.{IsSettingOf}
+use Rattle.config_checks.specs.declared.key.Key.{Key}
+use Rattle.config_checks.specs.declared.options.Format.{Format}
+use Rattle.config_checks.specs.declared.options.Format.TheVariants.{Text, Json}
 use Rattle.config_checks.specs.declared.options.Options.{Options}
 use Rattle.config_checks.specs.declared.row.Row.{Row}
 use Rattle.config_checks.specs.declared.reason.Reason.{Reason}
+use Rattle.config_checks.specs.declared.reason.Reason.TheVariants.{NoWord, NotCanonical, OtherCase}
 use Rattle.config_checks.specs.declared.reason.Severity.{Severity}
 use Rattle.config_checks.specs.declared.reason.Severity.TheVariants.{Error, Warning, Note}
 use Rattle.config_checks.specs.declared.suggestion.UnknownKey.{UnknownKey}
 use Rattle.config_checks.specs.declared.check.Counts.{Counts}
 use Rattle.config_checks.specs.declared.check.CheckError.{CheckError}
 use Rattle.config_checks.specs.declared.check.CheckError.TheVariants.{Write, Memory}
+use Rattle.config_checks.specs.Keys.{dot, between_text}
 use Rattle.config_checks.specs.Rows.{Decides, IsUnknown}
 use Rattle.config_checks.specs.Reasons.{HasFinding, severity_of}
-use Rattle.config_checks.specs.Findings.{line_feed, shown, value_shown, painted, severity_text, reason_text}
+use Rattle.config_checks.specs.Findings.{Finding, text_line, reason_text}
+use Rattle.config_checks.specs.Json.{json_line}
 use Rattle.config_checks.specs.Suggestions.{IsPassed, IsUnknownKey, unknown_text}
 
 -- ---- a line
 
--- a file, and a line of it
-abbrev pub place : List ℕ → ℕ → List ℕ
-place file line = shown file ++ codes ":" ++ decimal line ++ codes ": "
+abbrev pub line_in : Format → (color : Bool) → Finding → List ℕ
+line_in Text color f = text_line color f
+line_in Json color f = json_line f
+
+-- the line of a finding, in the format of the options
+abbrev pub line_of : Options → Finding → List ℕ
+line_of options f = line_in options.format options.color f
 
 -- the value of a setting, if it has one
 abbrev pub value_of : Setting → Option (List ℕ)
 value_of setting = option_map (λ value. value.items) setting.value
 
-abbrev pub setting_shown : Setting → List ℕ
-setting_shown setting = shown setting.key.items ++ codes ": " ++ value_shown (value_of setting)
+-- the text that a value should be, if it is known
+abbrev pub suggestion_of : Reason → Option (List ℕ)
+suggestion_of (NoWord list meant) = option_copied meant
+suggestion_of (NotCanonical canonical) = Some canonical.bytes
+suggestion_of (OtherCase word) = Some word.now
+suggestion_of _ = None
 
 abbrev pub finding_line : Options → Setting → Severity → Reason → List ℕ
-finding_line options setting severity reason =
-    place setting.file.now setting.line ++ painted options.color (severity_text severity)
-    ++ setting_shown setting ++ reason_text reason ++ line_feed ∷ []
+finding_line options setting severity reason = line_of options (record {
+  file = setting.file.now;
+  line = setting.line;
+  severity = severity;
+  key = Some setting.key.items;
+  value = value_of setting;
+  reason = reason_text reason;
+  suggestion = suggestion_of reason;
+})
+
+abbrev pub key_text : Key → List ℕ
+key_text key = key.section.now ++ dot ∷ (between_text key.between ++ key.last.now)
+
+-- the key that is meant, if one is near
+abbrev pub key_meant : UnknownKey → Option (List ℕ)
+key_meant unknown = option_map key_text unknown.nearest
 
 -- the line of a setting whose key is misspelt
 abbrev pub unknown_line : Options → Setting → UnknownKey → List ℕ
-unknown_line options setting unknown =
-    place setting.file.now setting.line ++ painted options.color (severity_text Warning)
-    ++ shown setting.key.items ++ codes ": " ++ unknown_text unknown ++ line_feed ∷ []
+unknown_line options setting unknown = line_of options (record {
+  file = setting.file.now;
+  line = setting.line;
+  severity = Warning;
+  key = Some setting.key.items;
+  value = None;
+  reason = unknown_text unknown;
+  suggestion = key_meant unknown;
+})
 
 -- what is said of a file that is refused
 abbrev pub fault_text : Fault → List ℕ
@@ -53,8 +86,15 @@ fault_text BadLine = codes "Git cannot read this line, and reads nothing of the 
 fault_text Nul = codes "a NUL byte outside a comment"
 
 abbrev pub refused_line : Options → List ℕ → errors.Error → List ℕ
-refused_line options file error =
-    place file error.line ++ painted options.color (severity_text Error) ++ fault_text error.fault ++ line_feed ∷ []
+refused_line options file error = line_of options (record {
+  file = file;
+  line = error.line;
+  severity = Error;
+  key = None;
+  value = None;
+  reason = fault_text error.fault;
+  suggestion = None;
+})
 
 -- ---- the report
 

@@ -1,13 +1,15 @@
 //! The check of the settings of a file.
 ghost use Rattle.std.specs.Prelude.{◌≡◌, ◌==◌, if◌then◌else◌, OnOk, OnErr, IfOk, IfErr, Some};
 ghost use Rattle.std.specs.Io.KnownBytes.{Appends, Keeps};
-ghost use Rattle.config_checks.specs.Report.{counted, counts_shown, finding_line, unknown_line, Completes, Fails};
+ghost use Rattle.config_checks.specs.Report.{counted, counts_shown, finding_line, unknown_line};
+ghost use Rattle.config_checks.specs.Report.{Completes, Fails};
 ghost use Rattle.config_checks.specs.Report.{HasSettings};
 ghost use Rattle.config_checks.specs.declared.reason.Severity.TheVariants.{Warning};
 ghost use Rattle.config_checks.specs.Findings.{AppendsPart};
 ghost use Rattle.config_checks.specs.Rows.{IsUnknown};
 ghost use Rattle.config_checks.specs.Reading.Steps.{HasRoom, HasRoomForFinding, Reports, ReportsPart, Tells};
-ghost use Rattle.config_checks.specs.Reading.Steps.{TellsPart, ReportsAll, ReportsFirst, WritesPart, IsMemory, IsWrite};
+ghost use Rattle.config_checks.specs.Reading.Steps.{TellsPart, ReportsAll, ReportsFirst, WritesPart};
+ghost use Rattle.config_checks.specs.Reading.Steps.{IsMemory, IsWrite};
 
 use crate::finding::{push_finding, push_misspelt, push_refusal, value_of};
 use crate::options::Options;
@@ -298,28 +300,30 @@ fn flush<W: Write>(writer: &mut W) -> Result<(), CheckError>
 /// and returns the counts. A line that Git cannot read is a finding too, and the last one.
 ///
 /// Errors:
-/// - `Write`: a write or the flush at the end failed, or a write took no byte. What was written is a beginning
-///   of the lines.
-/// - `Memory`: there was no memory for the settings or for a line. What was written are whole lines, the first.
+/// - `Write`: a write or the flush at the end failed, or a write took no byte. What was written is a
+///   beginning of the lines.
+/// - `Memory`: there was no memory for the settings or for a line. What was written are some first lines,
+///   each whole.
 ///
-/// The clauses are about writers whose contents the prover knows. It does not know them for standard output: for
-/// it the clauses say what `check_file` does with any writer.
+/// The clauses are about writers whose contents the prover knows. It does not know them for standard output:
+/// for it the clauses say what `check_file` does with any writer.
 ///
 /// ```rust
 /// use config_checks::check::check_file;
-/// use config_checks::options::Options;
+/// use config_checks::options::{Format, Options};
 /// use config_checks::table::read_rows;
 ///
 /// let mut rows = Vec::new(alloc);
 /// assert!(rt; read_rows(alloc, b"push.default word nothing current", &mut rows).is_ok());
-/// let options = Options { canonical: false, color: false };
+/// let options = Options { canonical: false, format: Format::Text, color: false };
 /// let mut out = Vec::new(alloc);
 /// let counts = match check_file(alloc, &rows, &options, "f", b"[push]\ndefault = maybe", &mut out) {
 ///     Ok(counts) => counts,
 ///     Err(_) => return Err(AllocError),
 /// };
 /// assert_eq!(rt; counts.findings, 1);
-/// assert_eq!(rt; out.as_slice(), b"f:2: error: push.default: 'maybe': not one of: nothing, current\n".as_slice());
+/// let line = b"f:2: error: push.default: 'maybe': not one of: nothing, current\n";
+/// assert_eq!(rt; out.as_slice(), line.as_slice());
 /// ```
 pub fn check_file<W: Write>(
     alloc: Global,

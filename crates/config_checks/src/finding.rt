@@ -1,18 +1,22 @@
 //! A finding, and the line that is written for it.
-ghost use Rattle.std.specs.Prelude.{◌≡◌, ◌<◌, ◌++◌, [], length, flat_map, option_copied};
-ghost use Rattle.std.specs.Prelude.{OnOk, OnErr, MatchOption, IfSome, Some, codes};
+ghost use Rattle.std.specs.Prelude.{◌≡◌, ◌<◌, ◌++◌, [], length, flat_map, option_copied, option_map};
+ghost use Rattle.std.specs.Prelude.{OnOk, OnErr, IfOk, MatchOption, IfSome, Some, codes};
 ghost use Rattle.std.specs.Char.{digit_char};
 ghost use Rattle.std.specs.Fmt.{signed_decimal};
 ghost use Rattle.config_checks.specs.Findings.{hex, is_control, piece_shown, shown, value_shown};
 ghost use Rattle.config_checks.specs.Findings.{range_text, words_text, no_word_front, list_text, word_asked};
 ghost use Rattle.config_checks.specs.Findings.{meant_text, no_word_text};
 ghost use Rattle.config_checks.specs.Findings.{reason_text, severity_text, painted};
-ghost use Rattle.config_checks.specs.Findings.{AppendsPart};
-ghost use Rattle.config_checks.specs.Report.{place, value_of, setting_shown, finding_line, unknown_line};
+ghost use Rattle.config_checks.specs.Findings.{AppendsPart, place, key_part, setting_shown, text_line};
+ghost use Rattle.config_checks.specs.Findings.{finding_of};
+ghost use Rattle.config_checks.specs.Report.{line_of, value_of, suggestion_of, key_text, key_meant};
+ghost use Rattle.config_checks.specs.Report.{finding_line, unknown_line};
 ghost use Rattle.config_checks.specs.Report.{fault_text, refused_line};
 
+use crate::json::push_json;
+use crate::key::Key;
 use crate::kind::{Form, WordList};
-use crate::options::Options;
+use crate::options::{Format, Options};
 use crate::reason::{Reason, Severity};
 use crate::suggestion::{UnknownKey, push_unknown};
 use bstr::decode_utf8;
@@ -20,7 +24,7 @@ use config_file::errors::{Error, Fault};
 use config_file::settings::Setting;
 use gix_config_value::integer::Amount;
 use itoa::Buffer;
-use std::alloc::AllocError;
+use std::alloc::{AllocError, Global};
 
 /// The hexadecimal digit of a number below 16.
 fn digit(number: u8) -> u8
@@ -170,7 +174,8 @@ fn push_asked(out: &mut Vec<u8>, word: &[u8]) -> Result<(), AllocError>
 
 /// Appends a word that is meant.
 fn push_word_meant(out: &mut Vec<u8>, word: &[u8]) -> Result<(), AllocError>
-    ensures ok { OnOk result (out.new.items ≡ out.old.items ++ (codes "; did you mean " ++ word_asked word.now)) }
+    ensures ok { OnOk result (out.new.items ≡ out.old.items
+        ++ (codes "; did you mean " ++ word_asked word.now)) }
     ensures err { OnErr result (AppendsPart (Some out.old.items) (Some out.new.items)
         (codes "; did you mean " ++ word_asked word.now)) }
 {
@@ -272,23 +277,94 @@ fn push_value(line: &mut Vec<u8>, value: Option<&[u8]>) -> Result<(), AllocError
     line.extend_from_slice(b"': ")
 }
 
-/// The value of a setting, if it has one.
-pub(crate) fn value_of<'s>(setting: &'s Setting<'_>) -> Option<&'s [u8]>
-    ensures { option_copied result ≡ value_of setting.now }
+/// Appends a key, if there is one.
+fn push_key(line: &mut Vec<u8>, key: Option<&[u8]>) -> Result<(), AllocError>
+    ensures { OnOk result (line.new.items ≡ line.old.items ++ key_part (option_copied key.entry)) }
 {
-    match &setting.value {
-        Some(value) => Some(value.as_slice()),
+    let Some(key) = key else {
+        return Ok(());
+    };
+    push_shown(line, key)?;
+    line.extend_from_slice(b": ")
+}
+
+/// What is said of a line of a file.
+#[derive(Clone, Copy)]
+pub struct Finding<'f> {
+    /// The name of the file.
+    pub file: &'f str,
+    /// The number of the line, from 1 on.
+    pub line: usize,
+    /// How bad it is.
+    pub severity: Severity,
+    /// The key of the entry. `None` for a line that Git cannot read.
+    pub key: Option<&'f [u8]>,
+    /// The value of the entry. `None` for a key alone, an unknown key, and a line that Git cannot read.
+    pub value: Option<&'f [u8]>,
+    /// The text of the reason.
+    pub reason: &'f [u8],
+    /// What the value, or an unknown key, should be, if that is known.
+    pub suggestion: Option<&'f [u8]>,
+}
+
+impl Finding<'_> {
+    /// Appends the key and the value, if there are any.
+    fn push_setting(&self, line: &mut Vec<u8>) -> Result<(), AllocError>
+        ensures { OnOk result (line.new.items ≡ line.old.items ++ setting_shown (finding_of self.now)) }
+    {
+        push_key(line, self.key)?;
+        push_value(line, self.value)
+    }
+
+    /// Appends the line of text.
+    fn push_text(&self, line: &mut Vec<u8>, color: bool) -> Result<(), AllocError>
+        ensures { OnOk result (line.new.items ≡ line.old.items ++ text_line color (finding_of self.now)) }
+    {
+        push_place(line, self.file, self.line)?;
+        push_severity(line, color, self.severity)?;
+        self.push_setting(line)?;
+        line.extend_from_slice(self.reason)?;
+        line.extend_from_slice(b"\n")
+    }
+
+    /// Appends the line in the format of the options.
+    fn push_to(&self, line: &mut Vec<u8>, options: &Options) -> Result<(), AllocError>
+        ensures { OnOk result (line.new.items ≡ line.old.items ++ line_of options.now (finding_of self.now)) }
+    {
+        match options.format {
+            Format::Text => self.push_text(line, options.color),
+            Format::Json => push_json(line, self),
+        }
+    }
+}
+
+/// The bytes of a text that may be missing.
+fn bytes_of(text: &Option<Vec<u8>>) -> Option<&[u8]>
+    ensures { option_copied result ≡ option_map (λ t. t.items) text.now }
+{
+    match text {
+        Some(text) => Some(text.as_slice()),
         None => None,
     }
 }
 
-/// Appends the key and the value of a setting.
-fn push_setting(line: &mut Vec<u8>, setting: &Setting<'_>) -> Result<(), AllocError>
-    ensures { OnOk result (line.new.items ≡ line.old.items ++ setting_shown setting.now) }
+/// The value of a setting, if it has one.
+pub(crate) fn value_of<'s>(setting: &'s Setting<'_>) -> Option<&'s [u8]>
+    ensures { option_copied result ≡ value_of setting.now }
 {
-    push_shown(line, &setting.key)?;
-    line.extend_from_slice(b": ")?;
-    push_value(line, value_of(setting))
+    bytes_of(&setting.value)
+}
+
+/// What a value should be, if the reason knows it.
+fn suggestion_of<'r>(reason: &'r Reason<'_, '_>) -> Option<&'r [u8]>
+    ensures { option_copied result ≡ suggestion_of reason.now }
+{
+    match reason {
+        Reason::NoWord { meant, .. } => *meant,
+        Reason::NotCanonical(canonical) => Some(canonical.as_str().as_bytes()),
+        Reason::OtherCase(word) => Some(word),
+        _ => None,
+    }
 }
 
 /// Appends the line of a setting that is wrong.
@@ -302,11 +378,43 @@ pub(crate) fn push_finding(
     ensures { OnOk result (line.new.items ≡ line.old.items
         ++ finding_line options.now setting.now severity reason.now) }
 {
-    push_place(line, setting.file, setting.line)?;
-    push_severity(line, options.color, severity)?;
-    push_setting(line, setting)?;
-    push_reason(line, reason)?;
-    line.extend_from_slice(b"\n")
+    let mut text = Vec::new(*line.allocator());
+    push_reason(&mut text, reason)?;
+    let finding = Finding {
+        file: setting.file,
+        line: setting.line,
+        severity,
+        key: Some(&setting.key),
+        value: value_of(setting),
+        reason: &text,
+        suggestion: suggestion_of(reason),
+    };
+    finding.push_to(line, options)
+}
+
+/// The text of a key.
+fn key_text(alloc: Global, key: &Key<'_>) -> Result<Vec<u8>, AllocError>
+    ensures { IfOk result (λ t. t.items ≡ key_text key.now) }
+{
+    let mut text = Vec::new(alloc);
+    text.extend_from_slice(key.section)?;
+    text.push(b'.')?;
+    if let Some(between) = key.between {
+        text.extend_from_slice(between)?;
+        text.push(b'.')?;
+    }
+    text.extend_from_slice(key.last)?;
+    Ok(text)
+}
+
+/// The key that is meant, if one is near.
+fn key_meant(alloc: Global, unknown: &UnknownKey<'_>) -> Result<Option<Vec<u8>>, AllocError>
+    ensures { IfOk result (λ t. option_map (λ t. t.items) t ≡ key_meant unknown.now) }
+{
+    match &unknown.nearest {
+        Some(key) => Ok(Some(key_text(alloc, key)?)),
+        None => Ok(None),
+    }
 }
 
 /// Appends the line of a setting whose key is misspelt.
@@ -319,12 +427,21 @@ pub(crate) fn push_misspelt(
     ensures { OnOk result (line.new.items ≡ line.old.items
         ++ unknown_line options.now setting.now unknown.now) }
 {
-    push_place(line, setting.file, setting.line)?;
-    push_severity(line, options.color, Severity::Warning)?;
-    push_shown(line, &setting.key)?;
-    line.extend_from_slice(b": ")?;
-    push_unknown(line, unknown)?;
-    line.extend_from_slice(b"\n")
+    let alloc = *line.allocator();
+    let mut text = Vec::new(alloc);
+    push_unknown(&mut text, unknown)?;
+    let meant = key_meant(alloc, unknown)?;
+    let suggestion = bytes_of(&meant);
+    let finding = Finding {
+        file: setting.file,
+        line: setting.line,
+        severity: Severity::Warning,
+        key: Some(&setting.key),
+        value: None,
+        reason: &text,
+        suggestion,
+    };
+    finding.push_to(line, options)
 }
 
 /// What is said of a file that is refused.
@@ -346,8 +463,14 @@ pub(crate) fn push_refusal(
 ) -> Result<(), AllocError>
     ensures { OnOk result (line.new.items ≡ line.old.items ++ refused_line options.now file.now error) }
 {
-    push_place(line, file, error.line)?;
-    push_severity(line, options.color, Severity::Error)?;
-    line.extend_from_slice(fault_text(error.fault).as_bytes())?;
-    line.extend_from_slice(b"\n")
+    let finding = Finding {
+        file,
+        line: error.line,
+        severity: Severity::Error,
+        key: None,
+        value: None,
+        reason: fault_text(error.fault).as_bytes(),
+        suggestion: None,
+    };
+    finding.push_to(line, options)
 }

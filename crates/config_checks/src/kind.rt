@@ -22,8 +22,8 @@ pub enum Form {
     Words,
     /// It is a date: it has a digit, or one of the words between bytes that are not letters.
     Date,
-    /// It is a key to sort by, as `-version:refname`: a word follows `-`, `version:` or `v:`, and `*`, if they are
-    /// there, and is followed by nothing or by a colon.
+    /// It is a key to sort by, as `-version:refname`: a word follows `-`, `version:` or `v:`, and `*`, if
+    /// they are there, and is followed by nothing or by a colon.
     SortKey,
 }
 
@@ -130,7 +130,8 @@ fn first_bytes(text: &[u8], count: usize) -> &[u8]
 
 /// What a word of a list has before the `*` at its end, or `None` if it does not end in one.
 pub(crate) fn pattern_front(word: &[u8]) -> Option<&[u8]>
-    ensures { MatchOption result ((front : List ℕ) → ¬ (IsPattern word.now front)) (λ front. IsPattern word.now front.now) }
+    ensures { MatchOption result ((front : List ℕ) → ¬ (IsPattern word.now front))
+        (λ front. IsPattern word.now front.now) }
 {
     word.strip_suffix(b"*")
 }

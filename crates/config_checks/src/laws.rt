@@ -27,7 +27,8 @@ pub fn one_finding()
 pub fn one_report()
     ensures one { (rows : List Row) (options : Options) (file text a b : List ℕ) (s t : Counts)
         → IsReport rows options file text a s → IsReport rows options file text b t → (a ≡ b) × (s ≡ t) }
-    ensures begins { (rows : List Row) (options : Options) (file text a b : List ℕ) (e : CheckError) (s : Counts)
+    ensures begins { (rows : List Row) (options : Options) (file text a b : List ℕ) (e : CheckError)
+        (s : Counts)
         → BeginsReport rows options file text a e → IsReport rows options file text b s
         → (more : List ℕ) × (b ≡ a ++ more) }
 {}

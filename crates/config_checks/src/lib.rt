@@ -5,6 +5,7 @@ pub mod check;
 mod edits;
 pub mod finding;
 pub mod git;
+pub mod json;
 pub mod key;
 pub mod kind;
 pub mod laws;

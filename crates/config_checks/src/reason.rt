@@ -5,7 +5,8 @@ ghost use Rattle.gix_config_value.specs.Kinds.{KindGrammar, KindCanonical};
 ghost use Rattle.config_text.specs.Value.{IsAccepted};
 ghost use Rattle.gix_config_value.specs.Boolean.{BooleanText};
 ghost use Rattle.config_checks.specs.Reasons.{IsWithin, IsJudged, IsJudgedWithin, IsJudgedBoolOrInt, IsInt};
-ghost use Rattle.config_checks.specs.Reasons.{WordEdits, IsMeant, IsJudgedByWords, IsTakenByForm, IsTaken, IsJudgedText};
+ghost use Rattle.config_checks.specs.Reasons.{WordEdits, IsMeant, IsJudgedByWords, IsTakenByForm, IsTaken};
+ghost use Rattle.config_checks.specs.Reasons.{IsJudgedText};
 ghost use Rattle.config_checks.specs.Reasons.{HasReason, HasSpelling, IsFoundBehind, HasFinding, severity_of};
 ghost use Rattle.config_checks.specs.Reasons.{IsRespelled, IsRespelledBoolOrInt, IsRespelledAs};
 ghost use Rattle.config_checks.specs.Reasons.{IsRespelledByForm, IsRespelledByWords};
@@ -36,7 +37,8 @@ pub enum Reason<'r, 't> {
         low: Amount,
         high: Amount,
     },
-    /// It does not have the words of this list as the list asks for. `meant` is the nearest word, if one is near.
+    /// It does not have the words of this list as the list asks for. `meant` is the nearest word, if one is
+    /// near.
     NoWord {
         list: &'r WordList<'t>,
         meant: Option<&'t [u8]>,
@@ -154,8 +156,8 @@ fn is_taken_by_form(list: &WordList<'_>, text: &[u8]) -> bool
     }
 }
 
-/// How many edits lead from a word of a list to a text. `None` if they are not few, or if the word is never meant: it
-/// is short, or ends in `*`.
+/// How many edits lead from a word of a list to a text. `None` if they are not few, or if the word is never
+/// meant: it is short, or ends in `*`.
 fn word_edits(alloc: Global, word: &[u8], text: &[u8]) -> Result<Option<usize>, AllocError>
     ensures { IfOk result (λ r. IsFew (WordEdits text.now word.entry) r) }
 {
@@ -219,8 +221,8 @@ fn text_reason<'r, 't>(
     }
 }
 
-/// Why the value of a setting is wrong by its row, or `None` if it is valid. `value` is `None` for a key alone. An error
-/// if there was no memory to find the word that is meant.
+/// Why the value of a setting is wrong by its row, or `None` if it is valid. `value` is `None` for a key
+/// alone. An error if there was no memory to find the word that is meant.
 pub fn judge<'r, 't>(
     alloc: Global,
     row: &'r Row<'t>,
@@ -258,7 +260,8 @@ fn respelled_boolean_or_number<'r, 't>(text: &[u8]) -> Option<Reason<'r, 't>>
     }
 }
 
-/// The word of a list in its own case, or `None` if the text has it so, or is another text that it stands for.
+/// The word of a list in its own case, or `None` if the text has it so, or is another text that it stands
+/// for.
 fn respelled_as<'r, 't>(word: &'t [u8], text: &[u8]) -> Option<Reason<'r, 't>>
     ensures { IsRespelledAs text.now word.entry result }
 {
@@ -321,8 +324,9 @@ fn spelled<'r, 't>(
     respelled(&row.kind, value?)
 }
 
-/// Why the value of a setting is wrong by its row or, if it is valid and canonical texts are wanted, how it should be
-/// spelled. `None` if nothing is wrong. An error if there was no memory to find the word that is meant.
+/// Why the value of a setting is wrong by its row or, if it is valid and canonical texts are wanted, how it
+/// should be spelled. `None` if nothing is wrong. An error if there was no memory to find the word that is
+/// meant.
 pub fn find<'r, 't>(
     alloc: Global,
     row: &'r Row<'t>,

@@ -18,7 +18,8 @@ use std::alloc::{AllocError, Global};
 /// The bytes of a section that is long.
 const LONG_SECTION: usize = 8;
 
-/// How many edits lead from one part between dots to the other. `None` if they are not few, or if one is not there.
+/// How many edits lead from one part between dots to the other. `None` if they are not few, or if one is not
+/// there.
 fn between_edits(
     alloc: Global,
     row: Option<&[u8]>,
@@ -50,7 +51,8 @@ fn edits_of_word(alloc: Global, row: &[u8], last: &[u8]) -> Result<Option<usize>
     Ok(None)
 }
 
-/// How many edits lead from the one last part to the other. `None` if they are not few, nor one part lacks a word.
+/// How many edits lead from the one last part to the other. `None` if they are not few, nor one part lacks a
+/// word.
 fn last_edits(alloc: Global, row: &Key<'_>, key: &Key<'_>) -> Result<Option<usize>, AllocError>
     ensures { IfOk result (λ r. IsFew (LastEdits row.now key.now) r) }
 {
@@ -63,8 +65,8 @@ fn last_edits(alloc: Global, row: &Key<'_>, key: &Key<'_>) -> Result<Option<usiz
     }
 }
 
-/// How many edits lead from the key of a row to a key of its section, if they differ in one part alone. `None` if
-/// they are not few.
+/// How many edits lead from the key of a row to a key of its section, if they differ in one part alone.
+/// `None` if they are not few.
 fn edits_after(alloc: Global, row: &Key<'_>, key: &Key<'_>) -> Result<Option<usize>, AllocError>
     ensures { IfOk result (λ r. IsFew (EditsAfter row.now key.now) r) }
 {
@@ -78,7 +80,8 @@ fn edits_after(alloc: Global, row: &Key<'_>, key: &Key<'_>) -> Result<Option<usi
     }
 }
 
-/// How many edits lead from the key of a row to a key, if they differ in one part alone. `None` if they are not few.
+/// How many edits lead from the key of a row to a key, if they differ in one part alone. `None` if they are
+/// not few.
 fn one_part_edits(alloc: Global, row: &Key<'_>, key: &Key<'_>) -> Result<Option<usize>, AllocError>
     ensures { IfOk result (λ r. IsFew (OnePartEdits row.now key.now) r) }
 {
@@ -179,9 +182,9 @@ pub struct UnknownKey<'k> {
 }
 
 /// A key that is misspelt: no row covers it, and it is near a row's key, or it has no part between dots and a
-/// section in which only the rows have settings. Near are keys that differ in one part: by one edit, by two if the
-/// part is long in both, or in the last one of two by a word that one of them lacks. `None` for any other key. An
-/// error if there was no memory.
+/// section in which only the rows have settings. Near are keys that differ in one part: by one edit, by two
+/// if the part is long in both, or in the last one of two by a word that one of them lacks. `None` for any
+/// other key. An error if there was no memory.
 pub fn unknown_key<'k>(
     alloc: Global,
     rows: &[Row<'k>],
@@ -216,7 +219,8 @@ fn push_dotted(out: &mut Vec<u8>, part: &[u8]) -> Result<(), AllocError>
 /// Appends the part between dots, if there is one, and a dot.
 fn push_between(out: &mut Vec<u8>, between: Option<&[u8]>) -> Result<(), AllocError>
     ensures ok { OnOk result (out.new.items ≡ out.old.items ++ between_shown between.entry) }
-    ensures err { OnErr result (AppendsPart (Some out.old.items) (Some out.new.items) (between_shown between.entry)) }
+    ensures err { OnErr result (AppendsPart (Some out.old.items) (Some out.new.items)
+        (between_shown between.entry)) }
 {
     match between {
         Some(between) => push_dotted(out, between),
@@ -254,17 +258,19 @@ fn push_asked(out: &mut Vec<u8>, key: &Key<'_>) -> Result<(), AllocError>
 /// Appends a text, a key and a question mark.
 fn push_meant(out: &mut Vec<u8>, front: &str, key: &Key<'_>) -> Result<(), AllocError>
     ensures ok { OnOk result (out.new.items ≡ out.old.items ++ (front.now ++ asked key.now)) }
-    ensures err { OnErr result (AppendsPart (Some out.old.items) (Some out.new.items) (front.now ++ asked key.now)) }
+    ensures err { OnErr result (AppendsPart (Some out.old.items) (Some out.new.items)
+        (front.now ++ asked key.now)) }
 {
     out.extend_from_slice(front.as_bytes())?;
     push_asked(out, key)
 }
 
-/// Appends what is said of an unknown key. If there is no memory for all of it, `out` keeps what it had, and some
-/// first bytes of the text may follow.
+/// Appends what is said of an unknown key. If there is no memory for all of it, `out` keeps what it had, and
+/// some first bytes of the text may follow.
 pub fn push_unknown(out: &mut Vec<u8>, unknown: &UnknownKey<'_>) -> Result<(), AllocError>
     ensures ok { OnOk result (out.new.items ≡ out.old.items ++ unknown_text unknown.now) }
-    ensures err { OnErr result (AppendsPart (Some out.old.items) (Some out.new.items) (unknown_text unknown.now)) }
+    ensures err { OnErr result (AppendsPart (Some out.old.items) (Some out.new.items)
+        (unknown_text unknown.now)) }
 {
     match &unknown.nearest {
         Some(key) => push_meant(out, "unknown key; did you mean ", key),

@@ -21,19 +21,19 @@ use thiserror::Error;
 #[derive(Clone, Copy, Debug, Error)]
 pub enum RowFault {
     /// It has no kind after its key and its marks.
-    #[error("no kind stands behind the key")]
+    #[error("no kind after the key")]
     NoKind,
     /// Its key has no dot.
-    #[error("no dot stands in the key")]
+    #[error("no dot in the key")]
     NoKey,
     /// No kind has the name after its key and its marks.
     #[error("no such kind")]
     UnknownKind,
     /// Its kind needs words, and there are none.
-    #[error("no words stand behind the kind")]
+    #[error("no words after the kind")]
     NoWords,
     /// It has words after a kind that takes none.
-    #[error("words stand behind a kind that takes none")]
+    #[error("words after a kind without words")]
     Words,
     /// After `int` it has something else than two integer texts.
     #[error("the bounds are not two integers")]
@@ -74,7 +74,8 @@ fn fields_of<'t>(alloc: Global, line: &'t [u8]) -> Result<Vec<&'t [u8]>, AllocEr
 
 /// Whether a row says that a key alone is right, or that it is wrong, and the fields after this mark.
 fn cut_alone<'f, 't>(fields: &'f [&'t [u8]]) -> (Option<bool>, &'f [&'t [u8]])
-    ensures { CutsAlone (map (λ field. field.now) fields.now) result.0 (map (λ field. field.now) result.1.now) }
+    ensures { CutsAlone (map (λ field. field.now) fields.now) result.0
+        (map (λ field. field.now) result.1.now) }
 {
     match fields.split_first() {
         Some((field, rest)) if *field == b"alone".as_slice() => (Some(true), rest),
@@ -85,7 +86,8 @@ fn cut_alone<'f, 't>(fields: &'f [&'t [u8]]) -> (Option<bool>, &'f [&'t [u8]])
 
 /// Whether a row says that Git goes on at wrong values, and the fields after this mark.
 fn cut_warn<'f, 't>(fields: &'f [&'t [u8]]) -> (bool, &'f [&'t [u8]])
-    ensures { CutsWarn (map (λ field. field.now) fields.now) result.0 (map (λ field. field.now) result.1.now) }
+    ensures { CutsWarn (map (λ field. field.now) fields.now) result.0
+        (map (λ field. field.now) result.1.now) }
 {
     match fields.split_first() {
         Some((field, rest)) if *field == b"warn".as_slice() => (true, rest),

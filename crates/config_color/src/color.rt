@@ -393,6 +393,7 @@ impl Value for Color {
     }
 
     /// Writes the names and then the attributes, with one space between, in at most `LONGEST_TEXT` bytes.
+    #[inline(always)]
     fn write_to(&self, text: &mut CanonicalText) {
         self.show(text);
     }

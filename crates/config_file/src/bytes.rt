@@ -1,5 +1,6 @@
 //! Bytes, and runs of them.
-ghost use Rattle.std.specs.Prelude.{◌≡◌, ◌≢◌, ℕ, ◌<◌, ◌≤◌, ◌↔◌, List, [], ◌∷◌, ◌++◌, length, MatchOption, IsTrue, take, drop};
+ghost use Rattle.std.specs.Prelude.{◌≡◌, ◌≢◌, ℕ, ◌<◌, ◌≤◌, ◌↔◌, List, [], ◌∷◌, ◌++◌, length, MatchOption};
+ghost use Rattle.std.specs.Prelude.{IsTrue, take, drop};
 ghost use Rattle.std.specs.Prelude.{count_by, ◌==◌};
 ghost use Rattle.std.specs.List.{prefix_len};
 ghost use Rattle.config_file.specs.Bytes as spec;
@@ -38,7 +39,8 @@ pub(crate) fn strip<'t>(text: &'t [u8], front: &[u8]) -> Option<&'t [u8]>
 
 /// What precedes the end, or `None` if the text ends otherwise.
 pub(crate) fn strip_end<'t>(text: &'t [u8], end: &[u8]) -> Option<&'t [u8]>
-    ensures { MatchOption result ((front : List ℕ) → text.now ≢ front ++ end.now) (λ front. text.now ≡ front.now ++ end.now) }
+    ensures { MatchOption result ((front : List ℕ) → text.now ≢ front ++ end.now)
+        (λ front. text.now ≡ front.now ++ end.now) }
 {
     text.strip_suffix(end)
 }

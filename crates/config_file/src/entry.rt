@@ -1,5 +1,6 @@
 //! Entries, and the texts that their parts spell.
-ghost use Rattle.std.specs.Prelude.{◌↔◌, IsTrue, ◌≡◌, ℕ, List, ◌++◌, IfOk, OnOk, MatchResult, map, option_map};
+ghost use Rattle.std.specs.Prelude.{◌↔◌, IsTrue, ◌≡◌, ℕ, List, ◌++◌, IfOk, OnOk, MatchResult, map};
+ghost use Rattle.std.specs.Prelude.{option_map};
 ghost use Rattle.std.specs.Char.{to_ascii_lowercase};
 ghost use Rattle.config_file.specs.Listing.{IsListed, IsListedSection};
 ghost use Rattle.config_file.specs.File.{TakesEntry, EntryStops};

@@ -61,7 +61,7 @@ fn is_git_dir(rt: &HostRuntime, folder: &str) -> io::Result<bool> {
     )
 }
 
-/// The git directory that a path names: itself, or that of its line `gitdir: ..`.
+/// The git directory that a path names: itself, or that of its line `gitdir: ..`, with its links resolved.
 fn linked(rt: &HostRuntime, folder: &str, path: String) -> io::Result<String> {
     if !Path::new(&path).is_file(rt) {
         return Ok(path);
@@ -69,9 +69,13 @@ fn linked(rt: &HostRuntime, folder: &str, path: String) -> io::Result<String> {
     let Some(line) = line_of(rt, &path)? else {
         return Ok(path);
     };
-    match line.as_str().strip_prefix("gitdir: ") {
-        Some(git_dir) => inside(rt.alloc(), folder, git_dir),
-        None => Ok(path),
+    let Some(git_dir) = line.as_str().strip_prefix("gitdir: ") else {
+        return Ok(path);
+    };
+    let git_dir = inside(rt.alloc(), folder, git_dir)?;
+    match real_path(rt, &git_dir)? {
+        Some(real) => Ok(real),
+        None => Ok(git_dir),
     }
 }
 
@@ -88,7 +92,8 @@ fn git_dir_in(rt: &HostRuntime, folder: &str) -> io::Result<Option<String>> {
     Ok(None)
 }
 
-/// The git directory: GIT_DIR, or the first from the current folder upwards. It may be relative to that folder.
+/// The git directory: GIT_DIR, or the first from the current folder upwards. It may be relative to that
+/// folder.
 pub fn find_git_dir(rt: &HostRuntime) -> io::Result<Option<String>> {
     if let Some(git_dir) = variable(rt, "GIT_DIR")? {
         return Ok(Some(linked(rt, "", git_dir)?));
@@ -162,11 +167,13 @@ pub fn find_repository(rt: &HostRuntime) -> io::Result<Option<Repository>> {
         return Ok(None);
     };
     let folder = current_folder(rt)?;
-    let git_dir = if found.is_empty() {
-        folder
+    // Git calls the current folder `.`
+    let name = if found.is_empty() {
+        "."
     } else {
-        inside(rt.alloc(), &folder, &found)?
+        found.as_str()
     };
+    let git_dir = inside(rt.alloc(), &folder, name)?;
     let Some(real_git_dir) = real_path(rt, &git_dir)? else {
         return Ok(None);
     };

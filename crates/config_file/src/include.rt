@@ -1,7 +1,9 @@
 //! The entries that include a file: their conditions.
-ghost use Rattle.std.specs.Prelude.{◌≡◌, ◌≢◌, ◌↔◌, ◌++◌, IsTrue, IfOk, OnOk, MatchOption, List, ℕ, option_map, option_copied, codes};
+ghost use Rattle.std.specs.Prelude.{◌≡◌, ◌≢◌, ◌↔◌, ◌++◌, IsTrue, IfOk, OnOk, MatchOption, List, ℕ};
+ghost use Rattle.std.specs.Prelude.{option_map, option_copied, codes};
 ghost use Rattle.config_file.specs.Include as spec;
-ghost use Rattle.config_file.specs.Include.{Names, Includes, IncludesNone, IsConditional, IsGitDir, IsOnBranch};
+ghost use Rattle.config_file.specs.Include.{Names, Includes, IncludesNone, IsConditional, IsGitDir};
+ghost use Rattle.config_file.specs.Include.{IsOnBranch};
 ghost use Rattle.config_file.specs.Include.{IsSameName, MatchesBelow, MatchesDir};
 
 use crate::bytes::{strip, strip_end};
@@ -41,7 +43,8 @@ pub struct Repository<'r> {
 
 /// The text of the condition in a key.
 fn condition_text(key: &[u8]) -> Option<&[u8]>
-    ensures { MatchOption result ((text : List ℕ) → ¬ (IsConditional key.now text)) (λ text. IsConditional key.now text.now) }
+    ensures { MatchOption result ((text : List ℕ) → ¬ (IsConditional key.now text))
+        (λ text. IsConditional key.now text.now) }
 {
     let rest = strip(key, b"includeif.")?;
     strip_end(rest, b".path")
@@ -165,9 +168,9 @@ fn matches_dir(
 }
 
 impl Repository<'_> {
-    /// Whether the pattern of `gitdir:` matches the git directory. `~` at its start is the home directory, if that is
-    /// known, and the `.` of `./` is `real_dir`, the directory of the file that has the pattern, with its links
-    /// resolved and no `/` at its end. Fails only if memory runs out.
+    /// Whether the pattern of `gitdir:` matches the git directory. `~` at its start is the home directory, if
+    /// that is known, and the `.` of `./` is `real_dir`, the directory of the file that has the pattern, with
+    /// its links resolved and no `/` at its end. Fails only if memory runs out.
     pub fn is_git_dir(
         &self,
         alloc: Global,
@@ -175,7 +178,8 @@ impl Repository<'_> {
         pattern: &[u8],
         ignores_case: bool,
     ) -> Result<bool, AllocError>
-        ensures { IfOk result (λ holds. IsTrue holds ↔ (IsGitDir ignores_case real_dir.now pattern.now self.now)) }
+        ensures { IfOk result (λ holds. IsTrue holds
+            ↔ (IsGitDir ignores_case real_dir.now pattern.now self.now)) }
     {
         let pattern = at_home(alloc, self.real_home, pattern)?;
         if matches_dir(alloc, real_dir, &pattern, self.real_git_dir, ignores_case)? {

@@ -8,6 +8,9 @@
 //! bytes spell, and a [`section::Subsection`] appends it. [`entry::Entry::key_text`] is the key as `git
 //! config --list` shows it.
 //!
+//! [`settings`] looks typed values up over several files, [`walk`] follows includes, [`spelling`] writes
+//! entries, and [`here`] finds the repository that a program runs in.
+//!
 //! [`laws`] states that each text has a reading, and one: it is a configuration file, or it is refused on a
 //! line.
 #![tactic(auto)]

@@ -56,7 +56,9 @@ pub fn included_name(alloc: Global, file: &[u8], path: &[u8]) -> Result<Vec<u8>,
 /// A directory of a path, and what follows it.
 #[derive(Clone, Copy)]
 pub struct Expanded<'e> {
+    /// The directory, or nothing if the path begins with none.
     pub directory: &'e [u8],
+    /// What follows the directory.
     pub rest: &'e [u8],
 }
 
@@ -70,13 +72,15 @@ pub(crate) fn is_rest(rest: &[u8]) -> bool
     }
 }
 
-/// The path that a value stands for, in two parts, or `None` if it begins with a directory that is not known. No
-/// users are looked up, so `~user` is not known.
+/// The path that a value stands for, in two parts, or `None` if it begins with a directory that is not known.
+/// No users are looked up, so `~user` is not known.
 #[tactic(auto, using(crate::proofs::Paths::at_home, crate::proofs::Paths::at_prefix, crate::proofs::Paths::elsewhere, crate::proofs::Paths::of_user, crate::proofs::Paths::without_home, crate::proofs::Paths::without_prefix))]
 pub fn expand<'e>(value: &'e [u8], directories: Directories<'e>) -> Option<Expanded<'e>>
     ensures { MatchOption result
-        (BeginsUnknown (option_copied directories.entry.home) (option_copied directories.entry.install_dir) value.now)
-        (λ parts. Expands (option_copied directories.entry.home) (option_copied directories.entry.install_dir) value.now
+        (BeginsUnknown (option_copied directories.entry.home) (option_copied directories.entry.install_dir)
+        value.now)
+        (λ parts. Expands (option_copied directories.entry.home)
+        (option_copied directories.entry.install_dir) value.now
         (parts.directory.now ++ parts.rest.now)) }
 {
     if let Some(rest) = strip(value, b"~") {

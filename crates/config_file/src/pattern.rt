@@ -38,7 +38,8 @@ fn stands_for(item: u8, byte: u8, ignores_case: bool) -> bool
 
 /// What follows this byte, if the text begins with it.
 fn after_byte(byte: u8, text: &[u8]) -> Option<&[u8]>
-    ensures { MatchOption result ((rest : List ℕ) → text.now ≢ byte ∷ rest) (λ rest. text.now ≡ byte ∷ rest.now) }
+    ensures { MatchOption result ((rest : List ℕ) → text.now ≢ byte ∷ rest)
+        (λ rest. text.now ≡ byte ∷ rest.now) }
 {
     let (first, rest) = split(text)?;
     if first == byte { Some(rest) } else { None }
@@ -108,8 +109,8 @@ fn is_passed(crosses: bool, byte: u8) -> bool
     crosses || byte != b'/'
 }
 
-/// Whether the pattern matches the whole text. Stars and `?` match no `/`, but two stars or more that are all of a
-/// name do: `**/`, `/**/` and `/**`.
+/// Whether the pattern matches the whole text. Stars and `?` match no `/`, but two stars or more that are all
+/// of a name do: `**/`, `/**/` and `/**`.
 ///
 /// The time is exponential in the number of stars, as in Git.
 pub fn matches(pattern: &[u8], text: &[u8], ignores_case: bool) -> bool

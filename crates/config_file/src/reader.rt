@@ -1,5 +1,6 @@
 //! The reader: the entries of a text, one by one.
-ghost use Rattle.std.specs.Prelude.{◌≡◌, ◌+◌, ◌<◌, ◌^◌, ◌↔◌, IsTrue, None, Some, Option, List, [], length, option_map};
+ghost use Rattle.std.specs.Prelude.{◌≡◌, ◌+◌, ◌<◌, ◌^◌, ◌↔◌, IsTrue, None, Some, Option, List, [], length};
+ghost use Rattle.std.specs.Prelude.{option_map};
 ghost use Rattle.config_file.specs.File.{Begins, after_mark, IsPartOfMark};
 ghost use Rattle.config_file.specs.Reading.Scans.{BeginsWithLetter};
 

@@ -1,5 +1,6 @@
 //! Sets of bytes in patterns, as `[a-z]` and `[!/]`.
-ghost use Rattle.std.specs.Prelude.{◌≡◌, ◌<◌, ◌≤◌, ◌≢◌, ◌∷◌, Bool, true, List, ℕ, IfSome, MatchOption, length, option_map};
+ghost use Rattle.std.specs.Prelude.{◌≡◌, ◌<◌, ◌≤◌, ◌≢◌, ◌∷◌, Bool, true, List, ℕ, IfSome, MatchOption};
+ghost use Rattle.std.specs.Prelude.{length, option_map};
 ghost use Rattle.std.specs.Int.{is_in_range};
 ghost use Rattle.std.specs.List.{prefix_len};
 ghost use Rattle.config_file.specs.Runs.{Run};
@@ -163,7 +164,8 @@ fn unclosed(text: &[u8]) -> (&[u8], &[u8])
 /// The name of the class that comes first, and the rest.
 #[tactic(auto, using(crate::proofs::Sets::is_class, crate::proofs::Sets::not_opened, crate::proofs::Sets::no_closing))]
 fn class_name(text: &[u8]) -> Option<(&[u8], &[u8])>
-    ensures { MatchOption result ((name rest : List ℕ) → ¬ (IsClass text.now name rest)) (λ p. IsClass text.now p.0.now p.1.now) }
+    ensures { MatchOption result ((name rest : List ℕ) → ¬ (IsClass text.now name rest))
+        (λ p. IsClass text.now p.0.now p.1.now) }
 {
     let inner = strip(text, b"[:")?;
     let (inside, closing) = unclosed(inner);
@@ -175,7 +177,8 @@ fn class_name(text: &[u8]) -> Option<(&[u8], &[u8])>
 /// Whether the first member has the byte, and the rest.
 #[tactic(auto, using(crate::proofs::Sets::class_shortens, crate::proofs::Sets::member_shortens, crate::proofs::Sets::of_byte, crate::proofs::Sets::of_no_byte))]
 fn member(text: &[u8], starts: bool, byte: u8, ignores_case: bool) -> Option<(bool, &[u8])>
-    ensures is { MatchOption result ((has : Bool) (rest : List ℕ) → ¬ (Member ignores_case byte starts text.now has rest))
+    ensures is { MatchOption result ((has : Bool) (rest : List ℕ)
+        → ¬ (Member ignores_case byte starts text.now has rest))
         (λ p. Member ignores_case byte starts text.now p.0 p.1.now) }
     ensures shorter { IfSome result (λ p. length p.1.now < length text.now) }
 {
@@ -191,10 +194,12 @@ fn member(text: &[u8], starts: bool, byte: u8, ignores_case: bool) -> Option<(bo
     }
 }
 
-/// Whether one of the members up to `]` has the byte, and the rest, or `None` if they are no members of a set.
+/// Whether one of the members up to `]` has the byte, and the rest, or `None` if they are no members of a
+/// set.
 #[tactic(auto, using(crate::proofs::Sets::goes_on_first, crate::proofs::Sets::goes_on_found, crate::proofs::Sets::goes_on_here, crate::proofs::Sets::set_closed, crate::proofs::Sets::no_first))]
 fn members(text: &[u8], byte: u8, ignores_case: bool) -> Option<(bool, &[u8])>
-    ensures { MatchOption result ((found : Bool) (rest : List ℕ) → ¬ (SetHas ignores_case byte true text.now found rest))
+    ensures { MatchOption result ((found : Bool) (rest : List ℕ)
+        → ¬ (SetHas ignores_case byte true text.now found rest))
         (λ p. SetHas ignores_case byte true text.now p.0 p.1.now) }
 {
     let (mut found, mut rest) = member(text, true, byte, ignores_case)?;

@@ -61,7 +61,8 @@ pub struct Refused<'s, F> {
 
 impl<F: fmt::Display> fmt::Display for Refused<'_, F> {
     ghost output = { λ refused. option_map
-        (λ reason. place_shown refused.file.now refused.line refused.key.now ++ reason) (F.output refused.fault) };
+        (λ reason. place_shown refused.file.now refused.line refused.key.now ++ reason)
+        (F.output refused.fault) };
 
     fn fmt<W: fmt::Write>(&self, f: &mut fmt::Formatter<W>) -> fmt::Result {
         let key = BStr::new(self.key);
@@ -156,8 +157,8 @@ impl<'a> Setting<'a> {
         }
     }
 
-    /// Whether this is an entry of the key. The case of the section and of the key does not count; that of the
-    /// subsection does.
+    /// Whether this is an entry of the key. The case of the section and of the key does not count; that of
+    /// the subsection does.
     pub fn is_named(&self, section: &[u8], subsection: Option<&[u8]>, key: &[u8]) -> bool
         ensures { IsTrue result
             ↔ (self.now.key.items ≡ listed section.now (option_copied subsection.entry) key.now) }
@@ -209,8 +210,8 @@ impl<'a> Setting<'a> {
         }
     }
 
-    /// Whether the path of the value may be missing, and the parts of what it stands for: docs/GRAMMAR.md, Paths.
-    /// A key alone is refused, as the empty path is. The lookup of the context is called at most once.
+    /// Whether the path of the value may be missing, and the parts of what it stands for: docs/GRAMMAR.md,
+    /// Paths. A key alone is refused, as the empty path is. The lookup of the context is called at most once.
     pub fn path<'s, 'c, F>(
         &'s self,
         context: Context<'c, F>,
@@ -238,7 +239,8 @@ impl<'a> Settings<'a> {
         }
     }
 
-    /// Appends the entries of a file, which decide over those before. The name of the file is kept for refusals.
+    /// Appends the entries of a file, which decide over those before. The name of the file is kept for
+    /// refusals.
     pub fn add_file(
         &mut self,
         alloc: Global,
@@ -292,7 +294,8 @@ impl<'a> Settings<'a> {
         key: &[u8],
     ) -> Result<Vec<&Setting<'a>>, AllocError>
         ensures { IfOk result (λ v. map (λ s. s.now) v.items
-            ≡ all_named (listed section.now (option_copied subsection.entry) key.now) self.now.entries.items) }
+            ≡ all_named (listed section.now (option_copied subsection.entry) key.now)
+            self.now.entries.items) }
     {
         let mut all = Vec::new(alloc);
         for setting in &self.entries {

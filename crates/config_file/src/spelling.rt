@@ -1,10 +1,13 @@
 //! Spellings: the fewest bytes that read back to a value, a section header or an entry.
-ghost use Rattle.std.specs.Prelude.{◌≡◌, ◌++◌, ◌∷◌, [], ◌⊎◌, IfOk, IfSome, OnOk, MatchOption, option_copied, count_by, ◌==◌};
+ghost use Rattle.std.specs.Prelude.{◌≡◌, ◌++◌, ◌∷◌, [], ◌⊎◌, IfOk, IfSome, OnOk, MatchOption, option_copied};
+ghost use Rattle.std.specs.Prelude.{count_by, ◌==◌};
 ghost use Rattle.std.specs.List.{flat_map, list_all, list_any};
 ghost use Rattle.config_file.specs.Bytes.{is_name_byte, is_text_byte, is_key_byte};
-ghost use Rattle.config_file.specs.Spelling.{IsShortest, HasNoSpelling, LacksSpelling, IsShortestHeader, HasNoHeader, IsNoKey, AddsEntry, IsLine};
+ghost use Rattle.config_file.specs.Spelling.{IsShortest, HasNoSpelling, LacksSpelling, IsShortestHeader};
+ghost use Rattle.config_file.specs.Spelling.{HasNoHeader, IsNoKey, AddsEntry, IsLine};
 ghost use Rattle.config_file.specs.Reading.Spellings as spec;
-ghost use Rattle.config_file.specs.Reading.Spellings.{spelled_byte, spelled_value, spelled_in_subsection, spelled_subsection, spelled_section, spelled_line};
+ghost use Rattle.config_file.specs.Reading.Spellings.{spelled_byte, spelled_value, spelled_in_subsection};
+ghost use Rattle.config_file.specs.Reading.Spellings.{spelled_subsection, spelled_section, spelled_line};
 
 use crate::bytes;
 use std::alloc::{AllocError, Global};
@@ -29,8 +32,9 @@ pub fn spell_value(alloc: Global, value: &[u8]) -> Result<Option<Vec<u8>>, Alloc
     Ok(Some(spelling))
 }
 
-/// The fewest bytes that are the header of a section and a subsection. `None` if the name has a byte that is no
-/// letter, digit, `-` or `.`, if it is empty and has no subsection, or if the subsection has an LF or a NUL.
+/// The fewest bytes that are the header of a section and a subsection. `None` if the name has a byte that is
+/// no letter, digit, `-` or `.`, if it is empty and has no subsection, or if the subsection has an LF or a
+/// NUL.
 ///
 /// ```rust
 /// use config_file::spelling::spell_header;
@@ -55,10 +59,10 @@ pub fn spell_header(
     Ok(Some(spelling))
 }
 
-/// A line that adds an entry to a file: the shortest header, the key, the shortest spelling of the value, and an LF.
-/// Without a value, the entry is its key alone. The line may follow any file that is empty or ends in an LF, unless
-/// a backslash before that LF continues the line. `None` if the section has no header, if the key is not a letter
-/// and then letters, digits and `-`, or if the value has a NUL.
+/// A line that adds an entry to a file: the shortest header, the key, the shortest spelling of the value, and
+/// an LF. Without a value, the entry is its key alone. The line may follow any file that is empty or ends in
+/// an LF, unless a backslash before that LF continues the line. `None` if the section has no header, if the
+/// key is not a letter and then letters, digits and `-`, or if the value has a NUL.
 ///
 /// ```rust
 /// use config_file::spelling::spell_entry;

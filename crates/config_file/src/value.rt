@@ -1,9 +1,11 @@
 //! The value of an entry.
-ghost use Rattle.std.specs.Prelude.{◌≡◌, ◌≢◌, ℕ, List, [], ◌∷◌, ◌≤◌, length, IfOk, IfSome, OnOk, MatchOption, MatchResult};
+ghost use Rattle.std.specs.Prelude.{◌≡◌, ◌≢◌, ℕ, List, [], ◌∷◌, ◌≤◌, length, IfOk, IfSome, OnOk, MatchOption};
+ghost use Rattle.std.specs.Prelude.{MatchResult};
 ghost use Rattle.std.specs.Cow.{cow_slice_items};
 ghost use Rattle.config_file.specs.Value as spec;
 ghost use Rattle.config_file.specs.Value.{TakesValue, ValueStops, IsNoEscape, SpellsValue, kept, Ending};
-ghost use Rattle.config_file.specs.Reading.Scans.{PassedValue, EndsScan, Escapes, goes_on, is_held_back, unescape};
+ghost use Rattle.config_file.specs.Reading.Scans.{PassedValue, EndsScan, Escapes, goes_on, is_held_back};
+ghost use Rattle.config_file.specs.Reading.Scans.{unescape};
 
 use crate::bytes::{
     Class, after_byte, before, is_blank, is_comment_sign, is_text_byte, line_feeds, run, split,
@@ -42,8 +44,8 @@ pub(crate) struct Taken<'a> {
 
 impl<'a> Value<'a> {
     /// The text that these bytes spell: docs/GRAMMAR.md, Configuration files. It is borrowed, and takes no
-    /// memory, if they have no quote and no backslash, and each blank within the text is a space. It fails only
-    /// if memory is refused.
+    /// memory, if they have no quote and no backslash, and each blank within the text is a space. It fails
+    /// only if memory is refused.
     ///
     /// ```rust
     /// use config_file::reader::Entries;

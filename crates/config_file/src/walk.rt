@@ -1,5 +1,6 @@
 //! The entries of a file and of the files that it includes, in Git's order.
-ghost use Rattle.std.specs.Prelude.{◌≡◌, ◌≢◌, ◌++◌, ◌↔◌, IsTrue, IfOk, OnOk, MatchOption, List, ℕ, [], ◌∷◌, option_copied};
+ghost use Rattle.std.specs.Prelude.{◌≡◌, ◌≢◌, ◌++◌, ◌↔◌, IsTrue, IfOk, OnOk, MatchOption, List, ℕ, [], ◌∷◌};
+ghost use Rattle.std.specs.Prelude.{option_copied};
 ghost use Rattle.config_file.specs.Walk.{Holds, Follows, HasFile, IsNameOf, IsInclude, WalksText, Adds};
 ghost use Rattle.config_file.specs.Reading.Walks.{WalksEntry, WalksNamed};
 ghost use Rattle.config_file.specs.Path.{BeginsUnknown};
@@ -32,15 +33,17 @@ pub enum Content<'a> {
 pub struct Place<'a> {
     /// The name of the file.
     pub name: &'a [u8],
-    /// The absolute path of its directory, with all links resolved and no `/` at its end. Only conditions that
-    /// begin with `./` ask for it.
+    /// The absolute path of its directory, with all links resolved and no `/` at its end. Only conditions
+    /// that begin with `./` ask for it.
     pub real_dir: &'a [u8],
 }
 
 /// A file by its name.
 #[derive(Clone, Copy)]
 pub struct File<'a> {
+    /// Where it is.
     pub place: Place<'a>,
+    /// What is known of it.
     pub content: Content<'a>,
 }
 
@@ -58,11 +61,14 @@ pub struct Known<'a> {
 /// An entry, and the name of its file.
 #[derive(Clone, Copy)]
 pub struct Walked<'a> {
+    /// The name of the file, as it is included.
     pub file: &'a [u8],
+    /// The entry, with its line in that file.
     pub entry: Entry<'a>,
 }
 
-/// Whether a condition holds for an entry of a file whose directory is `real_dir`, as in [`Place`]. Without a repository only that of `include.path` does, and no remote is asked.
+/// Whether a condition holds for an entry of a file whose directory is `real_dir`, as in [`Place`]. Without a
+/// repository only that of `include.path` does. No remote is asked. It fails only if memory is refused.
 pub fn holds(
     alloc: Global,
     repository: Option<Repository<'_>>,
@@ -112,7 +118,8 @@ fn is_named(file: &File<'_>, name: &[u8]) -> bool
 
 /// The file of this name, or `None` if no such file is known.
 fn find<'a>(files: &'a [File<'a>], name: &[u8]) -> Option<&'a File<'a>>
-    ensures { MatchOption result ((file : _) → ¬ (HasFile files.now name.now file)) (λ file. HasFile files.now name.now file.now) }
+    ensures { MatchOption result ((file : _) → ¬ (HasFile files.now name.now file))
+        (λ file. HasFile files.now name.now file.now) }
 {
     let index = files.iter().rposition(|file| is_named(file, name))?;
     Some(&files[index])
@@ -139,7 +146,8 @@ fn name_of(
     value: &[u8],
 ) -> Result<Option<Vec<u8>>, AllocError>
     ensures { IfOk result (λ name. MatchOption name
-        (BeginsUnknown (option_copied known.now.directories.home) (option_copied known.now.directories.install_dir) value.now)
+        (BeginsUnknown (option_copied known.now.directories.home)
+        (option_copied known.now.directories.install_dir) value.now)
         (λ name. IsNameOf known.now file.now value.now name.items)) }
 {
     let Some(parts) = expand(value, known.directories) else {
@@ -233,8 +241,9 @@ impl error::Error for WalkError<'_> {}
 /// How deep Git follows includes.
 pub const MAX_DEPTH: usize = 10;
 
-/// Appends the entries of a text and of the files that it includes, in Git's order, at most so many includes deep.
-/// It stops where Git does. After an error the entries before it are appended, and the entry that it is about.
+/// Appends the entries of a text and of the files that it includes, in Git's order, at most so many includes
+/// deep. It stops where Git does. After an error the entries before it are appended, and the entry that it is
+/// about.
 #[cycle(walk)]
 pub fn walk_file<'a>(
     alloc: Global,
@@ -244,7 +253,8 @@ pub fn walk_file<'a>(
     depth: usize,
     walked: &mut Vec<Walked<'a>>,
 ) -> Result<(), WalkError<'a>>
-    ensures { (added : _) × Adds walked.old.items walked.new.items added × WalksText known.now depth place.entry text.now added result }
+    ensures { (added : _) × Adds walked.old.items walked.new.items added
+        × WalksText known.now depth place.entry text.now added result }
 {
     'entries: for entry in Entries::new(text) {
         let entry = match entry {

@@ -110,6 +110,7 @@ pub fn normalize_as<V: Value>(input: BStr<'_>) -> Option<CanonicalText>
 
 /// Replaces the text by the canonical text that reads to the value of the input, and returns whether the
 /// input has a value. If it has none, the text is left empty.
+#[inline(always)]
 pub fn normalize_into_as<V: Value>(input: BStr<'_>, text: &mut CanonicalText) -> bool
     ensures text { Normalizes V.grammar V.canonical (bstr_bytes input.entry)
         (if result then Some text.new.bytes else None) }

@@ -13,6 +13,8 @@ pub struct Request<'m, 'a> {
     pub key: Option<&'a str>,
     /// The kind as which the value is read. Without a kind its text is printed unchanged.
     pub kind: Option<Kind>,
+    /// Whether includes are followed.
+    pub includes: bool,
     /// Whether a NUL follows each entry and each value.
     pub null: bool,
 }
@@ -24,6 +26,7 @@ impl<'m, 'a> Request<'m, 'a> {
             files: matches.get_strs("file")?,
             key: matches.get_str("key"),
             kind: matches.get_one("type"),
+            includes: matches.get_flag("includes"),
             null: matches.get_flag("null"),
         })
     }
@@ -54,6 +57,11 @@ pub fn command<'a>(alloc: Global) -> Result<Command<'a>, AllocError> {
         .value_parser(KINDS)
         .help("Print the value in the one way in which its kind is written")
         .requires_arg("key")?;
+    let includes = Arg::new(alloc, "includes")
+        .long("includes")
+        .action(ArgAction::SetTrue)
+        .help("Follow the includes of the files, as Git does in this folder")
+        .requires_arg("file")?;
     let null = Arg::new(alloc, "null")
         .long("null")
         .action(ArgAction::SetTrue)
@@ -74,6 +82,7 @@ pub fn command<'a>(alloc: Global) -> Result<Command<'a>, AllocError> {
         )
         .arg(file)?
         .arg(kind)?
+        .arg(includes)?
         .arg(null)?
         .arg(key)
 }

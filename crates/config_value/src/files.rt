@@ -1,10 +1,12 @@
 //! Lists the entries of files, or prints one value of them.
 
 use crate::arguments::Request;
+use crate::includes::{Environment, Source, files, read_included, walk_first};
 use bstr::BStr;
 use config_file::entry::Entry;
 use config_file::reader::Entries;
 use config_file::settings::{AddError, Setting, Settings};
+use config_file::walk::{Known, Walked};
 use gix_config_value::canonical::{normalize, refusal};
 use std::alloc::Global;
 use std::fs;
@@ -53,7 +55,7 @@ fn read_file(rt: &HostRuntime, file: &str) -> io::Result<Option<Vec<u8>>> {
 fn write_entry<W: Write>(
     alloc: Global,
     writer: &mut W,
-    file: &str,
+    file: &[u8],
     entry: &Entry<'_>,
     null: bool,
 ) -> io::Result<()> {
@@ -62,7 +64,8 @@ fn write_entry<W: Write>(
     } else {
         (": ", "=", "\n")
     };
-    write!(writer, "{file}:{}{place}", entry.line)?;
+    writer.write_all(file)?;
+    write!(writer, ":{}{place}", entry.line)?;
     writer.write_all(entry.key_text(alloc)?.as_slice())?;
     if let Some(value) = &entry.value {
         writer.write_all(equals.as_bytes())?;
@@ -84,7 +87,7 @@ fn list_file<W: Write>(
     };
     for entry in Entries::new(&text) {
         match entry {
-            Ok(entry) => write_entry(rt.alloc(), writer, file, &entry, null)?,
+            Ok(entry) => write_entry(rt.alloc(), writer, file.as_bytes(), &entry, null)?,
             Err(error) => {
                 eprintln!(rt; "{file}:{error}")?;
                 return Ok(false);
@@ -160,10 +163,80 @@ fn get<W: Write>(
     Ok(true)
 }
 
+/// The entries of files as settings.
+fn settings_of<'a>(alloc: Global, walked: &[Walked<'a>]) -> io::Result<Settings<'a>> {
+    let mut settings = Settings::new(alloc);
+    for walked in walked {
+        if let Ok(file) = str::from_utf8(walked.file) {
+            let setting = Setting::of_entry(alloc, file, &walked.entry)?;
+            settings.entries.push(setting)?;
+        }
+    }
+    Ok(settings)
+}
+
+/// The files that are asked for. Reports one that cannot be read.
+fn sources(rt: &HostRuntime, files: &[&str]) -> io::Result<Vec<Source>> {
+    let mut sources = Vec::new(rt.alloc());
+    for file in files {
+        if let Some(text) = read_file(rt, *file)? {
+            sources.push(Source::asked_for(rt, *file, text)?)?;
+        }
+    }
+    Ok(sources)
+}
+
+/// Does what is asked of the first files, so many, and of those that they include. Reports where the walks
+/// stop, and returns whether all of it succeeds.
+fn answer_known<W: Write>(
+    rt: &HostRuntime,
+    writer: &mut W,
+    request: &Request<'_, '_>,
+    known: &Known<'_>,
+    count: usize,
+) -> io::Result<bool> {
+    let alloc = rt.alloc();
+    let mut walked = Vec::new(alloc);
+    let stops = walk_first(alloc, known, count, &mut walked)?;
+    for stop in &stops {
+        eprintln!(rt; "{stop}")?;
+    }
+    let Some(key) = request.key else {
+        for walked in &walked {
+            write_entry(alloc, writer, walked.file, &walked.entry, request.null)?;
+        }
+        writer.flush()?;
+        return Ok(stops.is_empty());
+    };
+    let settings = settings_of(alloc, &walked)?;
+    Ok(stops.is_empty() && get(rt, writer, &settings, key, request)?)
+}
+
+/// Does what is asked of the files and of those that they include, as `answer` does.
+fn answer_included<W: Write>(
+    rt: &HostRuntime,
+    writer: &mut W,
+    request: &Request<'_, '_>,
+) -> io::Result<bool> {
+    let environment = Environment::new(rt)?;
+    let mut sources = sources(rt, request.files)?;
+    let count = sources.len();
+    if count < request.files.len() && request.key.is_some() {
+        return Ok(false);
+    }
+    read_included(rt, &environment, &mut sources)?;
+    let files = files(rt.alloc(), &sources)?;
+    let known = environment.known(files.as_slice());
+    Ok(answer_known(rt, writer, request, &known, count)? && count == request.files.len())
+}
+
 /// Does what is asked of the files, and returns whether all of it succeeds. If a file is not read whole, no
 /// value is printed, since a later line could have another.
 fn answer(rt: &HostRuntime, request: &Request<'_, '_>) -> io::Result<bool> {
     let mut writer = BufWriter::with_capacity(rt.alloc(), ROOM, rt.stdout())?;
+    if request.includes {
+        return answer_included(rt, &mut writer, request);
+    }
     let Some(key) = request.key else {
         return list(rt, &mut writer, request.files, request.null);
     };

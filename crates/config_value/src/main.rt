@@ -3,6 +3,7 @@
 
 mod arguments;
 mod files;
+mod includes;
 
 use crate::arguments::{Request, command};
 use clap::ArgMatches;

@@ -1,12 +1,12 @@
 //! Sets of text attributes.
-ghost use Rattle.std.specs.Prelude.{⊤, ◌≡◌, ◌+◌, ◌≤◌, ◌++◌, ◌↔◌, length, map, IsTrue, Some};
+ghost use Rattle.std.specs.Prelude.{⊤, ◌≡◌, ◌+◌, ◌≤◌, ◌++◌, ◌↔◌, List, ℕ, length, map, IsTrue, Some};
 ghost use Rattle.config_text.specs.declared.errors.Fault.TheVariants as faults;
 ghost use Rattle.config_word.specs.Attribute.{AttributeText, CanonicalAttribute, attribute_flags};
 ghost use Rattle.config_word.specs.Attribute.{attribute_shown};
 ghost use Rattle.config_word.specs.Laws.Attribute.{attribute_canonical_reads, attribute_decided};
 ghost use Rattle.config_word.specs.Laws.Attribute.{attribute_one_text, attribute_one_value};
 ghost use Rattle.config_word.specs.Laws.Attribute.{attribute_shown_is_text};
-ghost use Rattle.config_word.specs.Reading.Attribute.{shown_row, shown_rows, words_in};
+ghost use Rattle.config_word.specs.Reading.Attribute.{remaining, shown_row, shown_rows, words_in};
 ghost use Rattle.config_text.specs.Refusals.{OnlyFault, ReadsBytes, ReadsFault};
 ghost use Rattle.config_text.specs.Value.{HasText, IsTextOf, Reads};
 ghost use Rattle.std.proofs.Common.{rules};
@@ -148,36 +148,26 @@ fn shown_words() -> &'static [Shown]
     &SHOWN
 }
 
-/// How many rows come before those of the `no` words.
-const EARLY: usize = 8;
-
-/// The least bit of a `no` word.
-const LATE: u32 = 1 << 21;
+/// How many rows one loop shows. The compiler writes out a loop of eight rows, each with a copy of known
+/// length, and does not write out one of fifteen.
+const HALF: usize = 8;
 
 /// How many bytes all words of [`SHOWN`] have with a space between each two. That is the longest text without
 /// two names of the longest and the space after each.
 pub const LONGEST_SET: usize = LONGEST_TEXT - 2 * (LONGEST_NAME + 1);
 
 impl Attribute {
-    /// The rows whose words the set can have. This shows a set without `no` words faster.
-    fn possible_words(self) -> &'static [Shown]
-        ensures { words_in self.0 (map shown_row result.now) ≡ words_in self.0 shown_rows }
+    /// Appends the words of the rows that are in the set, with a space before each. The first has none if the
+    /// text begins with it. Returns whether the text still begins with the next word.
+    #[inline(always)]
+    fn push_words(self, rows: &[Shown], begins: bool, text: &mut CanonicalText) -> bool
+        requires { length text.old.bytes
+            + length (remaining begins (words_in self.0 (map shown_row rows.now))) ≤ LONGEST_TEXT }
+        ensures { (later : List (List ℕ)) → text.new.bytes ++ remaining result later
+            ≡ text.old.bytes ++ remaining begins (words_in self.0 (map shown_row rows.now) ++ later) }
     {
-        if self.0 < LATE {
-            &SHOWN[..EARLY]
-        } else {
-            &SHOWN
-        }
-    }
-
-    /// Appends the words of the known bits that are set, by rising bit, with one space between. There must be
-    /// room for `LONGEST_SET` bytes. Colors append their attributes by it.
-    pub fn push_to(self, text: &mut CanonicalText)
-        requires { length text.old.bytes + LONGEST_SET ≤ LONGEST_TEXT }
-        ensures { text.new.bytes ≡ text.old.bytes ++ attribute_shown self.0 }
-    {
-        let mut is_first = true;
-        for shown in self.possible_words() {
+        let mut is_first = begins;
+        for shown in rows {
             if self.contains(shown.attribute) {
                 if !is_first {
                     text.push_str(" ");
@@ -186,6 +176,19 @@ impl Attribute {
                 is_first = false;
             }
         }
+        is_first
+    }
+
+    /// Appends the words of the known bits that are set, by rising bit, with one space between. There must be
+    /// room for `LONGEST_SET` bytes. Colors append their attributes by it.
+    #[inline(always)]
+    pub fn push_to(self, text: &mut CanonicalText)
+        requires { length text.old.bytes + LONGEST_SET ≤ LONGEST_TEXT }
+        ensures { text.new.bytes ≡ text.old.bytes ++ attribute_shown self.0 }
+    {
+        let (first, second) = shown_words().split_at(HALF);
+        let is_first = self.push_words(first, true, text);
+        self.push_words(second, is_first, text);
     }
 
     /// The set as it is shown: the words of its known bits, by rising bit, with one space between, in at most
@@ -292,6 +295,7 @@ impl Value for Attribute {
     }
 
     /// Writes the word of the one bit that is set.
+    #[inline(always)]
     fn write_to(&self, text: &mut CanonicalText) {
         self.push_to(text);
     }

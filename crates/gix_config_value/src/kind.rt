@@ -176,6 +176,7 @@ pub fn normalize(kind: Kind, input: BStr<'_>) -> Option<CanonicalText>
 /// Replaces the text by the canonical text of this kind that reads to the value of the input. Returns whether
 /// the kind's grammar gives the input a value; if it gives none, the text is left empty. It is `normalize`
 /// without a copy of the text.
+#[inline(always)]
 pub fn normalize_into(kind: Kind, input: BStr<'_>, text: &mut CanonicalText) -> bool
     ensures text { Normalizes (KindGrammar kind) (KindCanonical kind) (bstr_bytes input.entry)
         (if result then Some text.new.bytes else None) }

@@ -1,33 +1,34 @@
 /* The readers of Git configuration values, for C and C++.
  *
- * A text is a pointer and a length, of any bytes, and needs no NUL behind it; where the length is 0 the pointer may be
- * null. Each call reads only the bytes that it is given, writes only where this page says, and keeps no pointer past
- * its end. Nothing is global, so threads may call at once, as long as no memory that one call writes is used by
- * another.
+ * A text is a pointer and a length. It may be any bytes, and needs no NUL at its end; if the length is 0, the pointer
+ * may be null. Each call reads only the bytes that it is given, writes only what its comment says, and keeps no pointer
+ * after it returns. There is no global state, so threads may call at the same time, if no memory that one call writes
+ * is used by another.
  *
- * What a call writes must not overlap what it reads, nor what else it writes. Pointers to what it writes, and to the
- * structs that it reads, must not be null, but for `fault`, which may be null everywhere, and a buffer of capacity 0. A
- * length, a capacity, and the size of an array of lengths are at most PTRDIFF_MAX bytes.
+ * What a call writes must not overlap what it reads, or what else it writes. Pointers to what it writes, and to the
+ * structs that it reads, must not be null, except for `fault`, which may always be null, and a buffer of capacity 0. A
+ * length, a capacity, and the size of an array of lengths must be at most PTRDIFF_MAX bytes.
  *
- * A call answers GCV_OK, or another gcv_status that says why there is no answer. Unless its comment says otherwise, it
- * has then written nothing.
+ * A call returns GCV_OK, or another gcv_status that says why it failed. Unless its comment says otherwise, a call that
+ * failed has written nothing.
  *
- * A call that writes a text takes a buffer, its capacity, and `size`. With GCV_OK the text stands at the front of the
- * buffer, the bytes behind it are as they were, no NUL is added, and `*size` is the length of the text. With
- * GCV_SHORT_BUFFER the buffer is as it was, and `*size` is the capacity that the text needs. With any other answer the
- * buffer and `*size` are as they were.
+ * A call that writes a text takes a buffer, its capacity, and `size`. If it returns GCV_OK, the text is at the front of
+ * the buffer, the bytes after it are unchanged, no NUL is added, and `*size` is the length of the text. If it returns
+ * GCV_SHORT_BUFFER, the buffer is unchanged, and `*size` is the capacity that the text needs. After any other status
+ * the buffer and `*size` are unchanged.
  *
- * The calls are inline, and the library exports each of them too: with GCV_CALL defined as `extern`, a generator of
- * bindings takes them from there. Each is over one with `gcv_raw_` in its name, which takes no null pointer, not even
- * where the length is 0, and is proved to keep its contract. */
+ * Most calls are inline, and the library exports all of them. For a generator of bindings, but in no program, define
+ * GCV_CALL as `extern`: then it sees all. Most call one with `gcv_raw_` in its name, which takes no null pointer, even
+ * if the length is 0, and is proved to keep its contract. */
 #ifndef GIX_CONFIG_VALUE_H
 #define GIX_CONFIG_VALUE_H
 
 #include <stddef.h>
 #include <stdint.h>
 
-/* The version of this page; gcv_version tells that of the library. Below 1.0 a new minor number may change any call, so
- * the name of the shared library has both numbers. From 1.0 only a new major number may, and the name has that one. */
+/* The version of this header; gcv_version returns that of the library. Below 1.0 a new minor number may change any
+ * call, so the name of the shared library has both numbers. From 1.0 only a new major number may, and the name has that
+ * one. */
 #define GCV_VERSION "0.1.0"
 #define GCV_VERSION_MAJOR 0
 #define GCV_VERSION_MINOR 1
@@ -46,7 +47,7 @@ extern "C" {
 #define GCV_CALL GCV_INLINE
 #endif
 
-/* What a compiler can tell of a wrong call: a null pointer, a status that nobody looks at, pointers that overlap. */
+/* What lets a compiler warn of a wrong call: a null pointer, a status that is ignored, pointers that overlap. */
 #ifdef __GNUC__
 #define GCV_NONNULL(positions) __attribute__((nonnull positions))
 #define GCV_CHECKED __attribute__((warn_unused_result))
@@ -65,12 +66,12 @@ extern "C" {
 #define GCV_ENUM(name) enum name
 #endif
 
-/* What a call answers. */
+/* What a call returns. */
 typedef GCV_ENUM(gcv_status) {
     GCV_OK = 0,
-    GCV_REFUSED = 1,        /* the text has no value of its kind, or the path stands for nothing; see the fault */
-    GCV_OVERFLOW = 2,       /* the product of an integer leaves int64_t */
-    GCV_NO_TEXT = 3,        /* no text reads to one of the colors */
+    GCV_REFUSED = 1,        /* the text has no value of its kind, or means no path; see the fault */
+    GCV_OVERFLOW = 2,       /* the product of an integer does not fit int64_t */
+    GCV_NO_TEXT = 3,        /* one of the colors has no text */
     GCV_TOO_MANY_NAMES = 4, /* the two colors have more than two names together */
     GCV_ABSENT = 5,         /* no entry has the name */
     GCV_UNKNOWN_KIND = 6,   /* the number is not that of a kind */
@@ -81,12 +82,12 @@ typedef GCV_ENUM(gcv_status) {
     /* 11 is no status */
     GCV_BAD_LENGTHS = 12,   /* the lengths are not those of names and texts that fill the bytes */
     GCV_SHORT_BUFFER = 13,  /* the buffer is shorter than the text */
-    GCV_NO_MEMORY = 14,     /* memory was refused, or a path stands for more than there can be */
+    GCV_NO_MEMORY = 14,     /* malloc failed, or a path would be longer than memory can be */
     GCV_BAD_LINE = 15,      /* a line of a file is invalid */
     GCV_NUL = 16,           /* a file has a NUL outside a comment */
     GCV_NO_INCLUDE = 17,    /* the entry includes no file */
     GCV_NO_VALUE = 18,      /* the entry includes a file, and has no value */
-    GCV_NO_DIRECTORY = 19   /* the path of an include begins with a user's name, or a directory that is not there */
+    GCV_NO_DIRECTORY = 19   /* the path of an include begins with a user's name, or a directory that is null */
 } gcv_status;
 
 /* The kinds of values. */
@@ -102,7 +103,7 @@ typedef GCV_ENUM(gcv_kind) {
 
 /* Why a text or a path is refused. */
 typedef GCV_ENUM(gcv_fault) {
-    GCV_FAULT_NONE = 0, /* of a refused suffix, of which no more is told */
+    GCV_FAULT_NONE = 0, /* of a refused suffix, which has no fault of its own */
     GCV_FAULT_BOOLEAN = 1,
     GCV_FAULT_INTEGER = 2,
     GCV_FAULT_OVERFLOW = 3,
@@ -130,7 +131,7 @@ typedef GCV_ENUM(gcv_suffix) {
 
 /* The tag of a name. */
 typedef GCV_ENUM(gcv_tag) {
-    GCV_NO_NAME = 0, /* of a color that lacks this name */
+    GCV_NO_NAME = 0, /* in a color without this name */
     GCV_NORMAL = 1,
     GCV_DEFAULT = 2,
     GCV_BLACK = 3,
@@ -173,7 +174,7 @@ typedef GCV_ENUM(gcv_tag) {
 /* The longest text of a value, canonical or shown: a buffer of this capacity is never too short for one. */
 enum { GCV_LONGEST_TEXT = 127 };
 
-/* A number and the suffix that it was written with, which are kept apart. All 0 is the number 0. */
+/* A number and its suffix, which are not multiplied. All 0 is the number 0. */
 typedef struct gcv_integer {
     int64_t value;
     gcv_suffix suffix;
@@ -195,7 +196,7 @@ typedef struct gcv_color {
     uint32_t attributes;
 } gcv_color;
 
-/* An entry of a list of settings, and where its text stands among the bytes. */
+/* An entry of a list of settings, and where its text is among the bytes. */
 typedef struct gcv_entry {
     size_t index; /* from 0 */
     size_t start;
@@ -207,17 +208,17 @@ typedef struct gcv_place {
     size_t key;         /* where its key begins */
     size_t value;       /* where its value begins, after the key's NUL */
     size_t line;        /* the line of its entry, from 1 */
-    uint32_t has_value; /* 1 if it has a value, and 0 if its key stands alone */
+    uint32_t has_value; /* 1 if it has a value, and 0 for a key without `=` */
 } gcv_place;
 
-/* What the settings of a file take, or the line on which it is refused. */
+/* How much room the settings of a file take, or the line on which the file is refused. */
 typedef struct gcv_file {
     size_t size;  /* how many bytes the keys and the values take */
     size_t count; /* how many settings there are */
     size_t line;  /* the line of a refusal, from 1, and otherwise 0 */
 } gcv_file;
 
-/* The library has these structs with this layout, and a compiler with another one is refused. */
+/* The library expects this layout, so a compiler that lays the structs out otherwise reports an error. */
 #if defined(__cplusplus) && __cplusplus >= 201103L
 #define GCV_ASSERT(fact) static_assert(fact, #fact)
 #elif defined(__STDC_VERSION__) && __STDC_VERSION__ >= 201112L
@@ -254,7 +255,7 @@ GCV_ASSERT(offsetof(gcv_file, line) == 16);
 GCV_ASSERT(sizeof(gcv_file) == 24);
 #undef GCV_ASSERT
 
-/* The settings of files in order, in two arrays of the caller. With `size` and `count` 0 there are no settings yet. */
+/* The settings of files in order, in two arrays of the caller. Begin with all members 0: no settings, and no room. */
 typedef struct gcv_settings {
     char *bytes;
     size_t capacity; /* of `bytes` */
@@ -265,14 +266,14 @@ typedef struct gcv_settings {
 } gcv_settings;
 
 /* A setting. Its key is as Git lists it: the section and the last part in lower case, the subsection as it is. NUL ends
- * both texts; a key without `=` has a null value, and not an empty one. They stay as long as the caller's bytes. */
+ * both texts; a key without `=` has a null value, not an empty one. They stay valid as long as the caller's bytes. */
 typedef struct gcv_setting {
     const char *key;
     const char *value;
     size_t line; /* the line of its entry, from 1 */
 } gcv_setting;
 
-/* What a path may refer to, of any bytes. What is null is not there, whatever its length; all 0 refers to nothing. */
+/* What a path may refer to, as any bytes. A null pointer means that there is none, whatever its length. */
 typedef struct gcv_context {
     const char *install_dir; /* for %(prefix)/ */
     size_t install_dir_length;
@@ -282,10 +283,10 @@ typedef struct gcv_context {
     size_t passwd_length;
 } gcv_context;
 
-/* The file that an entry is in, and what the entry may ask for to include another one. What is null is not there,
- * whatever its length; all 0 is a file without a name, and no more. */
+/* The file that an entry is in, and what its include may refer to. A null pointer means that there is none, whatever
+ * its length. */
 typedef struct gcv_includer {
-    const char *file; /* the name of the file: a relative path is put after its directory */
+    const char *file; /* the name of the file: a relative path is below its directory */
     size_t file_length;
     const char *real_dir; /* its absolute directory, links resolved and no / at its end: for conditions with ./ */
     size_t real_dir_length;
@@ -303,19 +304,18 @@ typedef struct gcv_includer {
     size_t branch_length;
 } gcv_includer;
 
-/* The version of the library, which ends with NUL. */
+/* The version of the library, as a text that ends with NUL. */
 const char *gcv_version(void);
 
-/* What a status says, which ends with NUL: "unknown status" where no status has the number. */
+/* What a status says, as a text that ends with NUL: "unknown status" if no status has the number. */
 const char *gcv_status_text(gcv_status status);
 
-/* Writes the text of a fault, of at most GCV_LONGEST_TEXT bytes. GCV_UNKNOWN_FAULT where the number is not that of a
- * fault. */
+/* Writes the text of a fault, of at most GCV_LONGEST_TEXT bytes. GCV_UNKNOWN_FAULT if no fault has the number. */
 gcv_status gcv_fault_text(gcv_fault fault, char *GCV_RESTRICT buffer, size_t capacity, size_t *size) GCV_NONNULL((4));
 
-/* Readers of texts that end with NUL, as a callback over a configuration has them. A null text is that of a key without
- * `=`, which is true as a boolean, and has no other value. What they put, and the faults, are those of gcv_read_boolean,
- * gcv_read_amount and gcv_read_color; GCV_FAULT_OUT_OF_RANGE if an amount leaves int32_t. */
+/* Readers of texts that end with NUL, as a callback over a configuration gets them. A null text is that of a key
+ * without `=`: true as a boolean, and refused as anything else. Values and faults are those of gcv_read_boolean,
+ * gcv_read_amount and gcv_read_color; the fault is GCV_FAULT_OUT_OF_RANGE if an amount does not fit int32_t. */
 GCV_CHECKED gcv_status gcv_parse_bool(const char *text, int *GCV_RESTRICT out, gcv_fault *fault)
     GCV_NONNULL((2));
 GCV_CHECKED gcv_status gcv_parse_int32(const char *text, int32_t *GCV_RESTRICT out, gcv_fault *fault)
@@ -325,23 +325,24 @@ GCV_CHECKED gcv_status gcv_parse_int64(const char *text, int64_t *GCV_RESTRICT o
 GCV_CHECKED gcv_status gcv_parse_color(const char *text, gcv_color *GCV_RESTRICT out, gcv_fault *fault)
     GCV_NONNULL((2));
 
-/* Writes the escape sequence that gives a terminal this color, as Git has it: its attributes, reset first, then its
- * foreground and its background. Nothing for a color that changes nothing. GCV_BAD_NAME as gcv_show_color has it. */
-GCV_CHECKED gcv_status gcv_escape_color(const gcv_color *value, char *GCV_RESTRICT buffer, size_t capacity, size_t *size)
-    GCV_NONNULL((1, 4));
+/* Writes the escape sequence that Git sends to a terminal for this color, of at most GCV_LONGEST_TEXT bytes: its
+ * attributes, reset first, its foreground, its background. It is empty for a color that changes nothing. GCV_BAD_NAME
+ * as in gcv_show_color. */
+GCV_CHECKED gcv_status gcv_escape_color(const gcv_color *value, char *GCV_RESTRICT buffer, size_t capacity,
+                                        size_t *size) GCV_NONNULL((1, 4));
 
-/* Finds a user, whose name is UTF-8 and need not end with NUL. Returns the home directory, which ends with NUL and stays
- * until the path call returns, or null if there is no such user. */
+/* Finds a user, whose name is UTF-8 and need not end with NUL. Returns the home directory, which ends with NUL and must
+ * stay valid until the path call returns, or null if there is no such user. */
 typedef const char *gcv_find_home(void *state, const char *name, size_t length);
 
-/* As gcv_interpolate, with what `find(state, ..)` finds in place of the passwd text, which is not read. It is called once
- * for ~user, and for no other path; a null `find` is as a null passwd text. A path of a user takes memory from malloc, and
- * gives it back: GCV_NO_MEMORY if it is refused. */
+/* As gcv_interpolate, but `find(state, ..)` finds users, and the passwd text is not read. It is called once for ~user,
+ * and for no other path; a null `find` is like a null passwd text. For a path of a user the call allocates and frees
+ * memory: GCV_NO_MEMORY if malloc fails. */
 GCV_CHECKED gcv_status gcv_interpolate_with(const char *text, size_t length, const gcv_context *context,
                                             gcv_find_home *find, void *state, char *GCV_RESTRICT buffer,
                                             size_t capacity, size_t *size, gcv_fault *fault) GCV_NONNULL((3, 8));
 
-/* What the library is proved for. No pointer may be null. */
+/* The calls that are proved. No pointer may be null. */
 gcv_status gcv_raw_read_suffix(const char *text, size_t length, gcv_suffix *out, gcv_fault *fault);
 gcv_status gcv_raw_read_integer(const char *text, size_t length, gcv_integer *out, gcv_fault *fault);
 gcv_status gcv_raw_read_amount(const char *text, size_t length, int64_t *out, gcv_fault *fault);
@@ -386,82 +387,82 @@ gcv_status gcv_raw_interpolate(const char *text, size_t length, uint32_t has_ins
                                size_t capacity, size_t *size, gcv_fault *fault);
 gcv_status gcv_raw_fault_text(gcv_fault fault, char *buffer, size_t capacity, size_t *size);
 
-/* The address of a text, which is not null where the text is empty. */
+/* The address of a text, which is not null even if the text is empty. */
 GCV_INLINE const char *gcv_bytes(const char *text, size_t length)
 {
     return length == 0 ? "" : text;
 }
 
-/* Readers. Each puts the value of the text into `*out`, or, with GCV_REFUSED, where the text has none, the number of
- * the fault into `*fault`. The other one is as it was. */
+/* Readers. Each writes the value of the text to `*out`. If the text has no value, it writes the fault to `*fault`
+ * instead, and returns GCV_REFUSED. The other one is unchanged. */
 
-/* Puts GCV_KIBI, GCV_MEBI or GCV_GIBI. The fault is GCV_FAULT_NONE. */
+/* Reads GCV_KIBI, GCV_MEBI or GCV_GIBI. The fault is GCV_FAULT_NONE. */
 GCV_RETURNS((3)) gcv_read_suffix(const char *text, size_t length, gcv_suffix *GCV_RESTRICT out, gcv_fault *fault)
 {
     gcv_fault unused = GCV_FAULT_NONE;
     return gcv_raw_read_suffix(gcv_bytes(text, length), length, out, fault ? fault : &unused);
 }
 
-/* Puts a number and its suffix, whose product may leave int64_t. The fault is GCV_FAULT_INTEGER. */
+/* Reads a number and its suffix, whose product need not fit int64_t. The fault is GCV_FAULT_INTEGER. */
 GCV_RETURNS((3)) gcv_read_integer(const char *text, size_t length, gcv_integer *GCV_RESTRICT out, gcv_fault *fault)
 {
     gcv_fault unused = GCV_FAULT_NONE;
     return gcv_raw_read_integer(gcv_bytes(text, length), length, out, fault ? fault : &unused);
 }
 
-/* Puts the product of a number and its suffix. The fault is GCV_FAULT_INTEGER where the text is no integer, and
- * GCV_FAULT_OVERFLOW where the product leaves int64_t. */
+/* Reads the product of a number and its suffix. The fault is GCV_FAULT_INTEGER if the text is no integer, and
+ * GCV_FAULT_OVERFLOW if the product does not fit int64_t. */
 GCV_RETURNS((3)) gcv_read_amount(const char *text, size_t length, int64_t *GCV_RESTRICT out, gcv_fault *fault)
 {
     gcv_fault unused = GCV_FAULT_NONE;
     return gcv_raw_read_amount(gcv_bytes(text, length), length, out, fault ? fault : &unused);
 }
 
-/* Puts 1 for true and 0 for false. The fault is GCV_FAULT_BOOLEAN. */
+/* Reads 1 for true and 0 for false. The fault is GCV_FAULT_BOOLEAN. */
 GCV_RETURNS((3)) gcv_read_boolean(const char *text, size_t length, uint32_t *GCV_RESTRICT out, gcv_fault *fault)
 {
     gcv_fault unused = GCV_FAULT_NONE;
     return gcv_raw_read_boolean(gcv_bytes(text, length), length, out, fault ? fault : &unused);
 }
 
-/* Puts a name, whose tag is not GCV_NO_NAME. The fault is GCV_FAULT_COLOR. */
+/* Reads a name, whose tag is not GCV_NO_NAME. The fault is GCV_FAULT_COLOR. */
 GCV_RETURNS((3)) gcv_read_name(const char *text, size_t length, gcv_name *GCV_RESTRICT out, gcv_fault *fault)
 {
     gcv_fault unused = GCV_FAULT_NONE;
     return gcv_raw_read_name(gcv_bytes(text, length), length, out, fault ? fault : &unused);
 }
 
-/* Puts the one bit of the attribute. The fault is GCV_FAULT_COLOR. */
+/* Reads the one bit of an attribute. The fault is GCV_FAULT_COLOR. */
 GCV_RETURNS((3)) gcv_read_attribute(const char *text, size_t length, uint32_t *GCV_RESTRICT out, gcv_fault *fault)
 {
     gcv_fault unused = GCV_FAULT_NONE;
     return gcv_raw_read_attribute(gcv_bytes(text, length), length, out, fault ? fault : &unused);
 }
 
-/* Puts a color. The fault is GCV_FAULT_COLOR. */
+/* Reads a color. The fault is GCV_FAULT_COLOR. */
 GCV_RETURNS((3)) gcv_read_color(const char *text, size_t length, gcv_color *GCV_RESTRICT out, gcv_fault *fault)
 {
     gcv_fault unused = GCV_FAULT_NONE;
     return gcv_raw_read_color(gcv_bytes(text, length), length, out, fault ? fault : &unused);
 }
 
-/* Puts the number times the factor of its suffix into `*out`. GCV_OVERFLOW where that leaves int64_t, and
- * GCV_BAD_SUFFIX where the suffix has no such number: then `*out` is as it was. */
+/* Writes the number times the factor of its suffix to `*out`. GCV_OVERFLOW if that does not fit int64_t, and
+ * GCV_BAD_SUFFIX if no suffix has the number. */
 GCV_RETURNS((1, 2)) gcv_product(const gcv_integer *value, int64_t *GCV_RESTRICT out)
 {
     return gcv_raw_product(value, out);
 }
 
-/* Values as they are shown. A value that some text reads to is shown as its canonical text. */
+/* Values as texts. If some text reads to the value, the canonical one is written. */
 
-/* Writes k, m or g. GCV_BAD_SUFFIX where the number is not that of one. */
+/* Writes k, m or g. GCV_BAD_SUFFIX if no suffix has the number. */
 GCV_RETURNS((4)) gcv_show_suffix(gcv_suffix suffix, char *GCV_RESTRICT buffer, size_t capacity, size_t *size)
 {
     char none[1] = {0};
     return gcv_raw_show_suffix(suffix, capacity == 0 ? none : buffer, capacity, size);
 }
 
-/* Writes the number in decimal and the letter of its suffix. GCV_BAD_SUFFIX where the suffix has no such number. */
+/* Writes the number in decimal and the letter of its suffix. GCV_BAD_SUFFIX if no suffix has the number. */
 GCV_RETURNS((1, 4)) gcv_show_integer(const gcv_integer *value, char *GCV_RESTRICT buffer, size_t capacity, size_t *size)
 {
     char none[1] = {0};
@@ -475,68 +476,68 @@ GCV_RETURNS((4)) gcv_show_amount(int64_t value, char *GCV_RESTRICT buffer, size_
     return gcv_raw_show_amount(value, capacity == 0 ? none : buffer, capacity, size);
 }
 
-/* Writes true for 1 and false for 0. GCV_BAD_FLAG where the value is neither. */
+/* Writes true for 1 and false for 0. GCV_BAD_FLAG if the value is neither. */
 GCV_RETURNS((4)) gcv_show_boolean(uint32_t value, char *GCV_RESTRICT buffer, size_t capacity, size_t *size)
 {
     char none[1] = {0};
     return gcv_raw_show_boolean(value, capacity == 0 ? none : buffer, capacity, size);
 }
 
-/* Writes the word of the name, its number, or # and six digits. GCV_BAD_NAME where the struct is not that of a name. */
+/* Writes the word of the name, its number, or # and six digits. GCV_BAD_NAME if no name has the struct. */
 GCV_RETURNS((1, 4)) gcv_show_name(const gcv_name *value, char *GCV_RESTRICT buffer, size_t capacity, size_t *size)
 {
     char none[1] = {0};
     return gcv_raw_show_name(value, capacity == 0 ? none : buffer, capacity, size);
 }
 
-/* Writes the words of the bits that have one, by rising bit, with one space between. */
+/* Writes the words of the known bits, the lowest first, with one space between. */
 GCV_RETURNS((4)) gcv_show_attribute(uint32_t bits, char *GCV_RESTRICT buffer, size_t capacity, size_t *size)
 {
     char none[1] = {0};
     return gcv_raw_show_attribute(bits, capacity == 0 ? none : buffer, capacity, size);
 }
 
-/* Writes the foreground, the background and the attributes, those that there are, with one space between. GCV_BAD_NAME
- * where the struct of one of its names is neither that of a name nor all 0. No text reads to a background alone, which is
- * shown as a foreground is, nor to bits without a word, which are left out: for such colors gcv_compose tells. */
+/* Writes the foreground, the background and the attributes, if the color has them, with one space between. GCV_BAD_NAME
+ * if the struct of one of its names is neither all 0 nor that of a name. Two sorts of colors have no text, as
+ * gcv_compose tells by GCV_NO_TEXT: a background alone is shown as a foreground, and unknown bits are left out. */
 GCV_RETURNS((1, 4)) gcv_show_color(const gcv_color *value, char *GCV_RESTRICT buffer, size_t capacity, size_t *size)
 {
     char none[1] = {0};
     return gcv_raw_show_color(value, capacity == 0 ? none : buffer, capacity, size);
 }
 
-/* Values as JSON texts, without white space: a number, true or false, or the shown text as a string. These calls take
- * memory from malloc for the text and give it back before they end. GCV_NO_MEMORY where it is refused. */
+/* Values as JSON, without white space: a number, true or false, or the shown text as a string. These calls allocate
+ * memory for the text, and free it. GCV_NO_MEMORY if malloc fails. */
 
-/* GCV_BAD_SUFFIX where the number is not that of a suffix. */
+/* GCV_BAD_SUFFIX if no suffix has the number. */
 GCV_RETURNS((4)) gcv_json_suffix(gcv_suffix suffix, char *GCV_RESTRICT buffer, size_t capacity, size_t *size)
 {
     char none[1] = {0};
     return gcv_raw_json_suffix(suffix, capacity == 0 ? none : buffer, capacity, size);
 }
 
-/* Writes the product. GCV_OVERFLOW where it leaves int64_t, and GCV_BAD_SUFFIX where the suffix has no such number. */
+/* Writes the product. GCV_OVERFLOW if it does not fit int64_t, and GCV_BAD_SUFFIX if no suffix has the number. */
 GCV_RETURNS((1, 4)) gcv_json_integer(const gcv_integer *value, char *GCV_RESTRICT buffer, size_t capacity, size_t *size)
 {
     char none[1] = {0};
     return gcv_raw_json_integer(value, capacity == 0 ? none : buffer, capacity, size);
 }
 
-/* GCV_BAD_FLAG where the value is neither 0 nor 1. */
+/* GCV_BAD_FLAG if the value is neither 0 nor 1. */
 GCV_RETURNS((4)) gcv_json_boolean(uint32_t value, char *GCV_RESTRICT buffer, size_t capacity, size_t *size)
 {
     char none[1] = {0};
     return gcv_raw_json_boolean(value, capacity == 0 ? none : buffer, capacity, size);
 }
 
-/* GCV_BAD_NAME where the struct is not that of a name. */
+/* GCV_BAD_NAME if no name has the struct. */
 GCV_RETURNS((1, 4)) gcv_json_name(const gcv_name *value, char *GCV_RESTRICT buffer, size_t capacity, size_t *size)
 {
     char none[1] = {0};
     return gcv_raw_json_name(value, capacity == 0 ? none : buffer, capacity, size);
 }
 
-/* Writes the words of the bits that have one, as one string. */
+/* Writes the words of the known bits, as one string. */
 GCV_RETURNS((4)) gcv_json_attribute(uint32_t bits, char *GCV_RESTRICT buffer, size_t capacity, size_t *size)
 {
     char none[1] = {0};
@@ -545,8 +546,8 @@ GCV_RETURNS((4)) gcv_json_attribute(uint32_t bits, char *GCV_RESTRICT buffer, si
 
 /* Texts of a kind. */
 
-/* Writes the one canonical text of the value of a text, of at most GCV_LONGEST_TEXT bytes. GCV_REFUSED where the text
- * has no value of the kind (its reader tells the fault), and GCV_UNKNOWN_KIND where no kind has the number. */
+/* Writes the canonical text of the value of a text, of at most GCV_LONGEST_TEXT bytes. GCV_REFUSED if the text has no
+ * value of the kind (its reader tells the fault), and GCV_UNKNOWN_KIND if no kind has the number. */
 GCV_RETURNS((6)) gcv_normalize(gcv_kind kind, const char *text, size_t length, char *GCV_RESTRICT buffer,
                                size_t capacity, size_t *size)
 {
@@ -554,8 +555,8 @@ GCV_RETURNS((6)) gcv_normalize(gcv_kind kind, const char *text, size_t length, c
     return gcv_raw_normalize(kind, gcv_bytes(text, length), length, capacity == 0 ? none : buffer, capacity, size);
 }
 
-/* Puts into `*out` 1 where both texts mean the same, and else 0. GCV_REFUSED where one of them has no value of the
- * kind, and GCV_UNKNOWN_KIND where the number is not that of a kind: then `*out` is as it was. */
+/* Writes 1 to `*out` if both texts mean the same, and otherwise 0. GCV_REFUSED if one of them has no value of the kind,
+ * and GCV_UNKNOWN_KIND if no kind has the number. */
 GCV_RETURNS((6)) gcv_same(gcv_kind kind, const char *first, size_t first_length, const char *second,
                           size_t second_length, uint32_t *GCV_RESTRICT out)
 {
@@ -563,22 +564,21 @@ GCV_RETURNS((6)) gcv_same(gcv_kind kind, const char *first, size_t first_length,
                         second_length, out);
 }
 
-/* Puts into `*out` the color that a text of the first one, white space and a text of the second one reads to.
- * GCV_BAD_NAME where one of them has the struct of no name, GCV_NO_TEXT where no text reads to one of them (it has a
- * bit without a word, or a background alone), and GCV_TOO_MANY_NAMES where they have more than two names together: then
- * `*out` is as it was. */
+/* Writes to `*out` the color of the text of the first one, white space, and the text of the second one. GCV_BAD_NAME
+ * as in gcv_show_color, GCV_NO_TEXT if one of them has no text (it has an unknown bit, or a background alone), and
+ * GCV_TOO_MANY_NAMES if they have more than two names together. */
 GCV_RETURNS((1, 2, 3)) gcv_compose(const gcv_color *first, const gcv_color *second, gcv_color *GCV_RESTRICT out)
 {
     return gcv_raw_compose(first, second, out);
 }
 
-/* Looks for the last entry of exactly this name, which decides. `bytes` are the names and texts of all entries, one
- * behind the other, and `lengths` the lengths of name, text, name, text and so on.
+/* Looks for the last entry of exactly this name, which decides. `bytes` are the names and texts of all entries, each
+ * directly after the one before, and `lengths` the lengths of name, text, name, text and so on.
  *
- * With GCV_OK the text of that entry has a value of the kind, and with GCV_REFUSED it has none: `*out` is the entry,
- * and the kind's reader at `bytes + out->start` tells the value or the fault. GCV_ABSENT where no entry has the name,
- * GCV_BAD_LENGTHS where the lengths are odd in number or do not sum to `bytes_length`, and GCV_UNKNOWN_KIND where the
- * number is not that of a kind: then `*out` is as it was. */
+ * After GCV_OK the text of that entry has a value of the kind, and after GCV_REFUSED it has no value: `*out` is the
+ * entry, and the kind's reader at `bytes + out->start` tells the value or the fault. GCV_ABSENT if no entry has the
+ * name, GCV_BAD_LENGTHS if the lengths are odd in number or do not sum to `bytes_length`, and GCV_UNKNOWN_KIND if no
+ * kind has the number. */
 GCV_RETURNS((8)) gcv_lookup(gcv_kind kind, const char *bytes, size_t bytes_length, const size_t *lengths,
                             size_t lengths_count, const char *name, size_t name_length, gcv_entry *GCV_RESTRICT out)
 {
@@ -589,12 +589,13 @@ GCV_RETURNS((8)) gcv_lookup(gcv_kind kind, const char *bytes, size_t bytes_lengt
 
 /* Files. */
 
-/* Appends the settings of a configuration file with this text, which decide over those before, and puts into `*out` how
+/* Appends the settings of a configuration file with this text, which decide over those before, and writes to `*out` how
  * many bytes and places they take.
  *
- * GCV_SHORT_BUFFER if one of the arrays has less left than `*out` says. GCV_BAD_LINE or GCV_NUL if Git reads no file
- * with this text: then `*out` has the line, and 0 for the rest. Unless the call returns GCV_OK, the settings are as they
- * were. It takes memory from malloc and gives it back; GCV_NO_MEMORY if it is refused, and then `*out` is as it was. */
+ * GCV_SHORT_BUFFER if an array has less room left than they take: let `capacity` be at least `size + out->size`, and
+ * `room` at least `count + out->count`, and call again. GCV_BAD_LINE or GCV_NUL if Git would refuse the file: then
+ * `*out` has the line, and 0 for the rest. Unless the call returns GCV_OK, the settings are unchanged. It allocates
+ * memory, and frees it; GCV_NO_MEMORY if malloc fails, and then `*out` is unchanged. */
 GCV_RETURNS((1, 4)) gcv_add_file(gcv_settings *GCV_RESTRICT settings, const char *text, size_t length,
                                  gcv_file *GCV_RESTRICT out)
 {
@@ -616,7 +617,7 @@ GCV_RETURNS((1, 4)) gcv_add_file(gcv_settings *GCV_RESTRICT settings, const char
     return status;
 }
 
-/* Puts the setting of this index, from 0, and adds 1 to the index. GCV_ABSENT after the last setting. */
+/* Writes the setting at `*index`, from 0, to `*out`, and adds 1 to `*index`. GCV_ABSENT after the last setting. */
 GCV_RETURNS((1, 2, 3)) gcv_next_setting(const gcv_settings *settings, size_t *GCV_RESTRICT index,
                                         gcv_setting *GCV_RESTRICT out)
 {
@@ -631,8 +632,9 @@ GCV_RETURNS((1, 2, 3)) gcv_next_setting(const gcv_settings *settings, size_t *GC
     return GCV_OK;
 }
 
-/* Puts the last setting of exactly this key, which ends with NUL: that setting decides. gcv_parse_bool and its like read
- * its value. GCV_ABSENT if no setting has the key. */
+/* Writes to `*out` the last setting of this key, which decides. The key ends with NUL, and must be as Git lists it:
+ * "core.autocrlf", not "core.autoCRLF". gcv_parse_bool and its like read the value. The setting is of the first file
+ * after which `size` was more than `out->key - bytes`. GCV_ABSENT if no setting has the key. */
 GCV_RETURNS((1, 2, 3)) gcv_lookup_setting(const gcv_settings *settings, const char *key,
                                           gcv_setting *GCV_RESTRICT out)
 {
@@ -650,14 +652,14 @@ GCV_RETURNS((1, 2, 3)) gcv_lookup_setting(const gcv_settings *settings, const ch
     return GCV_ABSENT;
 }
 
-/* Writes the name of the file that an entry includes: who walks over files reads it next, where it is, and its entries
- * come after this one. `key` is the key as Git lists it, as gcv_next_setting has it, and `value` the value, or null for a
- * key without `=`. Any bytes are a key, a value, and a directory.
+/* Writes the name of the file that an entry includes. If that file is there, its entries come directly after this one.
+ * `key` is the key as gcv_next_setting writes it, and `value` the value, or null for a key without `=`.
+ * The key, the value and the directories may be any bytes.
  *
- * GCV_NO_INCLUDE if the entry includes no file, or on a condition that does not hold: without a repository only
- * include.path includes, and hasconfig: never does. Otherwise GCV_NO_VALUE if there is no value, and
- * GCV_NO_DIRECTORY if it begins with `~` and a user's name, or with a directory that is not there. Git stops at
- * these two. GCV_NO_MEMORY if malloc refuses memory, which the call gives back. */
+ * GCV_NO_INCLUDE if the entry includes no file, or if its condition does not hold: without a repository only
+ * include.path includes, and hasconfig: never does. Otherwise GCV_NO_VALUE if there is no value, and GCV_NO_DIRECTORY
+ * if the value begins with `~` and a user's name, or with a directory that is null. Git stops at these two.
+ * The call allocates memory, and frees it; GCV_NO_MEMORY if malloc fails. */
 GCV_RETURNS((5, 8)) gcv_include(const char *key, size_t key_length, const char *value, size_t value_length,
                                 const gcv_includer *includer, char *GCV_RESTRICT buffer, size_t capacity, size_t *size)
 {
@@ -678,29 +680,29 @@ GCV_RETURNS((5, 8)) gcv_include(const char *key, size_t key_length, const char *
                            gcv_bytes(includer->real_dir, real_dir_length), real_dir_length,
                            includer->install_dir ? 1 : 0, gcv_bytes(includer->install_dir, install_dir_length),
                            install_dir_length, includer->home ? 1 : 0, gcv_bytes(includer->home, home_length),
-                           home_length, includer->git_dir ? 1 : 0, gcv_bytes(includer->git_dir, git_dir_length), git_dir_length,
-                           gcv_bytes(real_git_dir, real_git_dir_length), real_git_dir_length, includer->branch ? 1 : 0,
-                           gcv_bytes(includer->branch, branch_length), branch_length, real_home ? 1 : 0,
-                           gcv_bytes(real_home, real_home_length), real_home_length, capacity == 0 ? none : buffer,
-                           capacity, size);
+                           home_length, includer->git_dir ? 1 : 0, gcv_bytes(includer->git_dir, git_dir_length),
+                           git_dir_length, gcv_bytes(real_git_dir, real_git_dir_length), real_git_dir_length,
+                           includer->branch ? 1 : 0, gcv_bytes(includer->branch, branch_length), branch_length,
+                           real_home ? 1 : 0, gcv_bytes(real_home, real_home_length), real_home_length,
+                           capacity == 0 ? none : buffer, capacity, size);
 }
 
 /* Paths. */
 
-/* Puts into `*optional` 1 where the path begins with the mark `:(optional)`, and else 0, and into `*start` where the
- * path begins behind that one mark. */
+/* Writes 1 to `*optional` if the path begins with the mark `:(optional)`, and otherwise 0, and to `*start` where the
+ * path begins after that one mark. */
 GCV_CALL GCV_NONNULL((3, 4)) void gcv_cut_mark(const char *text, size_t length, uint32_t *optional, size_t *start)
 {
     gcv_raw_cut_mark(gcv_bytes(text, length), length, optional, start);
 }
 
-/* Writes what a path stands for. One mark is cut off first. %(prefix)/ stands for the install directory, ~ for the home
- * directory, and ~user for the home directory of that user in the passwd text.
+/* Writes the path that a text means. One mark is cut off first. %(prefix)/ means the install directory, ~ the home
+ * directory, and ~user the home directory of that user in the passwd text.
  *
- * GCV_REFUSED if it stands for nothing: `*fault` is one of the faults of paths, and is as it was after any other
- * answer. What follows the directory has to be UTF-8, and so has a user's name; the directories and the passwd text may
- * hold any bytes, and so may then what is written. The call takes no memory; GCV_NO_MEMORY if what the path stands for
- * is longer than PTRDIFF_MAX. */
+ * GCV_REFUSED if it means no path: then `*fault` is one of the faults of paths, and after any other status it is
+ * unchanged. What follows the directory must be UTF-8, and so must a user's name. The directories and the passwd text
+ * may be any bytes, and so what is written may be too. The call allocates nothing; GCV_NO_MEMORY if the path would be
+ * longer than PTRDIFF_MAX. */
 GCV_RETURNS((3, 6)) gcv_interpolate(const char *text, size_t length, const gcv_context *context,
                                     char *GCV_RESTRICT buffer, size_t capacity, size_t *size, gcv_fault *fault)
 {
@@ -710,9 +712,9 @@ GCV_RETURNS((3, 6)) gcv_interpolate(const char *text, size_t length, const gcv_c
     size_t home_length = context->home ? context->home_length : 0;
     size_t passwd_length = context->passwd ? context->passwd_length : 0;
     return gcv_raw_interpolate(gcv_bytes(text, length), length, context->install_dir ? 1 : 0,
-                               gcv_bytes(context->install_dir, install_dir_length), install_dir_length, context->home ? 1 : 0,
-                               gcv_bytes(context->home, home_length), home_length, context->passwd ? 1 : 0,
-                               gcv_bytes(context->passwd, passwd_length), passwd_length,
+                               gcv_bytes(context->install_dir, install_dir_length), install_dir_length,
+                               context->home ? 1 : 0, gcv_bytes(context->home, home_length), home_length,
+                               context->passwd ? 1 : 0, gcv_bytes(context->passwd, passwd_length), passwd_length,
                                capacity == 0 ? none : buffer, capacity, size, fault ? fault : &unused);
 }
 
@@ -720,12 +722,12 @@ GCV_RETURNS((3, 6)) gcv_interpolate(const char *text, size_t length, const gcv_c
 }
 #endif
 
-/* The users of this system, for who defines GCV_WITH_USERS; a C library may want _POSIX_C_SOURCE for it. */
+/* The users of this system, if GCV_WITH_USERS is defined; a C library may need _POSIX_C_SOURCE for it. */
 #ifdef GCV_WITH_USERS
 #include <pwd.h>
 #include <string.h>
 
-/* Room for a user: one for each thread. */
+/* Room for a user. Each thread needs its own. */
 typedef struct gcv_user {
     struct passwd entry;
     char name[256];

@@ -131,7 +131,8 @@ pub extern "C" fn gcv_raw_include(
     buffer: &mut [u8],
     length: &mut usize,
 ) -> u32
-    ensures { IncludesInto key.now (has_value, value.now) file.now real_dir.now (has_install_dir, install_dir.now)
+    ensures { IncludesInto key.now (has_value, value.now) file.now real_dir.now
+        (has_install_dir, install_dir.now)
         (has_home, home.now) (has_repository, git_dir.now) real_git_dir.now (has_branch, branch.now)
         (has_real_home, real_home.now) buffer.old buffer.new length.old length.new result }
 {

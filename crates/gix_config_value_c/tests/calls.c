@@ -3,7 +3,7 @@
 
 static area buffer_area, text_area;
 
-/* A number, and the text that it stands for. */
+/* A number, and its text. */
 typedef struct word {
     uint32_t number;
     const char *text;
@@ -84,7 +84,7 @@ static void bad_numbers(void)
     count(writes_nothing(buffer_area, json_suffix, &zero, GCV_BAD_SUFFIX), "json_suffix of none");
 }
 
-/* A struct in which something stands that its tag does not use, and that of no name. */
+/* A struct with bytes that its tag does not use, and that of no name. */
 static void bad_names(void)
 {
     static const gcv_name names[] = {{0, 0, 0, 0, 0},  {GCV_RED, 1, 0, 0, 0},  {GCV_RED, 0, 1, 0, 0},  {GCV_WHITE, 0, 0, 0, 255},
@@ -147,7 +147,7 @@ static void compositions(void)
     count(composes("", "", GCV_OK, ""), "nothing");
     count(composes("red blue", "dim", GCV_OK, "red blue dim"), "names and a set");
     count(composes("red blue", "green", GCV_TOO_MANY_NAMES, NULL), "three names");
-    count(composes("red", "green white", GCV_TOO_MANY_NAMES, NULL), "three names, two behind");
+    count(composes("red", "green white", GCV_TOO_MANY_NAMES, NULL), "three names, two of the second");
     gcv_color plain = {{0, 0, 0, 0, 0}, {0, 0, 0, 0, 0}, 0};
     gcv_color beside = {{0, 0, 0, 0, 0}, {GCV_RED, 0, 0, 0, 0}, 0};
     gcv_color unknown = {{0, 0, 0, 0, 0}, {0, 0, 0, 0, 0}, 1u << 31};
@@ -175,7 +175,7 @@ static void comparisons(void)
     count(compares(GCV_COLOR, "bold red", "red bold", 1), "one color");
 }
 
-/* Entries, a name, and where the deciding text stands, or a status. */
+/* Entries, a name, and where the deciding text is, or a status. */
 static int looks_up(uint32_t kind, const char *bytes, const size_t *lengths, size_t lengths_count, const char *name, gcv_status status,
                     size_t index, size_t start, size_t length)
 {
@@ -421,7 +421,7 @@ static void fields(void)
     count(gcv_read_integer("-0x10G", 6, &integer, NULL) == GCV_OK && integer.value == -16 && integer.suffix == GCV_GIBI, "an integer");
 }
 
-/* Each enumerator stands for its word. */
+/* Each enumerator has the value of its word. */
 static void words(void)
 {
     static const word names[] = {

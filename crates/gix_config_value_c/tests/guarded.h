@@ -70,7 +70,7 @@ static inline area new_area(size_t size)
     return made;
 }
 
-/* A copy of the text that ends at the page, or null where the text is empty. */
+/* A copy of the text that ends at the page, or null if the text is empty. */
 static inline const char *lent(area place, const char *text, size_t length)
 {
     if (length == 0) {
@@ -125,7 +125,7 @@ static inline int writes(area place, writer call, const void *state, const char 
     return 1;
 }
 
-/* The call answers this status, and writes nothing. */
+/* The call returns this status, and writes nothing. */
 static inline int writes_nothing(area place, writer call, const void *state, gcv_status status)
 {
     size_t size;
@@ -154,7 +154,7 @@ static inline char *read_file(const char *path, size_t *length)
     return bytes;
 }
 
-/* A line without its LF; the rest begins behind it. */
+/* A line without its LF; the rest begins after it. */
 typedef struct line {
     const char *text;
     size_t length;

@@ -78,7 +78,7 @@ static gcv_status json_attribute(const void *state, char *buffer, size_t capacit
     return gcv_json_attribute(*(const uint32_t *)state, buffer, capacity, size);
 }
 
-/* What a reader of any kind puts. */
+/* What a reader of any kind writes. */
 typedef union value {
     uint32_t number;
     int64_t amount;
@@ -129,7 +129,7 @@ static int has_product(const gcv_integer *integer)
     return writes(buffer_area, json_integer, integer, text, (size_t)length);
 }
 
-/* The JSON text of a value, where its kind has one. */
+/* The JSON text of a value, if its kind has one. */
 static int has_json(uint32_t kind, const value *read, const char *canonical, size_t length)
 {
     char quoted[GCV_LONGEST_TEXT + 2];
@@ -227,7 +227,7 @@ static int is_unknown(const input *in)
     return 1;
 }
 
-/* The number of a kind, or 99 where no kind has the name. */
+/* The number of a kind, or 99 if no kind has the name. */
 static uint32_t kind_of(const char *name, size_t length)
 {
     static const char *const names[] = {"suffix", "integer", "amount", "boolean", "name", "attribute", "color"};

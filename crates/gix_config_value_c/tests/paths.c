@@ -1,7 +1,7 @@
 /* The calls of paths, over stored calls with known answers: paths FILE.
  *
  * Each line has, between tabs, the value, the install directory, the home directory, what a lookup knows, the flag, the
- * value behind the mark, how often the lookup was called, and the text or the error. Every text is written as
+ * value after the mark, how often the lookup was called, and the text or the error. Every text is written as
  * hexadecimal digits. A lookup is said by a passwd text with a line for each user, and by a call that finds them. */
 #include "guarded.h"
 
@@ -36,7 +36,7 @@ static int digit(char c)
     return c <= '9' ? c - '0' : c - 'a' + 10;
 }
 
-/* Puts the bytes of these digits behind those of the text. */
+/* Appends the bytes of these digits to the text. */
 static void add_digits(text *to, const char *digits, size_t length)
 {
     for (size_t at = 0; at + 1 < length; at += 2) {
@@ -60,7 +60,7 @@ static const char *field(const char **rest, const char *end, char stop, size_t *
     return start;
 }
 
-/* The passwd text of a lookup, or 0 where no passwd text says it. */
+/* The passwd text of a lookup, or 0 if no passwd text says it. */
 static int add_users(text *to, const char *users, size_t length)
 {
     const char *end = users + length;
@@ -161,7 +161,7 @@ static int has_mark(const text *value, const char *lent_value, int is_optional, 
     return 1;
 }
 
-/* 1 or 0 for a call, and 2 where no passwd text says its lookup. */
+/* 1 or 0 for a call, and 2 if no passwd text says its lookup. */
 static int answers(line asked)
 {
     static text value, install_dir, home, passwd, kept, wanted;

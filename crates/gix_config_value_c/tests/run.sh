@@ -11,7 +11,7 @@ program=$1
 prefix=${2:-}
 work=$(mktemp -d)
 trap 'rm -rf -- "$work"' EXIT
-# where a shell runs no EXIT trap at a signal
+# some shells run no EXIT trap after a signal
 trap 'exit 130' INT
 trap 'exit 143' TERM
 passed=0
@@ -135,7 +135,7 @@ answers() {
     cat "$work/answer"
     [ "$status" -eq "$wanted" ] && grep -q "^$text" "$work/answer"
 }
-# what a compiler refuses: refuses NAME CODE, where the code without what is wrong is taken
+# what a compiler refuses: refuses NAME CODE
 body() {
     printf '#define _DEFAULT_SOURCE\n#define GCV_WITH_USERS\n'
     printf '#include <gix_config_value.h>\n#include <string.h>\nint main(void)\n{\n    char t[64] = "1";\n'
@@ -181,7 +181,7 @@ for compiler in gcc clang g++ clang++; do
             *) set -- -L"$prefix/lib" -lgix_config_value ;;
         esac
         by="by $compiler, $linked"
-        for example in theme check setting; do
+        for example in theme check setting config; do
             # shellcheck disable=SC2086
             holds "$example $by" "$compiler" $language $warnings -I"$prefix/include" -o "$work/$example" \
                 "$root/examples/c/$example.c" -x none "$@"
@@ -193,6 +193,10 @@ for compiler in gcc clang g++ clang++; do
         holds "setting $by, runs" answers 0 '16384, by entry 1$' "$work/setting" core.limit
         holds "setting $by, has a default" answers 0 '4096, by default$' "$work/setting" core.other
         holds "setting $by, refuses" answers 1 '' "$work/setting" core.pager
+        printf '[a]\n\tb = rde\n' > "$work/settings"
+        holds "config $by, refuses" answers 1 "$work/settings:2: Colors are" "$work/config" a.b /dev/null "$work/settings"
+        printf '[a]\n\tb = red\n' > "$work/settings"
+        holds "config $by, runs" answers 0 '.\[31mred' "$work/config" a.b "$work/settings" /dev/null
     done
 done
 
@@ -241,7 +245,7 @@ if [ -n "$pythons" ]; then
         --no-deps --wheel-dir "$work/by_pip" "$work"/gix_config_value-*.tar.gz
 fi
 
-# the calls, under sanitizers where clang has them
+# the calls, under sanitizers if clang has them
 compiler=clang
 sanitizers="-g -fsanitize=address,undefined -fno-sanitize-recover=all"
 echo 'int main(void) { return 0; }' > "$work/empty.c"
@@ -268,6 +272,6 @@ if [ -x "$program" ]; then
     holds "the fuzzer's lines are written" python3 "$tests/mutated.py" "$program" "$work/mutated" "$work/answers"
     counted "the fuzzer's lines" "$work/lines" "$work/mutated" "$work/answers"
 else
-    echo "skipped: the fuzzer's lines, for want of the program $program"
+    echo "skipped: the fuzzer's lines, since there is no program $program"
 fi
 finish

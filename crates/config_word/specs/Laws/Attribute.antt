@@ -1,23 +1,25 @@
 -- The laws of `Value` for attributes, and what is said of several.
 use Rattle.std.proofs.Common.{◌≡◌, ℕ, zero, suc, ◌+◌, ◌*◌, ◌^◌, ◌<◌, ◌≤◌, ◌⊎◌, ◌↔◌, inl, inr, Bool, true}
 use Rattle.std.proofs.Common.{false, cond, ◌||◌, List, [], ◌∷◌, ◌++◌, map, filter, flat_map, length, take}
-use Rattle.std.proofs.Common.{drop, rules, codes, refl, sym, ap, ◌∙◌, arith, lit≤, ◌==◌, nat_le, bit_and}
+use Rattle.std.proofs.Common.{drop, codes, refl, sym, ap, ◌∙◌, arith, lit≤, ◌==◌, nat_le, bit_and}
 use Rattle.std.proofs.Common.{bytes_eq, IsTrue}
 use Rattle.std.proofs.Math.Bool.{or-true}
 use Rattle.std.proofs.lemmas.Bool.{leb-true}
 use Rattle.std.proofs.lemmas.Bool.Decides.{Decides-eqb, nat_tests}
-use Rattle.std.proofs.lemmas.List.{append-nil, length-append, take-append-drop}
+use Rattle.std.proofs.lemmas.Grind.{flat_map-append}
+use Rattle.std.proofs.lemmas.List.{append-nil, length-append, map-append, take-append-drop}
 use Rattle.std.proofs.lemmas.List.Elements.{filter-append}
-use Rattle.std.proofs.lemmas.Nat.{pow_pos, and_le_l}
+use Rattle.std.proofs.lemmas.Nat.{pow_pos}
 use Rattle.std.proofs.lemmas.Nat.Bits.{and_pow, bit_at-lt}
 use Rattle.std.proofs.lemmas.Slice.Eq.{bytes_eq-Decides}
 use Rattle.std.specs.Int.{bit_at}
-use Rattle.std.specs.List.{AllByRecursion, join_with_byte, list_all, list_any}
+use Rattle.std.specs.List.{join_with_byte, list_all, list_any}
 use Rattle.config_word.specs.declared.attribute.Attribute.{Attribute}
+use Rattle.config_word.specs.declared.attribute.Shown.{Shown}
 use Rattle.config_word.specs.declared.attribute.TheConstants.{LONGEST_SET}
 use Rattle.config_word.specs.Attribute.{AttributeRow, AttributeText, CanonicalAttribute, IsKnownBit}
 use Rattle.config_word.specs.Attribute.{attribute_shown, attribute_words, attributes, rising_words}
-use Rattle.config_word.specs.Reading.Attribute.{remaining, shown_rows, words_in}
+use Rattle.config_word.specs.Reading.Attribute.{remaining, shown_row, shown_rows, words_in}
 use Rattle.config_text.specs.Bytes.{space}
 use Rattle.config_text.specs.OneOf.{OneOf}
 use Rattle.config_text.specs.Laws.OneOf.{all-one, OneOf-from_map, OneOf-map}
@@ -170,31 +172,42 @@ words_in-shown bits = words_in-rows bits attributes
 pub shown-remaining : (bits : ℕ) → attribute_shown bits ≡ remaining true (words_in bits shown_rows)
 shown-remaining bits = join-remaining (attribute_words bits) ∙ ap (remaining true) (sym (words_in-shown bits))
 
--- a set below a row's value does not pass its test
-below_fails : (bits value : ℕ) → bits < value → (bit_and bits value == value) ≡ false
-below_fails bits value h = let l = and_le_l bits value in grind (arith, nat_tests)
-
-none_above : (bits least : ℕ) (rows : List (ℕ × List ℕ))
-    → AllByRecursion (λ (row : ℕ × List ℕ). least ≤ row.0) rows → bits < least
-    → filter (λ (row : ℕ × List ℕ). bit_and bits row.0 == row.0) rows ≡ []
-none_above bits least [] all h = refl
-none_above bits least (row ∷ rows) all h =
-    rw (below_fails bits row.0 (omega (arith, all.0))) (none_above bits least rows all.1 h)
-
-late_rows : AllByRecursion (λ (row : ℕ × List ℕ). 2 ^ 21 ≤ row.0) (drop 8 shown_rows)
-unfolding attributes
-late_rows = search rules
-
--- a set below the ninth value is shown by the first eight rows
-pub early_rows : (bits : ℕ) → bits < 2 ^ 21 → words_in bits (take 8 shown_rows) ≡ words_in bits shown_rows
-early_rows bits h =
+-- the words of some rows and of further ones
+words_in-append : (bits : ℕ) (xs ys : List (ℕ × List ℕ))
+    → words_in bits (xs ++ ys) ≡ words_in bits xs ++ words_in bits ys
+words_in-append bits xs ys =
     let p : ℕ × List ℕ → Bool = λ row. bit_and bits row.0 == row.0 in
-    ap (λ rows. map (λ (row : ℕ × List ℕ). row.1) rows)
-    (sym (append-nil (filter p (take 8 shown_rows)))
-    ∙ ap (λ rows. filter p (take 8 shown_rows) ++ rows)
-    (sym (none_above bits (2 ^ 21) (drop 8 shown_rows) late_rows h))
-    ∙ sym (filter-append p (take 8 shown_rows) (drop 8 shown_rows))
-    ∙ ap (filter p) (take-append-drop 8 shown_rows))
+    ap (map (λ (row : ℕ × List ℕ). row.1)) (filter-append p xs ys)
+    ∙ map-append (λ (row : ℕ × List ℕ). row.1) (filter p xs) (filter p ys)
+
+-- the words of the first rows and of the others are those that are shown
+pub both_parts : (bits n : ℕ) (rows front back : List Shown) → map shown_row rows ≡ shown_rows
+    → front ≡ take n rows → back ≡ drop n rows
+    → remaining true (words_in bits (map shown_row front) ++ words_in bits (map shown_row back))
+    ≡ attribute_shown bits
+both_parts bits n rows front back h f b =
+    let whole : front ++ back ≡ rows = ap (λ part. part ++ back) f ∙ ap (λ part. take n rows ++ part) b
+    ∙ take-append-drop n rows in
+    ap (remaining true) (sym (words_in-append bits (map shown_row front) (map shown_row back)))
+    ∙ ap (λ all. remaining true (words_in bits all))
+    (sym (map-append shown_row front back) ∙ ap (map shown_row) whole ∙ h)
+    ∙ sym (shown-remaining bits)
+
+-- some words have no more bytes than with further ones
+pub remaining-prefix : (begins : Bool) (xs ys : List (List ℕ))
+    → length (remaining begins xs) ≤ length (remaining begins (xs ++ ys))
+remaining-prefix true [] ys = omega arith
+remaining-prefix true (x ∷ xs) ys =
+    let longer = remaining-prefix false xs ys in
+    simp length-append (omega (arith, longer))
+remaining-prefix false xs ys =
+    let whole = ap length (flat_map-append (λ w. space ∷ w) xs ys) ∙ length-append (spaced xs) (spaced ys) in
+    omega (arith, whole)
+
+-- no word has no byte
+pub remaining-none : (begins : Bool) → remaining begins [] ≡ []
+remaining-none true = refl
+remaining-none false = refl
 
 -- one row more, left out or not
 spaced-step : (x : Bool) (w : List ℕ) (row : AttributeRow) (rows all : List AttributeRow)

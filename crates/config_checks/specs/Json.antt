@@ -1,0 +1,35 @@
+-- A finding as JSON.
+use Rattle.std.specs.Prelude.{List, ℕ, ◌∷◌, [], ◌++◌, codes, Option, None, Some}
+use Rattle.std.specs.Str.Lossy.{utf8_lossy}
+use Rattle.serde_json.specs.Data.{Data, null, number, unsigned, string, object, member, no_members}
+use Rattle.serde_json.specs.Written.{compact_text}
+use Rattle.config_checks.specs.declared.reason.Severity.{Severity}
+use Rattle.config_checks.specs.declared.reason.Severity.TheVariants.{Error, Warning, Note}
+use Rattle.config_checks.specs.Findings.{Finding, line_feed}
+
+abbrev pub severity_name : Severity → List ℕ
+severity_name Error = codes "error"
+severity_name Warning = codes "warning"
+severity_name Note = codes "note"
+
+-- a text, with U+FFFD for bytes that are not UTF-8
+abbrev pub text_json : List ℕ → Data
+text_json t = string (utf8_lossy t)
+
+abbrev pub text_or_null : Option (List ℕ) → Data
+text_or_null None = null
+text_or_null (Some t) = text_json t
+
+-- the members in the order of their names
+abbrev pub finding_json : Finding → Data
+finding_json f =
+    object (member (codes "file") (string f.file)
+    (member (codes "key") (text_or_null f.key)
+    (member (codes "line") (number (unsigned f.line))
+    (member (codes "reason") (text_json f.reason)
+    (member (codes "severity") (string (severity_name f.severity))
+    (member (codes "suggestion") (text_or_null f.suggestion)
+    (member (codes "value") (text_or_null f.value) no_members)))))))
+
+abbrev pub json_line : Finding → List ℕ
+json_line f = compact_text (finding_json f) ++ line_feed ∷ []
