@@ -41,31 +41,20 @@ fn most_edits(long: usize, from: &[u8], to: &[u8]) -> usize
     }
 }
 
-/// How many edits lead from one text to the other, ignoring ASCII case. `None` if more than three.
-// Texts whose lengths differ by more are never compared: that is most of them.
-pub(crate) fn edits_between(
-    alloc: Global,
-    from: &[u8],
-    to: &[u8],
-) -> Result<Option<usize>, AllocError>
-    ensures { IfOk result (λ r. IsFew (Edits from.now to.now) r) }
+/// How many edits lead from one text to the other, ignoring ASCII case.
+fn edits_between(alloc: Global, from: &[u8], to: &[u8]) -> Result<usize, AllocError>
+    ensures { IfOk result (Edits from.now to.now) }
 {
-    if from.len().abs_diff(to.len()) > MOST_EDITS {
-        return Ok(None);
-    }
     let from = from.to_ascii_lowercase(alloc)?;
     let to = to.to_ascii_lowercase(alloc)?;
     if is_swap(&from, &to) {
-        return Ok(Some(1));
+        return Ok(1);
     }
-    let edits = generic_levenshtein(alloc, from.as_slice(), to.as_slice())?;
-    if edits > MOST_EDITS {
-        return Ok(None);
-    }
-    Ok(Some(edits))
+    generic_levenshtein(alloc, from.as_slice(), to.as_slice())
 }
 
 /// How many edits lead from one text to the other, or `None` if they are not few for texts of this length.
+// Texts whose lengths differ by more are never compared: that is most of them.
 pub(crate) fn few_edits(
     alloc: Global,
     long: usize,
@@ -74,10 +63,15 @@ pub(crate) fn few_edits(
 ) -> Result<Option<usize>, AllocError>
     ensures { IfOk result (λ r. IsFew (FewEdits long from.now to.now) r) }
 {
-    match edits_between(alloc, from, to)? {
-        Some(edits) if edits <= most_edits(long, from, to) => Ok(Some(edits)),
-        _ => Ok(None),
+    let most = most_edits(long, from, to);
+    if from.len().abs_diff(to.len()) > most {
+        return Ok(None);
     }
+    let edits = edits_between(alloc, from, to)?;
+    if edits > most {
+        return Ok(None);
+    }
+    Ok(Some(edits))
 }
 
 /// What precedes the end of a text, or `None` if it ends otherwise.
