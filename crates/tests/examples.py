@@ -1,16 +1,17 @@
 """Runs each example of the libraries' comments, and README.md's first one, as a test, over a copy of the library.
 
 An example is a fenced block of Rust. Of a line of it that begins with `# ` these two bytes are left out. Each public
-type and each call of CALLS has to have an example, and a section of docs/GRAMMAR.md that a comment cites has to be
-there. `rt try` runs the examples: nothing of them is proved. A part of pages.py.
+type of a value and each item of CALLS has to have an example, and a section of docs/GRAMMAR.md that a comment cites has
+to be there. `rt try` runs the examples: nothing of them is proved. A part of pages.py.
 """
 import pathlib
 import re
+import shutil
 import subprocess
 import tempfile
 
 ROOT = pathlib.Path(__file__).resolve().parent.parent.parent
-# each library, with the calls that a user meets first
+# each library, with the calls and types that a user meets first
 CALLS = {
     "config_text": ("text", "lookup", "normalize_as"),
     "config_integer": ("from_bytes", "to_decimal"),
@@ -20,6 +21,8 @@ CALLS = {
     "config_path": ("interpolate", "home_for_user"),
     "gix_config_value": ("from_str", "normalize", "same", "refusal", "run"),
 }
+# the crates over it, whose other types need no example
+MORE = {"config_file": ("Entries", "Settings", "text"), "config_checks": ("check_file",)}
 COMMENT = re.compile(r"^ *//[/!] ?(.*)$")
 ITEM = re.compile(r"^ *(?:pub )?(struct|enum|trait|fn) (\w+)")
 FENCED = re.compile(r"^```(\w*)\n(.*?)^```$", re.MULTILINE | re.DOTALL)
@@ -45,9 +48,9 @@ def blocks(text):
 def test(name, block):
     """A test that runs the lines of an example. What they need and do not have is put before them."""
     body = re.sub(r"^# |^\s*\n", "", block, flags=re.MULTILINE)
-    if "use gix_config_value::" not in body:
-        names = ", ".join(name for name in AT_THE_ROOT if re.search(rf"\b{name}\b", body))
-        body = f"use gix_config_value::{{{names}}};\n{body}"
+    names = [name for name in AT_THE_ROOT if re.search(rf"\b{name}\b", body)]
+    if names and not re.search(r"^use (gix_config_value|config_file)::", body, re.MULTILINE):
+        body = f"use gix_config_value::{{{', '.join(names)}}};\n{body}"
     if re.search(r"\balloc\b", body):
         body = f"let alloc = rt.alloc();\n{body}"
     return f"\n#[test]\nfn {name}(rt: HostRuntime) -> Result<(), Fail> {{\n{body}Ok(())\n}}\n"
@@ -58,8 +61,11 @@ def run(tests):
     with tempfile.TemporaryDirectory() as folder:
         root = pathlib.Path(folder)
         subprocess.run(["sh", ROOT / "vendor.sh", root], check=True)
+        shutil.copytree(ROOT / "crates/config_checks", root / "crates/config_checks",
+                        ignore=shutil.ignore_patterns("out", "wrong_bodies"))
+        line = re.search("^config_checks:.*\n", (ROOT / "crates.txt").read_text(encoding="utf-8"), re.MULTILINE)[0]
         with open(root / "crates.txt", "a", encoding="utf-8") as listed:
-            listed.write("examples: bstr " + " ".join(CALLS) + "\n")
+            listed.write(line + "examples: bstr " + " ".join(CALLS | MORE) + "\n")
         (root / "crates/examples/src").mkdir(parents=True)
         text = "#![tactic(auto)]\nuse std::test::Fail;\n" + "".join(test(*named) for named in tests.items())
         (root / "crates/examples/src/lib.rt").write_text(text, encoding="utf-8")
@@ -76,13 +82,13 @@ def results():
     checked = []
     sections = re.findall(r"^## ([^(\n]*\w)", (ROOT / "docs/GRAMMAR.md").read_text(encoding="utf-8"), re.MULTILINE)
     tests = {"readme": blocks((ROOT / "README.md").read_text(encoding="utf-8"))[0]}
-    for crate, calls in CALLS.items():
+    for crate, calls in (CALLS | MORE).items():
         missing = set(calls)
         for file in sorted((ROOT / "crates" / crate / "src").rglob("*.rt")):
             for comment, item, is_public in comments(file):
                 kind, name = item.groups() if item else ("", "page")
                 found = blocks(comment)
-                if is_public and kind in ("struct", "enum", "trait"):
+                if is_public and kind in ("struct", "enum", "trait") and crate in CALLS:
                     checked.append((f"{file}: {name} has no example", bool(found)))
                 if found:
                     missing.discard(name)

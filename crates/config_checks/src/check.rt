@@ -317,11 +317,8 @@ fn flush<W: Write>(writer: &mut W) -> Result<(), CheckError>
 /// assert!(rt; read_rows(alloc, b"push.default word nothing current", &mut rows).is_ok());
 /// let options = Options { canonical: false, format: Format::Text, color: false };
 /// let mut out = Vec::new(alloc);
-/// let counts = match check_file(alloc, &rows, &options, "f", b"[push]\ndefault = maybe", &mut out) {
-///     Ok(counts) => counts,
-///     Err(_) => return Err(AllocError),
-/// };
-/// assert_eq!(rt; counts.findings, 1);
+/// let checked = check_file(alloc, &rows, &options, "f", b"[push]\ndefault = maybe", &mut out);
+/// assert!(rt; checked.is_ok_and(|counts| counts.findings == 1));
 /// let line = b"f:2: error: push.default: 'maybe': not one of: nothing, current\n";
 /// assert_eq!(rt; out.as_slice(), line.as_slice());
 /// ```

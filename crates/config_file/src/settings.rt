@@ -38,6 +38,19 @@ pub struct Setting<'a> {
 }
 
 /// The entries of several files, in the order in which the files were added.
+///
+/// ```rust
+/// use config_file::settings::Settings;
+/// use gix_config_value::Boolean;
+///
+/// let mut settings = Settings::new(alloc);
+/// assert!(rt; settings.add_file(alloc, "/etc/gitconfig", b"[core]\n\tbare = no").is_ok());
+/// assert!(rt; settings.add_file(alloc, ".git/config", b"[core]\n\tbare\n\tautoCRLF = x").is_ok());
+/// let is_bare = settings.get::<Boolean>(b"core", None, b"bare").expect(&rt, "no refusal");
+/// assert!(rt; is_bare == Some(Boolean(true)));
+/// let refused = settings.get::<Boolean>(b"core", None, b"autocrlf").unwrap_err();
+/// assert_eq!(rt; (refused.file, refused.line), (".git/config", 3));
+/// ```
 #[derive(Drop)]
 pub struct Settings<'a> {
     /// The entries, in order.

@@ -51,8 +51,8 @@ impl<'a> Value<'a> {
     /// use config_file::reader::Entries;
     ///
     /// let entry = Entries::new(b"[a]b = c  d # e").next().expect(&rt, "an entry").expect(&rt, "no error");
-    /// let value = entry.value.expect(&rt, "a value").to_vec(alloc)?;
-    /// assert!(rt; value.as_slice() == b"c  d");
+    /// let text = entry.value.expect(&rt, "a value").text(alloc)?;
+    /// assert!(rt; text.as_slice() == b"c  d".as_slice());
     /// ```
     pub fn text(&self, alloc: Global) -> Result<CowSlice<'a, u8>, AllocError>
         ensures { (spelled : List ℕ) (ending : Ending) → SpellsValue self.now.raw.now spelled ending
