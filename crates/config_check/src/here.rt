@@ -212,6 +212,10 @@ pub fn add_included(
         let Ok(entry) = entry else {
             return Ok(());
         };
+        // of a long file few entries have this key
+        if !entry.has_key(b"path") {
+            continue;
+        }
         let key = entry.key_text(alloc)?;
         let (Some(_), Some(value)) = (Condition::of_key(&key), &entry.value) else {
             continue;

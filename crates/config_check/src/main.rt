@@ -14,7 +14,7 @@ use config_checks::row::Row;
 use config_checks::table::{BadRow, read_rows};
 use std::alloc::{AllocError, Global};
 use std::env::VarError;
-use std::io::{self, ErrorKind, IsTerminal, Read, Write};
+use std::io::{self, BufWriter, ErrorKind, IsTerminal, Read, Write};
 use std::process::ExitCode;
 use std::{env, fs};
 use thiserror::Error;
@@ -228,14 +228,11 @@ impl Checker<'_, '_> {
             }
         };
         let alloc = self.rt.alloc();
-        match check_file(
-            alloc,
-            self.rows,
-            &self.options,
-            file,
-            &text,
-            &mut self.rt.stdout(),
-        ) {
+        let mut writer = match BufWriter::new(alloc, self.rt.stdout()) {
+            Ok(writer) => writer,
+            Err(error) => return Err(Failure::Write(error)),
+        };
+        match check_file(alloc, self.rows, &self.options, file, &text, &mut writer) {
             Ok(counts) => outcome.add(counts),
             Err(CheckError::Write(error)) => return Err(Failure::Write(error)),
             Err(CheckError::Memory(error)) => return Err(Failure::Memory(error)),

@@ -1,5 +1,5 @@
 -- A check, setting by setting.
-use Rattle.std.proofs.Common.{◌≡◌, ◌+◌, ◌≤◌, ◌<◌, ℕ, List, [], ◌∷◌, ◌++◌, Option, None, Some, refl, sym, inl, inr}
+use Rattle.std.proofs.Common.{◌≡◌, ◌+◌, ◌^◌, ◌≤◌, ◌<◌, ℕ, List, [], ◌∷◌, ◌++◌, Option, None, Some, refl, sym, inl, inr}
 use Rattle.std.proofs.Common.{ap, subst, ◌∙◌, append_assoc, append-nil, arith, Result, Ok, Err, take, drop, drop-cons, zero, suc, length}
 use Rattle.std.proofs.Common.{IfErr, OnOk, OnErr, is_ok, IsErrAnd, take-append-drop, get_or}
 use Rattle.std.specs.Io.KnownBytes.{Appends, Keeps}
@@ -15,79 +15,30 @@ use Rattle.config_checks.specs.declared.check.CheckError.{CheckError}
 use Rattle.config_checks.specs.declared.check.CheckError.TheVariants.{Write, Memory}
 use Rattle.config_checks.specs.Report.{finding_line, value_of, unknown_line, unknown, misspelt, right, found, Report, nothing, next}
 use Rattle.config_checks.specs.Report.{HasSettings, HasFirst, Completes, Fails, counted, no_counts}
-use Rattle.config_checks.specs.Reading.Steps.{Reports, ReportsPart, ReportsAll, ReportsFirst, Tells, TellsPart}
-use Rattle.config_checks.specs.Reading.Steps.{WritesPart, IsMemory, IsWrite, AreWithin}
+use Rattle.config_checks.specs.Reading.Steps.{Reports, ReportsPart, ReportsAll, ReportsEntries, HasRead, Tells, TellsPart}
+use Rattle.config_checks.specs.Reading.Steps.{WritesPart, IsMemory, IsWrite, AreWithin, HasRoomForFinding}
 use Rattle.config_checks.specs.Rows.{Decides}
 use Rattle.config_checks.specs.Reasons.{HasFinding, severity_of}
 use Rattle.config_checks.specs.declared.reason.Reason.{Reason}
 use Rattle.config_checks.specs.declared.reason.Severity.{Severity}
 use Rattle.config_checks.specs.declared.reason.Severity.TheVariants.{Error, Warning, Note}
-use Rattle.config_file.specs.File.{Entry, IsFile}
+use Rattle.config_file.specs.declared.entry.Entry as code
+use Rattle.config_file.specs.declared.reader.Entries.{Entries}
+use Rattle.config_file.specs.File.{Entry, IsFile, Begins}
+use Rattle.config_file.specs.Left.{GivesEntry, HasLeft}
 use Rattle.config_file.specs.Settings.{IsSettingOf}
+use Rattle.config_file.specs.Views.{entry_of}
 use Rattle.std.specs.List.{AllZip}
+use Rattle.config_file.proofs.Adding.{file_more, file_end, first_of}
 use Rattle.config_file.proofs.EachReading.{each_is_read}
+use Rattle.config_file.proofs.Walks.{file_begins}
 
-module _ (rows : List Row) (options : Options) where
-  -- nothing is reported yet
-  pub start : (w : Option (List ℕ)) (s : Counts) → s.entries ≡ 0 → s.unknown ≡ 0 → s.findings ≡ 0 → s.errors ≡ 0
-      → s.warnings ≡ 0 → ReportsAll rows options [] w w s
-  start w s a b c d e =
-      let none : s ≡ no_counts = λ i. record { entries = a i; unknown = b i; findings = c i; errors = d i; warnings = e i } in
-      ([], Appends-nil w, subst (Report rows options [] []) (sym none) nothing)
-
-  -- one more setting
-  pub more : (settings : List Setting) (setting : Setting) (w x x' : Option (List ℕ)) (s s' : Counts)
-      → ReportsAll rows options settings w x s → Reports rows options setting s s' x x'
-      → ReportsAll rows options (settings ++ setting ∷ []) w x' s'
-  more settings setting w x x' s s' (lines, appended, report) (line, adds, after) =
-      (lines ++ line, Appends-trans w x x' lines line appended after, next settings lines s setting line s' report adds)
-
-  -- the line of one more setting failed
-  pub fails_here : (settings others : List Setting) (setting : Setting) (all : List Setting) (w x x' : Option (List ℕ)) (s : Counts)
-      (e : CheckError) → all ≡ settings ++ setting ∷ others
-      → ReportsAll rows options settings w x s → ReportsPart rows options setting s x x' e
-      → ReportsFirst rows options all w x' e
-  fails_here settings others setting all w x x' s (Write e) cut (lines, appended, report) (line, (s', adds), part) = record {
-    output = lines ++ part.written;
-    appended = Appends-trans w x x' lines part.written appended part.appended;
-    first = settings ++ setting ∷ [];
-    others = others;
-    cut = cut ∙ sym (append_assoc settings (setting ∷ []) others);
-    missing = part.missing;
-    s = s';
-    report =
-        let whole = ap (λ l. lines ++ l) part.parts ∙ sym (append_assoc lines part.written part.missing) in
-        subst (λ l. Report rows options (settings ++ setting ∷ []) l s') whole (next settings lines s setting line s' report adds);
-    lacks = tt;
-  }
-  fails_here settings others setting all w x x' s (Memory e) cut (lines, appended, report) same = record {
-    output = lines;
-    appended = subst (λ c. Appends w c lines) (sym same) appended;
-    first = settings;
-    others = setting ∷ others;
-    cut = cut;
-    missing = [];
-    s = s;
-    report = subst (λ l. Report rows options settings l s) (sym (append-nil lines)) report;
-    lacks = refl;
-  }
-
-take_next : {X : Type 0} (xs : List X) (i : ℕ) (d : X) → i < length xs → take (suc i) xs ≡ take i xs ++ get_or xs i d ∷ []
-take_next [] i d below = absurd (omega arith)
-take_next (x ∷ xs) zero d below = refl
-take_next (x ∷ xs) (suc i) d below = ap (λ l. x ∷ l) (take_next xs i d (omega arith))
-
--- the item at this place
-pub take_more : {X : Type 0} (xs : List X) (i : ℕ) (x : X) → i < length xs → get_or xs i x ≡ x
-    → take (i + 1) xs ≡ take i xs ++ x ∷ []
-take_more xs i x below here =
-    let one : i + 1 ≡ suc i = omega arith in
-    ap (λ n. take n xs) one ∙ take_next xs i x below ∙ ap (λ y. take i xs ++ y ∷ []) here
-
-pub cut_at : {X : Type 0} (xs : List X) (i : ℕ) (x : X) → i < length xs → get_or xs i x ≡ x
-    → xs ≡ take i xs ++ x ∷ drop (suc i) xs
-cut_at xs i x below here =
-    sym (take-append-drop i xs) ∙ ap (λ l. take i xs ++ l) (drop-cons xs i x below) ∙ ap (λ y. take i xs ++ y ∷ drop (suc i) xs) here
+zip_push : {A B : Type 0} (R : A → B → Type 0) (xs : List A) (ys : List B) (x : A) (y : B) → AllZip R xs ys → R x y
+    → AllZip R (xs ++ x ∷ []) (ys ++ y ∷ [])
+zip_push R [] [] x y all one = (one, tt)
+zip_push R [] (z ∷ zs) x y all one = absurd all
+zip_push R (w ∷ ws) [] x y all one = absurd all
+zip_push R (w ∷ ws) (z ∷ zs) x y all one = (all.0, zip_push R ws zs x y all.1 one)
 
 -- ---- counts
 
@@ -139,6 +90,17 @@ within_after s s' within adds = record {
   warnings = omega (arith, adds.entries, adds.warnings, within.warnings);
 }
 
+-- where there is room for one more entry, there is for one more finding
+pub leaves_room : (s : Counts) → AreWithin s → s.entries + 1 < 2 ^ 64 → HasRoomForFinding s
+leaves_room s within room = record {
+  findings = omega (arith, within.findings, room);
+  errors = omega (arith, within.errors, room);
+  warnings = omega (arith, within.warnings, room);
+}
+
+pub are_none : (s : Counts) → s.entries ≡ 0 → s.unknown ≡ 0 → s.findings ≡ 0 → s.errors ≡ 0 → s.warnings ≡ 0 → s ≡ no_counts
+are_none s a b c d e i = record { entries = a i; unknown = b i; findings = c i; errors = d i; warnings = e i }
+
 -- ---- a file
 
 module _ (rows : List Row) (options : Options) (file text : List ℕ) where
@@ -153,71 +115,151 @@ module _ (rows : List Row) (options : Options) (file text : List ℕ) where
     at_end = inr (refl, refl);
   }
 
-  cut_zip : (entries : List Entry) (first others settings : List Setting) → AllZip (IsSettingOf file) entries settings
-      → settings ≡ first ++ others
-      → (before after : List Entry) × (entries ≡ before ++ after) × AllZip (IsSettingOf file) before first
-  cut_zip entries [] others settings are cut = ([], entries, refl, tt)
-  cut_zip [] (x ∷ first) others [] are cut = absurd (cc)
-  cut_zip [] (x ∷ first) others (y ∷ settings) are cut = absurd are
-  cut_zip (e ∷ entries) (x ∷ first) others [] are cut = absurd are
-  cut_zip (e ∷ entries) (x ∷ first) others (y ∷ settings) are cut =
-      let (before, after, parts, all) = cut_zip entries first others settings are.1 (cc) in
-      let same : y ≡ x = cc in
-      (e ∷ before, after, ap (λ l. e ∷ l) parts, (subst (IsSettingOf file e) same are.0, all))
+  -- the error is not told
+  untold : (settings : List Setting) (told : Option errors.Error) → HasFirst file text settings told → HasFirst file text settings None
+  untold settings told first = record {
+    before = first.before;
+    after = first.after;
+    error = first.error;
+    is_file = first.is_file;
+    are = first.are;
+    at_end = inl refl;
+  }
 
-  some_first : (settings first others : List Setting) (error : Option errors.Error) → HasSettings file text settings error
-      → settings ≡ first ++ others → HasFirst file text first None
-  some_first settings first others error (entries, is_file, are) cut =
-      let (before, after, parts, all) = cut_zip entries first others settings are cut in
-      record { before = before; after = after; error = error; is_file = subst (λ es. IsFile text es error) parts is_file; are = all; at_end = inl refl }
+  first_settings : (entries : List Entry) (settings : List Setting) (reader : Entries) → HasRead text entries reader
+      → AllZip (IsSettingOf file) entries settings → HasFirst file text settings None
+  first_settings entries settings reader read are =
+      let (after, error, is_file) = first_of text entries reader read in
+      record { before = entries; after = after; error = error; is_file = is_file; are = are; at_end = inl refl }
 
-  -- no settings were read
-  pub fails_reading : (w : Option (List ℕ)) (e : CheckError) → IsMemory e → Fails rows options file text w w e
-  fails_reading w (Write e) is = absurd is
-  fails_reading w (Memory e) is =
-      let (entries, error, is_file) = each_is_read text in (
-        [],
-        Appends-nil w,
+  -- memory ran out after the lines of the first settings
+  no_memory : (w x : Option (List ℕ)) (settings : List Setting) (s : Counts) (e : CheckError) → IsMemory e
+      → HasFirst file text settings None → ReportsAll rows options settings w x s → Fails rows options file text w x e
+  no_memory w x settings s (Write e) is first all = absurd is
+  no_memory w x settings s (Memory e) is first (lines, appended, report) = (
+    lines,
+    appended,
+    record {
+      first = settings;
+      told = None;
+      of_file = first;
+      lines = lines;
+      s = s;
+      report = report;
+      last = [];
+      s' = s;
+      ends = (refl, refl);
+      missing = [];
+      parts = refl;
+      lacks = refl;
+    },
+  )
+
+  pub fails_starting : (w : Option (List ℕ)) (e : CheckError) → IsMemory e → Fails rows options file text w w e
+  fails_starting w e is =
+      let (entries, error, is_file) = each_is_read text in
+      no_memory w w [] no_counts e is
+      (record { before = []; after = entries; error = error; is_file = is_file; are = tt; at_end = inl refl })
+      ([], Appends-nil w, nothing)
+
+  -- the entries that were read are reported
+  pub record IsReported (reader : Entries) (w x : Option (List ℕ)) (s : Counts) : Type 0 where
+    pub entries : List Entry
+    pub settings : List Setting
+    pub read : HasRead text entries reader
+    pub are : AllZip (IsSettingOf file) entries settings
+    pub all : ReportsAll rows options settings w x s
+    pub fits : s.entries + length reader.rest.now < 2 ^ 63 + 2
+    pub within : AreWithin s
+
+  pub reported_start : (reader : Entries) (w : Option (List ℕ)) (s : Counts) → reader.section ≡ None
+      → Begins text reader.line reader.rest.now → s ≡ no_counts → IsReported reader w w s
+  reported_start reader w s none begins empty =
+      let bound : reader.line + length reader.rest.now < 2 ^ 63 + 2 = reader.line_fits in
+      subst (IsReported reader w w) (sym empty) (record {
+        entries = [];
+        settings = [];
+        read = λ left error has. file_begins reader text left error none begins has;
+        are = tt;
+        all = ([], Appends-nil w, nothing);
+        fits = omega (arith, bound);
+        within = record { unknown = omega arith; findings = omega arith; errors = omega arith; warnings = omega arith };
+      })
+
+  module _ (w x : Option (List ℕ)) (s : Counts) (reader : Entries) (so_far : IsReported reader w x s) where
+    -- no memory for a setting
+    pub fails_reading : (e : CheckError) → IsMemory e → Fails rows options file text w x e
+    fails_reading e is =
+        no_memory w x so_far.settings s e is (first_settings so_far.entries so_far.settings reader so_far.read so_far.are) so_far.all
+
+    one_read : (reader' : Entries) (entry : code.Entry) → GivesEntry reader (Some (Ok entry)) reader'
+        → HasRead text (so_far.entries ++ entry_of entry ∷ []) reader'
+    one_read reader' entry gives left error h =
+        file_more text so_far.entries left (entry_of entry) error (so_far.read (entry_of entry ∷ left) error (gives left error h))
+
+    module _ (reader' : Entries) (entry : code.Entry) (setting : Setting) (gives : GivesEntry reader (Some (Ok entry)) reader')
+        (is : IsSettingOf file (entry_of entry) setting) where
+      are_more : AllZip (IsSettingOf file) (so_far.entries ++ entry_of entry ∷ []) (so_far.settings ++ setting ∷ [])
+      are_more = zip_push (IsSettingOf file) so_far.entries so_far.settings (entry_of entry) setting so_far.are is
+
+      -- one more setting
+      pub one_more : (x' : Option (List ℕ)) (s' : Counts) → length reader'.rest.now < length reader.rest.now
+          → Reports rows options setting s s' x x' → IsReported reader' w x' s'
+      one_more x' s' shorter (line, adds, after) =
+          let counts = adds_one rows options setting s s' x x' (line, adds, after) in
+          let fits = so_far.fits in
+          record {
+            entries = so_far.entries ++ entry_of entry ∷ [];
+            settings = so_far.settings ++ setting ∷ [];
+            read = one_read reader' entry gives;
+            are = are_more;
+            all = (
+              so_far.all.0 ++ line,
+              Appends-trans w x x' so_far.all.0 line so_far.all.1 after,
+              next so_far.settings so_far.all.0 s setting line s' so_far.all.2 adds,
+            );
+            fits = omega (arith, shorter, counts.entries, fits);
+            within = within_after s s' so_far.within counts;
+          }
+
+      -- its line failed
+      pub fails_within : (x' : Option (List ℕ)) (e : CheckError) → ReportsPart rows options setting s x x' e
+          → Fails rows options file text w x' e
+      fails_within x' (Write e) (line, (s', adds), part) = (
+        so_far.all.0 ++ part.written,
+        Appends-trans w x x' so_far.all.0 part.written so_far.all.1 part.appended,
         record {
-          first = [];
+          first = so_far.settings ++ setting ∷ [];
           told = None;
-          of_file = record { before = []; after = entries; error = error; is_file = is_file; are = tt; at_end = inl refl };
-          lines = [];
-          s = no_counts;
-          report = nothing;
+          of_file = first_settings (so_far.entries ++ entry_of entry ∷ []) (so_far.settings ++ setting ∷ []) reader'
+              (one_read reader' entry gives) are_more;
+          lines = so_far.all.0 ++ line;
+          s = s';
+          report = next so_far.settings so_far.all.0 s setting line s' so_far.all.2 adds;
           last = [];
-          s' = no_counts;
+          s' = s';
           ends = (refl, refl);
-          missing = [];
-          parts = refl;
-          lacks = refl;
+          missing = part.missing;
+          parts =
+              let whole = ap (λ l. so_far.all.0 ++ l) part.parts ∙ sym (append_assoc so_far.all.0 part.written part.missing) in
+              append-nil (so_far.all.0 ++ line) ∙ whole;
+          lacks = tt;
         },
       )
+      fails_within x' (Memory e) same =
+          subst (λ c. Fails rows options file text w c (Memory e)) (sym same) (fails_reading (Memory e) tt)
+
+    -- the file ends, at an error if there is one
+    pub reported : (error : Option errors.Error) → HasLeft reader [] error
+        → ReportsEntries rows options file text w x s error
+    reported error left = record {
+      settings = so_far.settings;
+      of_file = (so_far.entries, file_end text so_far.entries error (so_far.read [] error left), so_far.are);
+      all = so_far.all;
+    }
 
   module _ (settings : List Setting) (error : Option errors.Error) (read : HasSettings file text settings error)
       (w : Option (List ℕ)) where
-    -- the line of a setting failed
-    pub fails_within : (x : Option (List ℕ)) (e : CheckError) → ReportsFirst rows options settings w x e
-        → Fails rows options file text w x e
-    fails_within x e part = (
-      part.output,
-      part.appended,
-      record {
-        first = part.first;
-        told = None;
-        of_file = some_first settings part.first part.others error read part.cut;
-        lines = part.output ++ part.missing;
-        s = part.s;
-        report = part.report;
-        last = [];
-        s' = part.s;
-        ends = (refl, refl);
-        missing = part.missing;
-        parts = append-nil (part.output ++ part.missing);
-        lacks = part.lacks;
-      },
-    )
-
     module _ (x : Option (List ℕ)) (s : Counts) (all : ReportsAll rows options settings w x s) where
       -- the line of the refused file failed
       pub fails_telling : (x' : Option (List ℕ)) (e : CheckError) → TellsPart options file error s x x' e
@@ -246,7 +288,7 @@ module _ (rows : List Row) (options : Options) (file text : List ℕ) where
         record {
           first = settings;
           told = None;
-          of_file = some_first settings settings [] error read (sym (append-nil settings));
+          of_file = untold settings error (all_first settings error read);
           lines = all.0;
           s = s;
           report = all.2;
@@ -298,6 +340,12 @@ module _ (rows : List Row) (options : Options) (file text : List ℕ) where
             parts = refl;
           },
         )
+
+pub of_rows : {rows rows' : List Row} {options : Options} {file text : List ℕ} {w x : Option (List ℕ)} {s : Counts}
+    {error : Option errors.Error} → rows' ≡ rows → ReportsEntries rows' options file text w x s error
+    → ReportsEntries rows options file text w x s error
+of_rows {options = options} {file = file} {text = text} {w = w} {x = x} {s = s} {error = error} same all =
+    subst (λ rows. ReportsEntries rows options file text w x s error) same all
 
 -- ---- results
 

@@ -1,5 +1,6 @@
 mod KeyLemmas
 mod NearestLemmas
+mod RunLemmas
 mod WordLemmas
 mod ShownLemmas
 mod SuggestionLemmas

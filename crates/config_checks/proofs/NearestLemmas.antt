@@ -6,12 +6,13 @@ use Rattle.std.specs.Char.{to_ascii_lowercase}
 use Rattle.strsim.specs.Edits.{next_row, rows, cost_at}
 use Rattle.std.proofs.Common.{true, false}
 use Rattle.std.proofs.lemmas.Bool.{false≢true}
-use Rattle.std.proofs.lemmas.List.{length-map, take_all, get_or-take, get_or_default, length-take}
-use Rattle.std.proofs.lemmas.List.Elements.{All-more}
+use Rattle.std.proofs.lemmas.List.{length-map, get_or-take, get_or_default, length-take, length-append, take-append-le, get_or_append_left}
+use Rattle.std.proofs.lemmas.List.Elements.{All-append}
+use Rattle.std.proofs.Math.Seq.{get_or-append_seam, take-append_seam}
 use Rattle.std.specs.List.{All}
-use Rattle.std.specs.Prelude.{slice_index_or, MatchBool}
+use Rattle.std.specs.Prelude.{MatchBool}
 use Rattle.std.specs.Cmp.Lexicographic.{pointwise, told_text}
-use Rattle.config_checks.specs.Nearest.{Edits, IsSwap, LeavesOut, lower, edits, IsFirstAt, AreFar, IsNearest}
+use Rattle.config_checks.specs.Nearest.{Edits, IsSwap, LeavesOut, lower, edits, AreBeyond, IsFirstAt, AreFar, IsNearest}
 use Rattle.config_checks.specs.Nearest.Edits.{swapped, counted}
 use Rattle.config_checks.specs.Nearest.IsSwap.{at_front, further}
 use Rattle.config_checks.specs.Nearest.LeavesOut.{skipped, kept}
@@ -115,83 +116,111 @@ one_count a b m n (swapped swap is) (counted not also) = absurd (not swap)
 one_count a b m n (counted not is) (swapped swap also) = absurd (not swap)
 one_count a b m n (counted not is) (counted not' also) = is ∙ sym also
 
--- ---- the nearest of the first ones
+-- ---- the nearest of those that were seen
 
-abbrev pub At : {A : Type 0} → List A → ℕ → A → Type 0
-At items i item = (i < length items) × (slice_index_or items i item ≡ item)
+take_next : {X : Type 0} (xs : List X) (i : ℕ) (d : X) → i < length xs → take (suc i) xs ≡ take i xs ++ get_or xs i d ∷ []
+take_next [] i d below = absurd (omega arith)
+take_next (x ∷ xs) zero d below = refl
+take_next (x ∷ xs) (suc i) d below = ap (λ l. x ∷ l) (take_next xs i d (omega arith))
+
+-- the first ones, and the item at the next place
+pub take_more : {X : Type 0} (xs : List X) (i : ℕ) (x : X) → i < length xs → get_or xs i x ≡ x
+    → take (i + 1) xs ≡ take i xs ++ x ∷ []
+take_more xs i x below here =
+    let one : i + 1 ≡ suc i = omega arith in
+    ap (λ n. take n xs) one ∙ take_next xs i x below ∙ ap (λ y. take i xs ++ y ∷ []) here
 
 module _ {A : Type 0} (Apart : A → ℕ → Type 0) where
   abbrev pub IsNoNearer : ℕ → A → Type 0
   IsNoNearer least item = (m : ℕ) → Apart item m → least ≤ m
 
   abbrev Found : List A → Option (Bor A) → ℕ → Type 0
-  Found items best least = MatchOption best (least ≡ 4) (λ item. (least ≤ 3) × IsFirstAt Apart items least item.now)
+  Found seen best least = MatchOption best (least ≡ 4) (λ item. (least ≤ 3) × IsFirstAt Apart seen least item.now)
 
-  -- of the first ones none is nearer than so many edits, and the best one is the first so near; it is there below 4
-  pub record IsBest (items : List A) (i : ℕ) (best : Option (Bor A)) (least : ℕ) : Type 0 where
-    pub none_nearer : All (IsNoNearer least) (take i items)
-    pub found : Found items best least
+  -- none of those that were seen is nearer than so many edits, and the best one is the first so near; it is there below 4
+  pub record IsBest (seen : List A) (best : Option (Bor A)) (least : ℕ) : Type 0 where
+    pub none_nearer : All (IsNoNearer least) seen
+    pub found : Found seen best least
 
-  one_more : (items : List A) (i least : ℕ) (item : A) → At items i item → All (IsNoNearer least) (take i items)
-      → IsNoNearer least item → All (IsNoNearer least) (take (i + 1) items)
-  one_more items i least item at so_far here =
-      All-more (IsNoNearer least) items i item at.0 so_far (subst (IsNoNearer least) (sym at.1) here)
+  pub nothing : IsBest [] None 4
+  nothing = record { none_nearer = λ k d inside. absurd (omega (arith, inside)); found = refl }
 
-  at_most_4 : (items : List A) (least : ℕ) (best : Option (Bor A)) → Found items best least → least ≤ 4
-  at_most_4 items least None found = omega (arith, found)
-  at_most_4 items least (Some item) found = let few = found.0 in omega (arith, few)
+  at_most_4 : (seen : List A) (least : ℕ) (best : Option (Bor A)) → Found seen best least → least ≤ 4
+  at_most_4 seen least None found = omega (arith, found)
+  at_most_4 seen least (Some item) found = let few = found.0 in omega (arith, few)
 
-  pub passes : (items : List A) (i least : ℕ) (best : Option (Bor A)) (item : A) → At items i item
-      → IsBest items i best least → ((n : ℕ) → Apart item n → 3 < n) → IsBest items (i + 1) best least
-  passes items i least best item at so_far none = record {
-    none_nearer = one_more items i least item at so_far.none_nearer
-        (λ m edits. let far = none m edits in let few = at_most_4 items least best so_far.found in omega (arith, far, few));
-    found = so_far.found;
+  still_found : (seen more : List A) (least : ℕ) (best : Option (Bor A)) → Found seen best least
+      → Found (seen ++ more) best least
+  still_found seen more least None found = found
+  still_found seen more least (Some item) found =
+      let at = found.1 in
+      let inside = at.inside in (
+        found.0,
+        record {
+          place = at.place;
+          inside = omega (arith, inside, length-append seen more);
+          stands = get_or_append_left seen more item.now at.place inside ∙ at.stands;
+          apart = at.apart;
+          first = subst (AreBeyond Apart least) (sym (take-append-le at.place seen more (omega (arith, inside)))) at.first;
+        },
+      )
+
+  -- far ones are passed
+  pub passes : (seen more : List A) (least : ℕ) (best : Option (Bor A)) → IsBest seen best least → AreFar Apart more
+      → IsBest (seen ++ more) best least
+  passes seen more least best so_far far = record {
+    none_nearer = All-append (IsNoNearer least) seen more so_far.none_nearer (λ k d inside m edits.
+        let beyond = far k d inside m edits in let few = at_most_4 seen least best so_far.found in omega (arith, beyond, few));
+    found = still_found seen more least best so_far.found;
   }
 
-  pub nothing : (items : List A) → IsBest items 0 None 4
-  nothing items = record { none_nearer = λ k d inside. absurd (omega (arith, inside)); found = refl }
+  pub far_one : (item : A) → ((n : ℕ) → Apart item n → 3 < n) → AreFar Apart (item ∷ [])
+  far_one item far zero d inside = far
+  far_one item far (suc k) d inside = absurd (omega (arith, inside))
 
-  pub whole : (items : List A) (i least : ℕ) (best : Option (Bor A)) → length items ≤ i → IsBest items i best least
+  pub whole : (items : List A) (least : ℕ) (best : Option (Bor A)) → IsBest items best least
       → MatchOption best (AreFar Apart items) (λ item. IsNearest Apart items item.now)
-  whole items i least None all so_far =
-      subst (λ l. All (IsNoNearer l) items) so_far.found
-      (subst (All (IsNoNearer least)) (take_all i items all) so_far.none_nearer)
-  whole items i least (Some item) all so_far = record {
+  whole items least None so_far = subst (λ l. All (IsNoNearer l) items) so_far.found so_far.none_nearer
+  whole items least (Some item) so_far = record {
     edits = least;
     few = so_far.found.0;
     at = so_far.found.1;
-    least = subst (All (IsNoNearer least)) (take_all i items all) so_far.none_nearer;
+    least = so_far.none_nearer;
   }
 
   -- where each has one number of edits
   module _ (one : (item : A) (m n : ℕ) → Apart item m → Apart item n → m ≡ n) where
-    pub keeps : (items : List A) (i least n : ℕ) (best : Option (Bor A)) (item : A) → At items i item
-        → IsBest items i best least → Apart item n → least ≤ n → IsBest items (i + 1) best least
-    keeps items i least n best item at so_far edits not = record {
-      none_nearer = one_more items i least item at so_far.none_nearer
-          (λ m also. let same = one item m n also edits in omega (arith, same, not));
-      found = so_far.found;
+    none_nearer_one : (item : A) (least n : ℕ) → Apart item n → least ≤ n → All (IsNoNearer least) (item ∷ [])
+    none_nearer_one item least n edits not zero d inside m also =
+        let same = one item m n also edits in omega (arith, same, not)
+    none_nearer_one item least n edits not (suc k) d inside m also = absurd (omega (arith, inside))
+
+    pub keeps : (seen : List A) (least n : ℕ) (best : Option (Bor A)) (item : A) → IsBest seen best least → Apart item n
+        → least ≤ n → IsBest (seen ++ item ∷ []) best least
+    keeps seen least n best item so_far edits not = record {
+      none_nearer = All-append (IsNoNearer least) seen (item ∷ []) so_far.none_nearer (none_nearer_one item least n edits not);
+      found = still_found seen (item ∷ []) least best so_far.found;
     }
 
-    below_4 : (items : List A) (least n : ℕ) (best : Option (Bor A)) → Found items best least → n < least → n ≤ 3
-    below_4 items least n None found below = omega (arith, found, below)
-    below_4 items least n (Some item) found below = let few = found.0 in omega (arith, few, below)
+    below_4 : (seen : List A) (least n : ℕ) (best : Option (Bor A)) → Found seen best least → n < least → n ≤ 3
+    below_4 seen least n None found below = omega (arith, found, below)
+    below_4 seen least n (Some item) found below = let few = found.0 in omega (arith, few, below)
 
-    pub betters : (items : List A) (i least n : ℕ) (best : Option (Bor A)) (item : Bor A) → At items i item.now
-        → IsBest items i best least → Apart item.now n → n < least → IsBest items (i + 1) (Some item) n
-    betters items i least n best item at so_far edits below = record {
-      none_nearer = one_more items i n item.now at
+    pub betters : (seen : List A) (least n : ℕ) (best : Option (Bor A)) (item : Bor A) → IsBest seen best least
+        → Apart item.now n → n < least → IsBest (seen ++ item.now ∷ []) (Some item) n
+    betters seen least n best item so_far edits below = record {
+      none_nearer = All-append (IsNoNearer n) seen (item.now ∷ [])
           (λ k d inside m also. let no_nearer = so_far.none_nearer k d inside m also in omega (arith, no_nearer, below))
-          (λ m also. let same = one item.now m n also edits in omega (arith, same));
+          (none_nearer_one item.now n n edits (omega arith));
       found = (
-        below_4 items least n best so_far.found below,
+        below_4 seen least n best so_far.found below,
         record {
-          place = i;
-          inside = at.0;
-          stands = at.1;
+          place = length seen;
+          inside = omega (arith, length-append seen (item.now ∷ []));
+          stands = get_or-append_seam seen item.now [] item.now;
           apart = edits;
-          first = λ k d inside m also. let no_nearer = so_far.none_nearer k d inside m also in omega (arith, no_nearer, below);
+          first = subst (AreBeyond Apart n) (sym (take-append_seam seen (item.now ∷ [])))
+              (λ k d inside m also. let no_nearer = so_far.none_nearer k d inside m also in omega (arith, no_nearer, below));
         },
       );
     }

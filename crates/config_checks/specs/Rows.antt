@@ -8,6 +8,7 @@ use Rattle.config_checks.specs.declared.kind.Form.{Form}
 use Rattle.config_checks.specs.declared.kind.Form.TheVariants as forms
 use Rattle.config_checks.specs.declared.key.Key.{Key}
 use Rattle.config_checks.specs.declared.row.Row.{Row}
+use Rattle.config_checks.specs.declared.row.Run.{Run}
 use Rattle.config_checks.specs.declared.kind.SettingKind.{SettingKind}
 use Rattle.config_checks.specs.declared.kind.SettingKind.TheVariants as kinds
 use Rattle.config_checks.specs.declared.table.RowFault.{RowFault}
@@ -17,6 +18,10 @@ use Rattle.config_checks.specs.declared.table.RowFault.TheVariants.{Words, Memor
 use Rattle.config_checks.specs.Keys.{IsKey, Covers}
 use Rattle.config_checks.specs.Kinds.{takes_true}
 use Rattle.config_checks.specs.Reasons.{least_int, greatest_int}
+
+-- the rows of these runs
+abbrev pub rows_of : List Run → List Row
+rows_of = flat_map (λ run. run.rows.now)
 
 -- no row covers the key
 abbrev pub CoversNone : List Row → Key → Type 0

@@ -3,21 +3,21 @@ ghost use Rattle.std.specs.Prelude.{◌≡◌, ◌==◌, if◌then◌else◌, On
 ghost use Rattle.std.specs.Io.KnownBytes.{Appends, Keeps};
 ghost use Rattle.config_checks.specs.Report.{counted, counts_shown, finding_line, unknown_line};
 ghost use Rattle.config_checks.specs.Report.{Completes, Fails};
-ghost use Rattle.config_checks.specs.Report.{HasSettings};
 ghost use Rattle.config_checks.specs.declared.reason.Severity.TheVariants.{Warning};
 ghost use Rattle.config_checks.specs.Findings.{AppendsPart};
-ghost use Rattle.config_checks.specs.Rows.{IsUnknown};
+ghost use Rattle.config_checks.specs.Rows.{IsUnknown, rows_of};
 ghost use Rattle.config_checks.specs.Reading.Steps.{HasRoom, HasRoomForFinding, Reports, ReportsPart, Tells};
-ghost use Rattle.config_checks.specs.Reading.Steps.{TellsPart, ReportsAll, ReportsFirst, WritesPart};
-ghost use Rattle.config_checks.specs.Reading.Steps.{IsMemory, IsWrite};
+ghost use Rattle.config_checks.specs.Reading.Steps.{TellsPart, ReportsEntries, WritesPart, IsWrite};
 
 use crate::finding::{push_finding, push_misspelt, push_refusal, value_of};
 use crate::options::Options;
 use crate::reason::{Reason, Severity, find};
-use crate::row::{Row, row_for};
+use crate::lookup::{row_for, runs_of};
+use crate::row::{Row, Run};
 use crate::suggestion::{UnknownKey, unknown_key};
 use config_file::errors::Error;
-use config_file::settings::{AddError, Setting, Settings};
+use config_file::reader::Entries;
+use config_file::settings::Setting;
 use std::alloc::{AllocError, Global};
 use std::fmt;
 use std::io::{self, ErrorKind, Write};
@@ -170,21 +170,21 @@ impl Progress {
     fn report_unknown<W: Write>(
         &mut self,
         alloc: Global,
-        rows: &[Row<'_>],
+        runs: &[Run<'_, '_>],
         options: &Options,
         setting: &Setting<'_>,
         writer: &mut W,
     ) -> Result<(), CheckError>
         requires room { HasRoom self.old.counts }
-        requires unknown { IsUnknown rows.now setting.now.key.items }
-        ensures ok { OnOk result (Reports rows.now options.now setting.now
+        requires unknown { IsUnknown (rows_of runs.now) setting.now.key.items }
+        ensures ok { OnOk result (Reports (rows_of runs.now) options.now setting.now
             self.old.counts self.new.counts (W.contents writer.old) (W.contents writer.new)) }
-        ensures err { IfErr result (ReportsPart rows.now options.now setting.now
+        ensures err { IfErr result (ReportsPart (rows_of runs.now) options.now setting.now
             self.old.counts (W.contents writer.old) (W.contents writer.new)) }
     {
         self.counts.entries += 1;
         self.counts.unknown += 1;
-        match unknown_key(alloc, rows, &setting.key) {
+        match unknown_key(alloc, runs, &setting.key) {
             Ok(Some(unknown)) => self.write_misspelt(options, setting, &unknown, writer),
             Ok(None) => Ok(()),
             Err(error) => Err(CheckError::Memory(error)),
@@ -195,19 +195,19 @@ impl Progress {
     fn report<W: Write>(
         &mut self,
         alloc: Global,
-        rows: &[Row<'_>],
+        runs: &[Run<'_, '_>],
         options: &Options,
         setting: &Setting<'_>,
         writer: &mut W,
     ) -> Result<(), CheckError>
         requires { HasRoom self.old.counts }
-        ensures ok { OnOk result (Reports rows.now options.now setting.now
+        ensures ok { OnOk result (Reports (rows_of runs.now) options.now setting.now
             self.old.counts self.new.counts (W.contents writer.old) (W.contents writer.new)) }
-        ensures err { IfErr result (ReportsPart rows.now options.now setting.now
+        ensures err { IfErr result (ReportsPart (rows_of runs.now) options.now setting.now
             self.old.counts (W.contents writer.old) (W.contents writer.new)) }
     {
-        let Some(row) = row_for(rows, &setting.key) else {
-            return self.report_unknown(alloc, rows, options, setting, writer);
+        let Some(row) = row_for(runs, &setting.key) else {
+            return self.report_unknown(alloc, runs, options, setting, writer);
         };
         self.counts.entries += 1;
         match find(alloc, row, value_of(setting), options.canonical) {
@@ -221,28 +221,38 @@ impl Progress {
     }
 }
 
-/// Writes the lines of settings, and returns their counts.
-fn report_all<W: Write>(
+/// Writes the lines of the entries of a file, up to the line that Git cannot read if there is one. Returns
+/// their counts, and why that line is refused.
+fn report_entries<W: Write>(
     alloc: Global,
-    rows: &[Row<'_>],
+    runs: &[Run<'_, '_>],
     options: &Options,
-    settings: &[Setting<'_>],
+    file: &str,
+    text: &[u8],
     writer: &mut W,
-) -> Result<Counts, CheckError>
-    ensures ok { IfOk result (ReportsAll rows.now options.now settings.now
+) -> Result<(Counts, Option<Error>), CheckError>
+    ensures ok { IfOk result (λ reported. ReportsEntries (rows_of runs.now) options.now file.now text.now
+        (W.contents writer.old) (W.contents writer.new) reported.0 reported.1) }
+    ensures err { IfErr result (Fails (rows_of runs.now) options.now file.now text.now
         (W.contents writer.old) (W.contents writer.new)) }
-    ensures err { IfErr result (ReportsFirst rows.now options.now settings.now
-        (W.contents writer.old) (W.contents writer.new)) }
-    ensures room { IfOk result HasRoomForFinding }
+    ensures room { IfOk result (λ reported. HasRoomForFinding reported.0) }
 {
     let mut progress = Progress {
         counts: Counts::default(),
         line: Vec::new(alloc),
     };
-    for setting in settings {
-        progress.report(alloc, rows, options, setting, writer)?;
+    for entry in Entries::new(text) {
+        let entry = match entry {
+            Ok(entry) => entry,
+            Err(error) => return Ok((progress.counts, Some(error))),
+        };
+        let setting = match Setting::of_entry(alloc, file, &entry) {
+            Ok(setting) => setting,
+            Err(error) => return Err(CheckError::Memory(error)),
+        };
+        progress.report(alloc, runs, options, &setting, writer)?;
     }
-    Ok(progress.counts)
+    Ok((progress.counts, None))
 }
 
 /// Writes the line of a file that is refused, if it is, and counts it.
@@ -268,23 +278,6 @@ fn tell<W: Write>(
     match write_out(writer, &line) {
         Ok(()) => Ok(counts.with(Severity::Error)),
         Err(error) => Err(CheckError::Write(error)),
-    }
-}
-
-/// The settings of a file, up to the line that Git cannot read if there is one, and why.
-fn settings_of<'a>(
-    alloc: Global,
-    file: &'a str,
-    text: &[u8],
-) -> Result<(Settings<'a>, Option<Error>), CheckError>
-    ensures ok { IfOk result (λ read. HasSettings file.now text.now read.0.entries.items read.1) }
-    ensures err { IfErr result IsMemory }
-{
-    let mut settings = Settings::new(alloc);
-    match settings.add_file(alloc, file, text) {
-        Ok(()) => Ok((settings, None)),
-        Err(AddError::Line { error, .. }) => Ok((settings, Some(error))),
-        Err(AddError::Memory(error)) => Err(CheckError::Memory(error)),
     }
 }
 
@@ -335,8 +328,11 @@ pub fn check_file<W: Write>(
     ensures fails { IfErr result (Fails rows.now options.now file.now text.now
         (W.contents writer.old) (W.contents writer.new)) }
 {
-    let (settings, refused) = settings_of(alloc, file, text)?;
-    let counts = report_all(alloc, rows, options, &settings.entries, writer)?;
+    let runs = match runs_of(alloc, rows) {
+        Ok(runs) => runs,
+        Err(error) => return Err(CheckError::Memory(error)),
+    };
+    let (counts, refused) = report_entries(alloc, &runs, options, file, text, writer)?;
     let counts = tell(alloc, options, file, refused, counts, writer)?;
     flush(writer)?;
     Ok(counts)

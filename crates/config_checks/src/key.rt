@@ -83,8 +83,8 @@ impl<'k> Key<'k> {
     pub fn covers(&self, key: &Key<'_>) -> bool
         ensures { IsTrue result ↔ Covers self.now key.now }
     {
-        is_same_word(self.section, key.section)
+        (self.last == ANY || is_same_word(self.last, key.last))
             && covers_between(self.between, key.between)
-            && (self.last == ANY || is_same_word(self.last, key.last))
+            && is_same_word(self.section, key.section)
     }
 }

@@ -9,6 +9,7 @@ pub mod json_line;
 pub mod key;
 pub mod kind;
 pub mod laws;
+pub mod lookup;
 pub mod options;
 pub mod reason;
 pub mod row;

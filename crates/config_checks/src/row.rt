@@ -1,6 +1,7 @@
 //! Rows: a key, and what the values of the settings that it covers have to be.
-ghost use Rattle.std.specs.Prelude.{◌≡◌, MatchOption};
-ghost use Rattle.config_checks.specs.Rows.{Decides, IsUnknown};
+ghost use Rattle.std.specs.Prelude.{◌<◌, length};
+ghost use Rattle.std.specs.List.{All};
+ghost use Rattle.config_text.specs.SameWord.{SameWord};
 
 use crate::key::Key;
 use crate::kind::SettingKind;
@@ -18,10 +19,13 @@ pub struct Row<'t> {
     pub kind: SettingKind<'t>,
 }
 
-/// The first row that covers a key. `None` if no row covers it, or if the text is not a key.
-pub fn row_for<'r, 't>(rows: &'r [Row<'t>], key: &[u8]) -> Option<&'r Row<'t>>
-    ensures { MatchOption result (IsUnknown rows.now key.now) (λ row. Decides rows.now key.now row.now) }
-{
-    let key = Key::parse(key)?;
-    rows.iter().find(|row| row.key.covers(&key))
+/// Rows of one section that follow each other. Of most runs a search looks at the section alone.
+#[derive(Clone, Copy)]
+pub struct Run<'r, 't> {
+    /// The section, as the first of the rows has it.
+    pub section: &'t [u8],
+    /// The rows.
+    pub rows: &'r [Row<'t>],
+    ghost of_section: { All (λ row. SameWord row.key.section.now section.now) rows.now },
+    ghost some: { 0 < length rows.now },
 }

@@ -5,6 +5,7 @@ ghost use Rattle.config_checks.specs.Nearest.{LacksWord, AreFar, IsNearest};
 ghost use Rattle.config_checks.specs.Suggestions.{BetweenEdits, CoversLast, LastEdits, EditsAfter};
 ghost use Rattle.config_checks.specs.Suggestions.{OnePartEdits, RowEdits, Fills, FillsBetween};
 ghost use Rattle.config_checks.specs.Suggestions.{FillsKey, IsShared, IsOwn};
+ghost use Rattle.config_checks.specs.Rows.{rows_of};
 ghost use Rattle.config_checks.specs.Reading.Steps.{IsFew};
 ghost use Rattle.config_checks.specs.Suggestions.{HasSection, IsPassed, IsUnknownKey, dotted, between_shown};
 ghost use Rattle.config_checks.specs.Suggestions.{after_shown, key_shown, asked, unknown_text};
@@ -12,11 +13,15 @@ ghost use Rattle.config_checks.specs.Suggestions.{after_shown, key_shown, asked,
 use crate::edits::{LONG, MOST_EDITS, few_edits, lacks_word};
 use crate::finding::push_shown;
 use crate::key::{ANY, Key, covers_between, is_same_word};
-use crate::row::{Row, row_for};
+use crate::lookup::row_for;
+use crate::row::{Row, Run};
 use std::alloc::{AllocError, Global};
 
 /// The bytes of a section that is long.
 const LONG_SECTION: usize = 8;
+
+/// The most edits that are few for two sections.
+const MOST_SECTION_EDITS: usize = 2;
 
 /// How many edits lead from one part between dots to the other. `None` if they are not few, or if one is not
 /// there.
@@ -95,21 +100,27 @@ fn one_part_edits(alloc: Global, row: &Key<'_>, key: &Key<'_>) -> Result<Option<
 }
 
 /// The first of the rows whose key the fewest edits lead from, or `None` if none is near.
+// Runs of sections whose lengths differ by more are passed at once: that is most of them.
 fn nearest<'r, 't>(
     alloc: Global,
-    rows: &'r [Row<'t>],
+    runs: &[Run<'r, 't>],
     key: &Key<'_>,
 ) -> Result<Option<&'r Row<'t>>, AllocError>
-    ensures { IfOk result (λ r. MatchOption r (AreFar (RowEdits key.now) rows.now)
-        (λ row. IsNearest (RowEdits key.now) rows.now row.now)) }
+    ensures { IfOk result (λ r. MatchOption r (AreFar (RowEdits key.now) (rows_of runs.now))
+        (λ row. IsNearest (RowEdits key.now) (rows_of runs.now) row.now)) }
 {
     let mut best = None;
     let mut least = MOST_EDITS + 1;
-    for row in rows {
-        if let Some(edits) = one_part_edits(alloc, &row.key, key)? {
-            if edits < least {
-                least = edits;
-                best = Some(row);
+    'runs: for run in runs {
+        if run.section.len().abs_diff(key.section.len()) > MOST_SECTION_EDITS {
+            continue;
+        }
+        'rows: for row in run.rows {
+            if let Some(edits) = one_part_edits(alloc, &row.key, key)? {
+                if edits < least {
+                    least = edits;
+                    best = Some(row);
+                }
             }
         }
     }
@@ -157,20 +168,24 @@ fn is_shared(section: &[u8]) -> bool
 }
 
 /// Whether a section is one of the rows'.
-fn has_section(rows: &[Row<'_>], section: &[u8]) -> bool
-    ensures { IsTrue result ↔ HasSection rows.now section.now }
+fn has_section(runs: &[Run<'_, '_>], section: &[u8]) -> bool
+    ensures { IsTrue result ↔ HasSection (rows_of runs.now) section.now }
 {
-    rows.iter()
-        .any(|row| is_same_word(row.key.section, section))
+    for run in runs {
+        if is_same_word(run.section, section) {
+            return true;
+        }
+    }
+    false
 }
 
 /// Whether a key has no part between dots, and a section of the rows in which only they have settings.
-fn is_own(rows: &[Row<'_>], key: &Key<'_>) -> bool
-    ensures { IsTrue result ↔ IsOwn rows.now key.now }
+fn is_own(runs: &[Run<'_, '_>], key: &Key<'_>) -> bool
+    ensures { IsTrue result ↔ IsOwn (rows_of runs.now) key.now }
 {
     match key.between {
         Some(_) => false,
-        None => !is_shared(key.section) && has_section(rows, key.section),
+        None => !is_shared(key.section) && has_section(runs, key.section),
     }
 }
 
@@ -187,22 +202,23 @@ pub struct UnknownKey<'k> {
 /// other key. An error if there was no memory.
 pub fn unknown_key<'k>(
     alloc: Global,
-    rows: &[Row<'k>],
+    runs: &[Run<'_, 'k>],
     text: &'k [u8],
 ) -> Result<Option<UnknownKey<'k>>, AllocError>
-    ensures { IfOk result (λ r. MatchOption r (IsPassed rows.now text.now) (IsUnknownKey rows.now text.now)) }
+    ensures { IfOk result (λ r. MatchOption r (IsPassed (rows_of runs.now) text.now)
+        (IsUnknownKey (rows_of runs.now) text.now)) }
 {
     let Some(key) = Key::parse(text) else {
         return Ok(None);
     };
-    if row_for(rows, text).is_some() {
+    if row_for(runs, text).is_some() {
         return Ok(None);
     }
-    match nearest(alloc, rows, &key)? {
+    match nearest(alloc, runs, &key)? {
         Some(row) => Ok(Some(UnknownKey {
             nearest: Some(filled_key(&row.key, &key)),
         })),
-        None if is_own(rows, &key) => Ok(Some(UnknownKey { nearest: None })),
+        None if is_own(runs, &key) => Ok(Some(UnknownKey { nearest: None })),
         None => Ok(None),
     }
 }

@@ -94,8 +94,9 @@ pub fn holds(
     }
 }
 
-/// Whether the entry of a key includes a file, and its condition holds.
-fn is_followed(
+/// Whether the entry of a key, in a file whose directory is `real_dir`, includes a file, and its condition
+/// holds. It fails only if memory is refused.
+pub fn is_followed(
     alloc: Global,
     repository: Option<Repository<'_>>,
     real_dir: &[u8],

@@ -1,31 +1,15 @@
 //! Entries that include a file: the name of that file.
 ghost use Rattle.std.specs.Prelude.{◌≡◌, None, Some, IfOk, MatchOption, MatchResult, option_copied};
-ghost use Rattle.config_file.specs.Walk.{Follows};
 ghost use Rattle.gix_config_value_c.specs.Includes.{IsNameIn, AsksUnknown, IsIncluded, TellsWhyNot};
 ghost use Rattle.gix_config_value_c.specs.Includes.{IncludesInto};
 
 use crate::buffer::put;
 use crate::paths::given;
 use crate::status::Status;
-use config_file::include::{Condition, Repository};
+use config_file::include::Repository;
 use config_file::path::{Directories, expand, included_name};
-use config_file::walk::holds;
+use config_file::walk::is_followed;
 use std::alloc::{AllocError, Global};
-
-/// Whether the entry of a key, in a file of this directory, includes a file, and its condition holds.
-fn is_followed(
-    alloc: Global,
-    repository: Option<Repository<'_>>,
-    real_dir: &[u8],
-    key: &[u8],
-) -> Result<bool, AllocError>
-    ensures { IfOk result (λ followed. Follows repository.entry real_dir.now key.now followed) }
-{
-    match Condition::of_key(key) {
-        Some(condition) => Ok(holds(alloc, repository, real_dir, condition)?),
-        None => Ok(false),
-    }
-}
 
 /// The name of the file that a value stands for in this file, or `None` if the value begins with a directory
 /// that is not known.

@@ -1,32 +1,70 @@
-use Rattle.std.proofs.Common.{sym, arith, subst}
+use Rattle.std.proofs.Common.{◌++◌, ◌∷◌, [], ◌∙◌, ap, arith, sym, subst, take, append_assoc, append-nil, ℕ, Option, Bor}
+use Rattle.std.proofs.lemmas.List.{take_all}
 use Rattle.config_checks.specs.declared.row.Row.{Row}
 use Rattle.config_checks.specs.Reading.Steps.{IsFew}
+use Rattle.config_checks.specs.Rows.{rows_of}
 use Rattle.config_checks.specs.Suggestions.{OnePartEdits, RowEdits}
-use Rattle.config_checks.proofs.NearestLemmas.{At, passes, keeps, betters, whole}
+use Rattle.config_checks.proofs.NearestLemmas.{IsBest, nothing, take_more, passes, far_one, keeps, betters, whole}
+use Rattle.config_checks.proofs.RunLemmas.{rows_more, far_run}
 use Rattle.config_checks.proofs.SuggestionLemmas.{one_number}
 use Rattle.config_checks.proofs.suggestion.nearest.Goals.{in-Some+then-edits-least, in-Some+else-edits-least, in_default}
 use Rattle.config_checks.proofs.suggestion.nearest.Goals as goal
 
-pub loop-row-preserved : goal.loop-row-preserved
-loop-row-preserved c =
-    let rows = c.args.rows.now in
+pub runs-init : goal.runs-init
+runs-init c = nothing (RowEdits c.args.key.now)
+
+pub runs-preserved-then-abs_diff-gt-MOST_SECTION_EDITS : goal.runs-preserved-then-abs_diff-gt-MOST_SECTION_EDITS
+runs-preserved-then-abs_diff-gt-MOST_SECTION_EDITS c =
     let key = c.args.key.now in
+    let run = c.run-item.result in
+    let seen = rows_of (take c.runs.run-index c.args.runs.now) in
+    subst (λ seen. IsBest (RowEdits key) seen c.runs.best c.runs.least)
+    (sym (rows_more c.args.runs.now c.runs.run-index run c.runs-test.true (sym c.run-item.is)))
+    (passes (RowEdits key) seen run.rows.now c.runs.least c.runs.best c.runs.invariant
+    (far_run key run (rw (sym c.abs_diff.ensures) c.if-abs_diff-gt-MOST_SECTION_EDITS.true)))
+
+pub rows-init : goal.rows-init
+rows-init c =
+    subst (λ seen. IsBest (RowEdits c.args.key.now) seen c.runs.best c.runs.least)
+    (sym (append-nil (rows_of (take c.runs.run-index c.args.runs.now)))) c.runs.invariant
+
+pub rows-preserved : goal.rows-preserved
+rows-preserved c =
+    let key = c.args.key.now in
+    let rows = c.run-item.result.rows.now in
+    let i = c.rows.row-index in
     let row = c.row-item.result in
-    let at : At rows c.loop-row.row-index row = (c.loop-row-test.true, sym c.row-item.is) in
+    let before = rows_of (take c.runs.run-index c.args.runs.now) in
+    let seen = before ++ take i rows in
     let one = λ (row : Row). one_number row.key key in
-    let so_far = c.loop-row.invariant in
+    let so_far = c.rows.invariant in
+    let next = λ (best : Option (Bor Row)) (least : ℕ) (is : IsBest (RowEdits key) (seen ++ row ∷ []) best least).
+    subst (λ seen. IsBest (RowEdits key) seen best least)
+    (append_assoc before (take i rows) (row ∷ []) ∙ ap (λ l. before ++ l) (sym (take_more rows i row c.rows-test.true (sym c.row-item.is)))) is in
     elim c.match-branch-2.branch [
       | in-Some+then-edits-least w ↦
           let edits = subst (IsFew (OnePartEdits row.key key)) w.in-Some.is c.in_ok-edits.ensures in
-          rw w.best-is (rw w.least-is (betters (RowEdits key) one rows c.loop-row.row-index c.loop-row.least w.in-Some.edits c.loop-row.best _ at so_far edits.0 w.if-edits-least.true))
+          rw w.best-is (rw w.least-is (next _ _ (betters (RowEdits key) one seen c.rows.least w.in-Some.edits c.rows.best _ so_far edits.0 w.if-edits-least.true)))
       | in-Some+else-edits-least w ↦
           let edits = subst (IsFew (OnePartEdits row.key key)) w.in-Some.is c.in_ok-edits.ensures in
-          rw w.best-is (rw w.least-is (keeps (RowEdits key) one rows c.loop-row.row-index c.loop-row.least w.in-Some.edits c.loop-row.best row at so_far edits.0 w.if-edits-least.false))
+          rw w.best-is (rw w.least-is (next _ _ (keeps (RowEdits key) one seen c.rows.least w.in-Some.edits c.rows.best row so_far edits.0 w.if-edits-least.false)))
       | in_default w ↦
-          rw w.best-is (rw w.least-is (passes (RowEdits key) rows c.loop-row.row-index c.loop-row.least c.loop-row.best row at so_far
-          (subst (IsFew (OnePartEdits row.key key)) w.in_default.is c.in_ok-edits.ensures)))
+          rw w.best-is (rw w.least-is (next _ _ (passes (RowEdits key) seen (row ∷ []) c.rows.least c.rows.best so_far
+          (far_one (RowEdits key) row (subst (IsFew (OnePartEdits row.key key)) w.in_default.is c.in_ok-edits.ensures)))))
     ]
 
+pub runs-preserved : goal.runs-preserved
+runs-preserved c =
+    let key = c.args.key.now in
+    let run = c.run-item.result in
+    let before = rows_of (take c.runs.run-index c.args.runs.now) in
+    subst (λ seen. IsBest (RowEdits key) seen c.rows.best c.rows.least)
+    (ap (λ l. before ++ l) (take_all c.rows.row-index run.rows.now (omega (arith, c.rows-test.false)))
+    ∙ sym (rows_more c.args.runs.now c.runs.run-index run c.runs-test.true (sym c.run-item.is))) c.rows.invariant
+
 pub returns : goal.returns
-returns c = whole (RowEdits c.args.key.now) c.args.rows.now c.loop-row.row-index c.loop-row.least c.loop-row.best
-    (omega (arith, c.loop-row-test.false)) c.loop-row.invariant
+returns c =
+    let key = c.args.key.now in
+    whole (RowEdits key) (rows_of c.args.runs.now) c.runs.least c.runs.best
+    (subst (λ runs. IsBest (RowEdits key) (rows_of runs) c.runs.best c.runs.least)
+    (take_all c.runs.run-index c.args.runs.now (omega (arith, c.runs-test.false))) c.runs.invariant)

@@ -1,5 +1,6 @@
 use Rattle.std.proofs.Common.{◌∙◌, sym, subst, MatchOption, IsTrue, rules}
 use Rattle.config_checks.specs.Nearest.{AreFar, IsNearest}
+use Rattle.config_checks.specs.Rows.{rows_of}
 use Rattle.config_checks.specs.Suggestions.{RowEdits}
 use Rattle.config_checks.specs.Suggestions.IsPassed.{foreign}
 use Rattle.config_checks.proofs.SuggestionLemmas.{known_passes, unknown_by}
@@ -15,7 +16,7 @@ returns-in-Some-2 c = record {
   unknown = unknown_by _ _ c.row_for.result c.row_for.ensures (sym c.is_some.ensures ∙ c.if-is_some.false);
   suggests = (
     c.in-Some-2.row.now,
-    subst (λ r. MatchOption r (AreFar (RowEdits c.in-Some.key) c.args.rows.now) (λ row. IsNearest (RowEdits c.in-Some.key) c.args.rows.now row.now))
+    subst (λ r. MatchOption r (AreFar (RowEdits c.in-Some.key) (rows_of c.args.runs.now)) (λ row. IsNearest (RowEdits c.in-Some.key) (rows_of c.args.runs.now) row.now))
         c.in-Some-2.is c.in_ok-row.ensures,
     c.filled_key.ensures,
   );
@@ -27,7 +28,7 @@ returns-in-None c = record {
   is_key = c.in-Some.ensures;
   unknown = unknown_by _ _ c.row_for.result c.row_for.ensures (sym c.is_some.ensures ∙ c.if-is_some.false);
   suggests = (
-    subst (λ r. MatchOption r (AreFar (RowEdits c.in-Some.key) c.args.rows.now) (λ row. IsNearest (RowEdits c.in-Some.key) c.args.rows.now row.now))
+    subst (λ r. MatchOption r (AreFar (RowEdits c.in-Some.key) (rows_of c.args.runs.now)) (λ row. IsNearest (RowEdits c.in-Some.key) (rows_of c.args.runs.now) row.now))
         c.in-None.is c.in_ok-row.ensures,
     c.is_own.ensures.0 c.if-is_own.true,
   );
@@ -37,6 +38,6 @@ pub returns-in-None-2 : goal.returns-in-None-2
 returns-in-None-2 c =
     let wrong : ¬ (IsTrue c.is_own.result) = search rules in
     foreign c.in-Some.key c.in-Some.ensures
-    (subst (λ r. MatchOption r (AreFar (RowEdits c.in-Some.key) c.args.rows.now) (λ row. IsNearest (RowEdits c.in-Some.key) c.args.rows.now row.now))
+    (subst (λ r. MatchOption r (AreFar (RowEdits c.in-Some.key) (rows_of c.args.runs.now)) (λ row. IsNearest (RowEdits c.in-Some.key) (rows_of c.args.runs.now) row.now))
     c.in-None.is c.in_ok-row.ensures)
     (λ own. wrong (c.is_own.ensures.1 own))

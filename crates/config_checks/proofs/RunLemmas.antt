@@ -1,0 +1,123 @@
+-- Rows in runs of one section.
+use Rattle.std.proofs.Common.{◌≡◌, ◌+◌, ◌-◌, ◌<◌, ◌≤◌, ℕ, suc, List, [], ◌∷◌, ◌++◌, length, take, drop, get_or, arith, sym, ap, subst, ◌∙◌, Bool, true, false, ◌||◌, nat_lt, if◌then◌else◌}
+use Rattle.std.proofs.lemmas.List.{length-append, length-map, take-append-le, take_all, length-drop, get_or_append_left, get_or-append-add, flat_map_more, take-append-drop}
+use Rattle.std.proofs.lemmas.List.Elements.{All-append}
+use Rattle.std.proofs.lemmas.Grind.{flat_map-append}
+use Rattle.std.proofs.Math.Seq.{take-append-add, take-add, get_or-append_seam}
+use Rattle.std.specs.List.{All, Any}
+use Rattle.std.proofs.lemmas.Int.{clamps}
+use Rattle.std.specs.Char.{to_ascii_lowercase}
+use Rattle.std.specs.Int.{abs_diff}
+use Rattle.config_text.specs.SameWord.{SameWord}
+use Rattle.config_checks.specs.declared.key.Key.{Key}
+use Rattle.config_checks.specs.declared.row.Row.{Row}
+use Rattle.config_checks.specs.declared.row.Run.{Run}
+use Rattle.config_checks.specs.Keys.{IsKey, Covers}
+use Rattle.config_checks.specs.Nearest.{AreFar}
+use Rattle.config_checks.specs.Rows.{CoversNone, Decides, rows_of}
+use Rattle.config_checks.specs.Reading.Steps.{IsFirstCovering}
+use Rattle.config_checks.specs.Suggestions.{OnePartEdits, RowEdits, HasSection}
+use Rattle.config_checks.specs.Suggestions.OnePartEdits.{in_rest, in_section}
+use Rattle.config_checks.proofs.NearestLemmas.{take_more, lengths_near}
+
+-- the rows of one run more
+pub rows_more : (runs : List Run) (i : ℕ) (run : Run) → i < length runs → get_or runs i run ≡ run
+    → rows_of (take (i + 1) runs) ≡ rows_of (take i runs) ++ run.rows.now
+rows_more runs i run below here =
+    ap rows_of (take_more runs i run below here) ∙ sym (flat_map_more (λ r. r.rows.now) [] (take i runs) run)
+
+rows_around : (runs : List Run) (i : ℕ) (run : Run) → i < length runs → get_or runs i run ≡ run
+    → rows_of runs ≡ (rows_of (take i runs) ++ run.rows.now) ++ rows_of (drop (i + 1) runs)
+rows_around runs i run below here =
+    ap rows_of (sym (take-append-drop (i + 1) runs)) ∙ flat_map-append (λ r. r.rows.now) (take (i + 1) runs) (drop (i + 1) runs)
+    ∙ ap (λ l. l ++ rows_of (drop (i + 1) runs)) (rows_more runs i run below here)
+
+same_length : (a b : List ℕ) → SameWord a b → length a ≡ length b
+same_length a b same = sym (length-map a to_ascii_lowercase) ∙ ap length same ∙ length-map b to_ascii_lowercase
+
+two_at_most : (b : Bool) → (if b then 1 else 2) ≤ 2
+two_at_most true = omega arith
+two_at_most false = omega arith
+
+module _ (key : Key) where
+  -- no row of another section covers the key
+  pub other_section : (run : Run) → ¬ (SameWord run.section.now key.section.now) → CoversNone run.rows.now key
+  other_section run other k d inside covers = other (sym (run.of_section k d inside) ∙ covers.section)
+
+  first_within : (xs ys zs : List Row) (row : Row) → CoversNone xs key → IsFirstCovering ys key row
+      → IsFirstCovering ((xs ++ ys) ++ zs) key row
+  first_within xs ys zs row none first =
+      let inside = first.inside in
+      let below : length xs + first.place < length (xs ++ ys) = omega (arith, inside, length-append xs ys) in
+      record {
+        place = length xs + first.place;
+        inside = omega (arith, below, length-append (xs ++ ys) zs);
+        stands = get_or_append_left (xs ++ ys) zs row (length xs + first.place) below ∙ get_or-append-add xs ys first.place row
+            ∙ first.stands;
+        covers = first.covers;
+        first = subst (λ l. CoversNone l key)
+            (sym (take-append-le (length xs + first.place) (xs ++ ys) zs (omega (arith, below)) ∙ take-append-add xs ys first.place))
+            (All-append (λ row. ¬ (Covers row.key key)) xs (take first.place ys) none first.first);
+      }
+
+  pub decides : (t : List ℕ) (runs : List Run) (i : ℕ) (run : Run) (row : Row) → IsKey t key → i < length runs
+      → get_or runs i run ≡ run → CoversNone (rows_of (take i runs)) key → IsFirstCovering run.rows.now key row
+      → Decides (rows_of runs) t row
+  decides t runs i run row is_key below here none first =
+      let all = subst (λ l. IsFirstCovering l key row) (sym (rows_around runs i run below here))
+      (first_within (rows_of (take i runs)) run.rows.now (rows_of (drop (i + 1) runs)) row none first) in
+      record { key = key; is_key = is_key; place = all.place; inside = all.inside; stands = all.stands; covers = all.covers; first = all.first }
+
+  -- ---- the edits that lead to a key
+
+  far_row : (run : Run) (row : Row) → SameWord row.key.section.now run.section.now
+      → 2 < abs_diff (length run.section.now) (length key.section.now)
+      → (n : ℕ) → RowEdits key row n → 3 < n
+  far_row run row in_run far n (in_rest same edits) =
+      absurd (omega (arith, clamps, far, same_length row.key.section.now run.section.now in_run, same_length row.key.section.now key.section.now same))
+  far_row run row in_run far n (in_section other between last edits) =
+      let near = lengths_near row.key.section.now key.section.now n edits.0 in
+      let few = edits.1 in
+      let most = two_at_most (nat_lt (length row.key.section.now) 8 || nat_lt (length key.section.now) 8) in
+      absurd (omega (arith, clamps, far, same_length row.key.section.now run.section.now in_run, near.0, near.1, few, most))
+
+  -- the rows of a run are far if the length of its section is far from that of the key's
+  pub far_run : (run : Run) → 2 < abs_diff (length run.section.now) (length key.section.now)
+      → AreFar (RowEdits key) run.rows.now
+  far_run run far k d inside = far_row run (get_or run.rows.now k d) (run.of_section k d inside) far
+
+pub rest_whole : (rows : List Row) (start : ℕ) → take (length rows - start) (drop start rows) ≡ drop start rows
+rest_whole rows start = take_all (length rows - start) (drop start rows) (omega (arith, length-drop start rows))
+
+-- what holds of the rows of the first runs and of one more
+pub all_more : (P : Row → Type 0) (runs : List Run) (i : ℕ) (run : Run) → i < length runs → get_or runs i run ≡ run
+    → All P (rows_of (take i runs)) → All P run.rows.now → All P (rows_of (take (i + 1) runs))
+all_more P runs i run below here so_far also =
+    subst (All P) (sym (rows_more runs i run below here)) (All-append P (rows_of (take i runs)) run.rows.now so_far also)
+
+any_within : (P : Row → Type 0) (xs ys zs : List Row) → 0 < length ys → All P ys → Any P ((xs ++ ys) ++ zs)
+any_within P xs [] zs some all = absurd (omega (arith, some))
+any_within P xs (y ∷ ys) zs some all =
+    let inside : length xs < length (xs ++ y ∷ ys) = omega (arith, length-append xs (y ∷ ys)) in (
+      length xs,
+      y,
+      omega (arith, inside, length-append (xs ++ y ∷ ys) zs),
+      get_or_append_left (xs ++ y ∷ ys) zs y (length xs) inside ∙ get_or-append_seam xs y ys y,
+      all 0 y (omega arith),
+    )
+
+-- a run of a section has a row of it
+pub has_run : (t : List ℕ) (runs : List Run) (i : ℕ) (run : Run) → i < length runs → get_or runs i run ≡ run
+    → SameWord run.section.now t → HasSection (rows_of runs) t
+has_run t runs i run below here same =
+    subst (λ rows. HasSection rows t) (sym (rows_around runs i run below here))
+    (any_within (λ row. SameWord row.key.section.now t) (rows_of (take i runs)) run.rows.now (rows_of (drop (i + 1) runs)) run.some
+    (λ k d inside. run.of_section k d inside ∙ same))
+
+-- one run more
+pub runs_grow : (rows : List Row) (runs : List Run) (run : Run) (start : ℕ) → rows_of runs ≡ take start rows
+    → run.rows.now ≡ take (length run.rows.now) (drop start rows)
+    → rows_of (runs ++ run ∷ []) ≡ take (start + length run.rows.now) rows
+runs_grow rows runs run start so_far cut =
+    sym (flat_map_more (λ r. r.rows.now) [] runs run) ∙ ap (λ l. l ++ run.rows.now) so_far ∙ ap (λ l. take start rows ++ l) cut
+    ∙ sym (take-add start (length run.rows.now) rows)

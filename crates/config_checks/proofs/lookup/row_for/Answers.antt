@@ -1,0 +1,34 @@
+use Rattle.std.proofs.Common.{arith, rules, sym, subst, inr, true, false}
+use Rattle.std.proofs.lemmas.Bool.{true≢false}
+use Rattle.std.proofs.lemmas.List.{take_all}
+use Rattle.config_text.specs.SameWord.{SameWord}
+use Rattle.config_checks.specs.Keys.{Covers}
+use Rattle.config_checks.specs.Rows.{CoversNone, rows_of}
+use Rattle.config_checks.proofs.RunLemmas.{other_section, all_more, decides}
+use Rattle.config_checks.proofs.lookup.row_for.Goals as goal
+
+pub loop-run-init : goal.loop-run-init
+loop-run-init c = λ k d inside. absurd (omega (arith, inside))
+
+pub loop-run-preserved-then-not-is_same_word : goal.loop-run-preserved-then-not-is_same_word
+loop-run-preserved-then-not-is_same_word c =
+    let other : ¬ (SameWord c.run-item.result.section.now c.in_ok-key.key.section.now) = search rules in
+    all_more (λ row. ¬ (Covers row.key c.in_ok-key.key)) c.args.runs.now c.loop-run.run-index c.run-item.result c.loop-run-test.true (sym c.run-item.is)
+    c.loop-run.invariant (other_section c.in_ok-key.key c.run-item.result other)
+
+pub returns-in-Some : goal.returns-in-Some
+returns-in-Some c = decides c.in_ok-key.key c.args.key.now c.args.runs.now c.loop-run.run-index c.run-item.result c.in-Some.row.now
+    c.in_ok-key.ensures c.loop-run-test.true (sym c.run-item.is) c.loop-run.invariant c.in-Some.ensures
+
+pub loop-run-preserved : goal.loop-run-preserved
+loop-run-preserved c =
+    all_more (λ row. ¬ (Covers row.key c.in_ok-key.key)) c.args.runs.now c.loop-run.run-index c.run-item.result c.loop-run-test.true (sym c.run-item.is)
+    c.loop-run.invariant c.in_default.ensures
+
+pub returns : goal.returns
+returns c = inr (
+  c.in_ok-key.key,
+  c.in_ok-key.ensures,
+  subst (λ runs. CoversNone (rows_of runs) c.in_ok-key.key) (take_all c.loop-run.run-index c.args.runs.now (omega (arith, c.loop-run-test.false)))
+      c.loop-run.invariant,
+)

@@ -1,0 +1,65 @@
+//! Looks the row of a key up.
+ghost use Rattle.std.specs.Prelude.{◌≡◌, ◌≤◌, [], length, take, IfOk, MatchOption};
+ghost use Rattle.config_checks.specs.Rows.{Decides, IsUnknown, CoversNone, rows_of};
+ghost use Rattle.config_checks.specs.Reading.Steps.{IsFirstCovering};
+
+use crate::key::{Key, is_same_word};
+use crate::row::{Row, Run};
+use std::alloc::{AllocError, Global};
+
+/// The run that the rows begin with.
+fn first_run<'r, 't>(rows: &'r [Row<'t>]) -> Option<Run<'r, 't>>
+    ensures { MatchOption result (rows.now ≡ []) (λ run. (length run.rows.now ≤ length rows.now)
+        × (run.rows.now ≡ take (length run.rows.now) rows.now)) }
+{
+    let section = rows.first()?.key.section;
+    let end = rows
+        .iter()
+        .position(|row| !is_same_word(row.key.section, section))
+        .unwrap_or(rows.len());
+    Some(Run {
+        section,
+        rows: &rows[..end],
+    })
+}
+
+/// The rows in runs. Fails only if memory runs out.
+pub fn runs_of<'r, 't>(
+    alloc: Global,
+    rows: &'r [Row<'t>],
+) -> Result<Vec<Run<'r, 't>>, AllocError>
+    ensures { IfOk result (λ runs. rows_of runs.items ≡ rows.now) }
+{
+    let mut runs = Vec::new(alloc);
+    let mut start = 0;
+    'runs: while let Some(run) = first_run(&rows[start..]) {
+        start += run.rows.len();
+        runs.push(run)?;
+    }
+    Ok(runs)
+}
+
+/// The first of these rows that covers a key.
+fn first_covering<'r, 't>(rows: &'r [Row<'t>], key: &Key<'_>) -> Option<&'r Row<'t>>
+    ensures { MatchOption result (CoversNone rows.now key.now)
+        (λ row. IsFirstCovering rows.now key.now row.now) }
+{
+    rows.iter().find(|row| row.key.covers(key))
+}
+
+/// The first row that covers a key. `None` if no row covers it, or if the text is not a key.
+pub fn row_for<'r, 't>(runs: &[Run<'r, 't>], key: &[u8]) -> Option<&'r Row<'t>>
+    ensures { MatchOption result (IsUnknown (rows_of runs.now) key.now)
+        (λ row. Decides (rows_of runs.now) key.now row.now) }
+{
+    let key = Key::parse(key)?;
+    for run in runs {
+        if !is_same_word(run.section, key.section) {
+            continue;
+        }
+        if let Some(row) = first_covering(run.rows, &key) {
+            return Some(row);
+        }
+    }
+    None
+}
