@@ -1,5 +1,6 @@
 //! The files that are named or that Git reads where the program runs, and those that they include.
 
+use bstr::ByteSlice;
 use config_file::here::{common_folder, find_git_dir, inside, variable};
 use config_file::include::Condition;
 use config_file::path::{Directories, expand, included_name};
@@ -204,7 +205,9 @@ pub fn add_included(
     };
     let depth = file.depth.saturating_add(1);
     let from = format!(in alloc; "{}", file.name)?;
-    if depth > MAX_DEPTH {
+    // the header of a section that includes files begins like this
+    let may_include = text.contains_str(b"[i") || text.contains_str(b"[I");
+    if depth > MAX_DEPTH || !may_include {
         return Ok(());
     }
     let home = variable(rt, "HOME")?;
@@ -212,10 +215,6 @@ pub fn add_included(
         let Ok(entry) = entry else {
             return Ok(());
         };
-        // of a long file few entries have this key
-        if !entry.has_key(b"path") {
-            continue;
-        }
         let key = entry.key_text(alloc)?;
         let (Some(_), Some(value)) = (Condition::of_key(&key), &entry.value) else {
             continue;

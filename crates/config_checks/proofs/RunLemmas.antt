@@ -1,5 +1,5 @@
 -- Rows in runs of one section.
-use Rattle.std.proofs.Common.{◌≡◌, ◌+◌, ◌-◌, ◌<◌, ◌≤◌, ℕ, suc, List, [], ◌∷◌, ◌++◌, length, take, drop, get_or, arith, sym, ap, subst, ◌∙◌, Bool, true, false, ◌||◌, nat_lt, if◌then◌else◌}
+use Rattle.std.proofs.Common.{◌≡◌, ◌+◌, ◌-◌, ◌<◌, ◌≤◌, ℕ, suc, List, [], ◌∷◌, ◌++◌, length, take, drop, get_or, arith, sym, ap, subst, ◌∙◌, ◌||◌, nat_lt, if◌then◌else◌}
 use Rattle.std.proofs.lemmas.List.{length-append, length-map, take-append-le, take_all, length-drop, get_or_append_left, get_or-append-add, flat_map_more, take-append-drop}
 use Rattle.std.proofs.lemmas.List.Elements.{All-append}
 use Rattle.std.proofs.lemmas.Grind.{flat_map-append}
@@ -13,7 +13,7 @@ use Rattle.config_checks.specs.declared.key.Key.{Key}
 use Rattle.config_checks.specs.declared.row.Row.{Row}
 use Rattle.config_checks.specs.declared.row.Run.{Run}
 use Rattle.config_checks.specs.Keys.{IsKey, Covers}
-use Rattle.config_checks.specs.Nearest.{AreFar}
+use Rattle.config_checks.specs.Nearest.{AreFar, most_edits}
 use Rattle.config_checks.specs.Rows.{CoversNone, Decides, rows_of}
 use Rattle.config_checks.specs.Reading.Steps.{IsFirstCovering}
 use Rattle.config_checks.specs.Suggestions.{OnePartEdits, RowEdits, HasSection}
@@ -34,10 +34,6 @@ rows_around runs i run below here =
 
 same_length : (a b : List ℕ) → SameWord a b → length a ≡ length b
 same_length a b same = sym (length-map a to_ascii_lowercase) ∙ ap length same ∙ length-map b to_ascii_lowercase
-
-two_at_most : (b : Bool) → (if b then 1 else 2) ≤ 2
-two_at_most true = omega arith
-two_at_most false = omega arith
 
 module _ (key : Key) where
   -- no row of another section covers the key
@@ -70,21 +66,23 @@ module _ (key : Key) where
 
   -- ---- the edits that lead to a key
 
-  far_row : (run : Run) (row : Row) → SameWord row.key.section.now run.section.now
-      → 2 < abs_diff (length run.section.now) (length key.section.now)
-      → (n : ℕ) → RowEdits key row n → 3 < n
-  far_row run row in_run far n (in_rest same edits) =
-      absurd (omega (arith, clamps, far, same_length row.key.section.now run.section.now in_run, same_length row.key.section.now key.section.now same))
-  far_row run row in_run far n (in_section other between last edits) =
+  -- where the sections' lengths are as far apart, more edits than are few lead from one to the other
+  far_row : (row : Row) → most_edits 8 row.key.section.now key.section.now
+      < abs_diff (length row.key.section.now) (length key.section.now) → (n : ℕ) → RowEdits key row n → 3 < n
+  far_row row far n (in_rest same edits) =
+      absurd (omega (arith, clamps, far, same_length row.key.section.now key.section.now same))
+  far_row row far n (in_section other between last edits) =
       let near = lengths_near row.key.section.now key.section.now n edits.0 in
       let few = edits.1 in
-      let most = two_at_most (nat_lt (length row.key.section.now) 8 || nat_lt (length key.section.now) 8) in
-      absurd (omega (arith, clamps, far, same_length row.key.section.now run.section.now in_run, near.0, near.1, few, most))
+      absurd (omega (arith, clamps, far, near.0, near.1, few))
 
-  -- the rows of a run are far if the length of its section is far from that of the key's
-  pub far_run : (run : Run) → 2 < abs_diff (length run.section.now) (length key.section.now)
-      → AreFar (RowEdits key) run.rows.now
-  far_run run far k d inside = far_row run (get_or run.rows.now k d) (run.of_section k d inside) far
+  pub far_run : (run : Run) → most_edits 8 run.section.now key.section.now
+      < abs_diff (length run.section.now) (length key.section.now) → AreFar (RowEdits key) run.rows.now
+  far_run run far k d inside =
+      let row = get_or run.rows.now k d in
+      far_row row
+      (subst (λ l. (if nat_lt l 8 || nat_lt (length key.section.now) 8 then 1 else 2) < abs_diff l (length key.section.now))
+      (sym (same_length row.key.section.now run.section.now (run.of_section k d inside))) far)
 
 pub rest_whole : (rows : List Row) (start : ℕ) → take (length rows - start) (drop start rows) ≡ drop start rows
 rest_whole rows start = take_all (length rows - start) (drop start rows) (omega (arith, length-drop start rows))

@@ -31,7 +31,7 @@ fn is_swap(from: &[u8], to: &[u8]) -> bool
 }
 
 /// How many edits are few for two texts: two if both have so many bytes, and otherwise one.
-fn most_edits(long: usize, from: &[u8], to: &[u8]) -> usize
+pub(crate) fn most_edits(long: usize, from: &[u8], to: &[u8]) -> usize
     ensures { result ≡ most_edits long from.now to.now }
 {
     if from.len() < long || to.len() < long {

@@ -1,5 +1,6 @@
 //! Keys that no row covers, and the nearest keys of the rows.
 ghost use Rattle.std.specs.Prelude.{◌≡◌, ◌⊎◌, ◌++◌, ◌↔◌, IsTrue, MatchOption, IfOk, OnOk, OnErr, Some};
+ghost use Rattle.config_text.specs.SameWord.{SameWord};
 ghost use Rattle.config_checks.specs.Findings.{AppendsPart};
 ghost use Rattle.config_checks.specs.Nearest.{LacksWord, AreFar, IsNearest};
 ghost use Rattle.config_checks.specs.Suggestions.{BetweenEdits, CoversLast, LastEdits, EditsAfter};
@@ -10,7 +11,7 @@ ghost use Rattle.config_checks.specs.Reading.Steps.{IsFew};
 ghost use Rattle.config_checks.specs.Suggestions.{HasSection, IsPassed, IsUnknownKey, dotted, between_shown};
 ghost use Rattle.config_checks.specs.Suggestions.{after_shown, key_shown, asked, unknown_text};
 
-use crate::edits::{LONG, MOST_EDITS, few_edits, lacks_word};
+use crate::edits::{LONG, MOST_EDITS, few_edits, lacks_word, most_edits};
 use crate::finding::push_shown;
 use crate::key::{ANY, Key, covers_between, is_same_word};
 use crate::lookup::row_for;
@@ -19,9 +20,6 @@ use std::alloc::{AllocError, Global};
 
 /// The bytes of a section that is long.
 const LONG_SECTION: usize = 8;
-
-/// The most edits that are few for two sections.
-const MOST_SECTION_EDITS: usize = 2;
 
 /// How many edits lead from one part between dots to the other. `None` if they are not few, or if one is not
 /// there.
@@ -86,11 +84,17 @@ fn edits_after(alloc: Global, row: &Key<'_>, key: &Key<'_>) -> Result<Option<usi
 }
 
 /// How many edits lead from the key of a row to a key, if they differ in one part alone. `None` if they are
-/// not few.
-fn one_part_edits(alloc: Global, row: &Key<'_>, key: &Key<'_>) -> Result<Option<usize>, AllocError>
+/// not few. `is_same` says whether the sections are the same.
+fn one_part_edits(
+    alloc: Global,
+    is_same: bool,
+    row: &Key<'_>,
+    key: &Key<'_>,
+) -> Result<Option<usize>, AllocError>
+    requires { IsTrue is_same ↔ SameWord row.now.section.now key.now.section.now }
     ensures { IfOk result (λ r. IsFew (OnePartEdits row.now key.now) r) }
 {
-    if is_same_word(row.section, key.section) {
+    if is_same {
         return edits_after(alloc, row, key);
     }
     if covers_last(row.last, key.last) && covers_between(row.between, key.between) {
@@ -112,11 +116,13 @@ fn nearest<'r, 't>(
     let mut best = None;
     let mut least = MOST_EDITS + 1;
     'runs: for run in runs {
-        if run.section.len().abs_diff(key.section.len()) > MOST_SECTION_EDITS {
+        let most = most_edits(LONG_SECTION, run.section, key.section);
+        if run.section.len().abs_diff(key.section.len()) > most {
             continue;
         }
+        let is_same = is_same_word(run.section, key.section);
         'rows: for row in run.rows {
-            if let Some(edits) = one_part_edits(alloc, &row.key, key)? {
+            if let Some(edits) = one_part_edits(alloc, is_same, &row.key, key)? {
                 if edits < least {
                     least = edits;
                     best = Some(row);

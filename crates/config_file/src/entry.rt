@@ -110,8 +110,8 @@ fn push_section(text: &mut Vec<u8>, section: &Section<'_>) -> Result<(), AllocEr
 fn push_lower(text: &mut Vec<u8>, name: &[u8]) -> Result<(), AllocError>
     ensures { OnOk result (text.new.items ≡ text.old.items ++ map to_ascii_lowercase name.now) }
 {
-    'bytes: for byte in name {
-        text.push(byte.to_ascii_lowercase())?;
-    }
+    let start = text.len();
+    text.extend_from_slice(name)?;
+    text[start..].make_ascii_lowercase();
     Ok(())
 }

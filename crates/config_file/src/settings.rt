@@ -149,7 +149,7 @@ impl<'a> Setting<'a> {
         ensures { IfOk result (IsSettingOf file.now (entry_of entry.now)) }
     {
         let value = match &entry.value {
-            Some(value) => Some(value.to_vec(alloc)?),
+            Some(value) => Some(value.text(alloc)?.into_owned(alloc)?),
             None => None,
         };
         Ok(Self {

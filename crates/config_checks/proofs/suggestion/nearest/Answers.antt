@@ -1,5 +1,6 @@
 use Rattle.std.proofs.Common.{◌++◌, ◌∷◌, [], ◌∙◌, ap, arith, sym, subst, take, append_assoc, append-nil, ℕ, Option, Bor}
 use Rattle.std.proofs.lemmas.List.{take_all}
+use Rattle.config_text.specs.SameWord.{SameWord}
 use Rattle.config_checks.specs.declared.row.Row.{Row}
 use Rattle.config_checks.specs.Reading.Steps.{IsFew}
 use Rattle.config_checks.specs.Rows.{rows_of}
@@ -13,15 +14,15 @@ use Rattle.config_checks.proofs.suggestion.nearest.Goals as goal
 pub runs-init : goal.runs-init
 runs-init c = nothing (RowEdits c.args.key.now)
 
-pub runs-preserved-then-abs_diff-gt-MOST_SECTION_EDITS : goal.runs-preserved-then-abs_diff-gt-MOST_SECTION_EDITS
-runs-preserved-then-abs_diff-gt-MOST_SECTION_EDITS c =
+pub runs-preserved-then-abs_diff-most : goal.runs-preserved-then-abs_diff-most
+runs-preserved-then-abs_diff-most c =
     let key = c.args.key.now in
     let run = c.run-item.result in
     let seen = rows_of (take c.runs.run-index c.args.runs.now) in
     subst (λ seen. IsBest (RowEdits key) seen c.runs.best c.runs.least)
     (sym (rows_more c.args.runs.now c.runs.run-index run c.runs-test.true (sym c.run-item.is)))
     (passes (RowEdits key) seen run.rows.now c.runs.least c.runs.best c.runs.invariant
-    (far_run key run (rw (sym c.abs_diff.ensures) c.if-abs_diff-gt-MOST_SECTION_EDITS.true)))
+    (far_run key run (rw (sym c.abs_diff.ensures) (rw (sym c.most_edits-most.ensures) c.if-abs_diff-most.true))))
 
 pub rows-init : goal.rows-init
 rows-init c =
@@ -68,3 +69,12 @@ returns c =
     whole (RowEdits key) (rows_of c.args.runs.now) c.runs.least c.runs.best
     (subst (λ runs. IsBest (RowEdits key) (rows_of runs) c.runs.best c.runs.least)
     (take_all c.runs.run-index c.args.runs.now (omega (arith, c.runs-test.false))) c.runs.invariant)
+
+pub one_part_edits-requires : goal.one_part_edits-requires
+one_part_edits-requires c =
+    let section = c.run-item.result.section.now in
+    let in_run = subst (λ (row : Row). SameWord row.key.section.now section) (sym c.row-item.is)
+    (c.run-item.result.of_section c.rows.row-index c.row-item.result c.rows-test.true) in (
+      λ yes. in_run ∙ c.is_same_word-is_same.ensures.0 yes,
+      λ same. c.is_same_word-is_same.ensures.1 (sym in_run ∙ same),
+    )
