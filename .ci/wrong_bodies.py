@@ -1,8 +1,8 @@
 """Tries the wrong bodies: the prover has to refuse each, at the clauses that it names. wrong_bodies.py [CRATE..]
 
-CONTRIBUTING.md has the form of their files. As many as possible are laid into one copy of the crate, and the functions
-that they name are checked once, over the libraries that `rt check` or `rt ci` left. If that opens other goals, each is
-tried by itself, and the goals that it opens are printed. The last line is 'N passed, M failed'.
+CONTRIBUTING.md has the form of their files. Those of a crate are laid into one copy of it, and the functions that they
+name are checked once, over the libraries that `rt check` or `rt ci` left. If that opens other goals, or two are of one
+function, each is tried by itself, and the goals that it opens are printed. The last line is 'N passed, M failed'.
 """
 import collections
 import concurrent.futures
@@ -23,7 +23,7 @@ REFUSED = re.compile(r"^(?:\./)?(?:proofs|specs)/(\S+)\.antt:\S+ error: `([^`]*)
 LINES = [line.partition("#")[0].partition(":") for line in (ROOT / "crates.txt").read_text().splitlines()]
 # each crate, with the words before the colon of its line, and the libraries that it uses
 LISTED = {head.split()[0]: (head, deps.split()) for head, colon, deps in LINES if colon}
-Edit = collections.namedtuple("Edit", "name pairs expected is_alone")
+Edit = collections.namedtuple("Edit", "name pairs expected")
 
 
 def edit_of(file):
@@ -31,7 +31,7 @@ def edit_of(file):
     files = [part.partition("\n") for part in re.split("^file: ", text, flags=re.MULTILINE)[1:]]
     pairs = [(path, *it) for path, _, rest in files for it in re.findall("^old: (.*)\nnew: (.*)$", rest, re.MULTILINE)]
     expected = set(re.findall(r"^expect: (\S+) (\S+)$", text, re.MULTILINE))
-    return Edit(f"{file.parts[-3]}/{file.stem}", pairs, expected, "\nalone:\n" in text)
+    return Edit(f"{file.parts[-3]}/{file.stem}", pairs, expected)
 
 
 class Crate:
@@ -73,10 +73,14 @@ class Crate:
     def faults(self, edits):
         """What is wrong with each of these edits, by its name."""
         wanted = set().union(*(edit.expected for edit in edits))
+        functions = [function for edit in edits for function in {function for function, _ in edit.expected}]
         try:
+            if len(functions) > len(set(functions)):
+                raise ValueError("two are of one function")
             opened = self.opened(edits)
             told = [f"does not open {' '.join(goal)}" for goal in sorted(wanted - opened)]
-            told += [f"opens {' '.join(goal)}" for goal in sorted(opened - wanted)] + ["names no goal"] * (not wanted)
+            told += [f"opens {' '.join(goal)}" for goal in sorted(opened - wanted)]
+            told += ["names no goal"] * any(not edit.expected for edit in edits)
         except ValueError as fault:
             told = [str(fault)]
         if told and len(edits) > 1:
@@ -84,23 +88,12 @@ class Crate:
         return {edit.name: "; ".join(told) for edit in edits}
 
 
-def rounds(edits):
-    """The edits in groups that go into one copy, which are of different functions."""
-    made, numbers = collections.defaultdict(list), collections.Counter()
-    for edit in edits:
-        functions = {function for function, _ in edit.expected}
-        number = max((numbers[it] for it in functions), default=0)
-        made[edit.name if edit.is_alone else number].append(edit)
-        numbers |= collections.Counter(dict.fromkeys(() if edit.is_alone else functions, number + 1))
-    return made.values()
-
-
 def tried(name):
     """What is wrong with each wrong body of a crate, by its name."""
     with tempfile.TemporaryDirectory() as room:
         crate = Crate(name, room)
         edits = [edit_of(file) for file in sorted((crate.folder / "wrong_bodies").glob("*.edit"))]
-        return {name: why for some in rounds(edits) for name, why in crate.faults(some).items()}
+        return crate.faults(edits) if edits else {}
 
 
 def main():

@@ -43,46 +43,61 @@ const KINDS: &[&str] = &[
     "color",
 ];
 
-/// The command line of the program.
-pub fn command<'a>(alloc: Global) -> Result<Command<'a>, AllocError> {
-    let file = Arg::new(alloc, "file")
+/// The files that are read.
+fn file_argument<'a>(alloc: Global) -> Arg<'a> {
+    Arg::new(alloc, "file")
         .long("file")
         .value_name("FILE")
         .action(ArgAction::Append)
-        .help("A configuration file; it decides over the files before it");
-    let kind = Arg::new(alloc, "type")
+        .help("A configuration file; it decides over the files before it")
+}
+
+/// The kind of a key's value.
+fn kind_argument<'a>(alloc: Global) -> Result<Arg<'a>, AllocError> {
+    Arg::new(alloc, "type")
         .long("type")
         .value_name("KIND")
         .action(ArgAction::Set)
         .value_parser(KINDS)
         .help("Print the value in the one way in which its kind is written")
-        .requires_arg("key")?;
-    let includes = Arg::new(alloc, "includes")
-        .long("includes")
+        .requires_arg("key")
+}
+
+/// An argument without a value, which needs a file.
+fn flag<'a>(alloc: Global, name: &'a str, help: &'a str) -> Result<Arg<'a>, AllocError> {
+    Arg::new(alloc, name)
+        .long(name)
         .action(ArgAction::SetTrue)
-        .help("Follow the includes of the files, as Git does in this folder")
-        .requires_arg("file")?;
-    let null = Arg::new(alloc, "null")
-        .long("null")
-        .action(ArgAction::SetTrue)
-        .help("End each entry and each value with a NUL")
-        .requires_arg("file")?;
-    let key = Arg::new(alloc, "key")
+        .help(help)
+        .requires_arg("file")
+}
+
+/// The key whose value is wanted.
+fn key_argument<'a>(alloc: Global) -> Result<Arg<'a>, AllocError> {
+    Arg::new(alloc, "key")
         .value_name("KEY")
         .action(ArgAction::Set)
         .help(
             "The key whose last value is printed, as core.bare; without one the entries are listed",
         )
-        .requires_arg("file")?;
+        .requires_arg("file")
+}
+
+/// The command line of the program.
+pub fn command<'a>(alloc: Global) -> Result<Command<'a>, AllocError> {
     Command::new(alloc, "config_value")
         .version("0.1.0")
         .about(
             "Reads Git's configuration files; without a file, reads lines of standard input: \
             a kind, a space and a text",
         )
-        .arg(file)?
-        .arg(kind)?
-        .arg(includes)?
-        .arg(null)?
-        .arg(key)
+        .arg(file_argument(alloc))?
+        .arg(kind_argument(alloc)?)?
+        .arg(flag(
+            alloc,
+            "includes",
+            "Follow the includes of the files, as Git does in this folder",
+        )?)?
+        .arg(flag(alloc, "null", "End each entry and each value with a NUL")?)?
+        .arg(key_argument(alloc)?)
 }

@@ -51,6 +51,12 @@ fn read_file(rt: &HostRuntime, file: &str) -> io::Result<Option<Vec<u8>>> {
     }
 }
 
+/// Writes a file, a line and what ends them.
+fn write_place<W: Write>(writer: &mut W, file: &[u8], line: usize, end: &str) -> io::Result<()> {
+    writer.write_all(file)?;
+    write!(writer, ":{line}{end}")
+}
+
 /// Writes an entry after its file and its line.
 fn write_entry<W: Write>(
     alloc: Global,
@@ -64,8 +70,7 @@ fn write_entry<W: Write>(
     } else {
         (": ", "=", "\n")
     };
-    writer.write_all(file)?;
-    write!(writer, ":{}{place}", entry.line)?;
+    write_place(writer, file, entry.line, place)?;
     writer.write_all(entry.key_text(alloc)?.as_slice())?;
     if let Some(value) = &entry.value {
         writer.write_all(equals.as_bytes())?;

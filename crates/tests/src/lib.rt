@@ -5,6 +5,8 @@
 #[cfg(test)]
 mod attributes;
 #[cfg(test)]
+mod callers;
+#[cfg(test)]
 mod files;
 #[cfg(test)]
 mod memory;

@@ -14,5 +14,3 @@ pub mod literals;
 pub mod paths;
 pub mod push_default;
 pub mod repository;
-#[cfg(test)]
-mod tests;

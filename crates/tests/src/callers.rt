@@ -1,9 +1,5 @@
-//! The callers, each run on texts as a user writes them.
+//! The callers of `crates/uses`, each run on texts as a user writes them.
 
-use crate::literals::{default_limit, default_warning};
-use crate::paths::{path_at_home, path_of_user};
-use crate::push_default::{PushDefault, push_default};
-use crate::repository::{File, is_bare, read};
 use bstr::BStr;
 use config_file::settings::Settings;
 use gix_config_value::canonical::normalize_as;
@@ -13,6 +9,10 @@ use gix_config_value::{Boolean, Fault, Path};
 use std::fmt::Debug;
 use std::process::Abort;
 use std::test::Fail;
+use uses::literals::{default_limit, default_warning};
+use uses::paths::{path_at_home, path_of_user};
+use uses::push_default::{PushDefault, push_default};
+use uses::repository::{File, is_bare, read};
 
 /// What was given is what was wanted. It is written once, since an `assert_eq!` is proved anew at each place.
 fn equal<T: PartialEq + Debug>(rt: &impl Abort, given: &T, wanted: &T) {
