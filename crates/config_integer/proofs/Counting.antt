@@ -65,10 +65,10 @@ many_zeros (suc zero) base limit ds low high = two_zeros base limit ds low high
 many_zeros (suc (suc n)) base limit ds low high =
     many_zeros (suc n) base limit ds low high ∙ two_zeros base limit (replicate n 48 ++ 48 ∷ ds) low high
 
-pub without_run : (base limit : ℕ) (t ds : List ℕ) → t ≡ replicate 17 48 ++ ds → 0 < base → base ≤ 16
-    → number_and_suffix base limit (take (length t - 16) (drop 16 t)) ≡ number_and_suffix base limit t
+pub without_run : (base limit : ℕ) (t ds : List ℕ) → t ≡ replicate 16 48 ++ ds → 0 < base → base ≤ 16
+    → number_and_suffix base limit (take (length t - 15) (drop 15 t)) ≡ number_and_suffix base limit t
 without_run base limit t ds run low high =
-    ap (number_and_suffix base limit) (take_rest t 16) ∙ rw run (many_zeros 16 base limit ds low high)
+    ap (number_and_suffix base limit) (take_rest t 15) ∙ rw run (many_zeros 15 base limit ds low high)
 
 -- after a digit, a byte that is no digit ends the count: the rest is a suffix, or the text is refused
 pub ended : (base limit n at b : ℕ) (t : List ℕ) (r o : Option Suffix) → r ≡ o → at < length t → base ≤ 36
