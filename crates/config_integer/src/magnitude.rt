@@ -71,9 +71,9 @@ fn without_zeros(text: &[u8]) -> &[u8]
         → number_and_suffix base limit result.now ≡ number_and_suffix base limit text.now }
 {
     let mut rest = text;
-    while let [b'0', b'0', ..] = rest {
-        rest = if begins_with_run::<16>(rest, b'0') {
-            &rest[15..]
+    while let [b'0', b'0', after @ ..] = rest {
+        rest = if begins_with_run::<16>(after, b'0') {
+            &after[15..]
         } else {
             &rest[1..]
         };
