@@ -1,5 +1,5 @@
 //! Booleans: words in any case, and numbers.
-ghost use Rattle.std.specs.Prelude.{◌↔◌, IsTrue, ◌≡◌, MatchBool, MatchOption, Some};
+ghost use Rattle.std.specs.Prelude.{◌↔◌, IsTrue, ◌≡◌, Some};
 ghost use Rattle.bstr.specs.Owned.{bstring_bytes};
 ghost use Rattle.std.specs.Cow.{cow_slice_items};
 ghost use Rattle.std.proofs.Common.{rules};
@@ -69,21 +69,6 @@ fn denies(text: &[u8]) -> bool
         || equals_ignoring_case(text, b"false")
 }
 
-/// The truth value of a word or of the empty text, or `None` for any other text.
-#[inline(always)]
-fn word(text: &[u8]) -> Option<bool>
-    ensures { MatchOption result ((¬ Affirms text.now) × (¬ Denies text.now))
-        (λ b. MatchBool b (Affirms text.now) (Denies text.now)) }
-{
-    if affirms(text) {
-        Some(true)
-    } else if denies(text) {
-        Some(false)
-    } else {
-        None
-    }
-}
-
 /// Reads a text that is not a word as an amount: true if that is not zero. Returns `None` if it is not an
 /// amount text.
 #[inline(never)]
@@ -99,12 +84,16 @@ fn read_amount(text: &[u8]) -> Option<Boolean>
 }
 
 /// Reads the text, or returns `None` if it is not a boolean text.
+#[inline(always)]
 fn boolean_of(text: &[u8]) -> Option<Boolean>
     ensures { Reads BooleanText text.now result }
 {
-    match word(text) {
-        Some(value) => Some(Boolean(value)),
-        None => read_amount(text),
+    if affirms(text) {
+        Some(Boolean(true))
+    } else if denies(text) {
+        Some(Boolean(false))
+    } else {
+        read_amount(text)
     }
 }
 

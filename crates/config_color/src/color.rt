@@ -23,6 +23,7 @@ use bstr::{BStr, BString};
 use config_text::errors::{Error, Fault, Returned};
 use config_text::readers::{TryRead, read_bytes, read_cow, read_owned, read_text};
 use config_text::value::{CanonicalText, LONGEST_TEXT, Value};
+use config_text::words::begins_with_run;
 use config_word::attribute::{Attribute, LONGEST_SET};
 use config_word::item::{Item, word};
 use config_word::laws::texts::numbers_fit;
@@ -279,7 +280,11 @@ fn past_spaces(text: &[u8]) -> &[u8]
 {
     let mut rest = text;
     while let [b' ', after @ ..] = rest {
-        rest = after;
+        rest = if begins_with_run::<RUN>(after, b' ') {
+            &after[RUN..]
+        } else {
+            after
+        };
     }
     rest
 }

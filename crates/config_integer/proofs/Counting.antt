@@ -65,10 +65,16 @@ many_zeros (suc zero) base limit ds low high = two_zeros base limit ds low high
 many_zeros (suc (suc n)) base limit ds low high =
     many_zeros (suc n) base limit ds low high ∙ two_zeros base limit (replicate n 48 ++ 48 ∷ ds) low high
 
-pub without_run : (base limit : ℕ) (t ds : List ℕ) → t ≡ replicate 17 48 ++ ds → 0 < base → base ≤ 16
-    → number_and_suffix base limit (take (length t - 16) (drop 16 t)) ≡ number_and_suffix base limit t
-without_run base limit t ds run low high =
-    ap (number_and_suffix base limit) (take_rest t 16) ∙ rw run (many_zeros 16 base limit ds low high)
+pub without_run : (base limit : ℕ) (t ds : List ℕ) → 2 ≤ length t → get_or t 0 0 ≡ 48 → get_or t 1 0 ≡ 48
+    → (after : List ℕ) → after ≡ take (length t - 2) (drop 2 t) → after ≡ replicate 16 48 ++ ds → 0 < base → base ≤ 16
+    → number_and_suffix base limit (take (length after - 15) (drop 15 after)) ≡ number_and_suffix base limit t
+without_run base limit [] ds long first second after e run low high = absurd (omega arith)
+without_run base limit (x ∷ []) ds long first second after e run low high = absurd (omega arith)
+without_run base limit (x ∷ y ∷ cs) ds long first second after e run low high =
+    let same : cs ≡ replicate 16 48 ++ ds = sym (take_rest (x ∷ y ∷ cs) 2) ∙ sym e ∙ run in
+    ap (number_and_suffix base limit) (take_rest after 15 ∙ ap (drop 15) run)
+    ∙ many_zeros 17 base limit ds low high
+    ∙ sym (rw (first, second, same) refl)
 
 -- after a digit, a byte that is no digit ends the count: the rest is a suffix, or the text is refused
 pub ended : (base limit n at b : ℕ) (t : List ℕ) (r o : Option Suffix) → r ≡ o → at < length t → base ≤ 36

@@ -4,6 +4,7 @@ ghost use Rattle.config_integer.specs.Reading.Integer.{number_and_suffix, base_a
 
 use crate::suffix::{Suffix, suffix_of};
 use config_text::digits::digit_of;
+use config_text::words::begins_with_run;
 
 /// 2 to the power of 59. A smaller number with one more digit of any base is less than 2 to the power of 63.
 const CHECKED_FROM: u64 = 0x0800_0000_0000_0000;
@@ -63,9 +64,6 @@ fn base_and_digits(text: &[u8]) -> (u64, &[u8])
     }
 }
 
-/// A run of zeros, all but the last of which are skipped at once.
-const ZEROS: [u8; 17] = [b'0'; 17];
-
 /// The text without those zeros at its front that another zero follows, which change no number.
 #[inline(always)]
 fn without_zeros(text: &[u8]) -> &[u8]
@@ -73,9 +71,9 @@ fn without_zeros(text: &[u8]) -> &[u8]
         → number_and_suffix base limit result.now ≡ number_and_suffix base limit text.now }
 {
     let mut rest = text;
-    while let [b'0', b'0', ..] = rest {
-        rest = if rest.starts_with(&ZEROS) {
-            &rest[16..]
+    while let [b'0', b'0', after @ ..] = rest {
+        rest = if begins_with_run::<16>(after, b'0') {
+            &after[15..]
         } else {
             &rest[1..]
         };

@@ -2,11 +2,11 @@
 -- joined of two by white space; and the first word of a text that is walked from its front.
 use Rattle.std.proofs.Common.{◌≡◌, ℕ, zero, suc, ◌+◌, ◌-◌, ◌<◌, ◌≤◌, ◌==◌, ◌⊎◌, inl, inr, Bool, true, false}
 use Rattle.std.proofs.Common.{List, [], ◌∷◌, ◌++◌, length, map, get_or, take, drop, slice_range, Option, Some}
-use Rattle.std.proofs.Common.{None, refl, sym, ap, subst, ◌∙◌, append_assoc, arith}
+use Rattle.std.proofs.Common.{replicate, None, refl, sym, ap, subst, ◌∙◌, append_assoc, arith}
 use Rattle.std.specs.Bool.{Decides}
 use Rattle.std.specs.Option.{option_or}
 use Rattle.std.proofs.lemmas.Bool.Decides.{Decides-eqb}
-use Rattle.std.proofs.lemmas.List.{append-nil, take-append-drop, drop-drop, take_all}
+use Rattle.std.proofs.lemmas.List.{append-nil, take-append-drop, drop-drop, take_all, take_rest}
 use Rattle.config_text.specs.OneOf.{OneOf}
 use Rattle.config_color.specs.Space.{spellings, Space}
 use Rattle.config_color.specs.Laws.Space.{no_empty}
@@ -182,14 +182,21 @@ pub words_joined : (before space rest : List ℕ) → Space space
     → words (before ++ (space ++ rest)) ≡ words before ++ words rest
 words_joined before space rest s = words_joined_within (length rest) before space rest (omega arith) s
 
--- what follows a space at the front of a text has the words of the text
+-- what follows a run of spaces at the front of a text has the words of the text
+past_run : (n : ℕ) (cs : List ℕ) → words (drop n (replicate n 32 ++ cs)) ≡ words (replicate n 32 ++ cs)
+unfolding words
+past_run zero cs = refl
+past_run (suc n) cs = past_run n cs ∙ sym (words_joined [] (32 ∷ []) (replicate n 32 ++ cs) space_byte)
+
+pub words_past_run : (n : ℕ) (t cs : List ℕ) → t ≡ replicate n 32 ++ cs
+    → words (take (length t - n) (drop n t)) ≡ words t
+words_past_run n t cs run = ap words (take_rest t n) ∙ rw run (past_run n cs)
+
+-- the same of one space
 pub words_past_space : (t : List ℕ) → 1 ≤ length t → get_or t 0 0 ≡ 32
     → words (take (length t - 1) (drop 1 t)) ≡ words t
-unfolding words
 words_past_space [] l e = absurd (omega arith)
-words_past_space (c ∷ cs) l e =
-    ap words (take_all (length (c ∷ cs) - 1) cs (omega arith))
-    ∙ (sym (words_joined [] (32 ∷ []) cs space_byte) ∙ ap (λ b. words (b ∷ cs)) (sym e))
+words_past_space (c ∷ cs) l e = words_past_run 1 (c ∷ cs) cs (ap (λ b. b ∷ cs) e)
 
 -- where no spelling stands at the first n places, nothing is cut in front of them
 uncut : (n : ℕ) (text : List ℕ) → IsWithoutSpace text n → last_cut (take n text) ≡ None
