@@ -76,13 +76,7 @@ def main():
     arguments.add_argument("program", nargs="+")
     arguments.add_argument("--runs", type=int, default=9)
     arguments = arguments.parse_args()
-    try:
-        crate = build.build()
-    except build.Missing as missing:
-        print(f"skipped: {missing}")
-        return 0
-    except build.Broken as broken:
-        sys.exit(str(broken))
+    crate = build.built()
     programs = [str(crate / "upstream"), *(os.path.abspath(program) for program in arguments.program)]
     names = ["the Rust crate", *arguments.program]
     before, table = load(), []

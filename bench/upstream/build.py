@@ -75,16 +75,17 @@ def build():
     return (HERE / target if target else HERE / "target") / "release"
 
 
-def main():
+def built():
+    """The same. Ends the program where the crate cannot be had, with status 0, and where it is not built."""
     try:
-        print(build())
+        return build()
     except Missing as missing:
         print(f"skipped: {missing}")
+        sys.exit(0)
     except Broken as broken:
         print(broken)
-        return 1
-    return 0
+        sys.exit(1)
 
 
 if __name__ == "__main__":
-    sys.exit(main())
+    print(built())
