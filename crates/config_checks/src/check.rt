@@ -27,7 +27,7 @@ use std::io::{self, ErrorKind, Write};
 pub enum CheckError {
     /// A write or the flush at the end failed, or a write took no byte.
     Write(io::Error),
-    /// There was no memory for the settings, or for the line of a finding.
+    /// There was no memory to look rows up, for a setting, or for the line of a finding.
     Memory(AllocError),
 }
 
@@ -295,8 +295,8 @@ fn flush<W: Write>(writer: &mut W) -> Result<(), CheckError>
 /// Errors:
 /// - `Write`: a write or the flush at the end failed, or a write took no byte. What was written is a
 ///   beginning of the lines.
-/// - `Memory`: there was no memory for the settings or for a line. What was written are some first lines,
-///   each whole.
+/// - `Memory`: there was no memory to look rows up, for a setting, or for a line. What was written are some
+///   first lines, each whole.
 ///
 /// The clauses are about writers whose contents the prover knows. It does not know them for standard output:
 /// for it the clauses say what `check_file` does with any writer.

@@ -1,4 +1,4 @@
-//! Looks the row of a key up.
+//! Looks up the row of a key.
 ghost use Rattle.std.specs.Prelude.{◌≡◌, ◌≤◌, [], length, take, IfOk, MatchOption};
 ghost use Rattle.config_checks.specs.Rows.{Decides, IsUnknown, CoversNone, rows_of};
 ghost use Rattle.config_checks.specs.Reading.Steps.{IsFirstCovering};

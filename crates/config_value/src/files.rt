@@ -51,12 +51,6 @@ fn read_file(rt: &HostRuntime, file: &str) -> io::Result<Option<Vec<u8>>> {
     }
 }
 
-/// Writes a file, a line and what ends them.
-fn write_place<W: Write>(writer: &mut W, file: &[u8], line: usize, end: &str) -> io::Result<()> {
-    writer.write_all(file)?;
-    write!(writer, ":{line}{end}")
-}
-
 /// Writes an entry after its file and its line.
 fn write_entry<W: Write>(
     alloc: Global,
@@ -70,7 +64,8 @@ fn write_entry<W: Write>(
     } else {
         (": ", "=", "\n")
     };
-    write_place(writer, file, entry.line, place)?;
+    writer.write_all(file)?;
+    write!(writer, ":{}{place}", entry.line)?;
     writer.write_all(entry.key_text(alloc)?.as_slice())?;
     if let Some(value) = &entry.value {
         writer.write_all(equals.as_bytes())?;

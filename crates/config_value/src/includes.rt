@@ -101,15 +101,13 @@ impl Environment {
     /// The home directory and the repository of this run.
     pub fn new(rt: &HostRuntime) -> io::Result<Environment> {
         let home = here::variable(rt, "HOME")?;
-        let real_home = match &home {
-            Some(home) => here::real_path(rt, home)?,
-            None => None,
-        };
-        let repository = here::find_repository(rt)?;
         Ok(Environment {
+            real_home: match &home {
+                Some(home) => here::real_path(rt, home)?,
+                None => None,
+            },
             home,
-            real_home,
-            repository,
+            repository: here::find_repository(rt)?,
         })
     }
 
