@@ -1,7 +1,7 @@
 -- A check, setting by setting.
 use Rattle.std.proofs.Common.{◌≡◌, ◌+◌, ◌^◌, ◌≤◌, ◌<◌, ℕ, List, [], ◌∷◌, ◌++◌, Option, None, Some, refl, sym, inl, inr}
-use Rattle.std.proofs.Common.{ap, subst, ◌∙◌, append_assoc, append-nil, arith, Result, Ok, Err, take, drop, drop-cons, zero, suc, length}
-use Rattle.std.proofs.Common.{IfErr, OnOk, OnErr, is_ok, IsErrAnd, take-append-drop, get_or}
+use Rattle.std.proofs.Common.{ap, subst, ◌∙◌, append_assoc, append-nil, arith, Result, Ok, Err, length}
+use Rattle.std.proofs.Common.{IfErr, OnOk, OnErr, is_ok, IsErrAnd}
 use Rattle.std.specs.Io.KnownBytes.{Appends, Keeps}
 use Rattle.std.proofs.KnownBytes.{Appends-nil, Appends-trans, Appends-kept}
 use Rattle.config_file.specs.declared.errors.Error as errors
@@ -13,7 +13,7 @@ use Rattle.config_checks.specs.Suggestions.{IsUnknownKey}
 use Rattle.config_checks.specs.declared.check.Counts.{Counts}
 use Rattle.config_checks.specs.declared.check.CheckError.{CheckError}
 use Rattle.config_checks.specs.declared.check.CheckError.TheVariants.{Write, Memory}
-use Rattle.config_checks.specs.Report.{finding_line, value_of, unknown_line, unknown, misspelt, right, found, Report, nothing, next}
+use Rattle.config_checks.specs.Report.{finding_line, value_of, unknown_line, unknown, misspelt, right, found, nothing, next}
 use Rattle.config_checks.specs.Report.{HasSettings, HasFirst, Completes, Fails, counted, no_counts}
 use Rattle.config_checks.specs.Reading.Steps.{Reports, ReportsPart, ReportsAll, ReportsEntries, HasRead, Tells, TellsPart}
 use Rattle.config_checks.specs.Reading.Steps.{WritesPart, IsMemory, IsWrite, AreWithin, HasRoomForFinding}

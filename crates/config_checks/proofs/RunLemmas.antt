@@ -1,5 +1,5 @@
 -- Rows in runs of one section.
-use Rattle.std.proofs.Common.{◌≡◌, ◌+◌, ◌-◌, ◌<◌, ◌≤◌, ℕ, suc, List, [], ◌∷◌, ◌++◌, length, take, drop, get_or, arith, sym, ap, subst, ◌∙◌, ◌||◌, nat_lt, if◌then◌else◌}
+use Rattle.std.proofs.Common.{◌≡◌, ◌+◌, ◌-◌, ◌<◌, ℕ, List, [], ◌∷◌, ◌++◌, length, take, drop, get_or, arith, sym, ap, subst, ◌∙◌, ◌||◌, nat_lt, if◌then◌else◌}
 use Rattle.std.proofs.lemmas.List.{length-append, length-map, take-append-le, take_all, length-drop, get_or_append_left, get_or-append-add, flat_map_more, take-append-drop}
 use Rattle.std.proofs.lemmas.List.Elements.{All-append}
 use Rattle.std.proofs.lemmas.Grind.{flat_map-append}
@@ -16,7 +16,7 @@ use Rattle.config_checks.specs.Keys.{IsKey, Covers}
 use Rattle.config_checks.specs.Nearest.{AreFar, most_edits}
 use Rattle.config_checks.specs.Rows.{CoversNone, Decides, rows_of}
 use Rattle.config_checks.specs.Reading.Steps.{IsFirstCovering}
-use Rattle.config_checks.specs.Suggestions.{OnePartEdits, RowEdits, HasSection}
+use Rattle.config_checks.specs.Suggestions.{RowEdits, HasSection}
 use Rattle.config_checks.specs.Suggestions.OnePartEdits.{in_rest, in_section}
 use Rattle.config_checks.proofs.NearestLemmas.{take_more, lengths_near}
 

@@ -10,9 +10,9 @@ ghost use Rattle.config_checks.specs.Reading.Steps.{HasRoom, HasRoomForFinding, 
 ghost use Rattle.config_checks.specs.Reading.Steps.{TellsPart, ReportsEntries, WritesPart, IsWrite};
 
 use crate::finding::{push_finding, push_misspelt, push_refusal, value_of};
+use crate::lookup::{row_for, runs_of};
 use crate::options::Options;
 use crate::reason::{Reason, Severity, find};
-use crate::lookup::{row_for, runs_of};
 use crate::row::{Row, Run};
 use crate::suggestion::{UnknownKey, unknown_key};
 use config_file::errors::Error;

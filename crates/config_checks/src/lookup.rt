@@ -24,10 +24,7 @@ fn first_run<'r, 't>(rows: &'r [Row<'t>]) -> Option<Run<'r, 't>>
 }
 
 /// The rows in runs. Fails only if memory runs out.
-pub fn runs_of<'r, 't>(
-    alloc: Global,
-    rows: &'r [Row<'t>],
-) -> Result<Vec<Run<'r, 't>>, AllocError>
+pub fn runs_of<'r, 't>(alloc: Global, rows: &'r [Row<'t>]) -> Result<Vec<Run<'r, 't>>, AllocError>
     ensures { IfOk result (λ runs. rows_of runs.items ≡ rows.now) }
 {
     let mut runs = Vec::new(alloc);

@@ -1,6 +1,6 @@
 //! A text compared with a word of known length, byte by byte from its front. The length is that of an array,
 //! so a compiler can write each comparison out.
-ghost use Rattle.std.specs.Prelude.{◌≡◌, ◌++◌, IsTrue, bytes_eq, drop, map, replicate};
+ghost use Rattle.std.specs.Prelude.{◌≡◌, ◌↔◌, ◌++◌, IsTrue, bytes_eq, drop, map, replicate};
 ghost use Rattle.std.specs.Char.{to_ascii_lowercase};
 
 /// Whether the text is this word.
@@ -39,7 +39,7 @@ pub fn equals_ignoring_case<const N: usize>(text: &[u8], word: &[u8; N]) -> bool
 /// Whether the text begins with a run of `N` such bytes, which are compared at once.
 #[inline(always)]
 pub fn begins_with_run<const N: usize>(text: &[u8], byte: u8) -> bool
-    ensures { IsTrue result → text.now ≡ replicate N byte ++ drop N text.now }
+    ensures { IsTrue result ↔ (text.now ≡ replicate N byte ++ drop N text.now) }
 {
     if text.len() < N {
         return false;

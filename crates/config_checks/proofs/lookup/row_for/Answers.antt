@@ -1,5 +1,4 @@
-use Rattle.std.proofs.Common.{arith, rules, sym, subst, inr, true, false}
-use Rattle.std.proofs.lemmas.Bool.{true≢false}
+use Rattle.std.proofs.Common.{arith, rules, sym, subst, inr}
 use Rattle.std.proofs.lemmas.List.{take_all}
 use Rattle.config_text.specs.SameWord.{SameWord}
 use Rattle.config_checks.specs.Keys.{Covers}

@@ -1,4 +1,4 @@
-use Rattle.std.proofs.Common.{◌<◌, arith, length, take, ap, ◌∙◌, [], subst, ◌≡◌}
+use Rattle.std.proofs.Common.{◌<◌, arith, length, take, ap, ◌∙◌}
 use Rattle.std.proofs.lemmas.List.{take_all, length-drop}
 use Rattle.config_checks.specs.Rows.{rows_of}
 use Rattle.config_checks.proofs.RunLemmas.{runs_grow, rest_whole}

@@ -9,7 +9,7 @@ rest_shorter n t = rw (take_rest t n) (omega (arith, length-drop n t))
 
 pub loop-rest-preserved-then-begins_with_run : goal.loop-rest-preserved-then-begins_with_run
 loop-rest-preserved-then-begins_with_run c =
-    let run = c.begins_with_run.ensures c.if-begins_with_run.true in (
+    let run = c.begins_with_run.ensures.0 c.if-begins_with_run.true in (
       words_past_run 16 _ _ run
           ∙ words_past_space c.loop-rest.rest.now c.in-32.len_at_least (search rules)
           ∙ c.loop-rest.invariant.0,

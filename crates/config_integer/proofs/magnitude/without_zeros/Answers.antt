@@ -4,7 +4,7 @@ use Rattle.config_integer.proofs.magnitude.without_zeros.Goals as goal
 
 pub loop-rest-preserved-then-begins_with_run : goal.loop-rest-preserved-then-begins_with_run
 loop-rest-preserved-then-begins_with_run c =
-    let run = c.begins_with_run.ensures c.if-begins_with_run.true in
+    let run = c.begins_with_run.ensures.0 c.if-begins_with_run.true in
     let first : slice_index c.loop-rest.rest.now 0 ≡ 48 = search rules in
     let second : slice_index c.loop-rest.rest.now 1 ≡ 48 = search rules in
     λ base limit low high.
