@@ -204,12 +204,12 @@ pub fn add_included(
         return Ok(());
     };
     let depth = file.depth.saturating_add(1);
-    let from = format!(in alloc; "{}", file.name)?;
     // the header of a section that includes files begins like this
     let may_include = text.contains_str(b"[i") || text.contains_str(b"[I");
     if depth > MAX_DEPTH || !may_include {
         return Ok(());
     }
+    let from = format!(in alloc; "{}", file.name)?;
     let home = variable(rt, "HOME")?;
     for entry in Entries::new(text) {
         let Ok(entry) = entry else {

@@ -2,6 +2,7 @@
 use Rattle.std.proofs.Common.{◌≡◌, ◌+◌, ◌^◌, ◌≤◌, ◌<◌, ℕ, List, [], ◌∷◌, ◌++◌, Option, None, Some, refl, sym, inl, inr}
 use Rattle.std.proofs.Common.{ap, subst, ◌∙◌, append_assoc, append-nil, arith, Result, Ok, Err, length}
 use Rattle.std.proofs.Common.{IfErr, OnOk, OnErr, is_ok, IsErrAnd}
+use Rattle.std.specs.declared.alloc.AllocError.{AllocError}
 use Rattle.std.specs.Io.KnownBytes.{Appends, Keeps}
 use Rattle.std.proofs.KnownBytes.{Appends-nil, Appends-trans, Appends-kept}
 use Rattle.config_file.specs.declared.errors.Error as errors
@@ -15,8 +16,8 @@ use Rattle.config_checks.specs.declared.check.CheckError.{CheckError}
 use Rattle.config_checks.specs.declared.check.CheckError.TheVariants.{Write, Memory}
 use Rattle.config_checks.specs.Report.{finding_line, value_of, unknown_line, unknown, misspelt, right, found, nothing, next}
 use Rattle.config_checks.specs.Report.{HasSettings, HasFirst, Completes, Fails, counted, no_counts}
-use Rattle.config_checks.specs.Reading.Steps.{Reports, ReportsPart, ReportsAll, ReportsEntries, HasRead, Tells, TellsPart}
-use Rattle.config_checks.specs.Reading.Steps.{WritesPart, IsMemory, IsWrite, AreWithin, HasRoomForFinding}
+use Rattle.config_checks.specs.Reading.Steps.{Reports, ReportsPart, ReportsAll, ReportsEntries, Tells, TellsPart}
+use Rattle.config_checks.specs.Reading.Steps.{WritesPart, IsWrite, AreWithin, HasRoomForFinding}
 use Rattle.config_checks.specs.Rows.{Decides}
 use Rattle.config_checks.specs.Reasons.{HasFinding, severity_of}
 use Rattle.config_checks.specs.declared.reason.Reason.{Reason}
@@ -103,6 +104,11 @@ are_none s a b c d e i = record { entries = a i; unknown = b i; findings = c i; 
 
 -- ---- a file
 
+-- these entries of the file were read, and the reader has the others left
+abbrev pub HasRead : List ℕ → List Entry → Entries → Type 0
+HasRead text entries reader =
+    (left : List Entry) (error : Option errors.Error) → HasLeft reader left error → IsFile text (entries ++ left) error
+
 module _ (rows : List Row) (options : Options) (file text : List ℕ) where
   all_first : (settings : List Setting) (error : Option errors.Error) → HasSettings file text settings error
       → HasFirst file text settings error
@@ -133,10 +139,9 @@ module _ (rows : List Row) (options : Options) (file text : List ℕ) where
       record { before = entries; after = after; error = error; is_file = is_file; are = are; at_end = inl refl }
 
   -- memory ran out after the lines of the first settings
-  no_memory : (w x : Option (List ℕ)) (settings : List Setting) (s : Counts) (e : CheckError) → IsMemory e
-      → HasFirst file text settings None → ReportsAll rows options settings w x s → Fails rows options file text w x e
-  no_memory w x settings s (Write e) is first all = absurd is
-  no_memory w x settings s (Memory e) is first (lines, appended, report) = (
+  no_memory : (w x : Option (List ℕ)) (settings : List Setting) (s : Counts) (e : AllocError)
+      → HasFirst file text settings None → ReportsAll rows options settings w x s → Fails rows options file text w x (Memory e)
+  no_memory w x settings s e first (lines, appended, report) = (
     lines,
     appended,
     record {
@@ -155,10 +160,10 @@ module _ (rows : List Row) (options : Options) (file text : List ℕ) where
     },
   )
 
-  pub fails_starting : (w : Option (List ℕ)) (e : CheckError) → IsMemory e → Fails rows options file text w w e
-  fails_starting w e is =
+  pub fails_starting : (w : Option (List ℕ)) (e : AllocError) → Fails rows options file text w w (Memory e)
+  fails_starting w e =
       let (entries, error, is_file) = each_is_read text in
-      no_memory w w [] no_counts e is
+      no_memory w w [] no_counts e
       (record { before = []; after = entries; error = error; is_file = is_file; are = tt; at_end = inl refl })
       ([], Appends-nil w, nothing)
 
@@ -188,9 +193,9 @@ module _ (rows : List Row) (options : Options) (file text : List ℕ) where
 
   module _ (w x : Option (List ℕ)) (s : Counts) (reader : Entries) (so_far : IsReported reader w x s) where
     -- no memory for a setting
-    pub fails_reading : (e : CheckError) → IsMemory e → Fails rows options file text w x e
-    fails_reading e is =
-        no_memory w x so_far.settings s e is (first_settings so_far.entries so_far.settings reader so_far.read so_far.are) so_far.all
+    pub fails_reading : (e : AllocError) → Fails rows options file text w x (Memory e)
+    fails_reading e =
+        no_memory w x so_far.settings s e (first_settings so_far.entries so_far.settings reader so_far.read so_far.are) so_far.all
 
     one_read : (reader' : Entries) (entry : code.Entry) → GivesEntry reader (Some (Ok entry)) reader'
         → HasRead text (so_far.entries ++ entry_of entry ∷ []) reader'
@@ -247,7 +252,7 @@ module _ (rows : List Row) (options : Options) (file text : List ℕ) where
         },
       )
       fails_within x' (Memory e) same =
-          subst (λ c. Fails rows options file text w c (Memory e)) (sym same) (fails_reading (Memory e) tt)
+          subst (λ c. Fails rows options file text w c (Memory e)) (sym same) (fails_reading e)
 
     -- the file ends, at an error if there is one
     pub reported : (error : Option errors.Error) → HasLeft reader [] error

@@ -6,7 +6,7 @@ use Rattle.std.specs.Char.{to_ascii_lowercase}
 use Rattle.strsim.specs.Edits.{next_row, rows, cost_at}
 use Rattle.std.proofs.Common.{true, false}
 use Rattle.std.proofs.lemmas.Bool.{false≢true}
-use Rattle.std.proofs.lemmas.List.{length-map, get_or-take, get_or_default, length-take, length-append, take-append-le, get_or_append_left}
+use Rattle.std.proofs.lemmas.List.{take_more as one_more_taken, length-map, get_or-take, get_or_default, length-take, length-append, take-append-le, get_or_append_left}
 use Rattle.std.proofs.lemmas.List.Elements.{All-append}
 use Rattle.std.proofs.Math.Seq.{get_or-append_seam, take-append_seam}
 use Rattle.std.specs.List.{All}
@@ -118,17 +118,10 @@ one_count a b m n (counted not is) (counted not' also) = is ∙ sym also
 
 -- ---- the nearest of those that were seen
 
-take_next : {X : Type 0} (xs : List X) (i : ℕ) (d : X) → i < length xs → take (suc i) xs ≡ take i xs ++ get_or xs i d ∷ []
-take_next [] i d below = absurd (omega arith)
-take_next (x ∷ xs) zero d below = refl
-take_next (x ∷ xs) (suc i) d below = ap (λ l. x ∷ l) (take_next xs i d (omega arith))
-
 -- the first ones, and the item at the next place
 pub take_more : {X : Type 0} (xs : List X) (i : ℕ) (x : X) → i < length xs → get_or xs i x ≡ x
     → take (i + 1) xs ≡ take i xs ++ x ∷ []
-take_more xs i x below here =
-    let one : i + 1 ≡ suc i = omega arith in
-    ap (λ n. take n xs) one ∙ take_next xs i x below ∙ ap (λ y. take i xs ++ y ∷ []) here
+take_more xs i x below here = one_more_taken xs i x below ∙ ap (λ y. take i xs ++ y ∷ []) here
 
 module _ {A : Type 0} (Apart : A → ℕ → Type 0) where
   abbrev pub IsNoNearer : ℕ → A → Type 0

@@ -96,18 +96,21 @@ module _ (rows : List Row) (t : List ℕ) where
   pub known_once : (row : Row) → Decides rows t row → ¬ (IsUnknown rows t)
   known_once row decides (inl none) = none decides.key decides.is_key
   known_once row decides (inr other) =
-      other.2 decides.place row decides.inside
+      let first = decides.covering in
+      other.2 first.place row first.inside
       (covers_same _ decides.key other.0 (key_once t decides.key other.0 decides.is_key other.1)
-      (subst (λ r. Covers r.key decides.key) (sym decides.stands) decides.covers))
+      (subst (λ r. Covers r.key decides.key) (sym first.stands) first.covers))
 
-  row_before : (a b : Row) (p : Decides rows t a) (q : Decides rows t b) → ¬ (p.place < q.place)
+  row_before : (a b : Row) (p : Decides rows t a) (q : Decides rows t b) → ¬ (p.covering.place < q.covering.place)
   row_before a b p q before =
-      q.first p.place a (omega (arith, length-take {A = Row}, before, q.inside))
+      let first = p.covering in let also = q.covering in
+      also.first first.place a (omega (arith, length-take {A = Row}, before, also.inside))
       (covers_same _ p.key q.key (key_once t p.key q.key p.is_key q.is_key)
-      (subst (λ r. Covers r.key p.key) (sym (get_or-take q.place rows p.place a before ∙ p.stands)) p.covers))
+      (subst (λ r. Covers r.key p.key) (sym (get_or-take also.place rows first.place a before ∙ first.stands)) first.covers))
 
   pub row_once : (a b : Row) → Decides rows t a → Decides rows t b → a ≡ b
   row_once a b p q =
+      let first = p.covering in let also = q.covering in
       let less = row_before a b p q in let more = row_before b a q p in
-      let same : p.place ≡ q.place = omega (arith, less, more) in
-      sym p.stands ∙ ap (λ n. get_or rows n a) same ∙ get_or_default rows q.place a b q.inside ∙ q.stands
+      let same : first.place ≡ also.place = omega (arith, less, more) in
+      sym first.stands ∙ ap (λ n. get_or rows n a) same ∙ get_or_default rows also.place a b also.inside ∙ also.stands

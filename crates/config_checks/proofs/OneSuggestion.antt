@@ -13,9 +13,9 @@ use Rattle.config_checks.specs.Suggestions.{dotted, between_shown, key_shown, su
 use Rattle.config_checks.specs.Suggestions.LastEdits.{few, by_word}
 use Rattle.config_checks.specs.Suggestions.EditsAfter.{in_last, in_between}
 use Rattle.config_checks.specs.Suggestions.OnePartEdits.{in_rest, in_section}
-use Rattle.config_checks.specs.Suggestions.IsPassed.{no_key, known, foreign}
+use Rattle.config_checks.specs.Suggestions.IsPassed.{no_key, foreign}
 use Rattle.config_checks.proofs.NearestLemmas.{nearest_once, no_far}
-use Rattle.config_checks.proofs.OneKey.{SameBetween, SameKey, same_back, key_once, covers_between, known_once}
+use Rattle.config_checks.proofs.OneKey.{SameBetween, SameKey, same_back, key_once, covers_between}
 
 -- ---- the same key has the same nearest row
 
@@ -131,7 +131,6 @@ module _ (rows : List Row) where
 
   pub not_passed : (t : List ℕ) (x : UnknownKey) → IsUnknownKey rows t x → ¬ (IsPassed rows t)
   not_passed t x p (no_key none) = none p.key p.is_key
-  not_passed t x p (known row decides) = known_once rows t row decides p.unknown
   not_passed t x p (foreign key is far not) =
       not (own_moved p.key key (key_once t p.key key p.is_key is)
       (suggests_far p.key x.nearest p.suggests (far_moved key p.key (key_once t key p.key is p.is_key) far)))

@@ -1,6 +1,6 @@
 -- Rows in runs of one section.
-use Rattle.std.proofs.Common.{◌≡◌, ◌+◌, ◌-◌, ◌<◌, ℕ, List, [], ◌∷◌, ◌++◌, length, take, drop, get_or, arith, sym, ap, subst, ◌∙◌, ◌||◌, nat_lt, if◌then◌else◌}
-use Rattle.std.proofs.lemmas.List.{length-append, length-map, take-append-le, take_all, length-drop, get_or_append_left, get_or-append-add, flat_map_more, take-append-drop}
+use Rattle.std.proofs.Common.{◌≡◌, ◌+◌, ◌<◌, ℕ, List, [], ◌∷◌, ◌++◌, length, take, drop, get_or, arith, sym, ap, subst, ◌∙◌, ◌||◌, nat_lt, if◌then◌else◌}
+use Rattle.std.proofs.lemmas.List.{length-append, length-map, take-append-le, get_or_append_left, get_or-append-add, flat_map_more, take-append-drop}
 use Rattle.std.proofs.lemmas.List.Elements.{All-append}
 use Rattle.std.proofs.lemmas.Grind.{flat_map-append}
 use Rattle.std.proofs.Math.Seq.{take-append-add, take-add, get_or-append_seam}
@@ -14,8 +14,7 @@ use Rattle.config_checks.specs.declared.row.Row.{Row}
 use Rattle.config_checks.specs.declared.row.Run.{Run}
 use Rattle.config_checks.specs.Keys.{IsKey, Covers}
 use Rattle.config_checks.specs.Nearest.{AreFar, most_edits}
-use Rattle.config_checks.specs.Rows.{CoversNone, Decides, rows_of}
-use Rattle.config_checks.specs.Reading.Steps.{IsFirstCovering}
+use Rattle.config_checks.specs.Rows.{CoversNone, Decides, IsFirstCovering, rows_of}
 use Rattle.config_checks.specs.Suggestions.{RowEdits, HasSection}
 use Rattle.config_checks.specs.Suggestions.OnePartEdits.{in_rest, in_section}
 use Rattle.config_checks.proofs.NearestLemmas.{take_more, lengths_near}
@@ -60,9 +59,12 @@ module _ (key : Key) where
       → get_or runs i run ≡ run → CoversNone (rows_of (take i runs)) key → IsFirstCovering run.rows.now key row
       → Decides (rows_of runs) t row
   decides t runs i run row is_key below here none first =
-      let all = subst (λ l. IsFirstCovering l key row) (sym (rows_around runs i run below here))
-      (first_within (rows_of (take i runs)) run.rows.now (rows_of (drop (i + 1) runs)) row none first) in
-      record { key = key; is_key = is_key; place = all.place; inside = all.inside; stands = all.stands; covers = all.covers; first = all.first }
+      record {
+        key = key;
+        is_key = is_key;
+        covering = subst (λ l. IsFirstCovering l key row) (sym (rows_around runs i run below here))
+            (first_within (rows_of (take i runs)) run.rows.now (rows_of (drop (i + 1) runs)) row none first);
+      }
 
   -- ---- the edits that lead to a key
 
@@ -83,9 +85,6 @@ module _ (key : Key) where
       far_row row
       (subst (λ l. (if nat_lt l 8 || nat_lt (length key.section.now) 8 then 1 else 2) < abs_diff l (length key.section.now))
       (sym (same_length row.key.section.now run.section.now (run.of_section k d inside))) far)
-
-pub rest_whole : (rows : List Row) (start : ℕ) → take (length rows - start) (drop start rows) ≡ drop start rows
-rest_whole rows start = take_all (length rows - start) (drop start rows) (omega (arith, length-drop start rows))
 
 -- what holds of the rows of the first runs and of one more
 pub all_more : (P : Row → Type 0) (runs : List Run) (i : ℕ) (run : Run) → i < length runs → get_or runs i run ≡ run

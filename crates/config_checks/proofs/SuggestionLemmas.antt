@@ -1,16 +1,12 @@
 -- The edits between the keys of rows and a key.
-use Rattle.std.proofs.Common.{◌≡◌, ◌<◌, ℕ, Result, Ok, Err, IfOk, List, MatchOption, Option, None, Some, Bor, true, false}
-use Rattle.std.proofs.Common.{is_some, ◌∙◌, sym}
-use Rattle.std.proofs.lemmas.Bool.{false≢true, true≢false}
+use Rattle.std.proofs.Common.{◌≡◌, ◌<◌, ℕ, Result, Ok, Err, IfOk, List, Option, None, Some, Bor}
+use Rattle.std.proofs.Common.{◌∙◌, sym}
 use Rattle.config_checks.specs.Reading.Steps.{IsFew}
 use Rattle.config_text.specs.SameWord.{SameWord}
 use Rattle.config_checks.specs.declared.key.Key.{Key}
-use Rattle.config_checks.specs.declared.row.Row.{Row}
-use Rattle.config_checks.specs.Rows.{Decides, IsUnknown}
 use Rattle.config_checks.specs.Keys.{CoversBetween}
-use Rattle.config_checks.specs.Suggestions.{CoversLast, IsPassed, LastEdits, EditsAfter, OnePartEdits, BetweenEdits}
+use Rattle.config_checks.specs.Suggestions.{CoversLast, LastEdits, EditsAfter, OnePartEdits, BetweenEdits}
 use Rattle.config_checks.specs.Suggestions.LastEdits.{few, by_word}
-use Rattle.config_checks.specs.Suggestions.IsPassed.{known}
 use Rattle.config_checks.specs.Suggestions.EditsAfter.{in_last, in_between}
 use Rattle.config_checks.specs.Suggestions.OnePartEdits.{in_rest, in_section}
 use Rattle.config_checks.proofs.NearestLemmas.{one_count}
@@ -66,15 +62,3 @@ one_number row key m n (in_rest s is) (in_section other b l also) = absurd (othe
 one_number row key m n (in_section other b l is) (in_rest t also) = absurd (other t)
 one_number row key m n (in_section other b l is) (in_section o c d also) =
     one_count row.section.now key.section.now m n is.0 also.0
-
--- ---- what is said of a key
-
-pub known_passes : (rows : List Row) (t : List ℕ) (r : Option (Bor Row))
-    → MatchOption r (IsUnknown rows t) (λ row. Decides rows t row.now) → is_some r ≡ true → IsPassed rows t
-known_passes rows t None unknown is = absurd (false≢true is)
-known_passes rows t (Some row) decides is = known row.now decides
-
-pub unknown_by : (rows : List Row) (t : List ℕ) (r : Option (Bor Row))
-    → MatchOption r (IsUnknown rows t) (λ row. Decides rows t row.now) → is_some r ≡ false → IsUnknown rows t
-unknown_by rows t None unknown is = unknown
-unknown_by rows t (Some row) decides is = absurd (true≢false is)

@@ -49,16 +49,6 @@ part_after u v w front back first part = record {
   parts = ap (λ l. front ++ l) part.parts ∙ sym (append_assoc front part.written part.missing);
 }
 
--- a part of the first of two texts
-pub part_first : (u v : Option (List ℕ)) (front back : List ℕ) → AppendsPart u v front
-    → AppendsPart u v (front ++ back)
-part_first u v front back part = record {
-  written = part.written;
-  missing = part.missing ++ back;
-  appended = part.appended;
-  parts = ap (λ l. l ++ back) part.parts ∙ append_assoc part.written part.missing back;
-}
-
 list_cut : {X : Type 0} (f : X → List ℕ) (xs : List X) (i : ℕ)
     → flat_map f xs ≡ flat_map f (take i xs) ++ flat_map f (drop i xs)
 list_cut f xs i = ap (flat_map f) (sym (take-append-drop i xs)) ∙ flat_map-append f (take i xs) (drop i xs)

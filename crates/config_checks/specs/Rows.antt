@@ -27,15 +27,19 @@ rows_of = flat_map (λ run. run.rows.now)
 abbrev pub CoversNone : List Row → Key → Type 0
 CoversNone rows key = All (λ row. ¬ (Covers row.key key)) rows
 
--- the first row that covers the key of this text
-pub record Decides (rows : List Row) (t : List ℕ) (row : Row) : Type 0 where
-  pub key : Key
-  pub is_key : IsKey t key
+-- the first row that covers the key
+pub record IsFirstCovering (rows : List Row) (key : Key) (row : Row) : Type 0 where
   pub place : ℕ
   pub inside : place < length rows
   pub stands : slice_index_or rows place row ≡ row
   pub covers : Covers row.key key
   pub first : CoversNone (take place rows) key
+
+-- the first row that covers the key of this text
+pub record Decides (rows : List Row) (t : List ℕ) (row : Row) : Type 0 where
+  pub key : Key
+  pub is_key : IsKey t key
+  pub covering : IsFirstCovering rows key row
 
 -- the text is no key, or no row covers it
 abbrev pub IsUnknown : List Row → List ℕ → Type 0

@@ -9,7 +9,7 @@ use Rattle.config_checks.specs.declared.suggestion.UnknownKey.{UnknownKey}
 use Rattle.config_checks.specs.Findings.{shown}
 use Rattle.config_checks.specs.Keys.{dot, IsKey, CoversBetween}
 use Rattle.config_checks.specs.Nearest.{FewEdits, LacksWord, AreFar, IsNearest}
-use Rattle.config_checks.specs.Rows.{Decides, IsUnknown}
+use Rattle.config_checks.specs.Rows.{IsUnknown}
 
 -- ---- how far two keys are apart
 
@@ -100,10 +100,9 @@ pub record IsUnknownKey (rows : List Row) (t : List ℕ) (k : UnknownKey) : Type
   pub unknown : IsUnknown rows t
   pub suggests : Suggests rows key k.nearest
 
--- the text is no key, a row covers it, or all rows are far and not only rows have settings in its section
+-- the text is no key, or all rows are far and not only rows have settings in its section
 pub data IsPassed (rows : List Row) (t : List ℕ) : Type 0 where
   no_key : ((key : Key) → ¬ (IsKey t key)) → IsPassed rows t
-  known : (row : Row) → Decides rows t row → IsPassed rows t
   foreign : (key : Key) → IsKey t key → AreFar (RowEdits key) rows → ¬ (IsOwn rows key) → IsPassed rows t
 
 -- ---- what is said of them

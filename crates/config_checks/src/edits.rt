@@ -30,7 +30,7 @@ fn is_swap(from: &[u8], to: &[u8]) -> bool
     }
 }
 
-/// How many edits are few for two texts: two if both have so many bytes, and otherwise one.
+/// How many edits are few for two texts: two if both have `long` bytes or more, otherwise one.
 pub(crate) fn most_edits(long: usize, from: &[u8], to: &[u8]) -> usize
     ensures { result ≡ most_edits long from.now to.now }
 {

@@ -1,7 +1,6 @@
 //! Looks up the row of a key.
 ghost use Rattle.std.specs.Prelude.{◌≡◌, ◌≤◌, [], length, take, IfOk, MatchOption};
-ghost use Rattle.config_checks.specs.Rows.{Decides, IsUnknown, CoversNone, rows_of};
-ghost use Rattle.config_checks.specs.Reading.Steps.{IsFirstCovering};
+ghost use Rattle.config_checks.specs.Rows.{Decides, IsFirstCovering, IsUnknown, CoversNone, rows_of};
 
 use crate::key::{Key, is_same_word};
 use crate::row::{Row, Run};
@@ -23,7 +22,7 @@ fn first_run<'r, 't>(rows: &'r [Row<'t>]) -> Option<Run<'r, 't>>
     })
 }
 
-/// The rows in runs. Fails only if memory runs out.
+/// The rows, in order, as runs. Fails only if memory runs out.
 pub fn runs_of<'r, 't>(alloc: Global, rows: &'r [Row<'t>]) -> Result<Vec<Run<'r, 't>>, AllocError>
     ensures { IfOk result (λ runs. rows_of runs.items ≡ rows.now) }
 {

@@ -19,10 +19,10 @@ pub struct Row<'t> {
     pub kind: SettingKind<'t>,
 }
 
-/// Rows of one section that follow each other. Of most runs a search looks at the section alone.
+/// Rows of one section that follow each other. A search skips most runs by their section.
 #[derive(Clone, Copy)]
 pub struct Run<'r, 't> {
-    /// The section, as the first of the rows has it.
+    /// The section of each of the rows, ignoring ASCII case.
     pub section: &'t [u8],
     /// The rows.
     pub rows: &'r [Row<'t>],

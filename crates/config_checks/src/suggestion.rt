@@ -6,7 +6,7 @@ ghost use Rattle.config_checks.specs.Nearest.{LacksWord, AreFar, IsNearest};
 ghost use Rattle.config_checks.specs.Suggestions.{BetweenEdits, CoversLast, LastEdits, EditsAfter};
 ghost use Rattle.config_checks.specs.Suggestions.{OnePartEdits, RowEdits, Fills, FillsBetween};
 ghost use Rattle.config_checks.specs.Suggestions.{FillsKey, IsShared, IsOwn};
-ghost use Rattle.config_checks.specs.Rows.{rows_of};
+ghost use Rattle.config_checks.specs.Rows.{IsUnknown, rows_of};
 ghost use Rattle.config_checks.specs.Reading.Steps.{IsFew};
 ghost use Rattle.config_checks.specs.Suggestions.{HasSection, IsPassed, IsUnknownKey, dotted, between_shown};
 ghost use Rattle.config_checks.specs.Suggestions.{after_shown, key_shown, asked, unknown_text};
@@ -14,7 +14,6 @@ ghost use Rattle.config_checks.specs.Suggestions.{after_shown, key_shown, asked,
 use crate::edits::{LONG, MOST_EDITS, few_edits, lacks_word, most_edits};
 use crate::finding::push_shown;
 use crate::key::{ANY, Key, covers_between, is_same_word};
-use crate::lookup::row_for;
 use crate::row::{Row, Run};
 use std::alloc::{AllocError, Global};
 
@@ -103,8 +102,8 @@ fn one_part_edits(
     Ok(None)
 }
 
-/// The first of the rows whose key the fewest edits lead from, or `None` if none is near.
-// Runs of sections whose lengths differ by more are passed at once: that is most of them.
+/// The first of the rows whose key the fewest edits lead from, or `None` if no key is near.
+// Most runs are skipped at once, since their sections' lengths differ by too much.
 fn nearest<'r, 't>(
     alloc: Global,
     runs: &[Run<'r, 't>],
@@ -202,24 +201,22 @@ pub struct UnknownKey<'k> {
     pub nearest: Option<Key<'k>>,
 }
 
-/// A key that is misspelt: no row covers it, and it is near a row's key, or it has no part between dots and a
-/// section in which only the rows have settings. Near are keys that differ in one part: by one edit, by two
-/// if the part is long in both, or in the last one of two by a word that one of them lacks. `None` for any
+/// A key that is misspelt, of those that no row covers: it is near a row's key, or it has no part between dots
+/// and a section in which only the rows have settings. Near are keys that differ in one part: by one edit, by
+/// two if the part is long in both, or in the last one of two by a word that one of them lacks. `None` for any
 /// other key. An error if there was no memory.
-pub fn unknown_key<'k>(
+pub(crate) fn unknown_key<'k>(
     alloc: Global,
     runs: &[Run<'_, 'k>],
     text: &'k [u8],
 ) -> Result<Option<UnknownKey<'k>>, AllocError>
+    requires { IsUnknown (rows_of runs.now) text.now }
     ensures { IfOk result (λ r. MatchOption r (IsPassed (rows_of runs.now) text.now)
         (IsUnknownKey (rows_of runs.now) text.now)) }
 {
     let Some(key) = Key::parse(text) else {
         return Ok(None);
     };
-    if row_for(runs, text).is_some() {
-        return Ok(None);
-    }
     match nearest(alloc, runs, &key)? {
         Some(row) => Ok(Some(UnknownKey {
             nearest: Some(filled_key(&row.key, &key)),

@@ -1,29 +1,15 @@
 -- How far a check has come.
-use Rattle.std.specs.Prelude.{◌≡◌, ⊤, ℕ, ◌+◌, ◌^◌, ◌<◌, ◌≤◌, List, ◌++◌, length, take, slice_index_or, Option, None, Some}
+use Rattle.std.specs.Prelude.{◌≡◌, ⊤, ℕ, ◌+◌, ◌^◌, ◌<◌, ◌≤◌, List, Option, None, Some}
 use Rattle.std.specs.Io.KnownBytes.{Appends}
 use Rattle.config_file.specs.declared.errors.Error as errors
-use Rattle.config_file.specs.declared.reader.Entries.{Entries}
 use Rattle.config_file.specs.declared.settings.Setting.{Setting}
-use Rattle.config_file.specs.File.{Entry, IsFile}
-use Rattle.config_file.specs.Left.{HasLeft}
-use Rattle.config_checks.specs.declared.key.Key.{Key}
 use Rattle.config_checks.specs.declared.options.Options.{Options}
 use Rattle.config_checks.specs.declared.row.Row.{Row}
 use Rattle.config_checks.specs.declared.check.Counts.{Counts}
 use Rattle.config_checks.specs.declared.check.CheckError.{CheckError}
 use Rattle.config_checks.specs.declared.check.CheckError.TheVariants.{Write, Memory}
-use Rattle.config_checks.specs.Keys.{Covers}
-use Rattle.config_checks.specs.Rows.{CoversNone}
 use Rattle.config_checks.specs.Findings.{AppendsPart}
 use Rattle.config_checks.specs.Report.{ReportsSetting, Report, EndsReport, HasSettings}
-
--- the first of these rows that covers the key
-pub record IsFirstCovering (rows : List Row) (key : Key) (row : Row) : Type 0 where
-  pub place : ℕ
-  pub inside : place < length rows
-  pub stands : slice_index_or rows place row ≡ row
-  pub covers : Covers row.key key
-  pub first : CoversNone (take place rows) key
 
 -- no count is over that of the entries
 pub record AreWithin (s : Counts) : Type 0 where
@@ -70,12 +56,7 @@ abbrev pub ReportsAll : List Row → Options → List Setting → Option (List �
 ReportsAll rows options settings contents contents' s =
     (lines : List ℕ) × Appends contents contents' lines × Report rows options settings lines s
 
--- these entries of the file were read, and the reader has the others left
-abbrev pub HasRead : List ℕ → List Entry → Entries → Type 0
-HasRead text entries reader =
-    (left : List Entry) (error : Option errors.Error) → HasLeft reader left error → IsFile text (entries ++ left) error
-
--- the lines of all settings of a file were written
+-- the lines of the settings of a file were written, up to its end or to this error
 pub record ReportsEntries (rows : List Row) (options : Options) (file text : List ℕ) (contents contents' : Option (List ℕ))
     (s : Counts) (error : Option errors.Error) : Type 0 where
   pub settings : List Setting
@@ -87,11 +68,7 @@ abbrev pub IsFew : (ℕ → Type 0) → Option ℕ → Type 0
 IsFew AreEdits None = (n : ℕ) → AreEdits n → 3 < n
 IsFew AreEdits (Some n) = AreEdits n × (n ≤ 3)
 
--- which error it is
-abbrev pub IsMemory : CheckError → Type 0
-IsMemory (Write e) = ⊥
-IsMemory (Memory e) = ⊤
-
+-- a write failed
 abbrev pub IsWrite : CheckError → Type 0
 IsWrite (Write e) = ⊤
 IsWrite (Memory e) = ⊥

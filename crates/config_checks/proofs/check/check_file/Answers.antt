@@ -5,7 +5,7 @@ use Rattle.config_checks.proofs.CheckLemmas.{of_rows, passed_on, fails_starting,
 use Rattle.config_checks.proofs.check.check_file.Goals as goal
 
 pub returns-in-Err-clause-fails : goal.returns-in-Err-clause-fails
-returns-in-Err-clause-fails g c = fails_starting _ _ _ _ _ _ tt
+returns-in-Err-clause-fails g c = fails_starting _ _ _ _ _ _
 
 pub returns-in_err-counts-2-clause-fails : goal.returns-in_err-counts-2-clause-fails
 returns-in_err-counts-2-clause-fails g c =

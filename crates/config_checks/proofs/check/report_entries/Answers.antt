@@ -23,7 +23,7 @@ pub returns-in-Err-clause-room : goal.returns-in-Err-clause-room
 returns-in-Err-clause-room g c = leaves_room _ c.loop-entry.invariant.within (omega (arith, c.loop-entry.invariant.fits))
 
 pub returns-in-Err-of_entry-clause-err : goal.returns-in-Err-of_entry-clause-err
-returns-in-Err-of_entry-clause-err g c = fails_reading _ _ _ _ _ _ _ _ c.loop-entry.invariant _ tt
+returns-in-Err-of_entry-clause-err g c = fails_reading _ _ _ _ _ _ _ _ c.loop-entry.invariant _
 
 pub report-requires : goal.report-requires
 report-requires g c = record {

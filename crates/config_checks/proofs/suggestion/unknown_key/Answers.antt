@@ -1,19 +1,15 @@
-use Rattle.std.proofs.Common.{◌∙◌, sym, subst, MatchOption, IsTrue, rules}
+use Rattle.std.proofs.Common.{subst, MatchOption, IsTrue, rules}
 use Rattle.config_checks.specs.Nearest.{AreFar, IsNearest}
 use Rattle.config_checks.specs.Rows.{rows_of}
 use Rattle.config_checks.specs.Suggestions.{RowEdits}
 use Rattle.config_checks.specs.Suggestions.IsPassed.{foreign}
-use Rattle.config_checks.proofs.SuggestionLemmas.{known_passes, unknown_by}
 use Rattle.config_checks.proofs.suggestion.unknown_key.Goals as goal
-
-pub returns-then-is_some : goal.returns-then-is_some
-returns-then-is_some c = known_passes _ _ c.row_for.result c.row_for.ensures (sym c.is_some.ensures ∙ c.if-is_some.true)
 
 pub returns-in-Some-2 : goal.returns-in-Some-2
 returns-in-Some-2 c = record {
   key = c.in-Some.key;
   is_key = c.in-Some.ensures;
-  unknown = unknown_by _ _ c.row_for.result c.row_for.ensures (sym c.is_some.ensures ∙ c.if-is_some.false);
+  unknown = c.requires;
   suggests = (
     c.in-Some-2.row.now,
     subst (λ r. MatchOption r (AreFar (RowEdits c.in-Some.key) (rows_of c.args.runs.now)) (λ row. IsNearest (RowEdits c.in-Some.key) (rows_of c.args.runs.now) row.now))
@@ -26,7 +22,7 @@ pub returns-in-None : goal.returns-in-None
 returns-in-None c = record {
   key = c.in-Some.key;
   is_key = c.in-Some.ensures;
-  unknown = unknown_by _ _ c.row_for.result c.row_for.ensures (sym c.is_some.ensures ∙ c.if-is_some.false);
+  unknown = c.requires;
   suggests = (
     subst (λ r. MatchOption r (AreFar (RowEdits c.in-Some.key) (rows_of c.args.runs.now)) (λ row. IsNearest (RowEdits c.in-Some.key) (rows_of c.args.runs.now) row.now))
         c.in-None.is c.in_ok-row.ensures,
