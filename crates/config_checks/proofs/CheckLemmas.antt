@@ -30,16 +30,9 @@ use Rattle.config_file.specs.Left.{GivesEntry, HasLeft}
 use Rattle.config_file.specs.Settings.{IsSettingOf}
 use Rattle.config_file.specs.Views.{entry_of}
 use Rattle.std.specs.List.{AllZip}
-use Rattle.config_file.proofs.Adding.{file_more, file_end, first_of}
+use Rattle.config_file.proofs.Adding.{zip_push, file_more, file_end, first_of}
 use Rattle.config_file.proofs.EachReading.{each_is_read}
 use Rattle.config_file.proofs.Walks.{file_begins}
-
-zip_push : {A B : Type 0} (R : A → B → Type 0) (xs : List A) (ys : List B) (x : A) (y : B) → AllZip R xs ys → R x y
-    → AllZip R (xs ++ x ∷ []) (ys ++ y ∷ [])
-zip_push R [] [] x y all one = (one, tt)
-zip_push R [] (z ∷ zs) x y all one = absurd all
-zip_push R (w ∷ ws) [] x y all one = absurd all
-zip_push R (w ∷ ws) (z ∷ zs) x y all one = (all.0, zip_push R ws zs x y all.1 one)
 
 -- ---- counts
 

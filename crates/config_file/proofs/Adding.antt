@@ -11,7 +11,7 @@ use Rattle.config_file.specs.Settings.{IsSettingOf, Adds, HasFirst}
 use Rattle.config_file.specs.Views.{section_of}
 use Rattle.config_file.proofs.EachReading.{are_read}
 
-zip_push : {A B : Type 0} (R : A → B → Type 0) (xs : List A) (ys : List B) (x : A) (y : B) → AllZip R xs ys → R x y
+pub zip_push : {A B : Type 0} (R : A → B → Type 0) (xs : List A) (ys : List B) (x : A) (y : B) → AllZip R xs ys → R x y
     → AllZip R (xs ++ x ∷ []) (ys ++ y ∷ [])
 zip_push R [] [] x y all one = (one, tt)
 zip_push R [] (z ∷ zs) x y all one = absurd all

@@ -1,18 +1,13 @@
 -- Headers.
 use Rattle.std.proofs.Common.{◌≡◌, ◌≢◌, ℕ, List, [], ◌∷◌, refl, subst, None}
-use Rattle.config_file.specs.declared.errors.Fault.{Fault}
 use Rattle.config_file.specs.declared.errors.Fault.TheVariants.{BadLine}
 use Rattle.config_file.specs.Bytes.{is_name_byte, is_blank}
 use Rattle.config_file.specs.Runs.{Run, StopsRun}
 use Rattle.config_file.specs.Subsection.{TakesSubsection}
-use Rattle.config_file.specs.Header.{fault_at, BeginsWithout, ClosesSubsection, closes, SubsectionStops, OpensSubsection, Header, plain, NameStops, at_end, empty, not_closed}
+use Rattle.config_file.specs.Header.{fault_at, BeginsWithout, ClosesSubsection, closes, OpensSubsection, Header, plain, NameStops, at_end, empty, not_closed}
 
 pub closes_at : {text raw rest : List ℕ} (at : List ℕ) → TakesSubsection text raw at → at ≡ 93 ∷ rest → ClosesSubsection text raw rest
 closes_at {text = text} {raw = raw} at takes e = closes (subst (λ x. TakesSubsection text raw x) e takes) refl
-
--- the fault and the line of a stop, as a call gives them
-pub subsection_stops : {text : List ℕ} (lines lines' : ℕ) (fault fault' : Fault) → lines ≡ lines' → fault ≡ fault' → SubsectionStops text lines' fault' → SubsectionStops text lines fault
-subsection_stops lines lines' fault fault' e f stops = rw (e, f) stops
 
 pub name_stops_at_end : {name after : List ℕ} → after ≡ [] → NameStops name after 1 BadLine
 name_stops_at_end e = rw e at_end

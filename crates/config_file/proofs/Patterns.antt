@@ -112,11 +112,6 @@ one_byte {i = i} {starts = starts} {b = b} {pattern = pattern} {rest = rest} r a
       same.1 (subst (λ x. Matches i (b == slash) x text) (item_unique item2 item) more),
 )
 
-pub no_byte : {i starts : Bool} {b : ℕ} {pattern : List ℕ} (at text : List ℕ) → at ≡ b ∷ text → LacksStar pattern
-    → ((rest : List ℕ) → ¬ (Item i pattern b rest)) → ¬ (Matches i starts pattern at)
-no_byte {i = i} {starts = starts} {pattern = pattern} at text e lacks never whole =
-    let (rest, item, more) = one_inv (subst (λ x. Matches i starts pattern x) e whole) lacks in never rest item
-
 pub at_end : {i starts : Bool} (pattern at : List ℕ) → at ≡ [] → LacksStar pattern → (pattern ≡ []) ↔ (Matches i starts pattern at)
 at_end {i = i} {starts = starts} pattern at e lacks = rw e (λ none. rw none ends, λ whole. end_inv whole lacks)
 

@@ -1,10 +1,10 @@
 -- The text that the bytes of a value or of a subsection spell, a piece at a time.
-use Rattle.std.proofs.Common.{◌≡◌, ◌≢◌, ℕ, ◌+◌, Bool, true, false, not, List, [], ◌∷◌, ◌++◌, Option, refl, sym, ap, ◌∙◌, subst, arith}
+use Rattle.std.proofs.Common.{◌≡◌, ◌≢◌, ℕ, ◌+◌, Bool, true, false, not, List, [], ◌∷◌, ◌++◌, Option, sym, ap, ◌∙◌, subst, arith}
 use Rattle.std.proofs.lemmas.Bool.{true≢false}
 use Rattle.std.proofs.lemmas.Bool.Decides.{nat_tests}
 use Rattle.config_file.specs.Bytes.{is_blank, is_plain}
 use Rattle.config_file.specs.Subsection.{SpellsSubsection}
-use Rattle.config_file.specs.Value.{Ending, outside, Spells, ends_outside, ends_inside, ends_at_backslash, quote, escaped, continued, continued_after_return, blank, plain, kept}
+use Rattle.config_file.specs.Value.{Ending, outside, Spells, ends_outside, ends_at_backslash, quote, escaped, continued, continued_after_return, blank, plain, kept}
 use Rattle.config_file.specs.Reading.Scans.{is_held_back, unescape, append_some}
 
 blank_is_no_quote : (b : ℕ) → is_blank b ≡ true → b ≡ 34 → ⊥
@@ -95,13 +95,6 @@ module _ {q : Bool} {value rest : List ℕ} {held b : ℕ} (at : List ℕ) (e : 
       let second = ap (λ p. p.1) unescaped in
       let (ending, more) = after_backslash (subst (λ x. Spells q value held x spelled o) e s) is in
       (ending, rw (same_text, same, first, second) more)
-
-spelled_end : {q : Bool} {o : Ending} {value spelled : List ℕ} {held : ℕ} → Spells q value held [] spelled o → value ≡ spelled
-spelled_end ends_outside = refl
-spelled_end ends_inside = refl
-
-pub spelled_whole : {q : Bool} {o : Ending} {value spelled : List ℕ} {held : ℕ} (at : List ℕ) → at ≡ [] → Spells q value held at spelled o → value ≡ spelled
-spelled_whole {q = q} {o = o} {value = value} {spelled = spelled} {held = held} at e s = spelled_end (subst (λ x. Spells q value held x spelled o) e s)
 
 -- what is written and what is left make the whole
 abbrev pub Writes : List ℕ → List ℕ → List ℕ → List ℕ → Type 0

@@ -1,7 +1,5 @@
 -- Files by name, and entries that are walked one by one.
-use Rattle.std.proofs.Common.{◌≡◌, ◌≢◌, ◌<◌, ◌+◌, ◌++◌, ◌∙◌, ℕ, List, [], ◌∷◌, None, Option, option_map, Result, Ok, Err, Bool, true, subst, map, length, get_or, refl, sym, ap, arith}
-use Rattle.std.specs.List.{HoldsAt, AllWithin}
-use Rattle.std.proofs.lemmas.Option.{slice_get-get_or, slice_get_within, get_or_from_slice_get}
+use Rattle.std.proofs.Common.{◌≡◌, ◌+◌, ◌++◌, ◌∙◌, ℕ, List, [], ◌∷◌, None, Option, option_map, Result, Ok, Err, Bool, true, subst, map, refl, sym, ap}
 use Rattle.std.proofs.lemmas.List.{append_assoc, append-nil}
 use denote.Ref.{Bor}
 use Rattle.config_file.specs.declared.errors.Error.{Error}
@@ -19,17 +17,7 @@ use Rattle.config_file.specs.declared.walk.Place.{Place}
 use Rattle.config_file.specs.declared.walk.WalkError.{WalkError}
 use Rattle.config_file.specs.Walk.{HasFile, Walks, ends, plain, missing, included, IncludesFile, Reaches, inside, WalksText, Follows, IsFollowed, IsNameOf, Adds, in_file, view}
 use Rattle.config_file.specs.Reading.Walks.{AddsNamed, nothing, all_of, WalksEntry, WalksNamed}
-use Rattle.config_file.proofs.Adding.{first_of}
-
-pub file_at : (files : List File) (name : List ℕ) (i : ℕ) (d : File) → i < length files
-    → HoldsAt (λ f. f.place.name.now ≡ name) files i → HasFile files name (get_or files i d)
-file_at files name i d within hit = (hit d, (i, slice_get-get_or files i d within))
-
-pub no_file : (files : List File) (name : List ℕ) → AllWithin (λ f. f.place.name.now ≢ name) files 0 (length files)
-    → (file : File) → ¬ (HasFile files name file)
-no_file files name nowhere file (named, (i, at)) =
-    nowhere i file (omega arith) (slice_get_within files i file at)
-    (ap (λ f. f.place.name.now) (get_or_from_slice_get files i file file at) ∙ named)
+use Rattle.config_file.proofs.Adding.{first_of, file_more}
 
 pub walks_append : {known : Known} {depth : ℕ} {place : Place} {entries more : List Entry} {walked others : List (List ℕ × Entry)}
     → Walks known depth place entries walked → Walks known depth place more others
@@ -87,10 +75,6 @@ pub adds_both : (old new newer : List Walked) (added more : List (List ℕ × En
     → Adds old newer (added ++ more)
 adds_both old new newer added more first second =
     second ∙ ap (λ s. s ++ more) first ∙ append_assoc (map view old) added more
-
-pub file_more : (text : List ℕ) (entries left : List Entry) (entry : Entry) (error : Option Error)
-    → IsFile text (entries ++ entry ∷ left) error → IsFile text ((entries ++ entry ∷ []) ++ left) error
-file_more text entries left entry error file = subst (λ e. IsFile text e error) (sym (append_assoc entries (entry ∷ []) left)) file
 
 pub file_begins : (reader : Entries) (text : List ℕ) (left : List Entry) (error : Option Error) → reader.section ≡ None
     → Begins text reader.line reader.rest.now → HasLeft reader left error → IsFile text left error

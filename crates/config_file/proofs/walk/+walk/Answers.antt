@@ -4,8 +4,8 @@ use Rattle.config_file.specs.Views.{entry_of}
 use Rattle.config_file.specs.declared.walk.Walked.{Walked}
 use Rattle.config_file.specs.declared.walk.WalkError.TheVariants as stop
 use Rattle.config_file.specs.Walk.{HasFile, Stops, in_file, ends, plain, line, no_value, unknown, unread, unreadable, too_deep, memory}
-use Rattle.config_file.proofs.Adding.{file_end}
-use Rattle.config_file.proofs.Walks.{walks_append, entry_named, named_walked, reached, adds_none, adds_one, adds_both, file_more, named_missing}
+use Rattle.config_file.proofs.Adding.{file_end, file_more}
+use Rattle.config_file.proofs.Walks.{walks_append, entry_named, named_walked, reached, adds_none, adds_one, adds_both, named_missing}
 use Rattle.config_file.proofs.walk.+walk.Goals as goal
 
 pub walk_entry-returns-in-Err : goal.walk_entry-returns-in-Err
