@@ -1,7 +1,7 @@
 """Measures reading and checking files: python3 files.py CONFIG_VALUE CONFIG_CHECK [--runs N].
 
-The two programs are compared with `git config --list -z`, plain C that makes no entries (entries.c), and for the small
-file dulwich, if Python has it. The processor time is the least of the runs, which are taken in turn; the start of a
+The two programs are compared with `git config --list -z`, of the file alone and as the user's file, plain C that makes
+no entries (entries.c), and for the small file dulwich, if Python has it. The processor time is the least of the runs, which are taken in turn; the start of a
 program and the writing of what it lists are part of it. If the list of config_value is not Git's, the status is 1.
 """
 import argparse
@@ -41,6 +41,7 @@ def listed(*command):
 def commands(arguments, loop, file):
     yield "`config_value --null`", (arguments.config_value, "--null", "--file", file)
     yield "`git config --list -z`", (shutil.which("git"), "config", "--file", file, "--list", "-z")
+    yield "the same as the user's file", ("/usr/bin/env", f"GIT_CONFIG_GLOBAL={file}", "git", "config", "--list", "-z")
     yield "`config_check`", (arguments.config_check, file)
     yield "plain C", (loop, file)
     if importlib.util.find_spec("dulwich"):
@@ -49,7 +50,7 @@ def commands(arguments, loop, file):
 
 def rows(measuring, asked, file, arguments):
     """For each size and program its least milliseconds and how many entries that is in a second."""
-    for size, asked in zip(SIZES, (asked, asked[:4])):
+    for size, asked in zip(SIZES, (asked, asked[:5])):
         text = "".join(SECTION % number for number in range(size // ENTRIES))
         pathlib.Path(file).write_text(text, encoding="utf-8")
         (_, own), (_, git), *_ = asked
