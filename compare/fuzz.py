@@ -5,7 +5,7 @@ python3 fuzz.py PROGRAM [--seed N] [--lines N] [--seconds S]
 One process of the program answers everything, batch by batch. Each text is asked of every kind. It is checked that
 
 - the process lives, gives one answer a line, and ends with the status of its answers;
-- an answer is `ok` and at most 127 printable bytes, `refused`, or `unknown kind`, the last exactly if the line
+- an answer is `ok` and printable bytes, at most LONGEST, `refused`, or `unknown kind`, the last exactly if the line
   names no kind;
 - an `ok` text is answered by itself;
 - a color name and an attribute word are colors with the same text;
@@ -19,16 +19,19 @@ the first faults, a table of what was tried, and last 'N passed, M failed', coun
 import argparse
 import collections
 import random
+import re
 import subprocess
 import sys
 import threading
 import time
 
-from programs import Wrong
+from programs import ROOT, Wrong
 
 KINDS = [b"suffix", b"integer", b"amount", b"boolean", b"name", b"attribute", b"color"]
-RISING = [b"bold", b"dim", b"italic", b"ul", b"blink", b"reverse", b"strike", b"reset",
-          b"nodim", b"nobold", b"noitalic", b"noul", b"noblink", b"noreverse", b"nostrike"]
+GRAMMAR = (ROOT / "docs/GRAMMAR.md").read_text("utf-8")
+LONGEST = max(map(int, re.findall(r"longest\s+has\s+(\d+)\s+bytes", GRAMMAR)))
+# the words of attributes, by rising bit
+RISING = [word.encode() for word in re.findall(r"^\| `[A-Z_]+` \| \d+ \| `(\w+)`", GRAMMAR, re.MULTILINE)]
 COLORS = [b"black", b"red", b"green", b"yellow", b"blue", b"magenta", b"cyan", b"white"]
 SPACES = [chr(code).encode() for code in
           [*range(0x09, 0x0E), 0x20, 0x85, 0xA0, 0x1680, *range(0x2000, 0x200B), 0x2028, 0x2029, 0x202F, 0x205F, 0x3000]
@@ -186,7 +189,7 @@ class Fuzzer:
                 self.fault("kind", line, answer)
             elif answer.startswith(b"ok "):
                 text = answer[3:]
-                if len(text) > 127 or any(byte < 32 or byte > 126 for byte in text):
+                if len(text) > LONGEST or any(byte < 32 or byte > 126 for byte in text):
                     self.fault("no canonical text", line, answer)
             elif answer not in (b"refused", b"unknown kind"):
                 self.fault("no answer", line, answer)

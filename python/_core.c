@@ -514,7 +514,7 @@ static PyMethodDef attribute_methods[] = {
 };
 
 static PyType_Slot attribute_slots[] = {
-    {Py_tp_doc, "Attribute(bits=0)\n--\n\nA set of the fifteen attributes. Operators are |, &, ^, - and ~; "
+    {Py_tp_doc, "Attribute(bits=0)\n--\n\nA set of attributes. Operators are |, &, ^, - and ~; "
                 "`in` tells subsets too,\n"
                 "iteration begins with the lowest bit, and int() gives the bits."},
     {Py_tp_new, attribute_new},

@@ -24,7 +24,10 @@ from gix_config_value import Attribute, Color, Name, Refused, boolean, integer, 
 ROOT = pathlib.Path(__file__).resolve().parents[2]
 READERS = {"suffix": gcv.suffix, "amount": integer, "boolean": boolean, "name": Name, "attribute": Attribute.parse,
            "color": Color.parse}
-WORDS = "bold dim italic ul blink reverse strike reset nodim nobold noitalic noul noblink noreverse nostrike".split()
+# the bit of each word, by rising bit
+BITS = {word: int(bit) for bit, word in re.findall(r"^\| `[A-Z_]+` \| (\d+) \| `(\w+)`",
+                                                    (ROOT / "docs/GRAMMAR.md").read_text("utf-8"), re.MULTILINE)}
+WORDS = list(BITS)
 ATTRIBUTES = [Attribute.parse(word) for word in WORDS]
 VALUES = [Name("normal"), Name("red"), Name("12"), Name("#abc"), Attribute(), Attribute.UL | Attribute.BOLD,
           ~Attribute.BOLD, Color(), Color.parse("#fff ul"), Color.parse("red blue bold noul")]
@@ -192,7 +195,7 @@ class Texts(unittest.TestCase):
 class Values(unittest.TestCase):
     def test_attributes(self):
         self.assertEqual(list(~Attribute()), ATTRIBUTES)
-        self.assertEqual(int(~Attribute.BOLD), 266338812)  # as the Rust crate has it
+        self.assertEqual(int(~Attribute.BOLD), sum(1 << bit for word, bit in BITS.items() if word != "bold"))
         self.assertEqual(str(~Attribute.BOLD), " ".join(WORDS[1:]))
         self.assertEqual(str(Color(attributes=~Attribute.BOLD).compose(Color())), " ".join(WORDS[1:]))
         both = Attribute.BOLD | Attribute.UL
@@ -200,7 +203,7 @@ class Values(unittest.TestCase):
         self.assertEqual((both & ~Attribute.BOLD, both ^ Attribute.BOLD, both - Attribute.BOLD), (Attribute.UL,) * 3)
         self.assertEqual((len(both), bool(both), bool(Attribute()), int(both)), (2, True, False, 18))
         self.assertTrue(Attribute.UL in both and Attribute() in both and Attribute.DIM not in both)
-        for bits in (1, -1, 1 << 9, 1 << 32, 1 << 80):
+        for bits in (1, -1, 1 << 31, 1 << 32, 1 << 80):
             self.assertRaises(ValueError, Attribute, bits)
         for call in (lambda: both | 1, lambda: 1 in both, lambda: Attribute("bold"), lambda: both < 1):
             self.assertRaises(TypeError, call)

@@ -8,8 +8,8 @@ ghost use Rattle.config_text.specs.Value.{HasMeaning, Means, Normalizes, Compare
 use arrayvec::ArrayString;
 use bstr::BStr;
 
-/// How many bytes the longest canonical text has: two names of 13 bytes, the fifteen words of attributes, and
-/// the spaces between.
+/// How many bytes the longest canonical text has: two of the longest names, the words of all
+/// attributes, and the spaces between.
 pub const LONGEST_TEXT: usize = 127;
 
 /// A canonical text. It has room for the longest.
@@ -136,7 +136,7 @@ pub fn same_as<V: Value>(a: BStr<'_>, b: BStr<'_>) -> Option<bool>
 }
 
 /// What the input means: its value, and the only canonical text that reads to this value. Both are `None` if
-/// the input has no value. The text has at most 127 bytes, and no memory is taken for it.
+/// the input has no value. No memory is taken for the text.
 ///
 /// ```rust
 /// use bstr::BStr;

@@ -1,5 +1,5 @@
-//! A text compared with a word of known length, byte by byte from its front. The length is that of an array,
-//! so a compiler can write each comparison out.
+//! A text compared with a word or a run of bytes of known length. As the length is known, a compiler can write
+//! each comparison out, or compare all bytes at once.
 ghost use Rattle.std.specs.Prelude.{◌≡◌, ◌↔◌, ◌++◌, IsTrue, bytes_eq, drop, map, replicate};
 ghost use Rattle.std.specs.Char.{to_ascii_lowercase};
 
@@ -36,7 +36,7 @@ pub fn equals_ignoring_case<const N: usize>(text: &[u8], word: &[u8; N]) -> bool
     true
 }
 
-/// Whether the text begins with a run of `N` such bytes, which are compared at once.
+/// Whether the text begins with a run of `N` such bytes.
 #[inline(always)]
 pub fn begins_with_run<const N: usize>(text: &[u8], byte: u8) -> bool
     ensures { IsTrue result ↔ (text.now ≡ replicate N byte ++ drop N text.now) }

@@ -1,5 +1,5 @@
 -- What git-config(1) says of the words of colors: a definition with a wrong word, number or bit does not
--- check. Each of the 41 words stands here, and each attribute beside the constant that the code gives its
+-- check. Each of the words stands here, and each attribute beside the constant that the code gives its
 -- name.
 use Rattle.std.proofs.Common.{◌≡◌, ℕ, List, [], ◌∷◌, ◌++◌, map, codes, refl}
 use Rattle.config_word.specs.declared.attribute.Attribute.{Attribute}

@@ -1,4 +1,4 @@
--- Attributes: sets of bits, fifteen of which have a word.
+-- Attributes: sets of bits, some of which have a word.
 use Rattle.std.specs.Prelude.{◌≡◌, ℕ, ◌^◌, List, [], ◌∷◌, map, filter, codes, ◌==◌}
 use Rattle.std.specs.Int.{bit_at}
 use Rattle.std.specs.List.{join_with_byte}
@@ -27,7 +27,7 @@ shown_word row = row.2
 abbrev pub spellings_of : AttributeRow → List (List ℕ)
 spellings_of row = row.2 ∷ row.3
 
--- the fifteen constants, by rising bit
+-- the constants, by rising bit
 unfoldable pub attributes : List AttributeRow
 attributes =
     (codes "BOLD", 1, codes "bold", [])

@@ -149,7 +149,7 @@ fn shown_words() -> &'static [Shown]
 }
 
 /// How many rows one loop shows. The compiler writes out a loop of eight rows, each with a copy of known
-/// length, and does not write out one of fifteen.
+/// length, and does not write out one of all.
 const HALF: usize = 8;
 
 /// How many bytes all words of [`SHOWN`] have with a space between each two. That is the longest text without

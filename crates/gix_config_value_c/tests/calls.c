@@ -459,7 +459,7 @@ static void words(void)
         for (uint32_t kind = GCV_SUFFIX; kind < GCV_AMOUNT; kind++) {
             word other = {kind, kinds[at].text};
             size_t size;
-            count((call_at(buffer_area, normalize_canonical, &other, 127, &size) == GCV_OK) ==
+            count((call_at(buffer_area, normalize_canonical, &other, GCV_LONGEST_TEXT, &size) == GCV_OK) ==
                       (kind == kinds[at].number || (kind == GCV_INTEGER && kinds[at].number == GCV_AMOUNT)),
                   "a text of another kind");
         }

@@ -1,5 +1,6 @@
 -- What a text means, and what joined texts are read as, say the headline.
 use Rattle.std.proofs.Common.{◌≡◌, ◌↔◌, ◌≤◌, ◌⊎◌, length, ℕ, List, Option, None, Some, refl, sym, ap, subst}
+use Rattle.config_text.specs.declared.value.TheConstants.{LONGEST_TEXT}
 use Rattle.config_text.specs.Value.{IsRefused, IsTextOf, Means, Reads}
 use Rattle.config_color.specs.declared.color.Color.{Color}
 use Rattle.config_color.specs.Color.{ColorText}
@@ -31,7 +32,7 @@ says_headline {V} {grammar} {canonical} values text (Some v) (Some s) m = record
     λ h. ap (λ (x : List ℕ). Some x)
         (sym (m.only_text r h.0 (subst (λ (x : V). grammar r x) (m.one_value h.1 h.2) h.3))),
   );
-  at_most = λ r e. subst (λ (x : List ℕ). length x ≤ 127) (some_text e) m.text.short;
+  at_most = λ r e. subst (λ (x : List ℕ). length x ≤ LONGEST_TEXT) (some_text e) m.text.short;
   same = λ other r w h p k. (
     λ e. ap (λ (x : List ℕ). Some x)
         (sym (m.only_text r p (subst (λ (x : V). grammar r x) (sym (some e)) k))),
@@ -49,7 +50,7 @@ says_headline {V} {grammar} {canonical} values text (Some v) (Some s) m = record
   read_text r w p k e = record {
     canonical_text = p;
     reads_to = k;
-    short = subst (λ (x : List ℕ). length x ≤ 127) (some_text e) m.text.short;
+    short = subst (λ (x : List ℕ). length x ≤ LONGEST_TEXT) (some_text e) m.text.short;
   }
 
 pub says_joined : (front back text joined : List ℕ) (color : Option Color) → text ≡ joined

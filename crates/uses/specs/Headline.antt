@@ -1,20 +1,21 @@
 -- What the readers and normalizers promise of one text: the headline, with no words of the library except
 -- grammars.
 use Rattle.std.specs.Prelude.{◌≡◌, ◌≤◌, ◌↔◌, ◌⊎◌, ℕ, List, length, Option, None, Some}
+use Rattle.config_text.specs.declared.value.TheConstants.{LONGEST_TEXT}
 use Rattle.config_color.specs.declared.color.Color.{Color}
 use Rattle.gix_config_value.specs.Value.{IsRefused}
 use Rattle.gix_config_value.specs.Color.{ColorText}
 use Rattle.gix_config_value.specs.Composition.{Joined, HaveTooManyNames}
 
 -- The reader accepts exactly the texts that the grammar derives, with the one value that it gives them. The
--- normalizer gives exactly the canonical texts that read to this value, of at most 127 bytes, so just one.
+-- normalizer gives exactly the canonical texts that read to this value, so just one.
 -- Two texts mean the same exactly if their normalized texts are equal.
 pub record Headline {V : Type 0} (grammar : List ℕ → V → Type 0) (canonical : List ℕ → Type 0) (text : List ℕ)
     (value : Option V) (normalized : Option (List ℕ)) : Type 0 where
   pub accepted : (v : V) → (value ≡ Some v) ↔ (grammar text v)
   pub only_text : (s : List ℕ) → (normalized ≡ Some s)
       ↔ (canonical s × (v : V) × grammar text v × grammar s v)
-  pub at_most : (s : List ℕ) → normalized ≡ Some s → length s ≤ 127
+  pub at_most : (s : List ℕ) → normalized ≡ Some s → length s ≤ LONGEST_TEXT
   pub same : (other s : List ℕ) (w : V) → grammar other w → canonical s → grammar s w
       → (value ≡ Some w) ↔ (normalized ≡ Some s)
 

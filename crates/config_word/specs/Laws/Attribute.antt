@@ -66,8 +66,8 @@ rising : map (λ row. row.2) attributes ≡ rising_words
 unfolding attributes rising_words
 rising = refl
 
--- a word has at most 9 bytes
-words-short : list_all (λ row. nat_le (length row.2) 9) attributes ≡ true
+-- a word fits into the longest set
+words-short : list_all (λ row. nat_le (length row.2) LONGEST_SET) attributes ≡ true
 unfolding attributes
 words-short = refl
 
@@ -101,8 +101,8 @@ pub attribute_shown_is_text : (v : Attribute) → HasText AttributeText v
 attribute_shown_is_text v h = told (text-constant h.0 v h.1) where
   told : IsConstant v → IsTextOf AttributeText CanonicalAttribute v (attribute_shown v.0)
   told (row, o, e) =
-      let small = leb-true (length row.2) 9
-      (all-one (λ (r : AttributeRow). nat_le (length r.2) 9) attributes row words-short o) in
+      let small = leb-true (length row.2) LONGEST_SET
+      (all-one (λ (r : AttributeRow). nat_le (length r.2) LONGEST_SET) attributes row words-short o) in
       rw (constant-shown v (row, o, e)) (record {
         canonical_text = rw (← rising) (OneOf-map (λ (r : AttributeRow). r.2) attributes row o);
         reads_to = AttributeText.word row o (inl refl) e;

@@ -109,7 +109,7 @@ found-row [] t i h = cc
 found-row (first ∷ rows) t i h =
     found-row-told first rows t i (λ e. found-row rows t i e) (fits first t) refl h
 
--- no two of the 41 words are one, ignoring ASCII case
+-- no two of the words are one, ignoring ASCII case
 word_table-apart : are_apart word_table ≡ true
 unfolding attributes word_names
 word_table-apart = refl
@@ -125,7 +125,7 @@ abbrev starts_word : List ℕ → Bool
 starts_word [] = false
 starts_word (c ∷ cs) = is_word_byte c
 
--- each of the 41 words begins with such a byte
+-- each of the words begins with such a byte
 word_table-starts : list_all (λ row. starts_word (lowered row.0)) word_table ≡ true
 unfolding attributes word_names
 word_table-starts = refl

@@ -27,7 +27,7 @@ attribute_item bit = items.Attribute (record { 0 = 2 ^ bit })
 abbrev pub attribute_rows : AttributeRow → List WordRow
 attribute_rows row = map (λ w. (w, bit_of row == 8, attribute_item (bit_of row))) (spellings_of row)
 
--- the 41 words
+-- all words
 abbrev pub word_table : List WordRow
 word_table =
     map name_row word_names ++ (codes "-1", false, items.Name names.Normal)
