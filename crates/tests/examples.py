@@ -1,8 +1,8 @@
-"""Runs each example of the libraries' comments, and README.md's first one, as a test, over a copy of the library.
+"""Runs each example in the libraries' comments, and the first one in README.md, as a test on a copy of the library.
 
-An example is a fenced block of Rust. Of a line of it that begins with `# ` these two bytes are left out. Each public
-type of a value and each item of CALLS has to have an example, and a section of docs/GRAMMAR.md that a comment cites has
-to be there. `rt try` runs the examples: nothing of them is proved. A part of pages.py.
+An example is a fenced block of Rust. If a line of it begins with `# `, these two bytes are removed. Each public type or
+trait in the crates of CALLS, and each item that CALLS or MORE names, has to have an example. If a comment cites a
+section of docs/GRAMMAR.md, it has to exist. `rt try` runs the examples and proves nothing. pages.py calls this module.
 """
 import pathlib
 import re
@@ -11,7 +11,7 @@ import subprocess
 import tempfile
 
 ROOT = pathlib.Path(__file__).resolve().parent.parent.parent
-# each library, with the calls and types that a user meets first
+# each library, with the calls and types that a user needs first
 CALLS = {
     "config_text": ("text", "lookup", "normalize_as"),
     "config_integer": ("from_bytes", "to_decimal"),
@@ -21,7 +21,7 @@ CALLS = {
     "config_path": ("interpolate", "home_for_user"),
     "gix_config_value": ("from_str", "normalize", "same", "refusal", "run"),
 }
-# the crates over it, whose other types need no example
+# the crates that use the library, whose other types need no example
 MORE = {"config_file": ("Entries", "Settings", "text"), "config_checks": ("check_file",)}
 COMMENT = re.compile(r"^ *//[/!] ?(.*)$")
 ITEM = re.compile(r"^ *(?:pub )?(struct|enum|trait|fn) (\w+)")
@@ -31,7 +31,7 @@ AT_THE_ROOT = ("Boolean", "Color", "Error", "Fault", "Integer", "Path", "Returne
 
 
 def comments(file):
-    """Each comment of a file, with the line of the item that follows it and its attributes."""
+    """Each doc comment of a file, with the match of the item that follows it, and whether that item is public."""
     taken = []
     for line in file.read_text(encoding="utf-8").split("\n"):
         if COMMENT.match(line):
@@ -46,7 +46,7 @@ def blocks(text):
 
 
 def test(name, block):
-    """A test that runs the lines of an example. What they need and do not have is put before them."""
+    """A test that runs the lines of an example. Missing imports and a missing allocator are added before them."""
     body = re.sub(r"^# |^\s*\n", "", block, flags=re.MULTILINE)
     names = [name for name in AT_THE_ROOT if re.search(rf"\b{name}\b", body)]
     if names and not re.search(r"^use (gix_config_value|config_file)::", body, re.MULTILINE):
@@ -57,7 +57,7 @@ def test(name, block):
 
 
 def run(tests):
-    """The name of each test, and whether it passes. Where they are not run, their end is printed."""
+    """For each test, a fault in words and whether it passes. If not all tests ran, prints the end of the output."""
     with tempfile.TemporaryDirectory() as folder:
         root = pathlib.Path(folder)
         subprocess.run(["sh", ROOT / "vendor.sh", root], check=True)
@@ -78,7 +78,7 @@ def run(tests):
 
 
 def results():
-    """What may be wrong, each with whether it is right."""
+    """Each possible fault in words, and whether its check passes."""
     checked = []
     sections = re.findall(r"^## ([^(\n]*\w)", (ROOT / "docs/GRAMMAR.md").read_text(encoding="utf-8"), re.MULTILINE)
     tests = {"readme": blocks((ROOT / "README.md").read_text(encoding="utf-8"))[0]}

@@ -1,9 +1,9 @@
 #!/usr/bin/env python3
-"""Compares the pages with the definitions, and runs the examples of comments (examples.py).
+"""Compares the pages with the definitions, and runs the examples in comments (examples.py).
 
-A word, a bit, a number or a row that is in a table of docs/GRAMMAR.md and not in `specs/`, or the other way round,
-fails. So does a count of docs/READING.md that docs/words.py does not print, and a word of the toolchain that a
-definition of the library uses and docs/READING.md does not explain. The last line is 'N passed, M failed'.
+A word, a bit, a number or a row fails if it is in a table of docs/GRAMMAR.md and not in `specs/`, or the other way
+round. So does a row of counts that docs/words.py prints and docs/READING.md lacks, and a word of the toolchain that a
+definition uses and docs/READING.md does not explain. The last line is 'N passed, M failed'.
 """
 import pathlib
 import re
@@ -42,13 +42,13 @@ def spans(text):
 
 
 def rows(section):
-    """The cells of the rows of a section's table."""
+    """The cells of each row in a section's table."""
     lines = [line for line in SECTIONS[section].split("\n") if line.startswith("|")]
     return [[cell.strip() for cell in line[1:-1].split("|")] for line in lines[2:]]
 
 
 def sentence(section, pattern):
-    """The part of a section, as one line, that a pattern finds."""
+    """The first group that a pattern matches in a section, which is searched as one line, or an empty text."""
     found = re.search(pattern, " ".join(SECTIONS[section].split()))
     return found[1] if found else ""
 
@@ -113,7 +113,7 @@ def spaces():
 
 
 def reached(text, file, seen):
-    """The text of an equation, and of all that it cites in the crate of paths."""
+    """The text of an equation, and of all definitions of its file that it cites, directly or through others."""
     for word in words.cited(text, file):
         if word and word.file == file and word.name not in seen and not word.text.startswith("pub data"):
             seen.add(word.name)
@@ -154,7 +154,7 @@ def answers():
 
 
 def places():
-    """The files of definitions that the pages name, as `config_text` `Value`."""
+    """The files of definitions that the pages name, such as `config_text` `Value`."""
     for page in ("docs/GRAMMAR.md", "docs/READING.md"):
         text = " ".join((ROOT / page).read_text("utf-8").split())
         found = re.findall(r"`(\w+)`((?:,? `[A-Z]\w+`)+)", text)
@@ -174,7 +174,7 @@ def lengths():
 
 
 def reading():
-    """The counts of docs/READING.md, and the words that it has to explain."""
+    """The line counts in docs/READING.md, and the words that it has to explain."""
     page = (ROOT / "docs/READING.md").read_text("utf-8")
     explained = " ".join(re.findall("`+([^`]+)`+", page))
     yield "docs/READING.md, the lines of claims", words.table(), [row for row in words.table() if row in page]

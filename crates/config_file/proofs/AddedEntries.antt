@@ -1,4 +1,4 @@
--- An entry that is added to a configuration file.
+-- Entries that are added to a configuration file.
 use Rattle.std.proofs.Common.{◌≡◌, ◌≢◌, ℕ, ◌+◌, Bool, true, false, List, [], ◌∷◌, ◌++◌, Option, Some, None, refl, sym, ap, ◌∙◌, subst, append_assoc, arith, inl, inr, ◌⊎◌, ◌==◌, ◌&&◌, ◌||◌}
 use Rattle.std.specs.List.{list_all, flat_map}
 use Rattle.std.specs.Char.{is_ascii_alphabetic}
@@ -17,7 +17,7 @@ use Rattle.config_file.proofs.Shortest.{shortest_spelling}
 use Rattle.config_file.proofs.SpelledHeaders.{header_spelled, shortest_header, no_header, no_key}
 use Rattle.config_file.proofs.Appended.{reads_more, both_other}
 
--- no LF is spelled
+-- a spelling has no LF
 letter_other : (q : Bool) (b l : ℕ) → letter_of q b ≡ Some l → is_comment_byte l ≡ true
 letter_other true b l e = grind (arith, nat_tests)
 letter_other false b l e = grind (arith, nat_tests)
@@ -42,7 +42,7 @@ value_lines value =
       | inr other ↦ rw other (line_feeds_none (flat_map (spelled_byte false) value) (bytes_other false value))
     ]
 
--- no spelling is continued
+-- no spelling is continued: it does not end in a backslash that is not escaped
 letter_stays : (b l : ℕ) → letter_of false b ≡ Some l → l ≢ 13
 letter_stays b l e is = grind (arith, nat_tests)
 
@@ -104,7 +104,7 @@ line_ends front (k ∷ key) (Some value) is =
       not_continued = line_stays front k (key ++ 61 ∷ raw) letter stays;
     }
 
--- a line with a key, and a value if there is one
+-- a line with a key, and with a value if there is one
 value_of : Option (List ℕ) → Option (List ℕ)
 value_of None = None
 value_of (Some value) = Some (spelled_value value)
@@ -158,7 +158,7 @@ line_reads section (k ∷ key) (Some value) line is spellable =
     let read = file.entry {section = Some section} {line = line} letter (line_taken k key (Some value) is spellable) left in
     rw same at read
 
--- the beginning of a text, and of what it is continued by
+-- how a text begins, and how it begins after bytes are appended to it
 begins_no_mark : {section : Option Section} {line b : ℕ} {text : List ℕ} {entries : List Entry} → Reads section line (b ∷ text) entries None → b ≢ 0xef
 begins_no_mark (file.blank is h) e = grind (arith, nat_tests)
 begins_no_mark (file.line_end is h) e = omega arith
@@ -245,7 +245,7 @@ entry_added bytes name text key value (inner, section, same, names, header) is s
       inr (subst HasLineEnd (append_assoc file_text bytes line) (line_ends (file_text ++ bytes) key value is)),
     )
 
--- what an entry may not have
+-- the parts that no entry can have
 lacks_spelling : (value : Option (List ℕ)) → is_spellable_or_absent value ≡ false → LacksSpelling value
 lacks_spelling None no_value = absurd (true≢false no_value)
 lacks_spelling (Some value) refused = not_spelled value refused

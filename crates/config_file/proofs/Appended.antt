@@ -1,4 +1,4 @@
--- A configuration file, and a further line.
+-- A configuration file, and a line that is appended to it.
 use Rattle.std.proofs.Common.{◌≡◌, ◌≢◌, ℕ, ◌+◌, Bool, true, List, [], ◌∷◌, ◌++◌, Option, None, refl, sym, ap, ◌∙◌, subst, append_assoc, append-nil, arith, inl, inr, ◌⊎◌}
 use Rattle.std.specs.List.{list_all}
 use Rattle.std.proofs.lemmas.List.Folds.{list_all-append}
@@ -14,7 +14,7 @@ use Rattle.config_file.specs.File.{Entry, TakesKey, TakesEntry, alone, valued, R
 use Rattle.config_file.specs.Spelling.{HasLineEnd, EndsLine}
 use Rattle.config_file.proofs.LineEnds.{line_feeds_append, line_feeds_more, line_feeds_after, all_more, not_none, rest_none, tail_or_last, after_front, ends_at_byte, ends_line, has_end, no_line_end, value_has_no_end}
 
--- no LF is in a name, in blanks or in a key
+-- names, blanks and keys have no LF
 name_other : (b : ℕ) → is_name_byte b ≡ true → is_comment_byte b ≡ true
 name_other b is = grind (arith, nat_tests)
 
@@ -67,7 +67,7 @@ header_more more (quoted {inner = inner} opens (closes {b = b} {raw = raw} {rest
     })
     (closes (record { is_subsection = takes.is_subsection; joined = rw takes.joined (append_assoc raw (34 ∷ b ∷ rest) more) }) e)
 
--- a header is bytes without an LF, and a bracket
+-- a header is bytes without an LF, followed by a bracket
 header_bytes : {text rest : List ℕ} {section : Section} → Header text section rest
     → (front : List ℕ) × (text ≡ front ++ 93 ∷ rest) × (list_all is_comment_byte front ≡ true)
 header_bytes (plain {b = b} {name = name} {rest = rest} run some e) =
@@ -135,7 +135,7 @@ value_lines h (closed {raw = raw} {rest = rest} joined spells ends) =
     (ap line_feeds joined ∙ line_feeds_append raw rest, value_ends raw rest some ends joined h)
 value_lines h (open_end spells) = absurd (value_has_no_end spells h)
 
--- what follows the `=` has the line end of the entry
+-- if the text has a line end over which it is not continued, so has what follows the `=`
 after_equals : {text key after : List ℕ} {b : ℕ} → HasLineEnd text → TakesKey text key (b ∷ after) → b ≡ 61 → HasLineEnd after
 after_equals {key = key} {after = after} {b = b} h takes is =
     let bytes = key_bytes (b ∷ after) takes in

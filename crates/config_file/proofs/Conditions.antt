@@ -13,7 +13,7 @@ same_length : (i : Bool) (a b : List ℕ) → IsSameName i a b → length a ≡ 
 same_length true a b e = sym (length-map a to_ascii_lowercase) ∙ ap length e ∙ length-map b to_ascii_lowercase
 same_length false a b e = ap length e
 
--- a name begins in one way with so many bytes
+-- a name has only one front of this many bytes, and only one rest after it
 fronts : (front left name : List ℕ) (n : ℕ) → name ≡ front ++ left → length front ≡ n → (front ≡ take n name) × (left ≡ drop n name)
 fronts front left name n e l = rw (sym l, e) (sym (take-append_seam front left), sym (drop-append_seam front left))
 

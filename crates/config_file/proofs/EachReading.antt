@@ -118,7 +118,7 @@ each_entry text =
 abbrev HasReading : Option Section → ℕ → List ℕ → Type 0
 HasReading section line text = (entries : List Entry) × (error : Option Error) × Reads section line text entries error
 
--- texts that are no longer have a reading
+-- each text of at most n bytes has a reading
 abbrev pub AreRead : ℕ → Type 0
 AreRead n = (section : Option Section) (line : ℕ) (text : List ℕ) → length text ≤ n → HasReading section line text
 

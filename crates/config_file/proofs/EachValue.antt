@@ -1,4 +1,4 @@
--- After the `=`, each text has a value or a place at which the reading stops; and likewise after a quote.
+-- After an `=`, each text has a value or a place at which the reading stops. The same holds after a quote.
 use Rattle.std.proofs.Common.{◌≡◌, ◌≢◌, ℕ, zero, suc, ◌+◌, ◌≤◌, Bool, true, false, not, ◌==◌, List, [], ◌∷◌, Option, Some, None, Result, Ok, Err, length, refl, ap, arith, eqb-true, if◌then◌else◌, inl, inr, ◌⊎◌}
 use Rattle.std.proofs.lemmas.Bool.{cases_Bool}
 use Rattle.std.proofs.lemmas.Bool.Decides.{nat_tests}
@@ -32,7 +32,7 @@ value_ends false (b ∷ rest) passed ends =
           (Ok (passed.raw, line_feeds passed.raw, b ∷ rest), values.ends_closed false (b ∷ rest) passed.raw passed ends refl bad passed.joined)
     ]
 
--- a backslash goes before something, or the text ends there, or the reading stops
+-- what follows a backslash: an escape or a line end, the end of the text, or bytes at which the reading stops
 data AfterBackslash (rest : List ℕ) : Type 0 where
   goes : (after : List ℕ) → Escapes rest after → length after ≤ length rest → AfterBackslash rest
   ends : rest ≡ [] → AfterBackslash rest
@@ -70,7 +70,7 @@ value_at_end {rest = rest} true b passed is none =
 value_at_end {text = text} {rest = rest} false b passed is none =
     (Ok (text, line_feeds text + 1, rest), values.ends_open_here false (b ∷ rest) passed refl (rw is refl) none)
 
--- scans of shorter rests find something
+-- each scan that has at most n bytes left finds a value, or a place at which the reading stops
 abbrev Finds : ℕ → List ℕ → Type 0
 Finds n text = (q : Bool) (at : List ℕ) → length at ≤ n → PassedValue text q at → HasValue text
 

@@ -1,4 +1,4 @@
--- Entries.
+-- Entries and their keys, from the runs that the reader takes.
 use Rattle.std.proofs.Common.{◌≡◌, ℕ, List, ◌∷◌, subst}
 use Rattle.config_file.specs.Bytes.{is_key_byte, is_space}
 use Rattle.config_file.specs.Runs.{Run}

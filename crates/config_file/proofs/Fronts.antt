@@ -4,7 +4,7 @@ use Rattle.std.proofs.lemmas.List.{append_assoc, append_cancel_left}
 use Rattle.std.specs.Char.{to_ascii_lowercase}
 use Rattle.std.specs.Str.{str_to_ascii_lowercase}
 
--- after a part of the front, the text goes on with its next byte
+-- a text that begins with the whole front has, after a part of the front, the next byte of the front
 pub goes_on : (front text rest more : List ℕ) (i : ℕ) → i < length front
     → text ≡ str_to_ascii_lowercase (take i front) ++ rest → text ≡ str_to_ascii_lowercase front ++ more
     → (others : List ℕ) × (rest ≡ to_ascii_lowercase (get_or front i 0) ∷ others)
@@ -13,7 +13,7 @@ goes_on (f ∷ front) text rest more zero within part whole = (str_to_ascii_lowe
 goes_on (f ∷ front) text rest more (suc i) within part whole =
     goes_on front (str_to_ascii_lowercase (take i front) ++ rest) rest more i (omega arith) refl (ap (drop 1) (sym part ∙ whole))
 
--- what does not begin with the first part does not begin with both
+-- a text that does not begin with the first part does not begin with both parts
 pub not_both : (first second text : List ℕ) → ((more : List ℕ) → text ≢ first ++ more)
     → (more : List ℕ) → text ≢ first ++ second ++ more
 not_both first second text never more e = never (second ++ more) (e ∙ append_assoc first second more)

@@ -1,4 +1,4 @@
--- Headers.
+-- Headers, from the parts that the reader takes.
 use Rattle.std.proofs.Common.{◌≡◌, ◌≢◌, ℕ, List, [], ◌∷◌, refl, subst, None}
 use Rattle.config_file.specs.declared.errors.Fault.TheVariants.{BadLine}
 use Rattle.config_file.specs.Bytes.{is_name_byte, is_blank}
@@ -20,7 +20,7 @@ pub name_stops_not_closed : (name after : List ℕ) → after ≢ [] → BeginsW
 name_stops_not_closed name [] some h = absurd (some refl)
 name_stops_not_closed name (b ∷ rest) some h = not_closed h
 
--- where no blank runs, the text begins with none
+-- if the run of blanks at the start of a text is empty, the text does not begin with a blank
 pub no_blanks : {after quoted : List ℕ} (run : List ℕ) → Run is_blank after run quoted → run ≡ [] → StopsRun is_blank after
 no_blanks [] h e = rw h.joined h.longest
 no_blanks (b ∷ run) h e = cc

@@ -1,4 +1,4 @@
--- The last setting of a key, from what holds of the settings at each index.
+-- The last setting of a key, from what holds for the setting at each index.
 use Rattle.std.proofs.Common.{◌≡◌, ◌≢◌, ◌<◌, ◌≤◌, ◌+◌, ℕ, zero, suc, List, [], ◌∷◌, Some, length, get_or}
 use Rattle.std.proofs.Common.{refl, ◌∙◌, ap, arith}
 use Rattle.std.specs.List.{slice_get, HoldsAt, AllWithin}
@@ -8,14 +8,14 @@ use Rattle.config_text.specs.Settings.{IsNamed, IsAbsent}
 use Rattle.config_file.specs.declared.settings.Setting.{Setting}
 use Rattle.config_file.specs.Settings.{texts, IsLast}
 
--- the setting at a place of which the texts are named
+-- if the text at an index has this key, there is a setting at that index, and it has the key
 named_setting : (settings : List Setting) (key : List ℕ) (j : ℕ) (t : List ℕ) → IsNamed (texts settings) key j t
     → (s : Setting) × (slice_get settings j ≡ Some s) × (s.key.items ≡ key)
 named_setting [] key j t named = absurd (none-some (key, t) named)
 named_setting (s ∷ settings) key zero t named = (s, refl, ap (λ p. p.0) (same_Some _ _ named))
 named_setting (s ∷ settings) key (suc j) t named = named_setting settings key j t named
 
--- an index at which no setting has the key
+-- if no setting from an index on has the key, no text from that index on has it
 not_named : (settings : List Setting) (key : List ℕ) (low : ℕ)
     → AllWithin (λ s. s.key.items ≢ key) settings low (length settings)
     → (j : ℕ) (t : List ℕ) → low ≤ j → ¬ (IsNamed (texts settings) key j t)

@@ -1,4 +1,4 @@
--- Texts that end in a line end, and how many line ends there are.
+-- Texts that end in a line end, and how many LFs they have.
 use Rattle.std.proofs.Common.{◌≡◌, ◌≢◌, ℕ, ◌+◌, Bool, true, false, cond, List, [], ◌∷◌, ◌++◌, refl, sym, ap, ◌∙◌, arith, inl, inr, ◌⊎◌, ◌==◌}
 use Rattle.std.specs.List.{list_all}
 use Rattle.std.proofs.lemmas.List.Sums.{sum_by-cons, sum_by-append}
@@ -8,7 +8,7 @@ use Rattle.config_file.specs.Bytes.{is_comment_byte, is_plain, is_blank}
 use Rattle.config_file.specs.Value.{Ending, Spells, ends_outside, ends_inside, ends_at_backslash, quote, escaped, continued, continued_after_return, blank, plain, line_feeds}
 use Rattle.config_file.specs.Spelling.{is_continued, HasLineEnd, EndsLine}
 
--- a byte that is no LF is one of a comment
+-- how many LFs a text has, by its parts
 pub line_feeds_append : (xs ys : List ℕ) → line_feeds (xs ++ ys) ≡ line_feeds xs + line_feeds ys
 line_feeds_append xs ys = sum_by-append (λ b. cond (b == 10) 1 0) xs ys
 
@@ -125,7 +125,7 @@ pair_of b e rest (x ∷ y ∷ line) is joined h =
 after_pair : (b e : ℕ) (rest : List ℕ) → b ≡ 92 → HasLineEnd (b ∷ e ∷ rest) → HasLineEnd rest
 after_pair b e rest is h = pair_of b e rest h.line is h.joined h.not_continued
 
--- where a line goes on after these first bytes
+-- a text that ends in LF, split after these first bytes and one more byte
 splits : (front : List ℕ) (b : ℕ) (rest line : List ℕ) → front ++ b ∷ rest ≡ line ++ 10 ∷ []
     → ((rest ≡ []) × (b ≡ 10)) ⊎ ((more : List ℕ) × (rest ≡ more ++ 10 ∷ []) × (line ≡ front ++ b ∷ more))
 splits [] b rest [] e = let none : rest ≡ [] = cc in let is : b ≡ 10 = cc in inl (none, is)
@@ -205,7 +205,7 @@ plain_is_no_line_end : (q : Bool) (b : ℕ) → is_plain q b ≡ true → b ≡ 
 plain_is_no_line_end true b is e = grind (arith, nat_tests)
 plain_is_no_line_end false b is e = grind (arith, nat_tests)
 
--- the bytes of a value do not end in a line end over which it is not continued
+-- the bytes of a value do not end in an LF over which they are not continued
 pub value_has_no_end : {q : Bool} {value raw text : List ℕ} {held : ℕ} {ending : Ending} → Spells q value held raw text ending → HasLineEnd raw → ⊥
 value_has_no_end ends_outside h = none_ends h
 value_has_no_end ends_inside h = none_ends h

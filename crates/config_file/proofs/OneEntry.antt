@@ -1,4 +1,4 @@
--- A text begins with one entry, or one place at which the reading stops.
+-- At the start of a text there is at most one entry or place at which the reading stops.
 use Rattle.std.proofs.Common.{◌≡◌, ℕ, List, [], ◌∷◌, Option, Some, None, Result, Ok, Err, refl, ap, subst, arith, inl, inr}
 use Rattle.config_file.proofs.OneRun.{run_only}
 use Rattle.config_file.proofs.OneValue as one_value

@@ -1,4 +1,4 @@
--- After its `[`, a text has one header, or one place at which the reading stops.
+-- After a `[`, a text has at most one header or place at which the reading stops.
 use Rattle.std.proofs.Common.{◌≡◌, ◌≢◌, ℕ, Bool, true, false, ◌==◌, ◌&&◌, ◌||◌, List, [], ◌∷◌, Some, None, Result, Ok, Err, refl, sym, ap, ◌∙◌, subst, arith, inl, inr, ◌⊎◌, if◌then◌else◌}
 use Rattle.std.proofs.lemmas.Bool.Decides.{nat_tests}
 use Rattle.config_file.proofs.Pick.{pick, pick_second, pick_third}

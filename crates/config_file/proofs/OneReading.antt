@@ -1,4 +1,4 @@
--- A text has one reading.
+-- A text has at most one reading.
 use Rattle.std.proofs.Common.{◌≡◌, ◌≢◌, ℕ, zero, suc, ◌+◌, ◌≤◌, Bool, true, false, ◌==◌, List, [], ◌∷◌, Option, Some, None, Ok, Err, length, refl, sym, ap, ◌∙◌, subst, arith, inl, inr, ◌⊎◌, if◌then◌else◌, eqb-true, ◌&&◌}
 use Rattle.std.proofs.lemmas.Bool.{cases_Bool, and_parts}
 use Rattle.std.proofs.lemmas.Bool.Decides.{nat_tests}
@@ -16,7 +16,7 @@ use Rattle.config_file.specs.Header.{Section, fault_at}
 use Rattle.config_file.specs.File as file
 use Rattle.config_file.specs.File.{Entry, Reads, Begins, IsFile, begins_item, after_mark, IsPartOfMark}
 
--- what begins with a byte
+-- the kind of item that begins with a byte
 data Kind : Type 0 where
   blank : Kind
   line_end : Kind
@@ -81,7 +81,7 @@ AfterEntry section line left error (Ok p) =
     × (left ≡ record { section = section; key = p.0; value = p.1; line = line + p.2 } ∷ later)
 AfterEntry section line left error (Err stop) = (left ≡ []) × (error ≡ Some (record { line = line + stop.0; fault = stop.1 }))
 
--- what a reading says after its first byte, by what begins there
+-- what a reading states after its first byte, by the kind of item that begins there
 abbrev Turn : Option Section → ℕ → ℕ → List ℕ → List Entry → Option Error → Kind → Type 0
 Turn section line b text left error blank = Reads section line text left error
 Turn section line b text left error line_end = Reads section (line + 1) text left error
@@ -105,7 +105,7 @@ turn (file.no_item {b = b} is) = (nothing, kind_nothing b is, (refl, refl))
 abbrev Same : List Entry → List Entry → Option Error → Option Error → Type 0
 Same a b e f = (a ≡ b) × (e ≡ f)
 
--- readings of shorter texts are one
+-- each text of at most n bytes has at most one reading
 abbrev AreOne : ℕ → Type 0
 AreOne n = (section : Option Section) (line : ℕ) (text : List ℕ) (a b : List Entry) (e f : Option Error) → length text ≤ n
     → Reads section line text a e → Reads section line text b f → Same a b e f
@@ -176,7 +176,7 @@ no_end b [] not_line not_return h = not_line h
 no_end b (c ∷ rest) not_line not_return (inl is) = not_line is
 no_end b (c ∷ rest) not_line not_return (inr (is, next)) = not_return is
 
--- a text with the mark does not end its line in a part of it
+-- if a text begins with the whole mark, its first line does not hold only a part of it
 mark_is_whole : (text rest : List ℕ) → after_mark text ≡ Some rest → IsPartOfMark text → ⊥
 mark_is_whole [] rest e h = h
 mark_is_whole (a ∷ []) rest e h = none_is_not_some e

@@ -1,4 +1,4 @@
--- After a quote, a text has one subsection, or one place at which the reading stops.
+-- After a quote, a text has at most one subsection or place at which the reading stops.
 use Rattle.std.proofs.Common.{◌≡◌, ℕ, zero, suc, ◌≤◌, true, false, ◌==◌, List, [], ◌∷◌, ◌++◌, Option, Some, None, Result, Ok, Err, length, refl, sym, ap, ◌∙◌, subst, arith, if◌then◌else◌, length-append}
 use Rattle.std.proofs.lemmas.List.{append_cancel_right}
 use Rattle.std.proofs.lemmas.Bool.Decides.{nat_tests}
@@ -19,7 +19,7 @@ abbrev after_step : (List ℕ → List ℕ) → List ℕ → Option (List ℕ) �
 after_step more text None = text
 after_step more text (Some rest) = more rest
 
--- where the scan stops, after at most n steps
+-- what is left of the text after n steps of the scan, or fewer if it stops before
 abbrev stop : ℕ → List ℕ → List ℕ
 stop zero text = text
 stop (suc n) text = after_step (stop n) text (step text)
@@ -43,7 +43,7 @@ stops_after (sub.plain {b = b} {raw = raw} is s) rest (suc n) room none =
     let next = pick_second _ _ (step_escaped (raw ++ rest)) (Some (raw ++ rest)) None (plain_is_no_backslash b is) is in
     ap (after_step (stop n) (b ∷ raw ++ rest)) next ∙ stops_after s rest n (omega arith) none
 
--- the outcome at the place where the scan stops
+-- the outcome of a scan that stops before this rest, after these bytes
 abbrev finish : List ℕ → List ℕ → Result (List ℕ × List ℕ) (List ℕ)
 finish raw [] = Err []
 finish raw (b ∷ rest) = pick (b == 34) (b == 92) (Ok (raw, rest)) (Err rest) (Err (b ∷ rest))
@@ -115,7 +115,7 @@ stops_found (sub.stops_escaped {b = b} {text = text} {raw = raw} {rest = rest} (
       is = refl;
     }
 
--- the outcome of a text
+-- the text has this outcome
 abbrev pub SubsectionHas : List ℕ → Result (List ℕ × List ℕ) (List ℕ) → Type 0
 SubsectionHas text (Ok p) = TakesSubsection text p.0 p.1
 SubsectionHas text (Err rest) = StopsInSubsection text rest

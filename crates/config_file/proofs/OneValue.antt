@@ -1,4 +1,4 @@
--- After the `=`, a text has one value, or one place at which the reading stops.
+-- After an `=`, a text has at most one value or place at which the reading stops.
 use Rattle.std.proofs.Common.{◌≡◌, ◌≢◌, ℕ, zero, suc, ◌+◌, ◌≤◌, Bool, true, false, not, ◌==◌, List, [], ◌∷◌, ◌++◌, Option, Some, None, is_some, Result, Ok, Err, length, refl, sym, ap, ◌∙◌, subst, arith, if◌then◌else◌, length-append, append-nil, eqb-true, inl, inr, ◌⊎◌}
 use Rattle.std.proofs.lemmas.List.{append_cancel_right}
 use Rattle.std.proofs.lemmas.Bool.{cases_Bool}
@@ -31,7 +31,7 @@ abbrev after_step : (Bool → List ℕ → Bool × List ℕ) → Bool → List �
 after_step more q text None = (q, text)
 after_step more q text (Some p) = more p.0 p.1
 
--- in quotes or not, and where the scan stops, after at most n steps
+-- whether the scan is in quotes, and what is left, after n steps or fewer if it stops before
 abbrev stop : ℕ → Bool → List ℕ → Bool × List ℕ
 stop zero q text = (q, text)
 stop (suc n) q text = after_step (stop n) q text (step q text)
@@ -104,7 +104,7 @@ blank_no_quote b is = grind (arith, nat_tests)
 blank_no_backslash : (b : ℕ) → is_blank b ≡ true → (b == 92) ≡ false
 blank_no_backslash b is = grind (arith, nat_tests)
 
--- where the scan of the bytes of a value ends
+-- the scan of the bytes of a value stops after them, or before their last backslash, if no step goes on there
 stops_after : {q : Bool} {so_far raw spelled : List ℕ} {held : ℕ} {e : Ending} → Spells q so_far held raw spelled e → (rest : List ℕ) (n : ℕ) → length raw ≤ n
     → step (state e) (tail e ++ rest) ≡ None → stop n q (raw ++ rest) ≡ (state e, tail e ++ rest)
 stops_after value.ends_outside rest n room none = stops_at_once n false rest none
@@ -135,7 +135,7 @@ stops_after {e = e} (value.plain {quoted = q} {b = b} {raw = raw} is s) rest (su
     goes n q q (b ∷ raw ++ rest) (raw ++ rest) (state e, tail e ++ rest)
     (step_plain q b (raw ++ rest) (plain_goes_on q b is) (plain_no_quote q b is) (plain_no_backslash q b is)) (stops_after s rest n (omega arith) none)
 
--- the bytes before the backslash at which the file ends
+-- the bytes of a value that ends at a backslash end in that backslash
 before_backslash : {q : Bool} {so_far raw spelled : List ℕ} {held : ℕ} → Spells q so_far held raw spelled at_backslash → (front : List ℕ) × (raw ≡ front ++ 92 ∷ [])
 before_backslash (value.ends_at_backslash is) = ([], rw is)
 before_backslash (value.quote {b = b} is s) = let (front, e) = before_backslash s in (b ∷ front, ap (◌∷◌ b) e)
@@ -154,7 +154,7 @@ finish_at_backslash raw true [] = Err (line_feeds raw + 1, BadLine)
 finish_at_backslash raw false [] = Ok (raw ++ 92 ∷ [], line_feeds (raw ++ 92 ∷ []) + 1, [])
 finish_at_backslash raw q (e ∷ rest) = Err (line_feeds raw, fault_at (e ∷ rest))
 
--- the outcome at the place where the scan stops
+-- the outcome of a scan that stops before this rest, after these bytes, in quotes or not
 abbrev finish : List ℕ → Bool → List ℕ → Outcome
 finish raw true [] = Err (line_feeds raw, BadLine)
 finish raw false [] = Ok (raw, line_feeds raw, [])
@@ -180,7 +180,7 @@ found_only first second =
 long_enough : {text : List ℕ} (raw rest : List ℕ) → text ≡ raw ++ rest → length raw ≤ length text
 long_enough raw rest e = rw e (omega (arith, length-append raw rest))
 
--- a place after a part of a value, at which no step goes on
+-- the scan stops after a part of a value if no step goes on there
 part_stops : {text : List ℕ} (q : Bool) (raw rest : List ℕ) → text ≡ raw ++ rest → IsPart q raw → step q rest ≡ None → stop (length text) false text ≡ (q, rest)
 part_stops {text = text} true raw rest joined (spelled, s) none =
     subst (λ t. stop (length text) false t ≡ (true, rest)) (sym joined) (stops_after s rest (length text) (long_enough raw rest joined) none)
@@ -292,7 +292,7 @@ stopped_found (value.no_escape {b = b} {text = text} q raw rest joined part is n
       is = finish_after_backslash q raw rest none;
     }
 
--- the outcome of a text
+-- the text has this outcome
 abbrev pub ValueHas : List ℕ → Outcome → Type 0
 ValueHas text (Ok p) = TakesValue text p.0 p.1 p.2
 ValueHas text (Err stop) = ValueStops text stop.0 stop.1

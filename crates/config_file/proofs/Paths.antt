@@ -1,4 +1,4 @@
--- The paths that values stand for, by how they begin.
+-- The paths of values, by what the values begin with.
 use Rattle.std.proofs.Common.{◌≡◌, ℕ, true, false, List, ◌++◌, codes, drop, Option, None, Some, refl}
 use Rattle.config_file.specs.Bytes.{LacksFront}
 use Rattle.config_file.specs.Path.{Expands, below_home, below_prefix, other, BeginsUnknown, user, no_home, no_prefix, is_rest}

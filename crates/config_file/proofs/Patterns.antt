@@ -183,7 +183,7 @@ later_ends {i = i} {crossing = crossing} {pattern = pattern} at e never (left, p
     let same = passes_none (subst (λ x. Passes crossing x left) e passed) in
     never (subst (λ x. Matches i false pattern x) (same ∙ sym e) match)
 
--- ---- answers of tests
+-- ---- results of tests
 
 pub not_true : (b : Bool) → b ≡ false → IsTrue b → ⊥
 not_true b e t = grind arith

@@ -1,4 +1,4 @@
--- A value whose text is a part of its bytes.
+-- A value whose text is a slice of its bytes.
 use Rattle.std.proofs.Common.{◌≡◌, ◌≢◌, ℕ, ◌+◌, ◌-◌, Bool, true, false, List, [], ◌∷◌, ◌++◌, length, replicate, refl, sym, ap, ◌∙◌, subst, arith, append_assoc, append-nil, length-append, not, ◌==◌}
 use Rattle.std.proofs.lemmas.Bool.{true≢false, and_parts}
 use Rattle.std.proofs.lemmas.Bool.Decides.{nat_tests}

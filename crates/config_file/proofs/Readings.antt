@@ -1,4 +1,4 @@
--- The reader, an item at a time.
+-- The reader, item by item.
 use Rattle.std.proofs.Common.{◌≡◌, ◌≢◌, ℕ, ◌+◌, true, false, List, [], ◌∷◌, Option, Some, None, Result, Ok, Err, sym, ap, ◌∙◌, subst, arith}
 use Rattle.std.proofs.lemmas.Bool.Decides.{nat_tests}
 use Rattle.std.specs.Char.{is_ascii_alphabetic}
@@ -31,7 +31,7 @@ module _ {section : Option Section} {line : ℕ} (left : List Entry) (error : Op
       → Reads (Some next) line after left error → Reads section line at left error
   at_header at e is taken h = rw e (file.header is taken h)
 
--- an error by its parts
+-- a text that is refused with an error of this line and this fault is refused with an equal error
 refused_as : {section : Option Section} {line at_line : ℕ} {fault : Fault} {text : List ℕ} (error : Error) → error.line ≡ at_line → error.fault ≡ fault
     → Reads section line text [] (Some (record { line = at_line; fault = fault })) → Reads section line text [] (Some error)
 refused_as {section = section} {line = line} {fault = fault} {text = text} error same_line same_fault h =
@@ -63,13 +63,13 @@ at_entry {lines = lines} {key = key} {after = after} {value = value} left error 
 pub none_left : {section : Option Section} {line : ℕ} (at : List ℕ) → at ≡ [] → Reads section line at [] None
 none_left at e = rw e file.ends
 
--- what a later reader gives, an earlier one gives that has the same left
+-- a reader that has what a later one has left returns what the later one returns
 pub gives_from : (old mid : reader.Entries) (result : Result code.Entry Error) (new : reader.Entries)
     → ((left : List Entry) (error : Option Error) → HasLeft mid left error → HasLeft old left error)
     → GivesEntry mid (Some result) new → GivesEntry old (Some result) new
 gives_from old mid (Ok entry) new same gives = λ left error h. same (entry_of entry ∷ left) error (gives left error h)
 gives_from old mid (Err error) new same gives = (same [] (Some error) gives.0, gives.1)
 
--- a byte at which the code finds no item begins none
+-- a byte at which the code finds no item does not begin an item
 pub begins_none : (b : ℕ) → is_blank b ≡ false → b ≢ 10 → is_comment_sign b ≡ false → b ≢ 91 → is_ascii_alphabetic b ≡ false → begins_item b ≡ false
 begins_none b not_blank not_line_end not_sign not_bracket not_letter = grind (arith, nat_tests)

@@ -5,7 +5,7 @@ use Rattle.std.proofs.Common.{inl, inr}
 use Rattle.std.specs.List.{prefix_len}
 use Rattle.config_file.specs.Runs.{Run}
 
--- the front that `prefix_len` counts is the longest run
+-- the bytes that `prefix_len` counts are the longest run at the start of the text
 pub run_split : (test : ℕ → Bool) (text : List ℕ) → Run test text (take (prefix_len test text) text) (drop (prefix_len test text) text)
 run_split test [] = record { joined = refl; pass = refl; longest = tt }
 run_split test (b ∷ text) =

@@ -1,4 +1,4 @@
--- Sets of bytes in patterns, by how they go on.
+-- Sets of bytes in patterns: their classes, their members, and what they match.
 use Rattle.std.proofs.Common.{◌≡◌, ◌≢◌, ℕ, ◌<◌, ◌≤◌, Bool, true, false, not, ◌||◌, ◌&&◌, ◌==◌, List, [], ◌∷◌, ◌++◌, Option, None, Some, length, drop, get_or, codes, refl, sym, ap, ◌∙◌, subst, arith, inl, inr}
 use Rattle.std.proofs.lemmas.List.{append_cancel_left, append_cancel_right}
 use Rattle.config_file.specs.Runs.{Run}
@@ -53,7 +53,7 @@ class_shortens {name = name} {rest = rest} is =
 
 -- ---- members
 
--- `]` is no member once the set has begun
+-- `]` is not a member, unless the set begins with it
 no_end_member : (i : Bool) (b c : ℕ) (rest : List ℕ) (here : Bool) (after : List ℕ) → c ≡ right_bracket
     → Member i b false (c ∷ rest) here after → ⊥
 no_end_member i b c rest here after e (class name is found) =
@@ -174,7 +174,7 @@ set_shortens {text = text} stands =
 
 -- ---- the members that are read one by one
 
--- what has been read has the byte or not, and the set goes on in the rest
+-- after members that have the byte or not, the set goes on with this rest
 abbrev pub GoesOn : Bool → ℕ → List ℕ → Bool → List ℕ → Type 0
 GoesOn i b text found rest =
     ((f g : Bool) (r : List ℕ) → SetHas i b false rest f r → g ≡ (found || f) → SetHas i b true text g r)
@@ -238,7 +238,7 @@ pub not_closed : {i : Bool} {b : ℕ} {text : List ℕ} (found : Bool) (rest : L
     → (g : Bool) (r : List ℕ) → ¬ (SetHas i b true text g r)
 not_closed found rest on never none g r whole = let (f, more) = on.1 g r whole in no_more more never none
 
--- ---- sets that stand for a byte
+-- ---- sets that match a byte
 
 pub stands : {i : Bool} {b : ℕ} {negated found : Bool} {text inner rest : List ℕ} → (negated, inner) ≡ opened text
     → SetHas i b true inner found rest → is_wanted found negated ≡ true → b ≢ 47 → StandsForByte i text b rest

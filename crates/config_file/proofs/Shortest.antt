@@ -1,4 +1,4 @@
--- No bytes that spell a value are fewer than its spelling.
+-- The spelling of a value has the fewest bytes that spell it.
 use Rattle.std.proofs.Common.{◌≡◌, ◌≢◌, ℕ, zero, suc, ◌+◌, ◌≤◌, ◌<◌, Bool, true, false, not, ◌||◌, cond, List, [], ◌∷◌, ◌++◌, Some, None, length, length-append, refl, sym, ap, ◌∙◌, subst, append_assoc, append-nil, arith, inl, inr, ◌⊎◌, ◌==◌}
 use Rattle.std.specs.Prelude.{replicate, nat_lt, count_by}
 use Rattle.std.specs.List.{flat_map, list_any}
@@ -12,7 +12,7 @@ use Rattle.config_file.specs.Spelling.{IsSpelling, IsShortest}
 use Rattle.config_file.specs.Reading.Spellings.{letter_of, after_backslash, spelled_byte, is_lost, begins_with_space, ends_with_space, is_quoted, spelled_value, is_spellable}
 use Rattle.config_file.proofs.Spellings.{value_spelled}
 
--- how many bytes spell a value, in quotes that are not counted, or outside
+-- how many bytes the spelled bytes of a value take, in quotes, which are not counted, or outside them
 abbrev cost : Bool → List ℕ → ℕ
 cost q value = length (flat_map (spelled_byte q) value)
 
@@ -35,7 +35,7 @@ no_letter_in_quotes b is = grind (arith, nat_tests)
 plain_byte : (q : Bool) (b : ℕ) → letter_of q b ≡ None → length (spelled_byte q b) ≤ 1
 plain_byte q b is = rw is (omega arith)
 
--- TABs are what quotes save
+-- quotes save one byte for each TAB
 tab_cost : (b : ℕ) → length (spelled_byte false b) ≡ length (spelled_byte true b) + cond (b == 9) 1 0
 tab_cost b =
     elim (cases_Bool (b == 9)) [
@@ -55,7 +55,7 @@ tabs_cost (b ∷ value) =
     let counted = sum_by-cons (λ c. cond (c == 9) 1 0) b value in
     omega arith
 
--- the spaces that the blanks that are held back become, once a byte follows
+-- the spaces that stand for held blanks if a byte follows them, unless the value has no byte yet
 abbrev lead : List ℕ → ℕ → List ℕ
 lead [] held = []
 lead (b ∷ value) held = replicate held 32
@@ -100,14 +100,14 @@ lead_first : (value : List ℕ) (held c : ℕ) (left : List ℕ) → c ≢ 32 �
 lead_first [] held c left other none = grind (arith, nat_tests)
 lead_first (b ∷ value) held c left other none = cc
 
--- what is left of a value is spelled outside quotes alone
+-- what is left of a value needs no quotes, and this many bytes are enough for it without quotes
 record Bare (value left : List ℕ) (bytes : ℕ) : Type 0 where
   found : list_any is_lost left ≡ false
   last : ends_with_space left ≡ false
   first : value ≡ [] → begins_with_space left ≡ false
   fits : cost false left ≤ bytes
 
--- what is left of a value, after its first bytes, needs as many bytes
+-- this many bytes are enough for what is left of a value after its first bytes, in quotes or not
 abbrev Costs : Bool → List ℕ → List ℕ → ℕ → Type 0
 Costs true value left bytes = cost true left + 1 ≤ bytes
 Costs false value left bytes = Bare value left bytes ⊎ (cost true left + 2 ≤ bytes)
@@ -124,7 +124,7 @@ last_of_two : (c : ℕ) (left : List ℕ) → c ≢ 32 → ends_with_space left 
 last_of_two c [] other last = grind (arith, nat_tests)
 last_of_two c (d ∷ left) other last = last
 
--- a byte of a value that n bytes spell
+-- n bytes are enough for a byte of the value
 byte_costs : (q : Bool) (value before left : List ℕ) (held c n m : ℕ) → length (spelled_byte true c) ≤ n → (q ≡ false → length (spelled_byte false c) ≤ n)
     → (q ≡ false → (is_lost c ≡ false) × (c ≢ 32)) → Costs q before left m → Costs q value (lead value held ++ c ∷ left) (n + m + held)
 byte_costs true value before left held c n m fits fits_outside bare h =
@@ -144,7 +144,7 @@ byte_costs false value before left held c n m fits fits_outside bare (inl b) =
 byte_costs false value before left held c n m fits fits_outside bare (inr h) =
     let e = cost_append true (lead value held) (c ∷ left) in let f = cost_cons true c left in let g = lead_cost true value held in inr (omega arith)
 
--- a quote
+-- one byte is enough for a quote
 opening_costs : (value left : List ℕ) (held m : ℕ) → cost true left + 1 ≤ m → cost true (lead value held ++ left) + 2 ≤ 1 + m + held
 opening_costs value left held m h = let e = cost_append true (lead value held) left in let g = lead_cost true value held in omega arith
 
@@ -153,7 +153,7 @@ quote_costs true value before left held m h =
     let e = cost_append true (lead value held) left in let g = lead_cost true value held in let f = least before left m h in omega arith
 quote_costs false value before left held m h = inr (opening_costs value left held m h)
 
--- a continued line
+-- two bytes or more are enough for a line end over which a value is continued
 continued_costs : (q : Bool) (value before left : List ℕ) (held n m : ℕ) → 2 ≤ n → Costs q before left m → Costs q value (lead value held ++ left) (n + m + held)
 continued_costs true value before left held n m two h =
     let e = cost_append true (lead value held) left in let g = lead_cost true value held in omega arith
@@ -177,7 +177,7 @@ plain_bare : (q : Bool) (b : ℕ) → is_plain q b ≡ true → q ≡ false → 
 plain_bare true b is e = cc
 plain_bare false b is e = plain_is_kept b is
 
--- a text by its first bytes and what is left
+-- a text, split into its first bytes and what is left
 left_of : (value left text : List ℕ) (held : ℕ) → text ≡ kept value held ++ left → text ≡ value ++ (lead value held ++ left)
 left_of value left text held e = e ∙ rw (kept_lead value held) (append_assoc value (lead value held) left)
 
@@ -227,7 +227,7 @@ costs (plain {quoted = q} {value = value} {held = held} {b = b} {raw = raw} {tex
           (byte_costs q value (kept value held ++ b ∷ []) left held b 1 (length raw + 0) fits fits_outside (plain_bare q b is) h),
     )
 
--- the spelling of a value costs no more
+-- the spelling of a value costs at most as much as any other
 few_tabs : (value : List ℕ) → nat_lt 2 (count_by (λ b. b == 9) value) ≡ false → count_by (λ b. b == 9) value ≤ 2
 few_tabs value e = grind (arith, nat_tests)
 

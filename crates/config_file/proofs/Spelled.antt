@@ -1,4 +1,4 @@
--- The text that the bytes of a value or of a subsection spell, a piece at a time.
+-- The text that the bytes of a value or of a subsection spell, piece by piece.
 use Rattle.std.proofs.Common.{◌≡◌, ◌≢◌, ℕ, ◌+◌, Bool, true, false, not, List, [], ◌∷◌, ◌++◌, Option, sym, ap, ◌∙◌, subst, arith}
 use Rattle.std.proofs.lemmas.Bool.{true≢false}
 use Rattle.std.proofs.lemmas.Bool.Decides.{nat_tests}
@@ -73,7 +73,7 @@ after_backslash {o = o} (continued_after_return e l n s) is = (o, rw l s)
 after_backslash (blank {b = b} e s) is = absurd (blank_is_no_backslash b e is)
 after_backslash (plain {quoted = q} {b = b} e s) is = absurd (plain_is_no_backslash q b e is)
 
--- the same, for the loop
+-- the same, in the form that the loop needs
 module _ {q : Bool} {value rest : List ℕ} {held b : ℕ} (at : List ℕ) (e : at ≡ b ∷ rest) where
   pub held_next : {spelled : List ℕ} {o : Ending} → is_held_back q b ≡ true → Spells q value held at spelled o → (ending : Ending) × Spells q value (held + 1) rest spelled ending
   held_next {spelled = spelled} {o = o} is s = (o, after_held (subst (λ x. Spells q value held x spelled o) e s) is)
@@ -96,7 +96,7 @@ module _ {q : Bool} {value rest : List ℕ} {held b : ℕ} (at : List ℕ) (e : 
       let (ending, more) = after_backslash (subst (λ x. Spells q value held x spelled o) e s) is in
       (ending, rw (same_text, same, first, second) more)
 
--- what is written and what is left make the whole
+-- the text that has been appended, followed by what the rest spells, is the whole text
 abbrev pub Writes : List ℕ → List ℕ → List ℕ → List ℕ → Type 0
 Writes at spelled old new =
     (written : List ℕ) × (more : List ℕ) × SpellsSubsection at more × (spelled ≡ written ++ more) × (new ≡ old ++ written)

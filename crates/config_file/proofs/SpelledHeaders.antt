@@ -103,7 +103,7 @@ no_key (k ∷ key) refused b text rest letter run =
     let is : is_key (k ∷ key) ≡ true = rw (first, pass) in
     true≢false (sym is ∙ refused)
 
--- no header has fewer bytes
+-- no header with the same name and subsection has fewer bytes
 subsection_byte_fits : (b : ℕ) → length (spelled_in_subsection b) ≤ 2
 subsection_byte_fits b = elim (cases_Bool (b == 34 || b == 92)) [ inl is ↦ rw is (omega arith) | inr other ↦ rw other (omega arith) ]
 

@@ -32,7 +32,7 @@ plain_in_quotes b e some = grind (arith, nat_tests)
 plain_outside : (b : ℕ) → letter_of false b ≡ None → b ≢ 0 → is_lost b ≡ false → b ≢ 32 → is_plain false b ≡ true
 plain_outside b e some found other = grind (arith, nat_tests)
 
--- a byte of a value, and how it is spelled
+-- a spelled byte, before bytes that spell the rest of a value, adds that byte to the value
 spelled_next : {q : Bool} {value raw text : List ℕ} {held : ℕ} {e : Ending} (b : ℕ) (o : Option ℕ) → letter_of q b ≡ o
     → (letter_of q b ≡ None → is_plain q b ≡ true)
     → Spells q (kept value held ++ b ∷ []) 0 raw text e → Spells q value held (after_backslash b o ++ raw) text e
@@ -127,7 +127,7 @@ value_spelled value all =
           rw other (spelled_outside value all found first last)
     ]
 
--- no NUL is spelled
+-- no bytes spell a value with a NUL
 spaces_spellable : (held : ℕ) → is_spellable (replicate held 32) ≡ true
 spaces_spellable zero = refl
 spaces_spellable (suc held) = spaces_spellable held

@@ -39,6 +39,6 @@ stops_here at passed h = stops (passed_is_subsection passed) passed.joined h
 pub stops_after_backslash : {text rest : List ℕ} {b : ℕ} (at : List ℕ) → PassedSubsection text at → at ≡ b ∷ rest → b ≡ 92 → EndsText rest → StopsInSubsection text rest
 stops_after_backslash {rest = rest} at passed e is_backslash h = stops_escaped (passed_is_subsection passed) (passed.joined ∙ rw e) is_backslash h
 
--- a byte that is no LF, no NUL, no quote and no backslash stands for itself
+-- a byte other than LF, NUL, a quote and a backslash spells itself
 pub plain_byte : (b : ℕ) → is_text_byte b ≡ true → b ≢ 34 → b ≢ 92 → is_plain_in_quotes b ≡ true
 plain_byte b text quote backslash = grind (arith, nat_tests)

@@ -13,7 +13,7 @@ use Rattle.config_file.specs.Reading.Scans.{PassedValue, EndsScan, Escapes, lett
 pub passed_none : (text : List ℕ) → PassedValue text false text
 passed_none text = record { raw = []; value = []; held = 0; joined = refl; extends = λ more spelled o h. h }
 
--- the scan has passed these bytes too, and goes on with this value and these held blanks
+-- if the scan has passed these bytes too, it goes on with this value and this many held blanks
 pub passed_more : {text at rest : List ℕ} {q r : Bool} (piece value : List ℕ) (held : ℕ) → (passed : PassedValue text q at) → at ≡ piece ++ rest
     → ((more spelled : List ℕ) (o : Ending) → Spells r value held more spelled o → Spells q passed.value passed.held (piece ++ more) spelled o)
     → PassedValue text r rest
@@ -61,7 +61,7 @@ passed_part : {text at : List ℕ} (q : Bool) → (passed : PassedValue text q a
 passed_part true passed = (passed.value, rw (append-nil passed.raw) at (passed.extends [] _ inside ends_inside))
 passed_part false passed = (passed.value, rw (append-nil passed.raw) at (passed.extends [] _ outside ends_outside))
 
--- what `before` returns is what the scan has passed
+-- the bytes that `before` returns are those that the scan has passed
 pub part : {text at : List ℕ} (q : Bool) (raw : List ℕ) → PassedValue text q at → text ≡ raw ++ at → IsPart q raw
 part {at = at} q raw passed joined =
     let same : passed.raw ≡ raw = append_cancel_right passed.raw raw at (sym passed.joined ∙ joined) in

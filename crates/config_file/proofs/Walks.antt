@@ -1,4 +1,4 @@
--- Files by name, and entries that are walked one by one.
+-- Files that are looked up by name, and entries that are walked one by one.
 use Rattle.std.proofs.Common.{◌≡◌, ◌+◌, ◌++◌, ◌∙◌, ℕ, List, [], ◌∷◌, None, Option, option_map, Result, Ok, Err, Bool, true, subst, map, refl, sym, ap}
 use Rattle.std.proofs.lemmas.List.{append_assoc, append-nil}
 use denote.Ref.{Bor}

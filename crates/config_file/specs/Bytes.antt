@@ -60,15 +60,15 @@ is_key_byte b = is_ascii_alphanumeric b || b == dash
 abbrev pub is_name_byte : ℕ → Bool
 is_name_byte b = is_key_byte b || b == dot
 
--- any byte but LF and NUL
+-- any byte except LF and NUL
 abbrev pub is_text_byte : ℕ → Bool
 is_text_byte b = not (b == 0) && not (b == line_feed)
 
--- a byte that stands for itself in quotes
+-- a byte that spells itself in quotes
 abbrev pub is_plain_in_quotes : ℕ → Bool
 is_plain_in_quotes b = is_text_byte b && (not (b == double_quote) && not (b == backslash))
 
--- a byte of a value that stands for itself, in quotes or not
+-- a byte that spells itself in a value: in quotes if the flag is true, otherwise outside them
 abbrev pub is_plain : Bool → ℕ → Bool
 is_plain true b = is_plain_in_quotes b
 is_plain false b = is_plain_in_quotes b && (not (is_blank b) && not (is_comment_sign b))
@@ -77,11 +77,11 @@ is_plain false b = is_plain_in_quotes b && (not (is_blank b) && not (is_comment_
 abbrev pub is_space : ℕ → Bool
 is_space b = b == space || b == tab
 
--- a byte of a comment
+-- a byte of a comment: any byte except LF
 abbrev pub is_comment_byte : ℕ → Bool
 is_comment_byte b = not (b == line_feed)
 
--- the rest is empty, or begins with LF or NUL: no quotes go on there
+-- the rest is empty, or begins with LF or NUL, so quotes cannot go on
 abbrev pub EndsText : List ℕ → Type 0
 EndsText [] = ⊤
 EndsText (b ∷ rest) = is_text_byte b ≡ false
@@ -92,6 +92,6 @@ IsAtLineEnd [] = ⊤
 IsAtLineEnd (a ∷ []) = a ≡ line_feed
 IsAtLineEnd (a ∷ b ∷ rest) = (a ≡ line_feed) ⊎ ((a ≡ carriage_return) × (b ≡ line_feed))
 
--- a text that does not begin with this
+-- the text does not begin with this prefix
 abbrev pub LacksFront : List ℕ → List ℕ → Type 0
 LacksFront front text = (rest : List ℕ) → text ≢ front ++ rest

@@ -17,15 +17,15 @@ fault_text Nul = codes "a NUL byte outside a comment"
 abbrev pub error_shown : Error → List ℕ
 error_shown error = decimal error.line ++ codes ": " ++ fault_text error.fault
 
--- a name with U+FFFD for what is no UTF-8
+-- a name, with U+FFFD for bytes that are not UTF-8
 abbrev pub name_shown : List ℕ → List ℕ
 name_shown name = encode_utf8_all (lossy_chars name)
 
--- `FILE:LINE`, and what follows
+-- `FILE:LINE`, and then the reason
 abbrev pub shown_at : List ℕ → ℕ → List ℕ → List ℕ
 shown_at file line reason = name_shown file ++ codes ":" ++ decimal line ++ reason
 
--- why a walk stops, in words after its place
+-- how the error of a walk is shown: its place, if it has one, and why the walk stops
 abbrev pub walk_error_shown : WalkError → List ℕ
 walk_error_shown (Line file error) = name_shown file.now ++ codes ":" ++ error_shown error
 walk_error_shown (MissingValue file line) = shown_at file.now line (codes ": an include has no value")

@@ -1,4 +1,4 @@
--- Configuration files: the entries of a text, and where it is refused.
+-- Configuration files: the entries of a text, and the error if the text is refused.
 use Rattle.std.specs.Prelude.{◌≡◌, ℕ, ◌+◌, Bool, true, false, List, [], ◌∷◌, Option, Some, None, if◌then◌else◌, ◌==◌, ◌&&◌, ◌||◌, ◌⊎◌}
 use Rattle.std.specs.Char.{is_ascii_alphabetic}
 use Rattle.config_file.specs.declared.errors.Fault.{Fault}
@@ -21,14 +21,14 @@ entry_at section key value line = record { section = section; key = key; value =
 abbrev pub error_at : ℕ → Fault → Error
 error_at line fault = record { line = line; fault = fault }
 
--- the text begins with a key, spaces may follow it, and then this rest
+-- the text begins with this key, then has any number of spaces and TABs, and then this rest
 pub record TakesKey (text key rest : List ℕ) : Type 0 where
   pub spaced : List ℕ
   pub spaces : List ℕ
   pub key_run : Run is_key_byte text key spaced
   pub space_run : Run is_space spaced spaces rest
 
--- an entry is a key alone, or a key, `=` and a value, which continues over so many line ends
+-- the text begins with an entry: a key alone, or a key, `=` and a value, continued over this many line ends
 pub data TakesEntry : List ℕ → List ℕ → Option (List ℕ) → ℕ → List ℕ → Type 0 where
   alone : {text key rest : List ℕ}
       → TakesKey text key rest → IsAtLineEnd rest
@@ -37,7 +37,7 @@ pub data TakesEntry : List ℕ → List ℕ → Option (List ℕ) → ℕ → Li
       → TakesKey text key (b ∷ after) → b ≡ equals_sign → TakesValue after raw lines rest
       → TakesEntry text key (Some raw) lines rest
 
--- an entry that is refused, so many lines after its first one
+-- an entry that is refused: how many lines after its first one the error is, and the fault
 pub data EntryStops : List ℕ → ℕ → Fault → Type 0 where
   key : {text key rest : List ℕ}
       → TakesKey text key rest → BeginsWithout equals_sign rest → ¬ (IsAtLineEnd rest)
@@ -46,12 +46,12 @@ pub data EntryStops : List ℕ → ℕ → Fault → Type 0 where
       → TakesKey text key (b ∷ after) → b ≡ equals_sign → ValueStops after lines fault
       → EntryStops text lines fault
 
--- an item begins with this byte: a line end, a blank, a comment, a header or an entry
+-- whether an item can begin with this byte: a line end, a blank, a comment, a header or an entry
 abbrev pub begins_item : ℕ → Bool
 begins_item b =
     (b == line_feed || is_blank b) || (is_comment_sign b || (b == left_bracket || is_ascii_alphabetic b))
 
--- In this section and on this line, the text has these entries, up to its end or to the line that is refused.
+-- read in this section and from this line on, the text has these entries, up to its end or to this error
 pub data Reads : Option Section → ℕ → List ℕ → List Entry → Option Error → Type 0 where
   ends : {section : Option Section} {line : ℕ} → Reads section line [] [] None
   blank : {section : Option Section} {line b : ℕ} {text : List ℕ}
@@ -86,24 +86,24 @@ pub data Reads : Option Section → ℕ → List ℕ → List Entry → Option E
       → begins_item b ≡ false
       → Reads section line (b ∷ text) [] (Some (error_at line (fault_at (b ∷ text))))
 
--- what follows the byte order mark
+-- what follows the byte order mark, if the text begins with it
 abbrev pub after_mark : List ℕ → Option (List ℕ)
 after_mark (a ∷ b ∷ c ∷ rest) = if (a == 0xef && b == 0xbb) && c == 0xbf then Some rest else None
 after_mark _ = None
 
--- one or two bytes of the mark end the line
+-- the first line holds only the first one or two bytes of the mark
 abbrev pub IsPartOfMark : List ℕ → Type 0
 IsPartOfMark [] = ⊥
 IsPartOfMark (a ∷ []) = a ≡ 0xef
 IsPartOfMark (a ∷ b ∷ rest) = (a ≡ 0xef) × (IsAtLineEnd (b ∷ rest) ⊎ ((b ≡ 0xbb) × IsAtLineEnd rest))
 
--- the number of the first line, and the text after its mark; Git counts a line end after a part of the mark
+-- the number of the first line, and the text without its mark; Git counts one more after a part of the mark
 pub data Begins : List ℕ → ℕ → List ℕ → Type 0 where
   marked : {text rest : List ℕ} → after_mark text ≡ Some rest → Begins text 1 rest
   part_of_mark : {text : List ℕ} → IsPartOfMark text → Begins text 2 text
   unmarked : {text : List ℕ} → after_mark text ≡ None → ¬ (IsPartOfMark text) → Begins text 1 text
 
--- the text has these entries, and this error if it is no configuration file
+-- the text has these entries, and this error if it is not a configuration file
 pub record IsFile (text : List ℕ) (entries : List Entry) (error : Option Error) : Type 0 where
   pub line : ℕ
   pub rest : List ℕ

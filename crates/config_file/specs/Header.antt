@@ -6,11 +6,11 @@ use Rattle.config_file.specs.Bytes.{double_quote, right_bracket, is_name_byte, i
 use Rattle.config_file.specs.Runs.{Run, StopsRun}
 use Rattle.config_file.specs.Subsection.{TakesSubsection, StopsInSubsection}
 
--- the name of a section, and the bytes between the quotes of its subsection
+-- the name of a section, and the bytes between the quotes of its subsection, if it has one
 abbrev pub Section : Type 0
 Section = List ℕ × Option (List ℕ)
 
--- what is wrong where the reading stops: a NUL, or a line
+-- the fault if the reading stops at this rest: `Nul` if a NUL comes next, otherwise `BadLine`
 abbrev pub fault_at : List ℕ → Fault
 fault_at [] = BadLine
 fault_at (b ∷ rest) = if b == 0 then Nul else BadLine
@@ -20,13 +20,14 @@ abbrev pub BeginsWithout : ℕ → List ℕ → Type 0
 BeginsWithout byte [] = ⊤
 BeginsWithout byte (b ∷ rest) = b ≢ byte
 
--- after the quote, the text begins with a subsection and `"]`
+-- after the opening quote, the text has a subsection of these bytes, then `"]`, and then this rest
 pub data ClosesSubsection : List ℕ → List ℕ → List ℕ → Type 0 where
   closes : {b : ℕ} {text raw rest : List ℕ}
       → TakesSubsection text raw (b ∷ rest) → b ≡ right_bracket
       → ClosesSubsection text raw rest
 
--- A subsection that is refused. After the closing quote, Git counts a line end before it tells the line.
+-- A subsection that is refused: how many lines after its first one the error is, and the fault. Git counts
+-- one more line if a line end, or the end of the text, follows the closing quote.
 pub data SubsectionStops : List ℕ → ℕ → Fault → Type 0 where
   within : {text rest : List ℕ} → StopsInSubsection text rest → SubsectionStops text 0 (fault_at rest)
   closed : {text raw rest : List ℕ}
@@ -36,7 +37,7 @@ pub data SubsectionStops : List ℕ → ℕ → Fault → Type 0 where
       → TakesSubsection text raw rest → IsAtLineEnd rest
       → SubsectionStops text 1 BadLine
 
--- the text begins with a name, blanks and a quote
+-- the text has a name, which may be empty, one or more blanks, a quote, and then these inner bytes
 pub record OpensSubsection (text name inner : List ℕ) : Type 0 where
   pub blanks : List ℕ
   pub blanked : List ℕ
@@ -46,7 +47,7 @@ pub record OpensSubsection (text name inner : List ℕ) : Type 0 where
   pub some_blank : blanks ≢ []
   pub is_quote : quote ≡ double_quote
 
--- a header: a name that is not empty and `]`, or a name, blanks, a subsection in quotes and `]`
+-- after its `[`, a header is a name that is not empty and `]`, or a name, blanks, a quoted subsection and `]`
 pub data Header : List ℕ → Section → List ℕ → Type 0 where
   plain : {b : ℕ} {text name rest : List ℕ}
       → Run is_name_byte text name (b ∷ rest) → name ≢ [] → b ≡ right_bracket
@@ -55,7 +56,7 @@ pub data Header : List ℕ → Section → List ℕ → Type 0 where
       → OpensSubsection text name inner → ClosesSubsection inner raw rest
       → Header text (name, Some raw) rest
 
--- a name that no blank and no `]` follows, or an empty one: at the end of the text, Git counts a line end
+-- a name that is empty or that no `]` follows; if the text ends there, Git counts one more line
 pub data NameStops : List ℕ → List ℕ → ℕ → Fault → Type 0 where
   at_end : {name : List ℕ} → NameStops name [] 1 BadLine
   empty : {b : ℕ} {rest : List ℕ} → NameStops [] (b ∷ rest) 0 (fault_at (b ∷ rest))
@@ -63,7 +64,7 @@ pub data NameStops : List ℕ → List ℕ → ℕ → Fault → Type 0 where
       → b ≢ right_bracket
       → NameStops name (b ∷ rest) 0 (fault_at (b ∷ rest))
 
--- a header that is refused: so many lines after its first one, Git tells a line
+-- a header that is refused: how many lines after its first one the error is, and the fault
 pub data HeaderStops : List ℕ → ℕ → Fault → Type 0 where
   name : {lines : ℕ} {fault : Fault} {text name rest : List ℕ}
       → Run is_name_byte text name rest → StopsRun is_blank rest → NameStops name rest lines fault

@@ -9,7 +9,7 @@ use Rattle.config_file.specs.Bytes.{LacksFront}
 use Rattle.config_file.specs.Path.{is_rest}
 use Rattle.config_file.specs.Pattern.{MatchesText}
 
--- what a condition is by its text; any other text is an unknown condition
+-- the text is the prefix of this condition and its pattern; a text with no such prefix is `Unknown`
 abbrev pub Names : List ℕ → Condition → Type 0
 Names text Always = ⊥
 Names text (GitDir pattern) = text ≡ codes "gitdir:" ++ pattern.now
@@ -19,33 +19,33 @@ Names text (HasRemoteUrl pattern) = text ≡ codes "hasconfig:remote.*.url:" ++ 
 Names text Unknown = LacksFront (codes "gitdir:") text × LacksFront (codes "gitdir/i:") text × LacksFront (codes "onbranch:") text
     × LacksFront (codes "hasconfig:remote.*.url:") text
 
--- the key has this condition: its text is all between the first and the last dot
+-- the key is `includeif.`, this text of a condition, and `.path`
 abbrev pub IsConditional : List ℕ → List ℕ → Type 0
 IsConditional key text = key ≡ codes "includeif." ++ text ++ codes ".path"
 
--- the entry of this key, as Git lists it, includes a file on this condition
+-- an entry of this key, as Git lists it, includes a file if this condition holds
 abbrev pub Includes : List ℕ → Condition → Type 0
 Includes key Always = key ≡ codes "include.path"
 Includes key condition = (text : List ℕ) × IsConditional key text × Names text condition
 
--- the entry of this key includes no file
+-- an entry of this key never includes a file
 abbrev pub IncludesNone : List ℕ → Type 0
 IncludesNone key = (key ≢ codes "include.path") × ((text : List ℕ) → ¬ (IsConditional key text))
 
--- a pattern that ends with `/` stands for all below
+-- the pattern, with `**` appended if it ends with `/`, so that it matches everything below
 abbrev pub below : List ℕ → List ℕ
 below pattern = if ends_with nat_eq pattern (codes "/") then pattern ++ codes "**" else pattern
 
--- a pattern that does not begin with `/` stands for itself in any directory
+-- the pattern, with `**/` before it unless it begins with `/`, so that it matches in any directory
 abbrev pub anywhere : List ℕ → List ℕ
 anywhere pattern = if starts_with nat_eq pattern (codes "/") then pattern else codes "**/" ++ pattern
 
--- a pattern with the home directory, if it is known, in place of a `~` that is its first name
+-- the pattern, with a `~` that is alone or before `/` replaced by the home directory, if that is known
 abbrev pub at_home : Option (List ℕ) → List ℕ → List ℕ
 at_home (Some home) (c ∷ rest) = if c == 126 && is_rest rest then home ++ rest else c ∷ rest
 at_home _ pattern = pattern
 
--- the same name, also with letters of the other case if case does not count
+-- the names are the same, ignoring ASCII case if the flag is true
 abbrev pub IsSameName : Bool → List ℕ → List ℕ → Type 0
 IsSameName true a b = map to_ascii_lowercase a ≡ map to_ascii_lowercase b
 IsSameName false a b = a ≡ b
@@ -55,21 +55,21 @@ abbrev pub MatchesBelow : Bool → List ℕ → List ℕ → List ℕ → Type 0
 MatchesBelow ignores_case dir pattern name =
     (front : List ℕ) × (left : List ℕ) × (name ≡ front ++ left) × IsSameName ignores_case front dir × MatchesText ignores_case pattern left
 
--- The pattern of an entry in a file of this directory matches the name of a git directory. The `.` of `./` at its
--- start is that directory, no byte of which stands for another one.
+-- A pattern, in a file of this directory, matches the name of a git directory. The `.` of `./` at its start
+-- is this directory, whose bytes match only themselves, or their other case if case is ignored.
 pub data MatchesDir (ignores_case : Bool) (dir pattern name : List ℕ) : Type 0 where
   near : (rest : List ℕ) → pattern ≡ codes "./" ++ rest → MatchesBelow ignores_case dir (below (codes "/" ++ rest)) name
       → MatchesDir ignores_case dir pattern name
   other : LacksFront (codes "./") pattern → MatchesText ignores_case (below (anywhere pattern)) name
       → MatchesDir ignores_case dir pattern name
 
--- for an entry in a file of this directory one of the two names of the git directory matches the pattern
+-- the pattern, in a file of this directory, matches one of the two names of the git directory
 abbrev pub IsGitDir : Bool → List ℕ → List ℕ → Repository → Type 0
 IsGitDir ignores_case dir pattern repository =
     MatchesDir ignores_case dir (at_home (option_copied repository.real_home) pattern) repository.real_git_dir.now
     ⊎ MatchesDir ignores_case dir (at_home (option_copied repository.real_home) pattern) repository.git_dir.now
 
--- the branch matches the pattern
+-- there is a branch, and the pattern matches its name
 abbrev pub IsOnBranch : List ℕ → Option (List ℕ) → Type 0
 IsOnBranch pattern None = ⊥
 IsOnBranch pattern (Some branch) = MatchesText false (below pattern) branch

@@ -11,7 +11,7 @@ abbrev pub HasLeft : reader.Entries → List Entry → Option Error → Type 0
 HasLeft entries left error =
     Reads (option_map section_of entries.section) entries.line entries.rest.now left error
 
--- The reader gives the next entry and then has the others left; at the end and after an error it has none.
+-- The reader returns the first of the entries that are left. After an error or `None` it has no entries left.
 abbrev pub GivesEntry : reader.Entries → Option (Result code.Entry Error) → reader.Entries → Type 0
 GivesEntry old None new = HasLeft old [] None × HasLeft new [] None
 GivesEntry old (Some (Ok entry)) new =

@@ -4,12 +4,12 @@ use Rattle.std.specs.List.{suffix_len}
 use Rattle.config_file.specs.Set.{slash}
 use Rattle.config_file.specs.Bytes.{LacksFront}
 
--- nothing, or a `/` and what is below
+-- whether the bytes are empty or begin with `/`
 abbrev pub is_rest : List ℕ → Bool
 is_rest [] = true
 is_rest (b ∷ rest) = b == slash
 
--- the path that a value stands for: `~` is the home directory, and `%(prefix)/` is below the install directory
+-- the path of a value: `~` is replaced by the home directory, `%(prefix)` before `/` by the install directory
 pub data Expands (home install_dir : Option (List ℕ)) : List ℕ → List ℕ → Type 0 where
   below_home : {value path : List ℕ} (dir rest : List ℕ) → value ≡ codes "~" ++ rest → is_rest rest ≡ true → home ≡ Some dir
       → path ≡ dir ++ rest → Expands home install_dir value path
@@ -18,7 +18,7 @@ pub data Expands (home install_dir : Option (List ℕ)) : List ℕ → List ℕ 
   other : {value path : List ℕ} → LacksFront (codes "~") value → LacksFront (codes "%(prefix)/") value → path ≡ value
       → Expands home install_dir value path
 
--- a value that begins with a user's name, or with a directory that is not known
+-- the value begins with `~` and a user's name, or with a home or install directory that is not known
 pub data BeginsUnknown (home install_dir : Option (List ℕ)) : List ℕ → Type 0 where
   user : {value : List ℕ} (rest : List ℕ) → value ≡ codes "~" ++ rest → is_rest rest ≡ false → BeginsUnknown home install_dir value
   no_home : {value : List ℕ} (rest : List ℕ) → value ≡ codes "~" ++ rest → home ≡ None → BeginsUnknown home install_dir value
@@ -28,11 +28,11 @@ pub data BeginsUnknown (home install_dir : Option (List ℕ)) : List ℕ → Typ
 abbrev pub is_no_slash : ℕ → Bool
 is_no_slash b = not (b == slash)
 
--- the directory of a file: its name without the longest end that has no `/`
+-- the directory of a file: its name up to its last `/`, which is included; empty if it has no `/`
 abbrev pub directory : List ℕ → List ℕ
 directory file = take (length file - suffix_len is_no_slash file) file
 
--- a path is put after the directory of the file that includes it, unless it begins with `/`
+-- the name of an included file: its path, after the directory of the including file unless it begins with `/`
 pub data IsIncludedName (file path : List ℕ) : List ℕ → Type 0 where
   absolute : {name : List ℕ} (rest : List ℕ) → path ≡ codes "/" ++ rest → name ≡ path → IsIncludedName file path name
   relative : {name : List ℕ} → LacksFront (codes "/") path → name ≡ directory file ++ path → IsIncludedName file path name

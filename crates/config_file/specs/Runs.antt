@@ -7,7 +7,7 @@ abbrev pub StopsRun : (ℕ → Bool) → List ℕ → Type 0
 StopsRun test [] = ⊤
 StopsRun test (b ∷ rest) = test b ≡ false
 
--- the text begins with this run, the longest of bytes that pass the test, and the rest follows
+-- the text begins with this longest run of bytes that pass the test, and this rest follows
 pub record Run (test : ℕ → Bool) (text run rest : List ℕ) : Type 0 where
   pub joined : text ≡ run ++ rest
   pub pass : list_all test run ≡ true

@@ -10,7 +10,7 @@ use Rattle.config_file.specs.Runs.{Run}
 abbrev pub slash : ℕ
 slash = 47
 
--- a byte as it is compared: in lower case if case does not count
+-- a byte as it is compared: in lower case if case is ignored
 abbrev pub folded : Bool → ℕ → ℕ
 folded ignores_case b = if ignores_case then to_ascii_lowercase b else b
 
@@ -18,7 +18,7 @@ folded ignores_case b = if ignores_case then to_ascii_lowercase b else b
 abbrev pub is_negation : ℕ → Bool
 is_negation c = c == 33 || c == 94
 
--- whether the set is negated, and its members
+-- whether the set is negated, and the text from its first member on
 abbrev pub opened : List ℕ → Bool × List ℕ
 opened [] = (false, [])
 opened (c ∷ rest) = if is_negation c then (true, rest) else (false, c ∷ rest)
@@ -28,7 +28,7 @@ abbrev pub first_byte : List ℕ → Option (ℕ × List ℕ)
 first_byte [] = None
 first_byte (c ∷ rest) = Some (c, rest)
 
--- a byte of a set, or the byte after a backslash, and the rest; `]` ends a set unless it is its first byte
+-- the next byte of a set, or the byte after a backslash, and the rest; a `]` ends the set unless it is first
 abbrev pub set_byte : Bool → List ℕ → Option (ℕ × List ℕ)
 set_byte starts [] = None
 set_byte starts (c ∷ rest) =
@@ -39,12 +39,12 @@ abbrev pub range_end : List ℕ → Option (ℕ × List ℕ)
 range_end [] = None
 range_end (c ∷ rest) = if c == dash then set_byte false rest else None
 
--- whether a range has the byte, in either case if case does not count
+-- whether a range has the byte, in either case if case is ignored
 abbrev pub range_has : Bool → ℕ → ℕ → ℕ → Bool
 range_has ignores_case first last b =
     is_in_range first last (folded ignores_case b) || (ignores_case && is_in_range first last (to_ascii_uppercase b))
 
--- whether this byte, or the range from it, has the byte, and the rest
+-- whether the byte is `c`, or in the range from `c` if there is one, and the rest
 abbrev pub range_or_byte : Bool → ℕ → ℕ → List ℕ → Option (ℕ × List ℕ) → Bool × List ℕ
 range_or_byte ignores_case b c after None = (c == folded ignores_case b, after)
 range_or_byte ignores_case b c after (Some (last, rest)) =
@@ -54,11 +54,11 @@ abbrev pub byte_from : Bool → ℕ → Option (ℕ × List ℕ) → Option (Boo
 byte_from ignores_case b None = None
 byte_from ignores_case b (Some (c, after)) = Some (range_or_byte ignores_case b c after (range_end after))
 
--- whether the byte or the range that comes first has the byte, and the rest
+-- whether the text begins with this byte or with a range that has it, and the rest
 abbrev pub byte_or_range : Bool → ℕ → Bool → List ℕ → Option (Bool × List ℕ)
 byte_or_range ignores_case b starts text = byte_from ignores_case b (set_byte starts text)
 
--- the classes of POSIX by their names; white space is what Git takes for it, and without case a lower or upper one is any letter
+-- the POSIX classes by name, with Git's `space`; if case is ignored, `lower` and `upper` have every letter
 unfoldable pub classes : Bool → List (List ℕ × (ℕ → Bool))
 classes ignores_case =
     (codes "alnum", is_ascii_alphanumeric)
@@ -75,7 +75,7 @@ classes ignores_case =
     ∷ (codes "xdigit", is_ascii_hexdigit)
     ∷ []
 
--- whether the class of this name has the byte, if there is one
+-- whether the class of this name has the byte, if there is such a class
 abbrev pub named_has : List (List ℕ × (ℕ → Bool)) → List ℕ → ℕ → Option Bool
 named_has [] name b = None
 named_has ((word, has) ∷ rows) name b = if bytes_eq name word then Some (has b) else named_has rows name b
@@ -92,13 +92,13 @@ pub record IsClass (text name rest : List ℕ) : Type 0 where
   pub opened : text ≡ codes "[:" ++ inner
   pub closed : Run is_unclosed inner (name ++ codes ":") (right_bracket ∷ rest)
 
--- whether the first member has the byte, and the rest; it is a class, or a byte or a range
+-- whether the first member of a set, which is a class, a byte or a range, has the byte, and the rest
 pub data Member (ignores_case : Bool) (b : ℕ) (starts : Bool) (text : List ℕ) (has : Bool) (rest : List ℕ) : Type 0 where
   class : (name : List ℕ) → IsClass text name rest → class_has ignores_case name b ≡ Some has → Member ignores_case b starts text has rest
   plain : ((name after : List ℕ) → ¬ (IsClass text name after)) → byte_or_range ignores_case b starts text ≡ Some (has, rest)
       → Member ignores_case b starts text has rest
 
--- At its start or later, the set goes on with members and `]`: whether one of them has the byte, and the rest.
+-- whether one of the members up to `]` has the byte, and what follows; the flag is true at the first member
 pub data SetHas (ignores_case : Bool) (b : ℕ) : Bool → List ℕ → Bool → List ℕ → Type 0 where
   closes : {c : ℕ} {rest : List ℕ} → c ≡ right_bracket → SetHas ignores_case b false (c ∷ rest) false rest
   has : {starts all : Bool} {text rest : List ℕ} (here found : Bool) (after : List ℕ)
@@ -106,11 +106,11 @@ pub data SetHas (ignores_case : Bool) (b : ℕ) : Bool → List ℕ → Bool →
       → all ≡ (here || found)
       → SetHas ignores_case b starts text all rest
 
--- a set wants a byte that it has, and a negated one a byte that it has not
+-- whether a set matches a byte: one of its members has it, or, if the set is negated, none of them has it
 abbrev pub is_wanted : Bool → Bool → Bool
 is_wanted found negated = if negated then not found else found
 
--- the set, after its `[`, stands for this byte, and the rest follows; it stands for no `/`
+-- the set, after its `[`, matches this byte, which is not `/`, and this rest follows
 pub record StandsForByte (ignores_case : Bool) (text : List ℕ) (b : ℕ) (rest : List ℕ) : Type 0 where
   pub found : Bool
   pub members : SetHas ignores_case b true ((opened text).1) found rest

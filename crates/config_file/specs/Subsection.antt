@@ -1,4 +1,4 @@
--- The subsection of a header: what is in its quotes.
+-- The subsection of a header: the bytes in its quotes, and the text that they spell.
 use Rattle.std.specs.Prelude.{◌≡◌, ℕ, true, List, [], ◌∷◌, ◌++◌}
 use Rattle.config_file.specs.Bytes.{double_quote, backslash, is_text_byte, is_plain_in_quotes, EndsText}
 
@@ -12,16 +12,16 @@ pub data SpellsSubsection : List ℕ → List ℕ → Type 0 where
       → is_plain_in_quotes b ≡ true → SpellsSubsection raw text
       → SpellsSubsection (b ∷ raw) (b ∷ text)
 
--- these bytes are what quotes may hold
+-- these bytes spell a subsection
 abbrev pub IsSubsection : List ℕ → Type 0
 IsSubsection raw = (text : List ℕ) × SpellsSubsection raw text
 
--- after the quote, the text begins with these bytes and the closing quote, and the rest follows
+-- after the opening quote, the text has a subsection of these bytes, the closing quote, and then this rest
 pub record TakesSubsection (text raw rest : List ℕ) : Type 0 where
   pub is_subsection : IsSubsection raw
   pub joined : text ≡ raw ++ double_quote ∷ rest
 
--- after the quote, the reading stops before this rest: at its end, LF or NUL, after a backslash or not
+-- no quote closes the subsection: the reading stops at this rest, which is empty or begins with LF or NUL
 pub data StopsInSubsection : List ℕ → List ℕ → Type 0 where
   stops : {text raw rest : List ℕ}
       → IsSubsection raw → text ≡ raw ++ rest → EndsText rest

@@ -1,4 +1,4 @@
--- The value of an entry: from the `=` to the end of its line, or to a comment.
+-- The value of an entry: the bytes from its `=` to the end of the line or to a comment.
 use Rattle.std.specs.Prelude.{◌≡◌, ◌≢◌, ℕ, ◌+◌, Bool, true, false, not, if◌then◌else◌, ◌||◌, ◌==◌, List, [], ◌∷◌, ◌++◌, Option, Some, None, replicate, ⊤, ◌⊎◌}
 use Rattle.std.specs.Prelude.{count_by}
 use Rattle.config_file.specs.declared.errors.Fault.{Fault}
@@ -6,7 +6,7 @@ use Rattle.config_file.specs.declared.errors.Fault.TheVariants.{BadLine, Nul}
 use Rattle.config_file.specs.Header.{fault_at}
 use Rattle.config_file.specs.Bytes.{backspace, tab, line_feed, carriage_return, space, double_quote, backslash, is_blank, is_plain, is_comment_sign, EndsText}
 
--- the byte that a letter stands for after a backslash
+-- the byte that a backslash and this byte spell, if they spell one
 abbrev pub escape : ℕ → Option ℕ
 escape e =
     if e == 110 then Some line_feed
@@ -15,7 +15,7 @@ escape e =
     else if e == double_quote || e == backslash then Some e
     else None
 
--- the value so far and the blanks after it, each as one space; blanks before its first byte are dropped
+-- the value so far and one space for each of the held blanks, which are dropped if the value has no byte yet
 abbrev pub kept : List ℕ → ℕ → List ℕ
 kept [] held = []
 kept (b ∷ value) held = (b ∷ value) ++ replicate held space
@@ -26,7 +26,8 @@ pub data Ending : Type 0 where
   inside : Ending
   at_backslash : Ending
 
--- in quotes or not, after a value so far and blanks that are held back, these bytes spell the rest of it
+-- After this value so far and this many held blanks, in quotes or not, these bytes complete it to this text,
+-- and have this ending. Held blanks become spaces, unless they end the value.
 pub data Spells : Bool → List ℕ → ℕ → List ℕ → List ℕ → Ending → Type 0 where
   ends_outside : {value : List ℕ} {held : ℕ} → Spells false value held [] value outside
   ends_inside : {value : List ℕ} {held : ℕ} → Spells true value held [] value inside
@@ -54,11 +55,11 @@ pub data Spells : Bool → List ℕ → ℕ → List ℕ → List ℕ → Ending
       → is_plain quoted b ≡ true → Spells quoted (kept value held ++ b ∷ []) 0 raw text ending
       → Spells quoted value held (b ∷ raw) text ending
 
--- these bytes spell this value, and end so
+-- these bytes spell this value, and have this ending
 abbrev pub SpellsValue : List ℕ → List ℕ → Ending → Type 0
 SpellsValue raw text ending = Spells false [] 0 raw text ending
 
--- a value may go on after these bytes, in quotes or not
+-- these bytes begin a value that can go on after them, in quotes or not
 abbrev pub IsPart : Bool → List ℕ → Type 0
 IsPart true raw = (text : List ℕ) × SpellsValue raw text inside
 IsPart false raw = (text : List ℕ) × SpellsValue raw text outside
@@ -72,7 +73,7 @@ EndsValue (b ∷ rest) = (b ≡ line_feed) ⊎ (is_comment_sign b ≡ true)
 abbrev pub line_feeds : List ℕ → ℕ
 line_feeds text = count_by (λ b. b == line_feed) text
 
--- after the `=`, the text begins with a value, which continues over so many line ends, and the rest follows
+-- after the `=`, the text has this value, which continues over this many line ends, and then this rest
 pub data TakesValue : List ℕ → List ℕ → ℕ → List ℕ → Type 0 where
   closed : {raw value text rest : List ℕ}
       → text ≡ raw ++ rest → SpellsValue raw value outside → EndsValue rest
@@ -81,13 +82,13 @@ pub data TakesValue : List ℕ → List ℕ → ℕ → List ℕ → Type 0 wher
       → SpellsValue raw value at_backslash
       → TakesValue raw raw (line_feeds raw + 1) []
 
--- the rest begins with a byte that no backslash goes before, and it is not a line end
+-- the rest begins with a byte that cannot follow a backslash: no escape and no line end
 abbrev pub IsNoEscape : List ℕ → Type 0
 IsNoEscape [] = ⊥
 IsNoEscape (e ∷ []) = (escape e ≡ None) × (e ≢ line_feed)
 IsNoEscape (e ∷ f ∷ rest) = (escape e ≡ None) × (e ≢ line_feed) × (e ≡ carriage_return → f ≢ line_feed)
 
--- a value that is refused: how many lines after its first one Git tells, and the fault
+-- a value that is refused: how many lines after its first one the error is, and the fault
 pub data ValueStops : List ℕ → ℕ → Fault → Type 0 where
   nul : {b : ℕ} {text : List ℕ} (raw rest : List ℕ)
       → text ≡ raw ++ b ∷ rest → IsPart false raw → b ≡ 0

@@ -25,7 +25,7 @@ use Rattle.config_file.specs.Settings.{HasFirst}
 use Rattle.config_file.specs.Include.{Includes, IncludesNone, IsGitDir, IsOnBranch}
 use Rattle.config_file.specs.Path.{Expands, BeginsUnknown, IsIncludedName}
 
--- for an entry in a file of this directory the condition holds; without a repository only `include.path` does
+-- the condition holds for an entry in a file of this directory; without a repository, only `Always` holds
 abbrev pub Holds : Option Repository → List ℕ → Condition → Type 0
 Holds repository dir Always = ⊤
 Holds (Some r) dir (GitDir pattern) = IsGitDir false dir pattern.now r
@@ -47,30 +47,30 @@ abbrev pub Follows : Option Repository → List ℕ → List ℕ → Bool → Ty
 Follows repository dir key true = IsFollowed repository dir key
 Follows repository dir key false = IsPlain repository dir key
 
--- this file is known by this name
+-- this is one of the files, and it has this name
 abbrev pub HasFile : List File → List ℕ → File → Type 0
 HasFile files name file = (file.place.name.now ≡ name) × ((i : ℕ) × (slice_get files i ≡ Some file))
 
--- a file of this name is known with this content
+-- one of the files has this name and this content
 abbrev pub HasContent : List File → List ℕ → Content → Type 0
 HasContent files name content = (file : File) × HasFile files name file × (file.content ≡ content)
 
--- the name of the file that a value stands for in this file
+-- the name of the file that a value includes, in the file of this name
 abbrev pub IsNameOf : Known → List ℕ → List ℕ → List ℕ → Type 0
 IsNameOf known file value name =
     (path : List ℕ) × Expands (option_copied known.directories.home) (option_copied known.directories.install_dir) value path
     × IsIncludedName file path name
 
--- the key of the entry, as Git lists it, is followed or not
+-- whether the entry, by its key as Git lists it, is followed
 abbrev pub EntryFollows : Known → Place → Entry → Bool → Type 0
 EntryFollows known place entry followed =
     (key : List ℕ) → IsListed entry.section entry.key key → Follows known.repository place.real_dir.now key followed
 
--- these bytes spell a value that stands for the file of this name
+-- each value that these bytes spell includes the file of this name
 abbrev pub SpellsName : Known → List ℕ → List ℕ → List ℕ → Type 0
 SpellsName known file raw name = (text : List ℕ) (ending : Ending) → SpellsValue raw text ending → IsNameOf known file text name
 
--- these bytes spell a value that begins with a directory that is not known
+-- each value that these bytes spell begins with a user's name, or with a directory that is not known
 abbrev pub SpellsUnknown : Known → List ℕ → Type 0
 SpellsUnknown known raw = (text : List ℕ) (ending : Ending) → SpellsValue raw text ending
     → BeginsUnknown (option_copied known.directories.home) (option_copied known.directories.install_dir) text
@@ -92,8 +92,8 @@ IsInclude known place entry (Named name) = IncludesFile known place entry name.i
 abbrev pub in_file : Place → Entry → List ℕ × Entry
 in_file place entry = (place.name.now, entry)
 
--- At most so many includes deep, these entries of this file are walked as these entries of it and of other files:
--- each entry comes first, and then those of the file that it includes.
+-- At most this many includes deep, the walk of these entries of a file gives these entries of it and of other
+-- files: each entry, followed by those of the file that it includes.
 pub data Walks (known : Known) : ℕ → Place → List Entry → List (List ℕ × Entry) → Type 0 where
   ends : {depth : ℕ} {place : Place} → Walks known depth place [] []
   plain : {depth : ℕ} {place : Place} {entry : Entry} {entries : List Entry} {walked : List (List ℕ × Entry)}
@@ -108,19 +108,19 @@ pub data Walks (known : Known) : ℕ → Place → List Entry → List (List ℕ
       → IsFile text.now inner None → depth ≡ less + 1 → Walks known less file.place inner within
       → Walks known depth place entries walked → Walks known depth place (entry ∷ entries) (in_file place entry ∷ (within ++ walked))
 
--- the walk comes to this entry of the text after it walked the entries before
+-- the walk of the text comes to this entry, and the entries before it add these
 pub record Reaches (known : Known) (depth : ℕ) (place : Place) (text : List ℕ) (entry : Entry) (walked : List (List ℕ × Entry)) : Type 0 where
   pub before : List Entry
   pub first : HasFirst text (before ++ entry ∷ [])
   pub walks : Walks known depth place before walked
 
--- the error asks for the file of this name
+-- the error says that the file of this name is not read
 abbrev pub AsksFor : List ℕ → WalkError → Type 0
 AsksFor name (stop.Unread asked) = asked.items ≡ name
 AsksFor name _ = ⊥
 
--- The walk of a text stops with this error, after these entries. The last of them is the one that stops it, unless
--- a line is invalid or memory runs out.
+-- The walk of a text stops with this error after these entries. The last of them is the one that stops it,
+-- unless a line is invalid or memory runs out.
 pub data Stops (known : Known) : ℕ → Place → List ℕ → List (List ℕ × Entry) → WalkError → Type 0 where
   line : {depth : ℕ} {place : Place} {text : List ℕ} {walked : List (List ℕ × Entry)} (entries : List Entry) (error : Error)
       → IsFile text entries (Some error) → Walks known depth place entries walked
@@ -151,7 +151,7 @@ pub data Stops (known : Known) : ℕ → Place → List ℕ → List (List ℕ �
   memory : {depth : ℕ} {place : Place} {text : List ℕ} {walked : List (List ℕ × Entry)} {refused : _} (entry : Entry)
       → Reaches known depth place text entry walked → Stops known depth place text walked (stop.Memory refused)
 
--- what a walk of a text gives: all its entries and those of the files that they include, or where it stops
+-- what a walk of a text gives: its entries and those of the included files, up to the end or to this error
 abbrev pub WalksText : Known → ℕ → Place → List ℕ → List (List ℕ × Entry) → Result (Unit {0}) WalkError → Type 0
 WalksText known depth place text walked (Ok _) = (entries : List Entry) × IsFile text entries None × Walks known depth place entries walked
 WalksText known depth place text walked (Err error) = Stops known depth place text walked error
@@ -159,6 +159,6 @@ WalksText known depth place text walked (Err error) = Stops known depth place te
 abbrev pub view : Walked → List ℕ × Entry
 view walked = (walked.file.now, entry_of walked.entry)
 
--- the new list is the old one and then these
+-- the new list is the old one, followed by these entries
 abbrev pub Adds : List Walked → List Walked → List (List ℕ × Entry) → Type 0
 Adds old new added = map view new ≡ map view old ++ added

@@ -10,7 +10,7 @@ ghost use Rattle.config_file.specs.Runs.{Run};
 ghost use Rattle.config_file.specs.Value.{line_feeds};
 ghost use Rattle.config_file.specs.Reading.Scans.{passes};
 
-/// The first byte of a text, and what follows it.
+/// The first byte of a text and what follows it, or `None` if the text is empty.
 #[inline(always)]
 pub(crate) fn split(text: &[u8]) -> Option<(u8, &[u8])>
     ensures { MatchOption result (text.now ≡ []) (λ p. text.now ≡ p.0 ∷ p.1.now) }
@@ -30,14 +30,14 @@ pub(crate) fn after_byte(byte: u8, text: &[u8]) -> Option<&[u8]>
     if first == byte { Some(rest) } else { None }
 }
 
-/// What follows the front, or `None` if the text begins otherwise.
+/// What follows this prefix, or `None` if the text does not begin with it.
 pub(crate) fn strip<'t>(text: &'t [u8], front: &[u8]) -> Option<&'t [u8]>
     ensures { MatchOption result (LacksFront front.now text.now) (λ rest. text.now ≡ front.now ++ rest.now) }
 {
     text.strip_prefix(front)
 }
 
-/// What precedes the end, or `None` if the text ends otherwise.
+/// What precedes this suffix, or `None` if the text does not end with it.
 pub(crate) fn strip_end<'t>(text: &'t [u8], end: &[u8]) -> Option<&'t [u8]>
     ensures { MatchOption result ((front : List ℕ) → text.now ≢ front ++ end.now)
         (λ front. text.now ≡ front.now ++ end.now) }
@@ -81,7 +81,7 @@ pub(crate) fn is_text_byte(byte: u8) -> bool
     byte != 0 && byte != b'\n'
 }
 
-/// Whether a line ends before these bytes, or with their first one or two.
+/// Whether the text is empty, or begins with LF or with CR LF.
 pub(crate) fn is_at_line_end(text: &[u8]) -> bool
     ensures { IsTrue result ↔ (IsAtLineEnd text.now) }
 {
@@ -92,7 +92,7 @@ pub(crate) fn is_at_line_end(text: &[u8]) -> bool
     }
 }
 
-/// A set of bytes, to find a run of them.
+/// A class of bytes, of which a run is wanted.
 #[derive(Clone, Copy)]
 pub(crate) enum Class {
     Name,
@@ -123,7 +123,7 @@ fn run_length(text: &[u8], class: Class) -> usize
     text.iter().take_while(|byte| is_in(class, **byte)).count()
 }
 
-/// The longest run of bytes of a class at the front, and the rest.
+/// The longest run of bytes of a class at the start of the text, and the rest.
 #[inline(always)]
 pub(crate) fn run(text: &[u8], class: Class) -> (&[u8], &[u8])
     ensures { Run (passes class) text.now result.0.now result.1.now }
@@ -139,7 +139,7 @@ pub(crate) fn line_feeds(text: &[u8]) -> usize
     text.iter().filter(|byte| **byte == b'\n').count()
 }
 
-/// What of the text precedes its rest.
+/// The part of the text that precedes this rest of it.
 pub(crate) fn before<'a>(text: &'a [u8], rest: &[u8]) -> &'a [u8]
     requires { (front : List ℕ) × (text.now ≡ front ++ rest.now) }
     ensures { text.now ≡ result.now ++ rest.now }

@@ -12,23 +12,23 @@ use crate::section::Section;
 use crate::value::{Taken, Value, read_value};
 use std::alloc::{AllocError, Global};
 
-/// An entry, in parts of the text that it was read from.
+/// An entry, whose parts are borrowed from the text that it was read from.
 #[derive(Clone, Copy)]
 pub struct Entry<'a> {
-    /// The section of the last header before it; `None` if no header precedes it.
+    /// The section of the last header before the entry, or `None` if no header precedes it.
     pub section: Option<Section<'a>>,
     /// The key, in the case of the text.
     pub key: &'a [u8],
-    /// The value; `None` if the key has no `=`, which is not the empty value.
+    /// The value, or `None` if the key has no `=`. A value that is empty is not `None`.
     pub value: Option<Value<'a>>,
-    /// The line on which the entry ends, from 1.
+    /// The line on which the entry ends, counted from 1; one more if a backslash ends the text.
     pub line: usize,
 }
 
-/// The room that most keys need.
+/// The number of bytes that is enough for most keys.
 const USUAL_LENGTH: usize = 32;
 
-/// What an entry is made of, without its section.
+/// The parts of an entry without its section, how many line ends it continues over, and what follows it.
 #[derive(Clone, Copy)]
 pub(crate) struct Parts<'a> {
     pub key: &'a [u8],
@@ -37,7 +37,7 @@ pub(crate) struct Parts<'a> {
     pub rest: &'a [u8],
 }
 
-/// Reads the entry that begins here.
+/// Reads the entry at the start of the text.
 pub(crate) fn read_entry(text: &[u8]) -> Result<Parts<'_>, Stop>
     ensures { MatchResult result
         (λ parts. TakesEntry text.now parts.key.now (value_of parts.value) parts.lines parts.rest.now)
@@ -76,8 +76,8 @@ impl<'a> Entry<'a> {
         self.key.eq_ignore_ascii_case(key)
     }
 
-    /// The key as `git config --list` shows it: section and key in lower case, and the subsection as it is
-    /// spelled. It fails only if memory is refused.
+    /// The key as `git config --list` shows it: section and key in lower case, and the text of the subsection
+    /// unchanged. It fails only if memory is refused.
     pub fn key_text(&self, alloc: Global) -> Result<Vec<u8>, AllocError>
         ensures { (listed : List ℕ)
             → IsListed (option_map section_of self.now.section) self.now.key.now listed
@@ -92,7 +92,7 @@ impl<'a> Entry<'a> {
     }
 }
 
-/// Appends a section with a dot after it, and its subsection with another.
+/// Appends a section in lower case and a dot, and its subsection, if it has one, and a dot.
 fn push_section(text: &mut Vec<u8>, section: &Section<'_>) -> Result<(), AllocError>
     ensures { (listed : List ℕ) → IsListedSection (section_of section.now) listed
         → OnOk result (text.new.items ≡ text.old.items ++ listed) }

@@ -1,4 +1,4 @@
-//! Why a text is no configuration file.
+//! Why a text is not a configuration file.
 ghost use Rattle.std.specs.Prelude.{◌≡◌, Some};
 ghost use Rattle.config_file.specs.Errors.{fault_text, error_shown};
 ghost use Rattle.config_file.specs.Header.{fault_at};
@@ -8,9 +8,9 @@ use std::{error, fmt};
 /// Why the reading stops.
 #[derive(Clone, Copy, PartialEq, Eq, Debug)]
 pub enum Fault {
-    /// A byte with which nothing goes on there, or the end of the text. Git tells `bad config line`.
+    /// A byte that is not allowed there, or the end of the text. Git reports `bad config line`.
     BadLine,
-    /// A NUL outside a comment. Git reads on only in a value and in a subsection, which it cuts there.
+    /// A NUL outside a comment. Git reads on only in a value or a subsection, whose text it cuts at the NUL.
     Nul,
 }
 
@@ -36,10 +36,10 @@ impl fmt::Display for Fault {
 
 impl error::Error for Fault {}
 
-/// Why a text is no configuration file.
+/// Why a text is not a configuration file.
 #[derive(Clone, Copy, PartialEq, Eq, Debug)]
 pub struct Error {
-    /// The line that Git tells, from 1.
+    /// The line that Git reports, counted from 1.
     pub line: usize,
     /// Why the reading stops on that line.
     pub fault: Fault,
@@ -63,7 +63,7 @@ pub(crate) struct Stop {
     pub fault: Fault,
 }
 
-/// What is wrong where the reading stops.
+/// The fault if the reading stops at this rest: `Nul` if a NUL comes next, otherwise `BadLine`.
 pub(crate) fn fault_at(rest: &[u8]) -> Fault
     ensures { result ≡ fault_at rest.now }
 {
@@ -73,7 +73,7 @@ pub(crate) fn fault_at(rest: &[u8]) -> Fault
     }
 }
 
-/// A stop on the first line of an item.
+/// A stop on the first line of an item, at this rest.
 pub(crate) fn stop_at(rest: &[u8]) -> Stop
     ensures lines { result.lines ≡ 0 }
     ensures fault { result.fault ≡ fault_at rest.now }

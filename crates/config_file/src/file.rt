@@ -9,17 +9,17 @@ use crate::errors::Error;
 use crate::reader::Entries;
 use std::alloc::{AllocError, Global};
 
-/// Why the entries of a text are not given.
+/// Why the entries of a text are not returned.
 #[derive(Drop, Debug)]
 pub enum ReadError {
     /// Memory was refused.
     Memory(AllocError),
-    /// The text is no configuration file.
+    /// The text is not a configuration file.
     Refused(Error),
 }
 
-/// The entries of a text, in order. It returns `Refused` if the text is no configuration file, and `Memory`
-/// if memory is refused to the list.
+/// The entries of a text, in order. Returns `Refused` if the text is not a configuration file, and `Memory`
+/// if there is no memory for the list.
 pub fn read<'a>(alloc: Global, text: &'a [u8]) -> Result<Vec<Entry<'a>>, ReadError>
     ensures read { IfOk result (λ entries. IsFile text.now (map entry_of entries.items) None) }
     ensures refused { (error : Error) → result ≡ Err (ReadError.Refused error)

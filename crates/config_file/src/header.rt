@@ -9,7 +9,7 @@ use crate::bytes::{Class, after_byte, before, is_at_line_end, is_text_byte, run,
 use crate::errors::{Fault, Stop, stop_at};
 use crate::section::{Section, Subsection};
 
-/// Reads a header after its `[`: the section, and what follows the header.
+/// Reads a header after its `[`. Returns the section, and what follows the header.
 pub(crate) fn read_header(text: &[u8]) -> Result<(Section<'_>, &[u8]), Stop>
     ensures { MatchResult result (λ p. Header text.now (section_of p.0) p.1.now)
         (λ stop. HeaderStops text.now stop.lines stop.fault) }
@@ -39,7 +39,7 @@ pub(crate) fn read_header(text: &[u8]) -> Result<(Section<'_>, &[u8]), Stop>
     ))
 }
 
-/// What follows the `]` that closes a name.
+/// What follows the `]` after a name. A name that is empty or is not closed is refused.
 fn close_name<'a>(name: &[u8], after: &'a [u8]) -> Result<&'a [u8], Stop>
     ensures { MatchResult result (λ rest. (name.now ≢ []) × (after.now ≡ 93 ∷ rest.now))
         (λ stop. NameStops name.now after.now stop.lines stop.fault) }
@@ -59,7 +59,7 @@ fn close_name<'a>(name: &[u8], after: &'a [u8]) -> Result<&'a [u8], Stop>
     }
 }
 
-/// Reads a subsection after its quote: its bytes, and what follows the `]`.
+/// Reads a subsection after its opening quote. Returns the subsection, and what follows the `]`.
 fn read_subsection(text: &[u8]) -> Result<(Subsection<'_>, &[u8]), Stop>
     ensures { MatchResult result (λ p. ClosesSubsection text.now p.0.raw.now p.1.now)
         (λ stop. SubsectionStops text.now stop.lines stop.fault) }
@@ -105,7 +105,7 @@ fn quoted(text: &[u8]) -> Result<(&[u8], &[u8]), &[u8]>
     Err(at)
 }
 
-/// What follows the byte that a backslash escapes.
+/// What follows the byte that a backslash escapes, or `None` if the text is empty or begins with LF or NUL.
 fn after_escaped(text: &[u8]) -> Option<&[u8]>
     ensures { MatchOption result (EndsText text.now)
         (λ rest. (e : ℕ) × (text.now ≡ e ∷ rest.now) × (is_text_byte e ≡ true)) }

@@ -1,5 +1,5 @@
 //! Where a program runs: its environment, and the repository that it is in. No contract can say what the
-//! system has there.
+//! system returns.
 
 use std::alloc::{AllocError, Global};
 use std::env::{self, VarError};
@@ -7,7 +7,7 @@ use std::fs;
 use std::io::{self, ErrorKind};
 use std::path::Path;
 
-/// The value of an environment variable. Fails if it is not UTF-8.
+/// The value of an environment variable. It fails if the value is not UTF-8, or if memory is refused.
 pub fn variable(rt: &HostRuntime, name: &str) -> io::Result<Option<String>> {
     match env::var(rt, name) {
         Ok(value) => Ok(Some(value)),
@@ -17,7 +17,7 @@ pub fn variable(rt: &HostRuntime, name: &str) -> io::Result<Option<String>> {
     }
 }
 
-/// A name in a folder: one that begins with `/` stays as it is, and the empty folder is the current one.
+/// The path of a name in a folder. A name that begins with `/` is kept. An empty folder is the current one.
 pub fn inside(alloc: Global, folder: &str, name: &str) -> io::Result<String> {
     Ok(if folder.is_empty() || name.starts_with('/') {
         format!(in alloc; "{name}")?
@@ -28,7 +28,7 @@ pub fn inside(alloc: Global, folder: &str, name: &str) -> io::Result<String> {
     })
 }
 
-/// The text of a file of one line, without the ends of its lines.
+/// The text of a file without the line ends at its end, or `None` if the file cannot be read.
 fn line_of(rt: &HostRuntime, file: &str) -> io::Result<Option<String>> {
     let text = match fs::read_to_string(rt, file) {
         Ok(text) => text,
@@ -38,7 +38,7 @@ fn line_of(rt: &HostRuntime, file: &str) -> io::Result<Option<String>> {
     Ok(Some(format!(in rt.alloc(); "{line}")?))
 }
 
-/// The folder that the worktrees of a git directory share.
+/// The folder that the worktrees of a git directory share: GIT_COMMON_DIR, that of its commondir, or itself.
 pub fn common_folder(rt: &HostRuntime, git_dir: &str) -> io::Result<String> {
     if let Some(folder) = variable(rt, "GIT_COMMON_DIR")? {
         return Ok(folder);
@@ -50,7 +50,7 @@ pub fn common_folder(rt: &HostRuntime, git_dir: &str) -> io::Result<String> {
     }
 }
 
-/// Whether this is a git directory: it has HEAD, and objects and refs, which worktrees share.
+/// Whether this is a git directory: it has HEAD, and its common folder has objects and refs.
 fn is_git_dir(rt: &HostRuntime, folder: &str) -> io::Result<bool> {
     let alloc = rt.alloc();
     let common = common_folder(rt, folder)?;
@@ -61,7 +61,7 @@ fn is_git_dir(rt: &HostRuntime, folder: &str) -> io::Result<bool> {
     )
 }
 
-/// The git directory that a path names: itself, or that of its line `gitdir: ..`, with its links resolved.
+/// The git directory of a path: itself, or the one that a file names by `gitdir: ..`, its links resolved.
 fn linked(rt: &HostRuntime, folder: &str, path: String) -> io::Result<String> {
     if !Path::new(&path).is_file(rt) {
         return Ok(path);
@@ -92,8 +92,8 @@ fn git_dir_in(rt: &HostRuntime, folder: &str) -> io::Result<Option<String>> {
     Ok(None)
 }
 
-/// The git directory: GIT_DIR, or the first from the current folder upwards. It may be relative to that
-/// folder.
+/// The git directory: GIT_DIR, or the first one from the current folder upwards. Its path may be relative to
+/// that folder.
 pub fn find_git_dir(rt: &HostRuntime) -> io::Result<Option<String>> {
     if let Some(git_dir) = variable(rt, "GIT_DIR")? {
         return Ok(Some(linked(rt, "", git_dir)?));
@@ -118,13 +118,13 @@ pub fn find_git_dir(rt: &HostRuntime) -> io::Result<Option<String>> {
 pub struct Repository {
     /// The absolute path of the git directory, with its links resolved.
     pub real_git_dir: String,
-    /// The same, with its links kept.
+    /// The absolute path of the git directory, with its links kept.
     pub git_dir: String,
-    /// The name of the branch without `refs/heads/`, or `None` if HEAD is detached.
+    /// The name of the branch without `refs/heads/`, or `None` if HEAD names no branch.
     pub branch: Option<String>,
 }
 
-/// A path with its links resolved, or `None` if it does not exist.
+/// A path with its links resolved, or `None` if it cannot be resolved.
 pub fn real_path(rt: &HostRuntime, path: &str) -> io::Result<Option<String>> {
     match fs::canonicalize(rt, path) {
         Ok(real) => Ok(Some(format!(in rt.alloc(); "{}", real.as_path().as_str())?)),
@@ -132,7 +132,7 @@ pub fn real_path(rt: &HostRuntime, path: &str) -> io::Result<Option<String>> {
     }
 }
 
-/// The current folder, with the links that the shell followed to it.
+/// The current folder. It is the text of PWD, with its links, if that is a path of the same folder.
 fn current_folder(rt: &HostRuntime) -> io::Result<String> {
     let real = env::current_dir(rt)?;
     let real = real.as_path().as_str();
@@ -146,7 +146,7 @@ fn current_folder(rt: &HostRuntime) -> io::Result<String> {
     Ok(format!(in rt.alloc(); "{real}")?)
 }
 
-/// The branch that HEAD of a git directory names.
+/// The branch that HEAD of a git directory names, without `refs/heads/`, or `None` if it names no branch.
 fn branch_of(rt: &HostRuntime, git_dir: &str) -> io::Result<Option<String>> {
     let alloc = rt.alloc();
     let Some(line) = line_of(rt, &inside(alloc, git_dir, "HEAD")?)? else {

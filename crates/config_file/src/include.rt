@@ -11,14 +11,14 @@ use crate::path::{is_rest, joined};
 use crate::pattern::matches;
 use std::alloc::{AllocError, Global};
 
-/// When an entry includes its file.
+/// The condition on which an entry includes its file.
 #[derive(Clone, Copy, PartialEq, Eq, Debug)]
 pub enum Condition<'c> {
     /// Always: `include.path`.
     Always,
     /// If the pattern matches the git directory: `gitdir:`.
     GitDir(&'c [u8]),
-    /// The same without case: `gitdir/i:`.
+    /// The same, ignoring ASCII case: `gitdir/i:`.
     GitDirIgnoringCase(&'c [u8]),
     /// If the pattern matches the branch: `onbranch:`.
     OnBranch(&'c [u8]),
@@ -41,7 +41,7 @@ pub struct Repository<'r> {
     pub real_home: Option<&'r [u8]>,
 }
 
-/// The text of the condition in a key.
+/// The text of the condition in a key, or `None` if the key has no condition.
 fn condition_text(key: &[u8]) -> Option<&[u8]>
     ensures { MatchOption result ((text : List ℕ) → ¬ (IsConditional key.now text))
         (λ text. IsConditional key.now text.now) }
@@ -50,7 +50,7 @@ fn condition_text(key: &[u8]) -> Option<&[u8]>
     strip_end(rest, b".path")
 }
 
-/// The condition of this text.
+/// The condition that this text names.
 fn named(text: &[u8]) -> Condition<'_>
     ensures { Names text.now result }
 {
@@ -70,7 +70,7 @@ fn named(text: &[u8]) -> Condition<'_>
 }
 
 impl<'c> Condition<'c> {
-    /// When the entry of a key, as Git lists it, includes a file, or `None` if it never does.
+    /// The condition on which an entry of a key, as Git lists it, includes a file. `None` if it never does.
     pub fn of_key(key: &'c [u8]) -> Option<Condition<'c>>
         ensures { MatchOption result (IncludesNone key.now) (λ condition. Includes key.now condition) }
     {
@@ -84,7 +84,7 @@ impl<'c> Condition<'c> {
     }
 }
 
-/// Makes the pattern stand for all below, if it ends with `/`.
+/// Appends `**` to the pattern if it ends with `/`, so that it matches everything below.
 fn push_below(pattern: &mut Vec<u8>) -> Result<(), AllocError>
     ensures { OnOk result (pattern.new.items ≡ spec.below pattern.old.items) }
 {
@@ -94,7 +94,7 @@ fn push_below(pattern: &mut Vec<u8>) -> Result<(), AllocError>
     Ok(())
 }
 
-/// The pattern for any directory, if it does not begin with `/`.
+/// The pattern, with `**/` before it unless it begins with `/`, so that it matches in any directory.
 fn anywhere(alloc: Global, pattern: &[u8]) -> Result<Vec<u8>, AllocError>
     ensures { IfOk result (λ whole. whole.items ≡ spec.anywhere pattern.now) }
 {
@@ -106,7 +106,7 @@ fn anywhere(alloc: Global, pattern: &[u8]) -> Result<Vec<u8>, AllocError>
     Ok(whole)
 }
 
-/// The pattern with the home directory in place of `~`, if it is known.
+/// The pattern, with a `~` that is alone or before `/` replaced by the home directory, if that is known.
 fn at_home(alloc: Global, home: Option<&[u8]>, pattern: &[u8]) -> Result<Vec<u8>, AllocError>
     ensures { IfOk result (λ whole. whole.items ≡ spec.at_home (option_copied home.entry) pattern.now) }
 {
@@ -120,7 +120,7 @@ fn at_home(alloc: Global, home: Option<&[u8]>, pattern: &[u8]) -> Result<Vec<u8>
     Ok(joined(alloc, b"", pattern)?)
 }
 
-/// Whether two names are the same.
+/// Whether two names are the same, ignoring ASCII case if `ignores_case` is true.
 fn is_same_name(a: &[u8], b: &[u8], ignores_case: bool) -> bool
     ensures { IsTrue result ↔ (IsSameName ignores_case a.now b.now) }
 {
@@ -170,7 +170,7 @@ fn matches_dir(
 impl Repository<'_> {
     /// Whether the pattern of `gitdir:` matches the git directory. `~` at its start is the home directory, if
     /// that is known, and the `.` of `./` is `real_dir`, the directory of the file that has the pattern, with
-    /// its links resolved and no `/` at its end. Fails only if memory runs out.
+    /// its links resolved and no `/` at its end. It fails only if memory is refused.
     pub fn is_git_dir(
         &self,
         alloc: Global,
@@ -188,7 +188,7 @@ impl Repository<'_> {
         Ok(matches_dir(alloc, real_dir, &pattern, self.git_dir, ignores_case)?)
     }
 
-    /// Whether the pattern of `onbranch:` matches the branch.
+    /// Whether the pattern of `onbranch:` matches the branch, if there is one.
     pub fn is_on_branch(&self, alloc: Global, pattern: &[u8]) -> Result<bool, AllocError>
         ensures { IfOk result (λ holds. IsTrue holds
             ↔ (IsOnBranch pattern.now (option_map (λ branch. branch.now) self.now.branch))) }

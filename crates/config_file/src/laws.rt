@@ -1,10 +1,10 @@
-//! What holds of configuration files, besides what calls promise.
+//! Laws of configuration files, in addition to the contracts of calls.
 ghost use Rattle.std.specs.Prelude.{◌≡◌, ℕ, List, Option};
 ghost use Rattle.config_file.specs.declared.errors.Error.{Error};
 ghost use Rattle.config_file.specs.File.{Entry, IsFile};
 
-/// A text has one reading: the same entries, and the same error if it is refused, however it is derived. So
-/// no text is both read and refused.
+/// A text has at most one reading: all derivations give the same entries, and the same error if the text is
+/// refused. So no text is both accepted and refused.
 pub fn one_reading()
     ensures { (text : List ℕ) (a b : List Entry) (e f : Option Error) → IsFile text a e → IsFile text b f
         → (a ≡ b) × (e ≡ f) }

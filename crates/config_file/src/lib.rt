@@ -1,17 +1,17 @@
 //! Git's configuration files: the entries of a text, read as Git reads them (docs/GRAMMAR.md).
 //!
-//! [`reader::Entries`] lends the entries of a text one by one, in order, and takes no memory. After the last
-//! one, or after the error at which the text is refused, it ends. [`file::read`] reads a whole text. An
-//! [`errors::Error`] has the line that Git tells, and the fault.
+//! [`reader::Entries`] yields the entries of a text one by one, in order, and takes no memory. It ends after
+//! the last entry, or after an error if the text is refused. [`file::read`] reads a whole text. An
+//! [`errors::Error`] has the line that Git reports, and the fault.
 //!
-//! The parts of an [`entry::Entry`] are borrowed from the text. A [`value::Value`] gives the text that its
-//! bytes spell, and a [`section::Subsection`] appends it. [`entry::Entry::key_text`] is the key as `git
-//! config --list` shows it.
+//! The parts of an [`entry::Entry`] are borrowed from the text. A [`value::Value`] returns the text that its
+//! bytes spell, and a [`section::Subsection`] appends its text to a vector. [`entry::Entry::key_text`] is the
+//! key as `git config --list` shows it.
 //!
-//! [`settings`] looks typed values up over several files, [`walk`] follows includes, [`spelling`] writes
+//! [`settings`] looks up typed values in several files, [`walk`] follows includes, [`spelling`] writes
 //! entries, and [`here`] finds the repository that a program runs in.
 //!
-//! [`laws`] states that each text has a reading, and one: it is a configuration file, or it is refused on a
+//! [`laws`] states that each text has exactly one reading: it is a configuration file, or it is refused on a
 //! line.
 #![tactic(auto)]
 

@@ -26,7 +26,7 @@ pub(crate) fn joined(alloc: Global, first: &[u8], second: &[u8]) -> Result<Vec<u
     Ok(whole)
 }
 
-/// How many bytes follow the last `/`.
+/// How many bytes follow the last `/`, or how many there are if there is no `/`.
 fn name_length(file: &[u8]) -> usize
     ensures count { result ≡ suffix_len is_no_slash file.now }
     ensures within { result ≤ length file.now }
@@ -34,15 +34,15 @@ fn name_length(file: &[u8]) -> usize
     file.iter().rev().take_while(|byte| **byte != b'/').count()
 }
 
-/// The directory of a file: its name up to the last `/`, or nothing.
+/// The directory of a file: its name up to its last `/`, which is included; empty if it has no `/`.
 fn directory(file: &[u8]) -> &[u8]
     ensures { result.now ≡ spec.directory file.now }
 {
     &file[..file.len() - name_length(file)]
 }
 
-/// The name of the file that a path stands for: a relative one is put after the directory of the file that
-/// includes it. Fails only if memory runs out.
+/// The name of the file that a path includes. A relative path is put after the directory of the including
+/// file. It fails only if memory is refused.
 #[tactic(auto, using(crate::proofs::Paths::absolute_name, crate::proofs::Paths::relative_name))]
 pub fn included_name(alloc: Global, file: &[u8], path: &[u8]) -> Result<Vec<u8>, AllocError>
     ensures { IfOk result (λ name. IsIncludedName file.now path.now name.items) }
@@ -53,16 +53,16 @@ pub fn included_name(alloc: Global, file: &[u8], path: &[u8]) -> Result<Vec<u8>,
     }
 }
 
-/// A directory of a path, and what follows it.
+/// The directory that a path begins with, and what follows it.
 #[derive(Clone, Copy)]
 pub struct Expanded<'e> {
-    /// The directory, or nothing if the path begins with none.
+    /// The directory, which is empty if the value names neither the home nor the install directory.
     pub directory: &'e [u8],
     /// What follows the directory.
     pub rest: &'e [u8],
 }
 
-/// Whether this is nothing, or begins with `/`.
+/// Whether the bytes are empty or begin with `/`.
 pub(crate) fn is_rest(rest: &[u8]) -> bool
     ensures { result ≡ spec.is_rest rest.now }
 {
@@ -72,8 +72,8 @@ pub(crate) fn is_rest(rest: &[u8]) -> bool
     }
 }
 
-/// The path that a value stands for, in two parts, or `None` if it begins with a directory that is not known.
-/// No users are looked up, so `~user` is not known.
+/// The path of a value, in two parts, or `None` if the value begins with a directory that is not known. Users
+/// are not looked up, so the directory of `~user` is not known.
 #[tactic(auto, using(crate::proofs::Paths::at_home, crate::proofs::Paths::at_prefix, crate::proofs::Paths::elsewhere, crate::proofs::Paths::of_user, crate::proofs::Paths::without_home, crate::proofs::Paths::without_prefix))]
 pub fn expand<'e>(value: &'e [u8], directories: Directories<'e>) -> Option<Expanded<'e>>
     ensures { MatchOption result

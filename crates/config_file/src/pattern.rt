@@ -1,4 +1,4 @@
-//! Patterns of paths, as Git's conditions of includes have them.
+//! Patterns of paths, as in Git's conditions of includes.
 ghost use Rattle.std.specs.Prelude.{◌≡◌, ◌≢◌, ◌↔◌, IsTrue, MatchOption, List, ℕ, [], ◌∷◌, ◌<◌, ◌≤◌, length};
 ghost use Rattle.std.specs.List.{prefix_len};
 ghost use Rattle.config_file.specs.Runs.{Run};
@@ -18,14 +18,13 @@ fn split(text: &[u8]) -> Option<(u8, &[u8])>
     }
 }
 
-/// Whether no byte is left.
 fn is_at_end(text: &[u8]) -> bool
     ensures { IsTrue result ↔ (text.now ≡ []) }
 {
     text.is_empty()
 }
 
-/// Whether a byte of a pattern stands for this byte.
+/// Whether a byte of a pattern matches this byte.
 fn stands_for(item: u8, byte: u8, ignores_case: bool) -> bool
     ensures { result ≡ spec.stands_for ignores_case item byte }
 {
@@ -81,7 +80,7 @@ fn stars(pattern: &[u8]) -> (&[u8], &[u8])
     pattern.split_at(star_count(pattern))
 }
 
-/// Whether the pattern is at its end, or a `/` is next.
+/// Whether the pattern is empty, or begins with `/` or with a backslash and `/`.
 fn ends_name(pattern: &[u8]) -> bool
     ensures { result ≡ spec.ends_name pattern.now }
 {
@@ -92,7 +91,7 @@ fn ends_name(pattern: &[u8]) -> bool
     }
 }
 
-/// Whether this many stars between these cross directories.
+/// Whether stars before this rest match `/` too. `more` has the stars after the first one.
 fn crosses(starts: bool, more: &[u8], rest: &[u8]) -> bool
     ensures { result ≡ spec.crosses starts more.now rest.now }
 {
@@ -109,8 +108,8 @@ fn is_passed(crosses: bool, byte: u8) -> bool
     crosses || byte != b'/'
 }
 
-/// Whether the pattern matches the whole text. Stars and `?` match no `/`, but two stars or more that are all
-/// of a name do: `**/`, `/**/` and `/**`.
+/// Whether the pattern matches the whole text. Stars and `?` do not match `/`, except for two or more stars
+/// that are a whole name: `**/`, `/**/` and `/**`.
 ///
 /// The time is exponential in the number of stars, as in Git.
 pub fn matches(pattern: &[u8], text: &[u8], ignores_case: bool) -> bool
@@ -119,7 +118,7 @@ pub fn matches(pattern: &[u8], text: &[u8], ignores_case: bool) -> bool
     matches_from(pattern, text, true, ignores_case)
 }
 
-/// Whether the pattern matches the text, where a name starts or not.
+/// Whether the pattern matches the whole text. `starts` says whether a name starts here.
 #[tactic(auto, using(crate::proofs::Patterns::item_shortens))]
 #[cycle(pattern)]
 fn matches_from(pattern: &[u8], text: &[u8], starts: bool, ignores_case: bool) -> bool
@@ -148,7 +147,7 @@ fn matches_stars(pattern: &[u8], text: &[u8], starts: bool, ignores_case: bool) 
         || matches_later(rest, text, crosses, ignores_case)
 }
 
-/// Whether stars that cross directories, and the `/` after them, match nothing before the text.
+/// Whether stars cross directories, the pattern begins with `/`, and what follows that `/` matches the text.
 #[cycle(pattern)]
 fn matches_no_directory(pattern: &[u8], text: &[u8], crosses: bool, ignores_case: bool) -> bool
     ensures { IsTrue result ↔ (MatchesNoDirectory ignores_case crosses pattern.now text.now) }
@@ -162,7 +161,7 @@ fn matches_no_directory(pattern: &[u8], text: &[u8], crosses: bool, ignores_case
     }
 }
 
-/// Whether the pattern matches what is left of the text after some bytes that stars pass.
+/// Whether stars match some bytes at the start of the text, or no byte, and the pattern matches what is left.
 #[cycle(pattern)]
 fn matches_later(pattern: &[u8], text: &[u8], crosses: bool, ignores_case: bool) -> bool
     ensures { IsTrue result ↔ (MatchesLater ignores_case crosses pattern.now text.now) }

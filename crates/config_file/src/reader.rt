@@ -10,8 +10,8 @@ use crate::errors::{Error, Stop, fault_at};
 use crate::header::read_header;
 use crate::section::Section;
 
-/// The entries of a text that are left. It yields each entry, in order, and takes no memory. At an item that
-/// Git refuses it yields the error, and nothing after it. Texts of any length are read, in linear time.
+/// An iterator over the entries of a text, in order, which takes no memory. If Git refuses an item, it yields
+/// the error, and nothing after that. It reads texts of any length in linear time.
 ///
 /// ```rust
 /// use config_file::errors::Fault;
@@ -33,7 +33,7 @@ pub struct Entries<'a> {
     ghost line_fits: { line + length rest.now < 2 ^ 63 + 2 },
 }
 
-/// What follows the byte order mark.
+/// What follows the byte order mark, or `None` if the text does not begin with it.
 fn after_mark(text: &[u8]) -> Option<&[u8]>
     ensures { option_map (λ rest. rest.now) result ≡ after_mark text.now }
 {
@@ -43,7 +43,7 @@ fn after_mark(text: &[u8]) -> Option<&[u8]>
     }
 }
 
-/// Whether one or two bytes of the mark end the line.
+/// Whether the first line holds only the first one or two bytes of the mark.
 fn is_part_of_mark(text: &[u8]) -> bool
     ensures { IsTrue result ↔ (IsPartOfMark text.now) }
 {

@@ -10,7 +10,7 @@ use std::alloc::AllocError;
 /// A section: its name, and its subsection if the header has one.
 #[derive(Clone, Copy)]
 pub struct Section<'a> {
-    /// Letters, digits, `-` and `.`, in the case of the text. It is empty only before a subsection.
+    /// Letters, digits, `-` and `.`, in the case of the text. The name can be empty only before a subsection.
     pub name: &'a [u8],
     /// The subsection, which the header has in quotes.
     pub subsection: Option<Subsection<'a>>,
@@ -34,8 +34,8 @@ pub struct Subsection<'a> {
 }
 
 impl<'a> Subsection<'a> {
-    /// Appends the text that these bytes spell, where a backslash is dropped and the byte after it is kept.
-    /// It fails only if memory is refused.
+    /// Appends the text that these bytes spell: a backslash is dropped, and the byte after it is kept. It
+    /// fails only if memory is refused.
     pub fn push_text(&self, text: &mut Vec<u8>) -> Result<(), AllocError>
         ensures { (spelled : List ℕ) → SpellsSubsection self.now.raw.now spelled
             → OnOk result (text.new.items ≡ text.old.items ++ spelled) }

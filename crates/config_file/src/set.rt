@@ -1,4 +1,4 @@
-//! Sets of bytes in patterns, as `[a-z]` and `[!/]`.
+//! Sets of bytes in patterns, such as `[a-z]` and `[!/]`.
 ghost use Rattle.std.specs.Prelude.{◌≡◌, ◌<◌, ◌≤◌, ◌≢◌, ◌∷◌, Bool, true, List, ℕ, IfSome, MatchOption};
 ghost use Rattle.std.specs.Prelude.{length, option_map};
 ghost use Rattle.std.specs.Int.{is_in_range};
@@ -10,7 +10,7 @@ ghost use Rattle.config_file.specs.Set.{IsClass, Member, SetHas, StandsForByte, 
 use crate::bytes::{is_blank, strip, strip_end};
 use config_text::words::equals;
 
-/// A byte as it is compared: in lower case if case does not count.
+/// A byte as it is compared: in lower case if case is ignored.
 pub(crate) fn folded(byte: u8, ignores_case: bool) -> u8
     ensures { result ≡ spec.folded ignores_case byte }
 {
@@ -21,7 +21,7 @@ pub(crate) fn folded(byte: u8, ignores_case: bool) -> u8
     }
 }
 
-/// Whether the set is negated, and its members.
+/// Whether the set is negated, and the text from its first member on.
 fn opened(text: &[u8]) -> (bool, &[u8])
     ensures { (result.0, result.1.now) ≡ spec.opened text.now }
 {
@@ -41,7 +41,7 @@ fn first_byte(text: &[u8]) -> Option<(u8, &[u8])>
     }
 }
 
-/// A byte of a set, and the rest.
+/// The next byte of a set, or the byte after a backslash, and the rest.
 fn set_byte(text: &[u8], starts: bool) -> Option<(u8, &[u8])>
     ensures { option_map (λ p. (p.0, p.1.now)) result ≡ spec.set_byte starts text.now }
 {
@@ -75,7 +75,7 @@ fn range_end(text: &[u8]) -> Option<(u8, &[u8])>
     }
 }
 
-/// Whether a range has the byte.
+/// Whether a range has the byte, in either case if case is ignored.
 fn range_has(first: u8, last: u8, byte: u8, ignores_case: bool) -> bool
     ensures { result ≡ spec.range_has ignores_case first last byte }
 {
@@ -83,14 +83,14 @@ fn range_has(first: u8, last: u8, byte: u8, ignores_case: bool) -> bool
         || ignores_case && is_between(first, last, byte.to_ascii_uppercase())
 }
 
-/// Whether a byte is none before the first and none after the last.
+/// Whether a byte is in the range from the first to the last, which are included.
 fn is_between(first: u8, last: u8, byte: u8) -> bool
     ensures { result ≡ is_in_range first last byte }
 {
     first <= byte && byte <= last
 }
 
-/// Whether the byte or the range that comes first has the byte, and the rest.
+/// Whether the text begins with this byte or with a range that has it, and the rest.
 fn byte_or_range(text: &[u8], starts: bool, byte: u8, ignores_case: bool) -> Option<(bool, &[u8])>
     ensures { option_map (λ p. (p.0, p.1.now)) result ≡ spec.byte_or_range ignores_case byte starts text.now }
 {
@@ -102,7 +102,7 @@ fn byte_or_range(text: &[u8], starts: bool, byte: u8, ignores_case: bool) -> Opt
     }
 }
 
-/// What follows the end of the set, if it ends here.
+/// What follows the `]` at which the set ends, or `None` if it does not end here.
 fn after_end(text: &[u8]) -> Option<&[u8]>
     ensures { MatchOption result ((rest : List ℕ) → text.now ≢ 93 ∷ rest) (λ rest. text.now ≡ 93 ∷ rest.now) }
 {
@@ -154,14 +154,14 @@ fn unclosed_count(text: &[u8]) -> usize
     text.iter().take_while(|byte| **byte != b']').count()
 }
 
-/// What precedes the first `]`, and the rest.
+/// What precedes the first `]`, and the rest from it on.
 fn unclosed(text: &[u8]) -> (&[u8], &[u8])
     ensures { Run is_unclosed text.now result.0.now result.1.now }
 {
     text.split_at(unclosed_count(text))
 }
 
-/// The name of the class that comes first, and the rest.
+/// The name of the class with which the text begins, and the rest, or `None` if it begins with no class.
 #[tactic(auto, using(crate::proofs::Sets::is_class, crate::proofs::Sets::not_opened, crate::proofs::Sets::no_closing))]
 fn class_name(text: &[u8]) -> Option<(&[u8], &[u8])>
     ensures { MatchOption result ((name rest : List ℕ) → ¬ (IsClass text.now name rest))
@@ -174,7 +174,7 @@ fn class_name(text: &[u8]) -> Option<(&[u8], &[u8])>
     Some((name, rest))
 }
 
-/// Whether the first member has the byte, and the rest.
+/// Whether the first member has the byte, and the rest, or `None` if the text begins with no member.
 #[tactic(auto, using(crate::proofs::Sets::class_shortens, crate::proofs::Sets::member_shortens, crate::proofs::Sets::of_byte, crate::proofs::Sets::of_no_byte))]
 fn member(text: &[u8], starts: bool, byte: u8, ignores_case: bool) -> Option<(bool, &[u8])>
     ensures is { MatchOption result ((has : Bool) (rest : List ℕ)
@@ -194,8 +194,8 @@ fn member(text: &[u8], starts: bool, byte: u8, ignores_case: bool) -> Option<(bo
     }
 }
 
-/// Whether one of the members up to `]` has the byte, and the rest, or `None` if they are no members of a
-/// set.
+/// Whether one of the members up to `]` has the byte, and what follows, or `None` if the set has no end or an
+/// invalid member.
 #[tactic(auto, using(crate::proofs::Sets::goes_on_first, crate::proofs::Sets::goes_on_found, crate::proofs::Sets::goes_on_here, crate::proofs::Sets::set_closed, crate::proofs::Sets::no_first))]
 fn members(text: &[u8], byte: u8, ignores_case: bool) -> Option<(bool, &[u8])>
     ensures { MatchOption result ((found : Bool) (rest : List ℕ)
@@ -213,14 +213,14 @@ fn members(text: &[u8], byte: u8, ignores_case: bool) -> Option<(bool, &[u8])>
     }
 }
 
-/// Whether the set wants the byte, which one of its members has or not.
+/// Whether the set matches the byte: one of its members has it, or, if it is negated, none of them has it.
 fn is_wanted(found: bool, is_negated: bool) -> bool
     ensures { result ≡ spec.is_wanted found is_negated }
 {
     if is_negated { !found } else { found }
 }
 
-/// What follows the set, or `None` if it does not stand for the byte, or is no set.
+/// What follows the set, or `None` if the set does not match the byte or is invalid.
 #[tactic(auto, using(crate::proofs::Sets::stands, crate::proofs::Sets::stands_not, crate::proofs::Sets::stands_for_no_slash))]
 pub(crate) fn after_set(text: &[u8], byte: u8, ignores_case: bool) -> Option<&[u8]>
     ensures { MatchOption result ((rest : List ℕ) → ¬ (StandsForByte ignores_case text.now byte rest))

@@ -1,4 +1,4 @@
-//! The settings of several files, in order: of the entries of a key the last one decides.
+//! The settings of several files, in order. The last entry of a key decides its value.
 ghost use Rattle.std.specs.Prelude.{◌≡◌, ◌≢◌, ◌++◌, ◌↔◌, ℕ, List, [], Some, IsTrue, MatchOption, MatchResult};
 ghost use Rattle.std.specs.Prelude.{IfOk, IsUtf8, map, option_copied, option_map};
 ghost use Rattle.std.specs.Str.{str_to_ascii_lowercase};
@@ -24,7 +24,7 @@ use config_text::readers::TryRead;
 use std::alloc::{AllocError, Global};
 use std::{error, fmt};
 
-/// An entry of a file.
+/// An entry of a file, with its key as Git lists it and the text of its value.
 #[derive(Drop)]
 pub struct Setting<'a> {
     /// The name of the file.
@@ -33,7 +33,7 @@ pub struct Setting<'a> {
     pub line: usize,
     /// The key as Git lists it.
     pub key: Vec<u8>,
-    /// The text of the value, or `None` if the key stands alone.
+    /// The text of the value, or `None` for a key alone.
     pub value: Option<Vec<u8>>,
 }
 
@@ -57,7 +57,7 @@ pub struct Settings<'a> {
     pub entries: Vec<Setting<'a>>,
 }
 
-/// A setting whose last entry has a text without a value.
+/// The refusal of an entry: its text has no value of the wanted type.
 #[derive(Clone, Copy, Debug)]
 pub struct Refused<'s, F> {
     /// The name of the file.
@@ -66,7 +66,7 @@ pub struct Refused<'s, F> {
     pub line: usize,
     /// The key as Git lists it.
     pub key: &'s [u8],
-    /// The text of the value, or `None` if the key stands alone.
+    /// The text of the value, or `None` for a key alone.
     pub value: Option<&'s [u8]>,
     /// Why the text is refused.
     pub fault: F,
@@ -83,12 +83,12 @@ impl<F: fmt::Display> fmt::Display for Refused<'_, F> {
     }
 }
 
-/// Why a file is not added whole.
+/// Why not all entries of a file are added.
 #[derive(Debug, Drop)]
 pub enum AddError<'a> {
     /// A line of the file is invalid. The entries before it are added.
     Line { file: &'a str, error: FileError },
-    /// There was no memory for an entry. The entries before it are added.
+    /// Memory for an entry was refused. The entries before it are added.
     Memory(AllocError),
 }
 
@@ -106,7 +106,7 @@ impl fmt::Display for AddError<'_> {
 
 impl error::Error for AddError<'_> {}
 
-/// What follows the front in lower case, or `None` if the text begins otherwise.
+/// What follows this prefix in lower case, or `None` if the text does not begin with that.
 fn strip_lower<'t>(text: &'t [u8], front: &[u8]) -> Option<&'t [u8]>
     ensures { MatchOption result ((rest : List ℕ) → text.now ≢ str_to_ascii_lowercase front.now ++ rest)
         (λ rest. text.now ≡ str_to_ascii_lowercase front.now ++ rest.now) }
@@ -122,7 +122,7 @@ fn strip_lower<'t>(text: &'t [u8], front: &[u8]) -> Option<&'t [u8]>
     Some(rest)
 }
 
-/// What follows the section and its dot in a key as Git lists it.
+/// What follows the section and its dot in a key as Git lists it, if it has them.
 fn after_section<'t>(listed: &'t [u8], section: &[u8]) -> Option<&'t [u8]>
     ensures { MatchOption result ((rest : List ℕ) → listed.now ≢ section_stem section.now ++ rest)
         (λ rest. listed.now ≡ section_stem section.now ++ rest.now) }
@@ -130,7 +130,7 @@ fn after_section<'t>(listed: &'t [u8], section: &[u8]) -> Option<&'t [u8]>
     strip(strip_lower(listed, section)?, b".")
 }
 
-/// What follows the section and the subsection in a key as Git lists it.
+/// What follows the section, the subsection and their dots in a key as Git lists it, if it has them.
 fn after_stem<'t>(listed: &'t [u8], section: &[u8], subsection: Option<&[u8]>) -> Option<&'t [u8]>
     ensures { MatchOption result
         ((rest : List ℕ) → listed.now ≢ stem section.now (option_copied subsection.entry) ++ rest)
@@ -144,7 +144,7 @@ fn after_stem<'t>(listed: &'t [u8], section: &[u8], subsection: Option<&[u8]>) -
 }
 
 impl<'a> Setting<'a> {
-    /// The setting of an entry of a file. Fails only if memory runs out.
+    /// The setting of an entry of a file. It fails only if memory is refused.
     pub fn of_entry(alloc: Global, file: &'a str, entry: &Entry<'_>) -> Result<Self, AllocError>
         ensures { IfOk result (IsSettingOf file.now (entry_of entry.now)) }
     {
@@ -160,7 +160,7 @@ impl<'a> Setting<'a> {
         })
     }
 
-    /// The text for a reader: `true` if the key stands alone.
+    /// The text for a reader: that of the value, or `true` for a key alone.
     pub fn text(&self) -> &[u8]
         ensures { result.now ≡ text_of self.now }
     {
@@ -170,8 +170,8 @@ impl<'a> Setting<'a> {
         }
     }
 
-    /// Whether this is an entry of the key. The case of the section and of the key does not count; that of
-    /// the subsection does.
+    /// Whether this is an entry of the key. The section and the key are compared ignoring ASCII case, the
+    /// subsection byte by byte.
     pub fn is_named(&self, section: &[u8], subsection: Option<&[u8]>, key: &[u8]) -> bool
         ensures { IsTrue result
             ↔ (self.now.key.items ≡ listed section.now (option_copied subsection.entry) key.now) }
@@ -185,7 +185,7 @@ impl<'a> Setting<'a> {
         }
     }
 
-    /// A refusal of this entry.
+    /// A refusal of this entry, with this fault.
     pub fn refused<F>(&self, fault: F) -> Refused<'_, F>
         ensures place { Tells self.now result }
         ensures fault { result.fault ≡ fault }
@@ -213,7 +213,7 @@ impl<'a> Setting<'a> {
         }
     }
 
-    /// The bytes of a path: a key alone has none.
+    /// The bytes of a path, which are empty for a key alone.
     fn path_bytes(&self) -> &[u8]
         ensures { result.now ≡ path_bytes self.now }
     {
@@ -223,8 +223,8 @@ impl<'a> Setting<'a> {
         }
     }
 
-    /// Whether the path of the value may be missing, and the parts of what it stands for: docs/GRAMMAR.md,
-    /// Paths. A key alone is refused, as the empty path is. The lookup of the context is called at most once.
+    /// Whether the path is optional, and the parts of the interpolated path: docs/GRAMMAR.md, Paths. A key
+    /// alone is refused, as the empty path is. The lookup of the context is called at most once.
     pub fn path<'s, 'c, F>(
         &'s self,
         context: Context<'c, F>,
@@ -243,7 +243,7 @@ impl<'a> Setting<'a> {
 }
 
 impl<'a> Settings<'a> {
-    /// No settings.
+    /// Settings without any entry.
     pub fn new(alloc: Global) -> Settings<'a>
         ensures { result.entries.items ≡ [] }
     {
@@ -252,7 +252,7 @@ impl<'a> Settings<'a> {
         }
     }
 
-    /// Appends the entries of a file, which decide over those before. The name of the file is kept for
+    /// Appends the entries of a file, which decide over earlier ones. The name of the file is kept for
     /// refusals.
     pub fn add_file(
         &mut self,
@@ -298,7 +298,7 @@ impl<'a> Settings<'a> {
         Some(&self.entries[index])
     }
 
-    /// The entries of a key, in order. Fails only if memory runs out.
+    /// The entries of a key, in order. It fails only if memory is refused.
     pub fn all(
         &self,
         alloc: Global,

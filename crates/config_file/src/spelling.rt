@@ -32,9 +32,9 @@ pub fn spell_value(alloc: Global, value: &[u8]) -> Result<Option<Vec<u8>>, Alloc
     Ok(Some(spelling))
 }
 
-/// The fewest bytes that are the header of a section and a subsection. `None` if the name has a byte that is
-/// no letter, digit, `-` or `.`, if it is empty and has no subsection, or if the subsection has an LF or a
-/// NUL.
+/// The fewest bytes that are the header of a section and a subsection. Returns `None` if the name has a byte
+/// that is no letter, digit, `-` or `.`, if it is empty without a subsection, or if the subsection has an LF
+/// or a NUL.
 ///
 /// ```rust
 /// use config_file::spelling::spell_header;
@@ -59,10 +59,10 @@ pub fn spell_header(
     Ok(Some(spelling))
 }
 
-/// A line that adds an entry to a file: the shortest header, the key, the shortest spelling of the value, and
-/// an LF. Without a value, the entry is its key alone. The line may follow any file that is empty or ends in
-/// an LF, unless a backslash before that LF continues the line. `None` if the section has no header, if the
-/// key is not a letter and then letters, digits and `-`, or if the value has a NUL.
+/// A line that adds an entry to a file: the shortest header, the key, `=` and the shortest spelling of the
+/// value if there is one, and an LF. It can be appended to any file that is empty or ends in an LF, unless a
+/// backslash before that LF continues the line. Returns `None` if the section has no header, if the key is
+/// not a letter and then letters, digits and `-`, or if the value has a NUL.
 ///
 /// ```rust
 /// use config_file::spelling::spell_entry;
@@ -129,7 +129,7 @@ fn are_key_bytes(key: &[u8]) -> bool
     key.iter().all(|byte| bytes::is_key_byte(*byte))
 }
 
-/// Whether a section has a header.
+/// Whether a header can have this name and this subsection.
 fn is_section(name: &[u8], subsection: Option<&[u8]>) -> bool
     ensures { result ≡ spec.is_section name.now (option_copied subsection.entry) }
 {
@@ -139,7 +139,6 @@ fn is_section(name: &[u8], subsection: Option<&[u8]>) -> bool
     }
 }
 
-/// Whether these bytes are a key.
 fn is_key(key: &[u8]) -> bool
     ensures { result ≡ spec.is_key key.now }
 {
@@ -149,7 +148,7 @@ fn is_key(key: &[u8]) -> bool
     }
 }
 
-/// Whether an entry has these parts.
+/// Whether an entry can have these parts.
 fn is_writable(name: &[u8], subsection: Option<&[u8]>, key: &[u8], value: Option<&[u8]>) -> bool
     ensures { let text = option_copied subsection.entry in
         result ≡ spec.is_writable name.now text key.now (option_copied value.entry) }
@@ -157,7 +156,7 @@ fn is_writable(name: &[u8], subsection: Option<&[u8]>, key: &[u8], value: Option
     is_section(name, subsection) && is_key(key) && is_spellable_or_absent(value)
 }
 
-/// The letter after a backslash that spells this byte of a value, if the byte cannot stand for itself.
+/// The letter that spells this byte of a value after a backslash, or `None` if it needs no backslash.
 fn letter_of(quoted: bool, byte: u8) -> Option<u8>
     ensures { result ≡ spec.letter_of quoted byte }
 {
@@ -192,7 +191,7 @@ fn push_bytes(spelling: &mut Vec<u8>, quoted: bool, value: &[u8]) -> Result<(), 
     Ok(())
 }
 
-/// Whether a byte of a value is lost outside quotes.
+/// Whether this byte of a value needs quotes.
 fn is_lost(byte: u8) -> bool
     ensures { result ≡ spec.is_lost byte }
 {
@@ -229,7 +228,7 @@ fn tabs(value: &[u8]) -> usize
     value.iter().filter(|byte| **byte == b'\t').count()
 }
 
-/// Whether quotes are needed, or cost less than the backslashes before TABs.
+/// Whether a value needs quotes, or they are shorter than the backslashes before its TABs.
 fn is_quoted(value: &[u8]) -> bool
     ensures { result ≡ spec.is_quoted value.now }
 {

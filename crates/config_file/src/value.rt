@@ -14,7 +14,7 @@ use crate::errors::{Fault, Stop, fault_at};
 use std::alloc::{AllocError, Global};
 use std::borrow::CowSlice;
 
-/// The byte that a letter stands for after a backslash.
+/// The byte that a backslash and this letter spell, or `None` if they spell no byte.
 pub(crate) fn escape(letter: u8) -> Option<u8>
     ensures { result ≡ spec.escape letter }
 {
@@ -27,7 +27,7 @@ pub(crate) fn escape(letter: u8) -> Option<u8>
     }
 }
 
-/// A value, as the text has it.
+/// A value, as it is written in the text.
 #[derive(Clone, Copy)]
 pub struct Value<'a> {
     /// The bytes from the `=` to the line end or to the comment, with quotes, backslashes and all blanks.
@@ -44,8 +44,8 @@ pub(crate) struct Taken<'a> {
 
 impl<'a> Value<'a> {
     /// The text that these bytes spell: docs/GRAMMAR.md, Configuration files. It is borrowed, and takes no
-    /// memory, if they have no quote and no backslash, and each blank within the text is a space. It fails
-    /// only if memory is refused.
+    /// memory, if the bytes have no quote and no backslash, and each blank within the text is a space. It
+    /// fails only if memory is refused.
     ///
     /// ```rust
     /// use config_file::reader::Entries;
@@ -64,7 +64,7 @@ impl<'a> Value<'a> {
         }
     }
 
-    /// The text that these bytes spell, in memory of its own. It fails only if memory is refused.
+    /// The text that these bytes spell, as a new vector. It fails only if memory is refused.
     pub fn to_vec(&self, alloc: Global) -> Result<Vec<u8>, AllocError>
         ensures { (spelled : List ℕ) (ending : Ending) → SpellsValue self.now.raw.now spelled ending
             → IfOk result (λ text. text.items ≡ spelled) }
@@ -99,7 +99,7 @@ impl<'a> Value<'a> {
     }
 }
 
-/// The text of the bytes of a value, if it is a part of them.
+/// The text of a value as a slice of its bytes, or `None` if quotes, backslashes or blanks may change it.
 fn plain_text(raw: &[u8]) -> Option<&[u8]>
     ensures { (spelled : List ℕ) (ending : Ending) → SpellsValue raw.now spelled ending
         → IfSome result (λ text. text.now ≡ spelled) }
@@ -129,7 +129,7 @@ fn is_held_back(quoted: bool, byte: u8) -> bool
     !quoted && is_blank(byte)
 }
 
-/// Writes the blanks that were held back, unless the value has no byte yet.
+/// Appends a space for each blank that was held back, unless the value has no byte yet.
 fn push_held(text: &mut Vec<u8>, held: usize) -> Result<(), AllocError>
     ensures { OnOk result (text.new.items ≡ kept text.old.items held) }
 {
@@ -142,7 +142,7 @@ fn push_held(text: &mut Vec<u8>, held: usize) -> Result<(), AllocError>
     Ok(())
 }
 
-/// The byte that a backslash and a letter stand for, unless they continue the line, and what follows.
+/// The byte that a backslash before this text spells, unless it continues the line, and what follows.
 fn unescape(text: &[u8]) -> (Option<u8>, &[u8])
     ensures unescaped { (result.0, result.1.now) ≡ unescape text.now }
     ensures within { length result.1.now ≤ length text.now }
@@ -160,7 +160,7 @@ fn unescape(text: &[u8]) -> (Option<u8>, &[u8])
     }
 }
 
-/// What follows a backslash and what it escapes, or a line end that it continues over.
+/// What follows the escaped byte or the line end after a backslash, or `None` if neither follows it.
 fn after_escape(text: &[u8]) -> Option<&[u8]>
     ensures { MatchOption result (text.now ≢ [] → IsNoEscape text.now)
         (λ rest. Escapes text.now rest.now) }
@@ -208,7 +208,7 @@ pub(crate) fn read_value(text: &[u8]) -> Result<Taken<'_>, Stop>
     end(text, at, quoted)
 }
 
-/// Ends a value where it has no further byte: before a line end, a comment, a NUL or the end of the text.
+/// Ends a value before LF, a comment, a NUL or the end of the text. In quotes or before a NUL it is refused.
 fn end<'a>(text: &'a [u8], at: &'a [u8], quoted: bool) -> Result<Taken<'a>, Stop>
     requires passed { PassedValue text.now quoted at.now }
     requires ends { EndsScan quoted at.now }
@@ -236,8 +236,8 @@ fn end<'a>(text: &'a [u8], at: &'a [u8], quoted: bool) -> Result<Taken<'a>, Stop
     }
 }
 
-/// Ends a value at a backslash: as the last byte of the text it continues over the end, and any other stops
-/// the reading.
+/// Ends a value at a backslash. If that is the last byte of the text, and not in quotes, the value continues
+/// over the end of the text. Otherwise it is refused.
 fn end_after_backslash<'a>(
     text: &'a [u8],
     at: &[u8],

@@ -33,8 +33,8 @@ pub enum Content<'a> {
 pub struct Place<'a> {
     /// The name of the file.
     pub name: &'a [u8],
-    /// The absolute path of its directory, with all links resolved and no `/` at its end. Only conditions
-    /// that begin with `./` ask for it.
+    /// The absolute path of its directory, with all links resolved and no `/` at its end. Only patterns
+    /// that begin with `./` use it.
     pub real_dir: &'a [u8],
 }
 
@@ -63,12 +63,12 @@ pub struct Known<'a> {
 pub struct Walked<'a> {
     /// The name of the file, as it is included.
     pub file: &'a [u8],
-    /// The entry, with its line in that file.
+    /// The entry. Its line is counted in this file.
     pub entry: Entry<'a>,
 }
 
 /// Whether a condition holds for an entry of a file whose directory is `real_dir`, as in [`Place`]. Without a
-/// repository only that of `include.path` does. No remote is asked. It fails only if memory is refused.
+/// repository only `Always` holds. `HasRemoteUrl` never holds. It fails only if memory is refused.
 pub fn holds(
     alloc: Global,
     repository: Option<Repository<'_>>,
@@ -131,7 +131,7 @@ fn find<'a>(files: &'a [File<'a>], name: &[u8]) -> Option<&'a File<'a>>
 pub enum Include {
     /// It includes no file, or its condition does not hold.
     NotFollowed,
-    /// It has no value.
+    /// The entry has no value.
     MissingValue,
     /// Its path begins with a user's name, or with a directory that is not known.
     UnknownDirectory,
@@ -139,7 +139,7 @@ pub enum Include {
     Named(Vec<u8>),
 }
 
-/// The name of the file that a value stands for in this file.
+/// The name of the file that a value in this file includes, or `None` if it begins with an unknown directory.
 fn name_of(
     alloc: Global,
     known: &Known<'_>,
@@ -158,7 +158,7 @@ fn name_of(
     Ok(Some(included_name(alloc, file, &path)?))
 }
 
-/// What an entry of a file includes. Fails only if memory runs out.
+/// What an entry of a file includes. It fails only if memory is refused.
 pub fn include_of(
     alloc: Global,
     known: &Known<'_>,
@@ -192,7 +192,7 @@ pub enum WalkError<'a> {
     UnknownDirectory { file: &'a [u8], line: usize },
     /// The included file is a directory, or it cannot be read.
     Unreadable { file: &'a [u8], line: usize },
-    /// The included file has a text, and is included too deep.
+    /// The included file has a text, but it is included too deep.
     TooDeep { file: &'a [u8], line: usize },
     /// The file of this name is not known: read it, and walk again.
     Unread(Vec<u8>),
@@ -203,7 +203,7 @@ pub enum WalkError<'a> {
 impl fmt::Display for WalkError<'_> {
     ghost output = { λ error. Some (walk_error_shown error) };
 
-    /// Writes `FILE:LINE: reason`.
+    /// Writes `FILE:LINE: reason`, `FILE: not read` or `no memory`.
     fn fmt<W: fmt::Write>(&self, f: &mut fmt::Formatter<W>) -> fmt::Result {
         match self {
             WalkError::Line { file, error } => write!(f, "{}:{error}", BStr::new(file)),
@@ -242,9 +242,9 @@ impl error::Error for WalkError<'_> {}
 /// How deep Git follows includes.
 pub const MAX_DEPTH: usize = 10;
 
-/// Appends the entries of a text and of the files that it includes, in Git's order, at most so many includes
-/// deep. It stops where Git does. After an error the entries before it are appended, and the entry that it is
-/// about.
+/// Appends the entries of a text and of the files that it includes, in Git's order, and follows includes as
+/// deep as `depth` says. It stops where Git does. After an error, the entries before it have been appended,
+/// and so has the entry that it is about, unless a line is invalid or memory is refused.
 #[cycle(walk)]
 pub fn walk_file<'a>(
     alloc: Global,
@@ -273,7 +273,7 @@ pub fn walk_file<'a>(
     Ok(())
 }
 
-/// Appends an entry, and those of the file that it includes.
+/// Appends an entry, and the entries of the file that it includes.
 #[cycle(walk)]
 fn walk_entry<'a>(
     alloc: Global,

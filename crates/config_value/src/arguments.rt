@@ -4,14 +4,14 @@ use clap::{Arg, ArgAction, ArgMatches, Command};
 use gix_config_value::canonical::Kind;
 use std::alloc::{AllocError, Global};
 
-/// What is asked of files.
+/// What the arguments ask of files.
 #[derive(Clone, Copy)]
 pub struct Request<'m, 'a> {
     /// The files. A later one decides over an earlier one.
     pub files: &'m [&'a str],
     /// The key whose value is wanted. Without a key the entries are listed.
     pub key: Option<&'a str>,
-    /// The kind as which the value is read. Without a kind its text is printed unchanged.
+    /// The kind as which the value is read. Without a kind, the text is printed unchanged.
     pub kind: Option<Kind>,
     /// Whether includes are followed.
     pub includes: bool,

@@ -12,11 +12,11 @@ use std::alloc::Global;
 use std::fs;
 use std::io::{self, BufWriter, Write};
 
-/// The bytes that wait before they are written.
+/// How many bytes of output are buffered before they are written.
 const ROOM: usize = 65536;
 
-/// Adds each file that can be read, up to its first invalid line. Reports the others, and returns whether all
-/// files are added whole.
+/// Adds each file that can be read, up to its first invalid line. Reports each file that cannot be read and
+/// each invalid line, and returns whether all files have been added completely.
 fn add_files<'a>(
     rt: &HostRuntime,
     files: &[&'a str],
@@ -40,7 +40,7 @@ fn add_files<'a>(
     Ok(are_whole)
 }
 
-/// The bytes of a file. Reports a file that cannot be read.
+/// The bytes of a file. If it cannot be read, reports that and returns `None`.
 fn read_file(rt: &HostRuntime, file: &str) -> io::Result<Option<Vec<u8>>> {
     match fs::read(rt, file) {
         Ok(text) => Ok(Some(text)),
@@ -74,8 +74,8 @@ fn write_entry<W: Write>(
     writer.write_all(end.as_bytes())
 }
 
-/// Lists the entries of a file up to its first invalid line, which it reports. Returns whether all lines are
-/// valid.
+/// Lists the entries of a file up to its first invalid line, which it reports. Returns whether the file can
+/// be read and all its lines are valid.
 fn list_file<W: Write>(
     rt: &HostRuntime,
     writer: &mut W,
@@ -97,7 +97,7 @@ fn list_file<W: Write>(
     Ok(true)
 }
 
-/// Lists the entries of the files in order. Returns whether all of them are read whole.
+/// Lists the entries of the files in order. Returns whether all files have been listed completely.
 fn list<W: Write>(
     rt: &HostRuntime,
     writer: &mut W,
@@ -122,7 +122,7 @@ fn split_key(key: &str) -> Option<(&str, Option<&str>, &str)> {
     }
 }
 
-/// The last entry of a key.
+/// The last entry of a key, or `None` if no entry has it.
 fn find<'s, 'a>(settings: &'s Settings<'a>, key: &str) -> Option<&'s Setting<'a>> {
     let (section, subsection, name) = split_key(key)?;
     let subsection = match subsection {
@@ -163,7 +163,7 @@ fn get<W: Write>(
     Ok(true)
 }
 
-/// The entries of files as settings.
+/// The entries of files, as settings. Entries of files whose names are not UTF-8 are left out.
 fn settings_of<'a>(alloc: Global, walked: &[Walked<'a>]) -> io::Result<Settings<'a>> {
     let mut settings = Settings::new(alloc);
     for walked in walked {
@@ -175,7 +175,7 @@ fn settings_of<'a>(alloc: Global, walked: &[Walked<'a>]) -> io::Result<Settings<
     Ok(settings)
 }
 
-/// The files that are asked for. Reports one that cannot be read.
+/// The requested files that can be read. Reports the others.
 fn sources(rt: &HostRuntime, files: &[&str]) -> io::Result<Vec<Source>> {
     let mut sources = Vec::new(rt.alloc());
     for file in files {
@@ -186,8 +186,8 @@ fn sources(rt: &HostRuntime, files: &[&str]) -> io::Result<Vec<Source>> {
     Ok(sources)
 }
 
-/// Does what is asked of the first files, so many, and of those that they include. Reports where the walks
-/// stop, and returns whether all of it succeeds.
+/// Answers the request for the first `count` files and those that they include. Reports where the walks stop,
+/// and returns whether everything succeeds.
 fn answer_known<W: Write>(
     rt: &HostRuntime,
     writer: &mut W,
@@ -212,7 +212,7 @@ fn answer_known<W: Write>(
     Ok(stops.is_empty() && get(rt, writer, &settings, key, request)?)
 }
 
-/// Does what is asked of the files and of those that they include, as `answer` does.
+/// Answers the request for the files and those that they include, as `answer` does.
 fn answer_included<W: Write>(
     rt: &HostRuntime,
     writer: &mut W,
@@ -230,8 +230,8 @@ fn answer_included<W: Write>(
     Ok(answer_known(rt, writer, request, &known, count)? && count == request.files.len())
 }
 
-/// Does what is asked of the files, and returns whether all of it succeeds. If a file is not read whole, no
-/// value is printed, since a later line could have another.
+/// Answers the request, and returns whether everything succeeds. If a file is not read completely, no value
+/// is printed, since a later line could have another one.
 fn answer(rt: &HostRuntime, request: &Request<'_, '_>) -> io::Result<bool> {
     let mut writer = BufWriter::with_capacity(rt.alloc(), ROOM, rt.stdout())?;
     if request.includes {
@@ -245,8 +245,8 @@ fn answer(rt: &HostRuntime, request: &Request<'_, '_>) -> io::Result<bool> {
     Ok(are_whole && get(rt, &mut writer, &settings, key, request)?)
 }
 
-/// Does what is asked of the files, and returns the status: 0 if all of it succeeds, 1 if something is
-/// refused, and 2 if the output cannot be written or memory runs out.
+/// Answers the request, and returns the status: 0 if everything succeeds, 1 if something is refused or a file
+/// cannot be read, and 2 after an error of the output, of memory or of the environment.
 pub fn run(rt: &HostRuntime, request: &Request<'_, '_>) -> u8 {
     match answer(rt, request) {
         Ok(true) => 0,

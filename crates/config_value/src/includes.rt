@@ -1,4 +1,4 @@
-//! The files that are asked for, and those that they include.
+//! The requested files, and those that they include.
 
 use config_file::here;
 use config_file::include::Repository;
@@ -8,7 +8,7 @@ use std::alloc::{AllocError, Global};
 use std::fs;
 use std::io::{self, ErrorKind};
 
-/// What there is of a file.
+/// What has been found of a file.
 #[derive(Drop)]
 enum Found {
     Text(Vec<u8>),
@@ -16,7 +16,7 @@ enum Found {
     Unreadable,
 }
 
-/// A file by its name.
+/// A file, with its name and its directory.
 #[derive(Drop)]
 pub struct Source {
     name: Vec<u8>,
@@ -25,7 +25,7 @@ pub struct Source {
 }
 
 impl Source {
-    /// A file that is asked for, with its text.
+    /// A requested file, with its text.
     pub fn asked_for(rt: &HostRuntime, name: &str, text: Vec<u8>) -> io::Result<Source> {
         Ok(Source {
             name: name.as_bytes().to_vec(rt.alloc())?,
@@ -34,7 +34,7 @@ impl Source {
         })
     }
 
-    /// A file that is included. One whose name is not UTF-8 cannot be read.
+    /// An included file. If its name is not UTF-8, it counts as unreadable.
     fn included(rt: &HostRuntime, name: Vec<u8>) -> io::Result<Source> {
         let (real_dir, found) = match str::from_utf8(&name) {
             Ok(name) => (real_dir(rt, name)?, find(rt, name)?),
@@ -63,7 +63,7 @@ impl Source {
     }
 }
 
-/// The directory of a file with its links resolved and no `/` at its end, or nothing if the file does not
+/// The directory of a file with its links resolved and no `/` at its end, which is empty if the file does not
 /// exist.
 fn real_dir(rt: &HostRuntime, name: &str) -> io::Result<String> {
     let path = match here::real_path(rt, name)? {
@@ -76,8 +76,8 @@ fn real_dir(rt: &HostRuntime, name: &str) -> io::Result<String> {
     }
 }
 
-/// Reads a file of this name. A file that is missing, as is one below a file, differs from one that cannot be
-/// read.
+/// Reads the file of this name. A file is missing if it does not exist, or if its name is below a file. Other
+/// files that cannot be read are unreadable.
 fn find(rt: &HostRuntime, name: &str) -> io::Result<Found> {
     match fs::read(rt, name) {
         Ok(text) => Ok(Found::Text(text)),
@@ -89,7 +89,7 @@ fn find(rt: &HostRuntime, name: &str) -> io::Result<Found> {
     }
 }
 
-/// Where the program runs, as includes ask about it.
+/// What includes ask about the place in which the program runs.
 #[derive(Drop)]
 pub struct Environment {
     home: Option<String>,
@@ -149,8 +149,8 @@ pub fn files<'s>(alloc: Global, sources: &'s [Source]) -> Result<Vec<File<'s>>, 
     Ok(files)
 }
 
-/// Appends the entries of the first files, so many, and of those that they include, in Git's order. Returns
-/// where the walks stop.
+/// Appends the entries of the first `count` files and of those that they include, in Git's order. Returns the
+/// errors at which the walks stop.
 pub fn walk_first<'w>(
     alloc: Global,
     known: &Known<'w>,
@@ -171,7 +171,7 @@ pub fn walk_first<'w>(
     Ok(stops)
 }
 
-/// The name of a file that a walk over the first files comes to, and that is not read yet.
+/// The name of a file to which a walk over the first files comes and that is not read yet, if there is one.
 fn unread(
     alloc: Global,
     environment: &Environment,
@@ -189,8 +189,8 @@ fn unread(
     Ok(None)
 }
 
-/// Reads the files that these include, and those that the read ones include, each once: a walk tells which
-/// one it comes to, and then begins again.
+/// Reads the files that these include, directly or through others, each once. A walk names the next file that
+/// it needs, and begins again after that file has been read.
 pub fn read_included(
     rt: &HostRuntime,
     environment: &Environment,

@@ -12,10 +12,10 @@ use std::alloc::AllocError;
 use std::process::ExitCode;
 use std::{env, io};
 
-/// The status of a run that could not read, write or take memory, or whose arguments are invalid.
+/// The status of a run that cannot read its arguments, print its usage or get memory for them.
 const FAILED: u8 = 2;
 
-/// Answers the lines of standard input if no file is named; otherwise lists the files, or prints one value.
+/// Answers the lines of standard input if no file is named. Otherwise lists the files, or prints one value.
 fn run(rt: &HostRuntime, matches: &ArgMatches<'_>) -> u8 {
     match Request::new(matches) {
         Some(request) => files::run(rt, &request),

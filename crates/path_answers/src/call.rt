@@ -1,4 +1,4 @@
-//! Calls of `Path::interpolate`, one on a line, and their results, one on a line.
+//! Calls of `Path::interpolate` and their results, each on a line.
 
 use bstr::BString;
 use gix_config_value::Path;
@@ -6,7 +6,7 @@ use gix_config_value::path::interpolate::{Context, Error, Place};
 use std::alloc::Global;
 use std::cell::Cell;
 
-/// A call. Every text is written as hexadecimal digits.
+/// A call, whose texts are written as hexadecimal digits.
 #[derive(Clone, Copy)]
 pub struct Call<'a> {
     /// The value with its mark.
@@ -15,7 +15,7 @@ pub struct Call<'a> {
     git_install_dir: &'a str,
     /// The home directory, or `-`.
     home_dir: &'a str,
-    /// What the lookup knows, as `user=directory` between commas, or `-` if there is no lookup.
+    /// What the lookup knows, as `user=directory` separated by commas, or `-` if there is no lookup.
     lookup: &'a str,
 }
 
@@ -30,12 +30,12 @@ pub fn parse(line: &str) -> Option<Call<'_>> {
     })
 }
 
-/// The text of these digits.
+/// The text that these hexadecimal digits write.
 fn text(alloc: Global, digits: &str) -> anyhow::Result<String> {
     Ok(String::from_utf8(hex::decode(alloc, digits)?)?)
 }
 
-/// The text of these digits, or `None` for `-`.
+/// The text that these hexadecimal digits write, or `None` for `-`.
 fn directory(alloc: Global, field: &str) -> anyhow::Result<Option<String>> {
     match field {
         "-" => Ok(None),
@@ -64,7 +64,7 @@ fn users(alloc: Global, field: &str) -> anyhow::Result<Vec<User>> {
     Ok(users)
 }
 
-/// What the lookup returns.
+/// What the lookup returns for this name.
 fn home_of<'a>(users: &'a [User], name: &str) -> Option<&'a str> {
     for user in users {
         if user.name.as_str() == name {
@@ -85,7 +85,7 @@ fn place_name(place: Place) -> &'static str {
     }
 }
 
-/// The text or the error, as an answer writes it.
+/// How an answer writes the text or the error.
 fn outcome(alloc: Global, given: Result<String, Error<'_>>) -> anyhow::Result<String> {
     Ok(match given {
         Ok(text) => format!(in alloc; "ok\t{}", hex::encode(alloc, text)?)?,
@@ -107,7 +107,7 @@ fn outcome(alloc: Global, given: Result<String, Error<'_>>) -> anyhow::Result<St
 
 impl Call<'_> {
     /// Makes the call. Returns, separated by tabs, the flag, the value after the mark, how often the lookup
-    /// was called, and the text or the error. Fails if digits are invalid, if a directory or a user is not
+    /// was called, and the text or the error. It fails if digits are invalid, if a directory or a user is not
     /// UTF-8, or if memory is refused.
     pub fn answer(&self, alloc: Global) -> anyhow::Result<String> {
         let path = Path::from(BString::new(hex::decode(alloc, self.value)?));

@@ -1,4 +1,4 @@
-//! Answers calls of `Path::interpolate`: each line of the input is a call, and the same line of the output
+//! Answers calls of `Path::interpolate`: each line of the input is a call, and the same line of the output is
 //! its result.
 #![tactic(auto)]
 

@@ -1,4 +1,4 @@
-//! Sets of attributes. No contract covers the operators, nor what `iter` and `iter_names` go over;
+//! Sets of attributes. No contract covers the operators or what `iter` and `iter_names` yield, since
 //! `bitflag_items!` writes them.
 
 use crate::support::equal;
@@ -6,10 +6,10 @@ use bitflags::Flags;
 use gix_config_value::color::Attribute;
 use std::test::Fail;
 
-/// An operator, what it gives, and what the call gives.
+/// An operator, its result, and the result of the method.
 type Operator = (&'static str, Attribute, Attribute);
 
-/// The operators on two sets, and those that change the first one.
+/// The operators on two sets, and those that change the first set.
 fn operators(a: Attribute, b: Attribute) -> [Operator; 8] {
     let (mut or, mut and, mut xor, mut minus) = (a, a, a, a);
     or |= b;

@@ -1,4 +1,4 @@
-//! The callers of `crates/uses`, each run on texts as a user writes them.
+//! Runs each caller of `crates/uses` on texts as a user writes them.
 
 use bstr::BStr;
 use config_file::settings::Settings;
@@ -14,12 +14,12 @@ use uses::paths::{path_at_home, path_of_user};
 use uses::push_default::{PushDefault, push_default};
 use uses::repository::{File, is_bare, read};
 
-/// What was given is what was wanted. It is written once, since an `assert_eq!` is proved anew at each place.
+/// Asserts that both values are equal. It is written once, since each use of `assert_eq!` has its own proof.
 fn equal<T: PartialEq + Debug>(rt: &impl Abort, given: &T, wanted: &T) {
     assert!(rt; given == wanted, "{given:?} in place of {wanted:?}");
 }
 
-/// What the system, the user and the repository have. What is wanted of them is what Git 2.39.5 gives.
+/// The files of the system, the user and the repository. The expected results are those of Git 2.39.5.
 const FILES: [File<'static>; 3] = [
     File {
         name: "system",

@@ -1,6 +1,6 @@
 //! Tests of what no contract says: texts of errors, operators, failing reads and writes, memory that is
-//! refused, and the callers in crates/uses. Expected values come from gix-config-value 0.21.1, from Git, or by
-//! hand from docs/GRAMMAR.md.
+//! refused, and the callers in crates/uses. Expected values come from gix-config-value 0.21.1 or from Git, or
+//! are derived by hand from docs/GRAMMAR.md.
 #![tactic(auto)]
 
 #[cfg(test)]

@@ -1,5 +1,5 @@
 //! Memory that is refused. No contract says that an error is returned only if memory was refused, or how
-//! often a call asks for it. Under `rt try` each call is made with ample memory alone.
+//! often a call asks for it. Under `rt try` each call is made only with ample memory.
 
 mod interpolation;
 mod json;

@@ -6,9 +6,9 @@ use gix_config_value::program::{RunError, run};
 use std::io::{Cursor, ErrorKind};
 use std::test::Fail;
 
-/// How many lines the input of `answers_wait_for_each_other` has, and how many writes their answers may take:
-/// they are 70,000 bytes, and so nine buffers of 8,192 bytes, one of them cut short after each of the three
-/// reads.
+/// How many lines the input of `answers_wait_for_each_other` has, and how many writes their answers may take.
+/// The answers have 70,000 bytes, which take nine buffers of 8,192 bytes, and each of the three reads may end
+/// one buffer early.
 const LINES: usize = 10_000;
 
 const MOST_WRITES: u64 = 12;
@@ -29,7 +29,7 @@ fn answers_wait_for_each_other(rt: HostRuntime) -> Result<(), Fail> {
     Ok(())
 }
 
-/// How many lines end within so many first bytes of the input.
+/// How many lines end within this many bytes of the input, from the first on.
 fn lines_within(count: usize) -> usize {
     INPUT
         .iter()
@@ -47,7 +47,7 @@ fn fails_where_a_read_fails(rt: HostRuntime) -> Result<(), Fail> {
         let mut reader = Reader::new(INPUT, piece);
         let outcome = run(alloc, &mut reader, &mut Vec::new(alloc));
         equal(&rt, outcome, Ok(false), piece);
-        // a call for each piece, and one more that meets the end
+        // one call for each piece, and one more that finds the end
         let calls = INPUT.len().div_ceil(piece) as u64 + 1;
         equal(&rt, reader.calls, calls, piece);
         for kind in [ErrorKind::BrokenPipe, ErrorKind::Interrupted] {
@@ -68,8 +68,8 @@ fn fails_where_a_read_fails(rt: HostRuntime) -> Result<(), Fail> {
     Ok(())
 }
 
-/// The run fails if the call of this number does not do its work. It has written a beginning of the answers,
-/// and writes no more.
+/// Asserts that the run fails if the call of this number fails or takes nothing. It has written only a
+/// beginning of the answers, and writes no more.
 fn fails_at(rt: &impl Host, read: usize, piece: usize, call: u64, turn: Turn) -> Result<(), Fail> {
     let alloc = rt.alloc();
     let answers = answers(alloc, 6)?;

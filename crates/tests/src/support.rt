@@ -13,7 +13,7 @@ use std::fs::Files;
 use std::process::Abort;
 pub use writer::{Turn, Writer};
 
-/// What a test is given: to end it, memory, and the name of the program that runs it.
+/// What a test needs of its runtime: to end the test, memory, and the name of the program that runs it.
 pub trait Host: Abort + AllocGlobal + Files {}
 
 impl<R: Abort + AllocGlobal + Files> Host for R {}

@@ -13,7 +13,7 @@ use std::alloc::AllocError;
 use std::fmt::{Debug, Display};
 use std::test::Fail;
 
-/// Each value displays its text.
+/// Asserts that each value displays its text.
 fn display<T: Display + Copy + Debug>(rt: &impl Host, rows: &[(T, &str)]) -> Result<(), Fail> {
     for (value, text) in rows {
         equal(rt, value.to_string(rt.alloc())?.as_str(), *text, *value);

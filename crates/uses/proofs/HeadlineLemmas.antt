@@ -1,4 +1,4 @@
--- What a text means, and what joined texts are read as, say the headline.
+-- The headline follows from what a text means, and from how joined texts are read.
 use Rattle.std.proofs.Common.{◌≡◌, ◌↔◌, ◌≤◌, ◌⊎◌, length, ℕ, List, Option, None, Some, refl, sym, ap, subst}
 use Rattle.config_text.specs.declared.value.TheConstants.{LONGEST_TEXT}
 use Rattle.config_text.specs.Value.{IsRefused, IsTextOf, Means, Reads}

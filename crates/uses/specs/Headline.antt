@@ -8,8 +8,8 @@ use Rattle.gix_config_value.specs.Color.{ColorText}
 use Rattle.gix_config_value.specs.Composition.{Joined, HaveTooManyNames}
 
 -- The reader accepts exactly the texts that the grammar derives, with the one value that it gives them. The
--- normalizer gives exactly the canonical texts that read to this value, so just one.
--- Two texts mean the same exactly if their normalized texts are equal.
+-- normalizer returns exactly the canonical texts that read to this value, so just one. Two texts have the
+-- same value exactly if their normalized texts are equal.
 pub record Headline {V : Type 0} (grammar : List ℕ → V → Type 0) (canonical : List ℕ → Type 0) (text : List ℕ)
     (value : Option V) (normalized : Option (List ℕ)) : Type 0 where
   pub accepted : (v : V) → (value ≡ Some v) ↔ (grammar text v)

@@ -1,4 +1,4 @@
--- What `push.default` may be: one of five words, of which one has an old name.
+-- The values of `push.default`: five words, one of which has an old name.
 use Rattle.std.specs.Prelude.{◌≡◌, ℕ, ◌⊎◌, List, codes}
 use Rattle.uses.specs.declared.push_default.PushDefault.{PushDefault}
 use Rattle.uses.specs.declared.push_default.PushDefault.TheVariants.{Nothing, Current, Upstream, Simple}
@@ -20,7 +20,7 @@ push_default_shown Upstream = codes "upstream"
 push_default_shown Simple = codes "simple"
 push_default_shown Matching = codes "matching"
 
--- the canonical texts: the words alone
+-- the canonical texts: the five words, without the old name
 abbrev pub CanonicalPushDefault : List ℕ → Type 0
 CanonicalPushDefault t = (t ≡ codes "nothing") ⊎ (t ≡ codes "current") ⊎ (t ≡ codes "upstream")
     ⊎ (t ≡ codes "simple")

@@ -9,7 +9,7 @@ use Rattle.config_file.specs.declared.settings.Refused.{Refused}
 use Rattle.config_file.specs.declared.settings.Setting.{Setting}
 use Rattle.config_file.specs.Settings.{listed, Gets}
 
--- a boolean, or false if there is none
+-- the value of a boolean, or false if there is no boolean
 abbrev pub or_false : Option Boolean → Bool
 or_false None = false
 or_false (Some boolean) = boolean.0

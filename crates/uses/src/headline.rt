@@ -1,5 +1,5 @@
-//! The headline of the library, stated once for each kind: what is read, with which value, and its one
-//! canonical text. `Headline` of specs/Headline.antt says it with no words of the library except the
+//! The headline of the library, stated once for each kind: which texts are read, with which value, and its
+//! one canonical text. `Headline` of specs/Headline.antt states it with no words of the library except the
 //! grammars.
 ghost use Rattle.std.specs.Prelude.{◌≡◌, ◌++◌, ℕ, List, option_map};
 ghost use Rattle.bstr.specs.BStr.{bstr_bytes};
@@ -20,7 +20,7 @@ use gix_config_value::color::{Attribute, Color, Name};
 use gix_config_value::integer::{Amount, Integer, Suffix};
 use gix_config_value::laws::headline::{joined, meaning, one_meaning};
 
-/// The value of a text of any kind, and its canonical text.
+/// The value of a text of any kind and its canonical text, or `None` for both if the text is refused.
 pub fn value_and_text<V: Value>(input: BStr<'_>) -> (Option<V>, Option<CanonicalText>)
     ensures { Headline V.grammar V.canonical (bstr_bytes input.entry) result.0
         (option_map (λ text. text.bytes) result.1) }
@@ -85,7 +85,7 @@ pub fn color(input: BStr<'_>) -> (Option<Color>, Option<CanonicalText>)
     value_and_text::<Color>(input)
 }
 
-/// The color of a text in which white space joins two texts, at each place where there is white space.
+/// The color of a text. The contract states it for each way to split the text at white space.
 pub fn color_of_joined(joined_texts: BStr<'_>) -> Option<Color>
     ensures { (front space back : List ℕ) → Space space
         → bstr_bytes joined_texts.entry ≡ front ++ space ++ back → JoinedHeadline front back result }

@@ -1,12 +1,12 @@
 //! Short callers of `gix_config_value`. Each rests on public contracts alone. Read `repository` first, and
 //! then the module nearest to your task.
 //!
-//! - `repository` reads the files of the system, the user and the repository, and looks a setting up; a
+//! - `repository` reads the files of the system, the user and the repository, and looks up a setting; a
 //!   refusal names its file and its line.
-//! - `push_default` reads what `push.default` may be, as a kind of value of your own.
+//! - `push_default` reads the values of `push.default`, as a kind of value of your own.
 //! - `paths` interpolates paths, without users and with those of a passwd text.
-//! - `headline` states for each kind what is read, with which value, and its one canonical text.
-//! - `literals` has defaults written as texts, whose values the prover computes.
+//! - `headline` states for each kind which texts are read, with which value, and its one canonical text.
+//! - `literals` has defaults that are written as texts, and whose values the prover computes.
 #![tactic(auto)]
 
 pub mod headline;

@@ -1,5 +1,5 @@
-//! Defaults that a program writes as Git would. Their values are known when the program is proved, so that no
-//! caller has to think of a refusal.
+//! Defaults that a program writes as Git would. Their values are known when the program is proved, so callers
+//! do not have to handle a refusal.
 ghost use Rattle.std.specs.Prelude.{◌≡◌, None, Some};
 ghost use Rattle.config_word.specs.declared.attribute.TheConstants.Attribute.{BOLD};
 ghost use Rattle.config_word.specs.declared.name.Name.TheVariants as names;

@@ -1,4 +1,4 @@
-//! Paths interpolated without a lookup of users, and with one over a passwd text.
+//! Paths that are interpolated without a lookup of users, and with one in a passwd text.
 ghost use Rattle.std.specs.Prelude.{None, Some};
 ghost use Rattle.bstr.specs.Owned.{bstring_bytes};
 ghost use Rattle.gix_config_value.specs.Interpolation.{Interpolated};
@@ -9,7 +9,7 @@ use gix_config_value::Path;
 use gix_config_value::path::interpolate::{Context, Error, absent, home_for_user};
 use std::alloc::Global;
 
-/// The path, if `~` is this home directory and no user is looked up.
+/// The interpolated path, if `~` means this home directory and no user is looked up.
 pub fn path_at_home<'p>(alloc: Global, path: &'p Path, home: &str) -> Result<String, Error<'p>>
     ensures { Interpolated (record { install_dir = None; home_dir = Some home.now; users = no_lookup })
         (bstring_bytes path.now.value) result }
@@ -24,7 +24,7 @@ pub fn path_at_home<'p>(alloc: Global, path: &'p Path, home: &str) -> Result<Str
     )
 }
 
-/// The path, if `~user` is the home directory that the passwd text has for that user.
+/// The interpolated path, if `~user` means the home directory that the passwd text has for that user.
 pub fn path_of_user<'p>(alloc: Global, path: &'p Path, passwd: &str) -> Result<String, Error<'p>>
     ensures { Interpolated
         (record { install_dir = None; home_dir = None; users = looked_up (IsHomeIn passwd.now) })

@@ -1,5 +1,5 @@
-//! A kind of value of the caller's own: what `push.default` may be. As a [`Value`] its type gets `lookup`,
-//! `normalize_as` and the other generic calls of the library.
+//! A kind of value of the caller's own: the values of `push.default`. Since its type is a [`Value`], it gets
+//! `lookup`, `normalize_as` and the other generic calls of the library.
 ghost use Rattle.std.specs.Prelude.{◌≡◌, codes, MatchResult};
 ghost use Rattle.std.proofs.Common.{rules};
 ghost use Rattle.gix_config_value.specs.Settings.{entry_texts, Finds, DecidingIsRefused};
@@ -73,8 +73,8 @@ impl Value for PushDefault {
     ghost equal_is_same = { Prim.search rules };
 }
 
-/// What the entries say of `push.default`: the value of the last one that sets it, or `simple` if no entry
-/// does.
+/// The value of `push.default`: that of the last entry that sets it, or `simple` if no entry does. Returns a
+/// refusal if the text of that entry has no value.
 pub fn push_default<'a>(entries: &[(&[u8], &'a [u8])]) -> Result<PushDefault, Refused<'a>>
     ensures { MatchResult result
         (Finds PushDefaultText (entry_texts entries.now) (codes "push.default") values.Simple)

@@ -1,4 +1,4 @@
-//! A setting of a repository, over the files of the system, the user and the repository.
+//! A setting of a repository, from the files of the system, the user and the repository.
 ghost use Rattle.std.specs.Prelude.{◌≡◌, MatchResult, Option, Ok, Err};
 ghost use Rattle.config_boolean.specs.declared.boolean.Boolean as value;
 ghost use Rattle.uses.specs.Repository.{or_false, GetsBare};
@@ -14,7 +14,7 @@ pub struct File<'a> {
     pub bytes: &'a [u8],
 }
 
-/// Reads the settings of files. A later file decides over an earlier one. Fails at the first invalid line.
+/// Reads the settings of files. A later file decides over an earlier one. It fails at the first invalid line.
 pub fn read<'a>(alloc: Global, files: &[File<'a>]) -> Result<Settings<'a>, AddError<'a>> {
     let mut settings = Settings::new(alloc);
     for file in files {
@@ -23,8 +23,8 @@ pub fn read<'a>(alloc: Global, files: &[File<'a>]) -> Result<Settings<'a>, AddEr
     Ok(settings)
 }
 
-/// Whether the repository is bare. The last `core.bare` decides, ignoring ASCII case. A key alone is true, an
-/// empty text is false, and without an entry the result is false.
+/// Whether the repository is bare. The last `core.bare` decides, ignoring ASCII case. A key alone is true. An
+/// empty text is false, and so is the result if there is no entry.
 pub fn is_bare<'s>(settings: &'s Settings<'_>) -> Result<bool, Refused<'s, Fault>>
     ensures { MatchResult result
         (λ bare. (found : Option value.Boolean) × GetsBare settings.now.entries.items (Ok found)

@@ -1,4 +1,4 @@
--- What scans take at a time.
+-- What the scans of the reader have passed, and where they go on.
 use Rattle.std.specs.Prelude.{◌≡◌, ◌≢◌, ℕ, Bool, true, false, not, List, [], ◌∷◌, ◌++◌, Option, Some, None, ⊤, ◌&&◌, ◌==◌, if◌then◌else◌, is_some, drop, length, replicate}
 use Rattle.std.specs.Char.{is_ascii_alphabetic}
 use Rattle.config_file.specs.declared.bytes.Class.{Class}
@@ -16,13 +16,13 @@ passes Blank = is_blank
 passes Space = is_space
 passes Comment = is_comment_byte
 
--- the scan of a subsection has passed these first bytes of the text
+-- the scan of a subsection has come to this rest of the text
 pub record PassedSubsection (text at : List ℕ) : Type 0 where
   pub raw : List ℕ
   pub joined : text ≡ raw ++ at
   pub extends : (more spelled : List ℕ) → SpellsSubsection more spelled → IsSubsection (raw ++ more)
 
--- the scan of a value has passed these first bytes of the text, and is in quotes or not
+-- the scan of a value has come to this rest of the text, in quotes or not
 pub record PassedValue (text : List ℕ) (quoted : Bool) (at : List ℕ) : Type 0 where
   pub raw : List ℕ
   pub value : List ℕ
@@ -31,17 +31,17 @@ pub record PassedValue (text : List ℕ) (quoted : Bool) (at : List ℕ) : Type 
   pub extends : (more spelled : List ℕ) (ending : Ending)
       → Spells quoted value held more spelled ending → SpellsValue (raw ++ more) spelled ending
 
--- the scan of a value goes on after this byte
+-- whether the scan of a value goes on after this byte, unless it is a quote or a backslash
 abbrev pub goes_on : Bool → ℕ → Bool
 goes_on true b = is_text_byte b
 goes_on false b = is_text_byte b && not (is_comment_sign b)
 
--- the scan ends before this rest, which begins with no quote and no backslash
+-- the rest is empty, or begins with a byte at which the scan of a value ends
 abbrev pub EndsScan : Bool → List ℕ → Type 0
 EndsScan quoted [] = ⊤
 EndsScan quoted (b ∷ rest) = goes_on quoted b ≡ false
 
--- after a backslash, the text begins with a byte that it escapes, or with a line end
+-- after a backslash, the text begins with a byte that it escapes, or with a line end, and this rest follows
 pub data Escapes : List ℕ → List ℕ → Type 0 where
   letter : {e c : ℕ} {text rest : List ℕ} → text ≡ e ∷ rest → escape e ≡ Some c → Escapes text rest
   line : {e : ℕ} {text rest : List ℕ} → text ≡ e ∷ rest → e ≡ line_feed → Escapes text rest
@@ -53,7 +53,7 @@ pub data Escapes : List ℕ → List ℕ → Type 0 where
 abbrev pub BeginsWithLetter : List ℕ → Type 0
 BeginsWithLetter text = (b : ℕ) × (rest : List ℕ) × (text ≡ b ∷ rest) × (is_ascii_alphabetic b ≡ true)
 
--- after a backslash: the byte that it and a letter stand for, unless they continue the line, and what follows
+-- the byte that a backslash before this text spells, unless it continues the line, and what follows
 abbrev pub unescape : List ℕ → Option ℕ × List ℕ
 unescape [] = (None, [])
 unescape (e ∷ rest) =
@@ -61,18 +61,18 @@ unescape (e ∷ rest) =
     else if e == carriage_return then (None, drop 1 rest)
     else (None, rest)
 
--- a blank outside quotes
+-- whether this byte is a blank outside quotes
 abbrev pub is_held_back : Bool → ℕ → Bool
 is_held_back true b = false
 is_held_back false b = is_blank b
 
--- the value with the byte that a backslash and a letter stand for, if there is one
+-- the value, with this byte appended if there is one
 abbrev pub append_some : List ℕ → Option ℕ → List ℕ
 append_some value None = value
 append_some value (Some b) = value ++ b ∷ []
 
--- of a value after its first blanks, a front is the text so far, and a gap of blanks follows it, of spaces
--- unless it has another blank
+-- After the first blanks of a value, the scan has passed its text so far, of this length, and then a gap of
+-- blanks. These are all spaces, unless the last flag is true.
 pub record PassedPlain (raw start at : List ℕ) (count : ℕ) (has_other_blank : Bool) : Type 0 where
   pub front : List ℕ
   pub gap : List ℕ

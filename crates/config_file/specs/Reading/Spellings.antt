@@ -1,10 +1,10 @@
--- What the writers of spellings write.
+-- The spellings that the library writes.
 use Rattle.std.specs.Prelude.{ℕ, Bool, true, false, not, ◌&&◌, ◌||◌, ◌==◌, nat_lt, length, List, [], ◌∷◌, ◌++◌, Option, Some, None, if◌then◌else◌, count_by}
 use Rattle.std.specs.Char.{is_ascii_alphabetic}
 use Rattle.std.specs.List.{list_all, list_any, flat_map}
 use Rattle.config_file.specs.Bytes.{tab, line_feed, carriage_return, space, double_quote, equals_sign, backslash, right_bracket, is_comment_sign, is_key_byte, is_name_byte, is_text_byte}
 
--- the letter after a backslash that spells this byte of a value, if the byte cannot stand for itself
+-- the letter that spells this byte of a value after a backslash, if the byte needs a backslash
 abbrev pub letter_of : Bool → ℕ → Option ℕ
 letter_of quoted b =
     if b == line_feed then Some 110
@@ -20,7 +20,7 @@ after_backslash b (Some letter) = backslash ∷ letter ∷ []
 abbrev pub spelled_byte : Bool → ℕ → List ℕ
 spelled_byte quoted b = after_backslash b (letter_of quoted b)
 
--- a byte of a value that is lost outside quotes
+-- whether this byte of a value needs quotes: a CR or a comment sign
 abbrev pub is_lost : ℕ → Bool
 is_lost b = b == carriage_return || is_comment_sign b
 
@@ -33,7 +33,7 @@ ends_with_space [] = false
 ends_with_space (b ∷ []) = b == space
 ends_with_space (b ∷ c ∷ rest) = ends_with_space (c ∷ rest)
 
--- quotes are needed, or cost less than the backslashes before TABs
+-- whether a value needs quotes, or they are shorter than the backslashes before its TABs
 abbrev pub is_quoted : List ℕ → Bool
 is_quoted value =
     begins_with_space value || ends_with_space value || list_any is_lost value
@@ -44,7 +44,7 @@ spelled_value value =
     if is_quoted value then double_quote ∷ (flat_map (spelled_byte true) value ++ double_quote ∷ [])
     else flat_map (spelled_byte false) value
 
--- a value that has a spelling
+-- whether a value has a spelling: it has no NUL
 abbrev pub is_spellable : List ℕ → Bool
 is_spellable value = list_all (λ b. not (b == 0)) value
 
@@ -59,23 +59,23 @@ spelled_in_subsection b = if b == double_quote || b == backslash then backslash 
 abbrev pub spelled_subsection : List ℕ → List ℕ
 spelled_subsection text = flat_map spelled_in_subsection text
 
--- a header without its `[`
+-- the shortest header of this name and this subsection, without its `[`
 abbrev pub spelled_section : List ℕ → Option (List ℕ) → List ℕ
 spelled_section name None = name ++ right_bracket ∷ []
 spelled_section name (Some text) =
     name ++ (space ∷ double_quote ∷ (spelled_subsection text ++ double_quote ∷ right_bracket ∷ []))
 
--- a section that has a header
+-- whether a header can have this name and this subsection
 abbrev pub is_section : List ℕ → Option (List ℕ) → Bool
 is_section name None = not (length name == 0) && list_all is_name_byte name
 is_section name (Some text) = list_all is_name_byte name && list_all is_text_byte text
 
--- a key that an entry may have
+-- whether an entry can have this key
 abbrev pub is_key : List ℕ → Bool
 is_key [] = false
 is_key (b ∷ rest) = is_ascii_alphabetic b && list_all is_key_byte (b ∷ rest)
 
--- parts that an entry may have
+-- whether an entry can have these parts
 abbrev pub is_writable : List ℕ → Option (List ℕ) → List ℕ → Option (List ℕ) → Bool
 is_writable name text key value = is_section name text && is_key key && is_spellable_or_absent value
 

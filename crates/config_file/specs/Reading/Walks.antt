@@ -9,7 +9,7 @@ use Rattle.config_file.specs.declared.walk.Place.{Place}
 use Rattle.config_file.specs.declared.walk.WalkError.{WalkError}
 use Rattle.config_file.specs.Walk.{HasContent, HasFile, IncludesFile, Reaches, Stops, Walks, in_file}
 
--- what the file of this name adds, so many includes deep: nothing if it is missing
+-- what the file of this name adds, at most this many includes deep: nothing if it is missing
 pub data AddsNamed (known : Known) (depth : ℕ) (name : List ℕ) : List (List ℕ × Entry) → Type 0 where
   nothing : HasContent known.files.now name Missing → AddsNamed known depth name []
   all_of : {within : List (List ℕ × Entry)} (less : ℕ) (file : File) (text : Bor (List ℕ)) (inner : List Entry)
@@ -23,7 +23,7 @@ WalksEntry known depth place entry added (Err error) =
     (text : List ℕ) (walked : List (List ℕ × Entry)) → Reaches known depth place text entry walked
     → Stops known depth place text (walked ++ added) error
 
--- what the file of this name adds after an entry of this line that includes it, or why the walk of the text stops there
+-- what the file of this name adds after the entry on this line that includes it, or why the walk stops there
 abbrev pub WalksNamed : Known → ℕ → Place → ℕ → List ℕ → List (List ℕ × Entry) → Result (Unit {0}) WalkError → Type 0
 WalksNamed known depth place line name added (Ok _) = AddsNamed known depth name added
 WalksNamed known depth place line name added (Err error) =

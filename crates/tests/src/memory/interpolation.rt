@@ -7,7 +7,7 @@ use gix_config_value::path::interpolate::{Context, Error};
 use std::alloc::{AllocError, Global};
 use std::test::Fail;
 
-/// A value, the directory that is used for all three, and what the value gives.
+/// A value, the directory that is used for all three, and the result.
 type Row = (&'static [u8], Option<&'static str>, &'static str);
 
 static ROWS: [Row; 6] = [
@@ -23,7 +23,7 @@ static ROWS: [Row; 6] = [
     (b"a/value/of/no/form", None, "a/value/of/no/form"),
 ];
 
-/// What the path gives with the directory.
+/// The result of the path with this directory.
 fn interpolated<'p>(alloc: Global, path: &'p Path, dir: Option<&str>) -> Result<String, Error<'p>> {
     path.interpolate(
         alloc,

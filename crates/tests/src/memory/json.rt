@@ -8,7 +8,7 @@ use serde_json::Value;
 use std::alloc::AllocError;
 use std::test::Fail;
 
-/// The call returns this JSON text, and makes one request for memory.
+/// Asserts that the call returns this text as a JSON value, and makes one request for memory.
 fn makes<C: Fn() -> Result<Value, JsonError>>(
     rt: &impl Host,
     wanted: &str,

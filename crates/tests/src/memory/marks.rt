@@ -1,4 +1,4 @@
-//! Paths made in each way, and cloned.
+//! Paths that are made in each way, or cloned.
 
 use crate::support::{Host, asks_once};
 use bstr::BStr;
@@ -28,7 +28,7 @@ fn is_path(path: &Path, row: Row<'_>) -> bool {
         && path.as_bstr() == BStr::from(row.2)
 }
 
-/// Makes the row's path in this way, by one request for memory of so many bytes.
+/// Asserts that the path of the row is made in this way with one request for memory, of this many bytes.
 fn makes<W: Fn() -> Result<Path, AllocError>>(
     rt: &impl Host,
     row: Row<'_>,

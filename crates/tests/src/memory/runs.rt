@@ -8,7 +8,7 @@ use std::test::Fail;
 
 const REFUSED: Result<bool, RunError> = Err(RunError::Memory(AllocError));
 
-/// How many whole answers the output has, from the first on, or `None` if it has anything else.
+/// How many complete answers the output has, from the first on, or `None` if it has anything else.
 fn whole_answers(output: &[u8]) -> Option<usize> {
     let mut rest = output;
     for (count, answer) in ANSWERS.iter().enumerate() {
@@ -20,7 +20,7 @@ fn whole_answers(output: &[u8]) -> Option<usize> {
     rest.is_empty().then_some(ANSWERS.len())
 }
 
-/// How many bytes a read gives, and how many answers are written if the first growth of a line is refused.
+/// How many bytes a read returns, and how many answers are written if the first growth of a line is refused.
 /// With 1000 bytes only the last line crosses the end of a read.
 static PIECES: [(usize, usize); 4] = [(1, 0), (3, 0), (20, 3), (1000, 5)];
 
@@ -38,7 +38,7 @@ fn refuses_the_growth_of_a_line(rt: HostRuntime) -> Result<(), Fail> {
             continue;
         }
         writer.held.clear();
-        // a growth finds the eighth freed block of its size, and no earlier one
+        // the growth of a line gets the eighth freed block of its size, and no earlier one
         let mut blocks = spares(alloc, &[24; 8])?;
         let hoard = starved(&rt)?;
         let outcome = run(alloc, &mut Reader::new(INPUT, piece), &mut writer);
@@ -50,7 +50,7 @@ fn refuses_the_growth_of_a_line(rt: HostRuntime) -> Result<(), Fail> {
         drop(hoard);
         equal(&rt, outcome, REFUSED, piece);
         equal(&rt, written, Some(answered), piece);
-        // what waits is written out first, and if that fails too, the error says so
+        // the buffered answers are written first, and if that fails too, the error says so
         let wanted = if answered > 0 {
             Err(RunError::Write)
         } else {
@@ -63,7 +63,7 @@ fn refuses_the_growth_of_a_line(rt: HostRuntime) -> Result<(), Fail> {
     Ok(())
 }
 
-/// The whole lines are answered, with ample memory or without memory.
+/// Asserts that the whole lines are answered, with ample memory or without memory.
 fn answers_whole_lines(rt: &impl Host, input: &[u8], starve: bool) -> Result<(), Fail> {
     let alloc = rt.alloc();
     let mut writer = Writer::new(alloc, 1000, usize::MAX)?;

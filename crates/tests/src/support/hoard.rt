@@ -1,7 +1,7 @@
 //! Takes all memory from the process, so that its requests for memory are refused, except for the blocks that
-//! are given back.
+//! have been freed.
 //!
-//! A test makes each call once before that, so that the stack has grown as far as the call needs. Afterwards
+//! A test makes each call once before that, so that the stack has grown as far as the call needs. Afterward
 //! it cannot grow, since no addresses are left.
 
 use crate::support::{Host, equal};
@@ -13,15 +13,15 @@ use std::test::Fail;
 /// How many blocks a hoard has room for.
 const ROOM: usize = 1 << 17;
 
-/// All the memory that the process can still get, until it is dropped. Its blocks are never touched, so they
-/// cost addresses alone.
+/// Holds all the memory that the process can still get, until it is dropped. Its blocks are never touched, so
+/// they cost only addresses.
 #[derive(Drop)]
 pub struct Hoard {
     blocks: Vec<Vec<u8>>,
 }
 
-/// Takes blocks, large ones first, until a request for one byte is refused, and small ones of each size,
-/// since the C library keeps freed blocks by their sizes.
+/// Takes blocks, large ones first, until a request for one byte is refused. Also takes small blocks of each
+/// size, since the C library keeps freed blocks by their sizes.
 pub fn starved(rt: &impl Host) -> Result<Hoard, Fail> {
     let mut blocks = Vec::with_capacity(rt.alloc(), ROOM)?;
     for shift in 0..36u32 {
@@ -47,19 +47,19 @@ fn take_all(alloc: Global, blocks: &mut Vec<Vec<u8>>, size: usize) {
     }
 }
 
-/// The next request for memory is refused, for one byte too.
+/// Asserts that the next request for memory is refused, even for one byte.
 fn is_starved(rt: &impl Host) {
     let is_refused = Vec::<u8>::with_capacity(rt.alloc(), 1).is_err();
     equal(rt, is_refused, true, "memory is left");
 }
 
-/// Whether the process can be starved. `rt try` runs it by a loader, with memory that cannot be used up:
-/// there the tests of refused memory only show the results with ample memory.
+/// Whether the process can be starved. `rt try` runs it by a loader, with memory that cannot be used up.
+/// There the tests of refused memory only show the results with ample memory.
 pub fn can_starve(rt: &impl Host) -> Result<bool, Fail> {
     Ok(!env::current_exe(rt)?.ends_with("ld-linux-x86-64.so.2"))
 }
 
-/// A block of each size, to be given back.
+/// A block of each size, to be freed later.
 pub fn spares(alloc: Global, sizes: &[usize]) -> Result<Vec<Vec<u8>>, AllocError> {
     let mut blocks = Vec::with_capacity(alloc, sizes.len())?;
     for size in sizes {
@@ -68,8 +68,8 @@ pub fn spares(alloc: Global, sizes: &[usize]) -> Result<Vec<Vec<u8>>, AllocError
     Ok(blocks)
 }
 
-/// The call gives what it should with ample memory, and with only one block of this size. Without memory it
-/// fails with the error; but if the size is 0, it gives what it should then too.
+/// Asserts that the result of the call is right with ample memory, and with only one block of this size. It
+/// has to be the error without memory, unless the size is 0, since then it has to be right too.
 pub fn asks_once<T, E, R, C, G>(
     rt: &impl Host,
     row: R,

@@ -3,16 +3,16 @@ ghost use Rattle.std.specs.Prelude.{Some};
 
 use std::io::{self, ErrorKind, Read};
 
-/// Gives its bytes in pieces, and may fail at one call.
+/// A reader that returns its bytes in pieces, and may fail at one call.
 #[derive(Drop)]
 pub struct Reader<'a> {
     /// The bytes that are left.
     pub rest: &'a [u8],
-    /// The most bytes that one call gives; 0 counts as 1.
+    /// The most bytes that one call returns; 0 counts as 1.
     pub piece: usize,
-    /// How often it was called.
+    /// How often `read` was called.
     pub calls: u64,
-    /// The call that fails, counted from 1, and how.
+    /// The call that fails, counted from 1, and its error.
     pub failing: Option<(u64, ErrorKind)>,
 }
 

@@ -1,9 +1,9 @@
-//! The assertion of a row, written once, since an assertion with a message is proved anew at each place.
+//! The assertion of a row, written once, since each use of an assertion with a message has its own proof.
 
 use crate::support::Host;
 use std::fmt::Debug;
 
-/// What was given is what was wanted. Otherwise the test ends, and shows both and their row.
+/// Asserts that both values are equal. Otherwise the test ends, and shows both values and their row.
 pub fn equal<T, R>(rt: &impl Host, given: T, wanted: T, row: R)
 where
     T: Copy + PartialEq + Debug,

@@ -1,4 +1,4 @@
-//! An input of six lines, the last without LF, and their answers: one for each way to answer a line.
+//! An input of six lines, the last one without LF, and their answers, which show each way to answer a line.
 
 use std::alloc::{AllocError, Global};
 
@@ -14,7 +14,7 @@ pub const ANSWERS: [&str; 6] = [
     "ok m\n",
 ];
 
-/// The answers to so many first lines.
+/// The answers to this many lines, from the first on.
 pub fn answers(alloc: Global, lines: usize) -> Result<Vec<u8>, AllocError> {
     let mut answers = Vec::new(alloc);
     for answer in ANSWERS.iter().take(lines) {

@@ -11,7 +11,7 @@ pub enum Turn {
     TakesNone,
 }
 
-/// Holds what was written, taken in pieces, and may do otherwise at one call.
+/// A writer that holds what was written and takes it in pieces, except at one call.
 #[derive(Drop)]
 pub struct Writer {
     /// What was written.
@@ -20,7 +20,7 @@ pub struct Writer {
     pub piece: usize,
     /// How often `write` was called.
     pub calls: u64,
-    /// The call of `write` that does otherwise, counted from 1, and what it does.
+    /// The call of `write` that does something else, counted from 1, and what it does.
     pub otherwise: Option<(u64, Turn)>,
     /// How often `flush` was called.
     pub flushes: u64,
@@ -29,7 +29,7 @@ pub struct Writer {
 }
 
 impl Writer {
-    /// A writer with room for so many bytes, which never fails before it is full.
+    /// A writer with room for this many bytes, which never fails before it is full.
     pub fn new(alloc: Global, room: usize, piece: usize) -> Result<Writer, AllocError> {
         Ok(Writer {
             held: Vec::with_capacity(alloc, room)?,

@@ -1,4 +1,4 @@
--- What `push.default` owes as a kind of value.
+-- The laws that `push.default` has to prove as a kind of value.
 use Rattle.std.proofs.Common.{◌≡◌, ℕ, ◌⊎◌, inl, inr, List, [], ◌∷◌, Option, Some, None, refl, sym, ◌∙◌, codes}
 use Rattle.std.proofs.Common.{lit≤, if◌then◌else◌}
 use Rattle.std.specs.Str.{bytes_eq}
@@ -37,7 +37,7 @@ pub push_default_one_value : (t : List ℕ) (v w : PushDefault) → PushDefaultT
     → v ≡ w
 push_default_one_value t v w p q = same_Some v w (sym (found t v p) ∙ found t w q)
 
--- a canonical text is what its value is shown as
+-- each canonical text is the one as which its value is shown
 canonical_is_shown : (t : List ℕ) → CanonicalPushDefault t → IsShown PushDefaultText push_default_shown t
 canonical_is_shown t (inl p) = record { value = Nothing; reads_to = p; same = p }
 canonical_is_shown t (inr (inl p)) = record { value = Current; reads_to = p; same = p }
