@@ -1,4 +1,4 @@
-//! The files that are named or that Git reads where the program runs, and those that they include.
+//! Finds the named files, or those that Git reads in the current folder, and the files that they include.
 
 use bstr::ByteSlice;
 use config_file::here::{common_folder, find_git_dir, inside, variable};
@@ -13,10 +13,10 @@ use std::alloc::Global;
 use std::path::Path;
 use std::{fs, io};
 
-/// The name that stands for standard input.
+/// The file name that means standard input.
 pub const STDIN: &str = "-";
 
-/// A file: its name, its name without links and `..`, and how many includes lead to it.
+/// A file: its name, its real path without links and `..`, and how many includes lead to it.
 #[derive(Drop)]
 pub struct File {
     pub name: String,
@@ -24,7 +24,7 @@ pub struct File {
     depth: usize,
 }
 
-/// The file of a name.
+/// The file with this name, to which `depth` includes lead.
 fn file_of(rt: &HostRuntime, name: String, depth: usize) -> io::Result<File> {
     let real = match Path::new(&name).canonicalize(rt) {
         Ok(path) => format!(in rt.alloc(); "{}", path.as_path().as_str())?,
@@ -33,7 +33,7 @@ fn file_of(rt: &HostRuntime, name: String, depth: usize) -> io::Result<File> {
     Ok(File { name, real, depth })
 }
 
-/// The files of these names.
+/// The files with these names.
 pub fn named(rt: &HostRuntime, names: &[&str]) -> io::Result<Vec<File>> {
     let mut files = Vec::new(rt.alloc());
     for name in names {
@@ -42,7 +42,7 @@ pub fn named(rt: &HostRuntime, names: &[&str]) -> io::Result<Vec<File>> {
     Ok(files)
 }
 
-/// Whether an environment variable is set to true.
+/// Whether an environment variable is set to a boolean text that is true.
 fn is_on(rt: &HostRuntime, name: &str) -> io::Result<bool> {
     let Some(value) = variable(rt, name)? else {
         return Ok(false);
@@ -53,7 +53,7 @@ fn is_on(rt: &HostRuntime, name: &str) -> io::Result<bool> {
     }
 }
 
-/// The system's file, if it is read.
+/// The name of the file of the system, unless `GIT_CONFIG_NOSYSTEM` says that it is not read.
 fn system_file(rt: &HostRuntime) -> io::Result<Option<String>> {
     if is_on(rt, "GIT_CONFIG_NOSYSTEM")? {
         return Ok(None);
@@ -64,7 +64,7 @@ fn system_file(rt: &HostRuntime) -> io::Result<Option<String>> {
     }
 }
 
-/// The file in the user's folder of configuration.
+/// The name of the file in the user's configuration folder, if that folder is known.
 fn xdg_file(rt: &HostRuntime) -> io::Result<Option<String>> {
     if let Some(folder) = variable(rt, "XDG_CONFIG_HOME")? {
         if !folder.is_empty() {
@@ -82,7 +82,7 @@ pub fn has_stdin(files: &[File]) -> bool {
     files.iter().any(|file| file.name.as_str() == STDIN)
 }
 
-/// Adds a file that exists.
+/// Adds the file with this name, if it exists.
 fn add(rt: &HostRuntime, files: &mut Vec<File>, name: Option<String>) -> io::Result<()> {
     let Some(name) = name else {
         return Ok(());
@@ -109,7 +109,7 @@ fn add_global(rt: &HostRuntime, files: &mut Vec<File>) -> io::Result<()> {
     }
 }
 
-/// Whether a repository's file says that each worktree has a file of its own.
+/// Whether the file of a repository says that each worktree has a file of its own.
 fn has_worktree_files(rt: &HostRuntime, file: &str) -> io::Result<bool> {
     let alloc = rt.alloc();
     let text = match fs::read(rt, file) {
@@ -139,7 +139,7 @@ fn add_repository(rt: &HostRuntime, files: &mut Vec<File>) -> io::Result<()> {
     Ok(())
 }
 
-/// The files that Git reads here, in its order.
+/// The files that Git reads in the current folder, in the order in which it reads them.
 pub fn files(rt: &HostRuntime) -> io::Result<Vec<File>> {
     let mut files = Vec::new(rt.alloc());
     add(rt, &mut files, system_file(rt)?)?;
@@ -148,8 +148,8 @@ pub fn files(rt: &HostRuntime) -> io::Result<Vec<File>> {
     Ok(files)
 }
 
-/// The name of the file that a value includes. `None` if its folder is not known, if it is not UTF-8, or if
-/// it is a relative one on standard input.
+/// The name of the file that a value includes. `None` if its folder is not known, if the name is not UTF-8,
+/// or if standard input includes a relative path.
 fn name_of(
     alloc: Global,
     home: Option<&str>,
@@ -180,7 +180,7 @@ fn name_of(
     }
 }
 
-/// Adds a file that exists, if it is not there yet.
+/// Adds the file with this name, if it exists and is not yet one of the files.
 fn add_once(rt: &HostRuntime, files: &mut Vec<File>, name: String, depth: usize) -> io::Result<()> {
     if Path::new(&name).exists(rt) {
         let new = file_of(rt, name, depth)?;
@@ -191,8 +191,8 @@ fn add_once(rt: &HostRuntime, files: &mut Vec<File>, name: String, depth: usize)
     Ok(())
 }
 
-/// Adds the files that a file with this text includes, whatever their conditions, each once. It goes as deep
-/// as Git.
+/// Adds the files that the file at `index` includes, whatever the conditions. It adds each file once, and
+/// goes as deep as Git. `text` is the text of the file at `index`.
 pub fn add_included(
     rt: &HostRuntime,
     files: &mut Vec<File>,
@@ -204,7 +204,7 @@ pub fn add_included(
         return Ok(());
     };
     let depth = file.depth.saturating_add(1);
-    // the header of a section that includes files begins like this
+    // the header of each section that includes files begins with one of these
     let may_include = text.contains_str(b"[i") || text.contains_str(b"[I");
     if depth > MAX_DEPTH || !may_include {
         return Ok(());

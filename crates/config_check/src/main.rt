@@ -1,4 +1,4 @@
-//! Reports what is wrong in Git configuration files.
+//! Reports wrong values, unknown keys and invalid lines in Git configuration files.
 #![tactic(auto)]
 
 mod here;
@@ -27,7 +27,7 @@ fn flag<'a>(alloc: Global, name: &'a str, help: &'a str) -> Arg<'a> {
         .help(help)
 }
 
-/// An argument with a value, which the usage gives this name.
+/// An argument with a value, which has this name in the usage.
 fn option<'a>(alloc: Global, name: &'a str, value: &'a str, help: &'a str) -> Arg<'a> {
     Arg::new(alloc, name)
         .long(name)
@@ -83,7 +83,7 @@ fn command<'a>(alloc: Global) -> Result<Command<'a>, AllocError> {
 }
 
 /// Why a run ends with status 2.
-// A `match` makes them, and no `map_err`: that has no proof where the error names a lifetime.
+// Some are made by `match`, since `map_err` has no proof there: the error names a lifetime.
 #[derive(Debug, Drop, Error)]
 enum Failure<'m> {
     #[error("cannot read the arguments: {0}")]
@@ -105,7 +105,7 @@ enum Failure<'m> {
 }
 
 impl Failure<'_> {
-    /// Whether it is printed: not if the reader of the output has gone away.
+    /// Whether the failure is printed. It is not printed if nothing reads the output anymore.
     fn is_printed(&self) -> bool {
         match self {
             Failure::Write(error) => error.kind() != ErrorKind::BrokenPipe,
@@ -114,7 +114,7 @@ impl Failure<'_> {
     }
 }
 
-/// The bytes of a file of settings, empty if no file is named.
+/// The bytes of the file of `--settings`, or no bytes if no file is named.
 fn file_bytes<'m>(rt: &HostRuntime, file: Option<&'m str>) -> Result<Vec<u8>, Failure<'m>> {
     let Some(file) = file else {
         return Ok(Vec::new(rt.alloc()));
@@ -132,7 +132,7 @@ fn add_rows<'m, 't>(
     read_rows(alloc, text, rows).map_err(|bad| Failure::Row { file, bad })
 }
 
-/// The rows of a file of settings, if one is named, and then the built-in ones.
+/// The rows of the file of `--settings`, if one is named, followed by the built-in ones.
 fn all_rows<'m, 't>(
     alloc: Global,
     file: Option<&'m str>,
@@ -161,7 +161,7 @@ fn read_text(rt: &HostRuntime, file: &str) -> io::Result<Vec<u8>> {
     Ok(text)
 }
 
-/// What the files so far have.
+/// The counts of the files so far, and whether one of them could not be read.
 #[derive(Clone, Copy, Default)]
 struct Outcome {
     counts: Counts,
@@ -180,7 +180,7 @@ impl Outcome {
         };
     }
 
-    /// Whether there is a finding of this severity, or a worse one.
+    /// Whether there is a finding of at least this severity.
     fn has(&self, least: Severity) -> bool {
         match least {
             Severity::Note => self.counts.findings > 0,
@@ -189,7 +189,7 @@ impl Outcome {
         }
     }
 
-    /// The exit status, where findings of this severity and worse ones fail.
+    /// The exit status, if findings of at least this severity count.
     fn status(&self, fails_on: Severity) -> u8 {
         if self.is_unread {
             2
@@ -201,7 +201,7 @@ impl Outcome {
     }
 }
 
-/// How files are checked.
+/// What the check of each file needs: the runtime, the rows and the options.
 #[derive(Clone, Copy)]
 struct Checker<'c, 't> {
     rt: &'c HostRuntime,
@@ -210,7 +210,7 @@ struct Checker<'c, 't> {
 }
 
 impl Checker<'_, '_> {
-    /// Checks a file, and adds its counts. Returns its text, or `None` if it cannot be read: it reports that.
+    /// Checks a file and adds its counts. Returns its text, or reports a failed read and returns `None`.
     fn check(
         &self,
         file: &str,
@@ -241,7 +241,7 @@ impl Checker<'_, '_> {
     }
 }
 
-/// Checks files, and those that they include.
+/// Checks files, and the files that they include.
 fn check_files(
     checker: &Checker<'_, '_>,
     files: &mut Vec<File>,
@@ -261,7 +261,7 @@ fn check_files(
     Ok(())
 }
 
-/// The files that are named, or those that Git reads here.
+/// The files that are named, or those that Git reads in the current folder.
 fn first_files(rt: &HostRuntime, names: Option<&[&str]>) -> Result<Vec<File>, Failure<'static>> {
     let found = match names {
         Some(names) => here::named(rt, names),
@@ -275,8 +275,8 @@ fn first_files(rt: &HostRuntime, names: Option<&[&str]>) -> Result<Vec<File>, Fa
     }
 }
 
-/// Checks the files that are named, or those that Git reads here, and prints the counts. Returns the exit
-/// status.
+/// Checks the files that are named, or those that Git reads in the current folder, and prints the counts.
+/// Returns the exit status.
 fn check_all(
     checker: &Checker<'_, '_>,
     names: Option<&[&str]>,
@@ -291,7 +291,7 @@ fn check_all(
     }
 }
 
-/// Whether severities are written in red: on a terminal that is not dumb, if the user does not refuse colors.
+/// Whether severities are written in red: on a terminal that is not dumb, unless `NO_COLOR` refuses colors.
 fn wants_color(rt: &HostRuntime) -> bool {
     let refused = match env::var(rt, "NO_COLOR") {
         Ok(value) => !value.is_empty(),
@@ -321,7 +321,7 @@ fn format_of(matches: &ArgMatches<'_>) -> Format {
     }
 }
 
-/// Checks the files by the rows of a file, if one is named, and the built-in ones. Returns the exit status.
+/// Checks the files by the rows of `--settings`, if any, and the built-in ones. Returns the exit status.
 fn run<'m>(rt: &HostRuntime, matches: &ArgMatches<'m>) -> Result<u8, Failure<'m>> {
     let alloc = rt.alloc();
     let file = matches.get_str("settings");
@@ -340,7 +340,7 @@ fn run<'m>(rt: &HostRuntime, matches: &ArgMatches<'m>) -> Result<u8, Failure<'m>
     check_all(&checker, matches.get_strs("file"), fails_on(matches))
 }
 
-/// The bytes of a line, with control characters shown safely.
+/// A text as a line, with its control characters shown safely.
 fn line_of(alloc: Global, text: Result<String, AllocError>) -> Result<Vec<u8>, AllocError> {
     let mut line = Vec::new(alloc);
     push_shown(&mut line, text?.as_bytes())?;
@@ -356,7 +356,7 @@ fn tell(rt: &HostRuntime, text: Result<String, AllocError>) {
     };
 }
 
-/// The exit status of an outcome. Prints its failure on standard error.
+/// The exit status of an outcome. If the outcome is a failure, prints it on standard error.
 fn status(rt: &HostRuntime, outcome: Result<u8, Failure<'_>>) -> ExitCode {
     match outcome {
         Ok(status) => ExitCode::from(status),
@@ -369,7 +369,7 @@ fn status(rt: &HostRuntime, outcome: Result<u8, Failure<'_>>) -> ExitCode {
     }
 }
 
-/// The arguments of the command line, with the name of the program.
+/// The arguments of the command line, which begin with the name of the program.
 fn arguments(rt: &HostRuntime) -> Result<Vec<String>, Failure<'static>> {
     let arguments = match env::args(rt) {
         Ok(arguments) => arguments,

@@ -1,4 +1,4 @@
-"""Single entries, keys, rows and arguments, against the tables of rows.py."""
+"""Compares single entries, keys, rows and arguments with the tables of rows.py."""
 import re
 
 import made
@@ -16,9 +16,9 @@ def listed(key):
 
 
 def expect_entries(group, program, how, entries):
-    """Entries, each with its key and its value as they are shown, and its reason or None.
+    """Expects entries, each with its key and its value as they are shown, and its reason or None.
 
-    All are one file, a line each; where this fails, each is asked alone.
+    All entries are in one file, a line each; if that fails, each entry is tested on its own.
     """
     data = b"".join(entry for entry, _, _, _ in entries)
     output = b"".join(finding(number, key, value, reason)
@@ -37,12 +37,12 @@ def expect_entries(group, program, how, entries):
 
 
 def expect_values(group, program, how, key, values, reason):
-    """Values that are shown as they are, and have one reason."""
+    """Expects values that are shown as they are, and that all have this reason."""
     expect_entries(group, program, how, [(made.line_of(key, value), key, value, reason) for value in values])
 
 
 def values(group, program):
-    """Each kind and each reason, with and without a judgment of the spelling."""
+    """Each kind and each reason, with and without --canonical."""
     settings = program.settings(rows.SETTINGS)
     how, canonical = arguments(settings), arguments(settings, canonical=True)
     for key, accepted in rows.ACCEPTED:
@@ -62,7 +62,7 @@ def values(group, program):
 
 
 def escapes(group, program):
-    """What is shown otherwise than it is."""
+    """Texts that are not shown as they are."""
     how = arguments(program.settings(rows.SETTINGS))
     key = b"test.word"
     expect_entries(group, program, how, [
@@ -74,7 +74,7 @@ def escapes(group, program):
 
 
 def expect_unknown(group, program, how, keys):
-    """Keys that are named as unknown, each with the key that is meant or None."""
+    """Expects keys that are reported as unknown, each with the key that is suggested, or None."""
     for key, meant in keys:
         entry = made.line_of(key, b"x")
         hint = b"" if meant is None else b"; did you mean %s?" % meant
@@ -83,7 +83,7 @@ def expect_unknown(group, program, how, keys):
 
 
 def keys(group, program):
-    """Which row a key belongs to, if to any; the value is no integer."""
+    """Which row covers a key, if one does; the value is not an integer."""
     how = arguments(program.settings(rows.SETTINGS))
     expect_entries(group, program, how, [
         (made.line_of(key, b"x"), shown or listed(key), b"x", rows.INTEGER_FAULT) for key, shown in rows.KNOWN_KEYS])
@@ -97,7 +97,7 @@ def keys(group, program):
 
 
 def files(group, program):
-    """Whole files, some of which Git cannot read."""
+    """Whole files, including files that Git cannot read."""
     how = arguments(program.settings(rows.SETTINGS))
     for data, output, counts in rows.FILES:
         group.expect(data, ended(output, counts), program.run(how, data))
@@ -114,7 +114,7 @@ def files(group, program):
 
 
 def as_json(group, program):
-    """Findings as JSON: one to the byte, and the members of others."""
+    """Findings as JSON: all bytes of one finding, and the members of others."""
     how = arguments(program.settings(rows.SETTINGS), canonical=True)
     data, output = rows.JSON_LINE
     group.expect(data, ended(output, (1, 1, 0, 1)), program.run(["--format", "json", *how], data))
@@ -124,7 +124,7 @@ def as_json(group, program):
 
 
 def fail_on(group, program):
-    """At which severity the status is 1."""
+    """The severities of `--fail-on` at which the status is 1."""
     how = arguments(program.settings(rows.SETTINGS), canonical=True)
     for data, severities in rows.FAIL_ON:
         for severity in ("note", "warning", "error"):
@@ -133,7 +133,7 @@ def fail_on(group, program):
 
 
 def built_in(group, program):
-    """Rows of the program itself, and others that win over them."""
+    """Built-in rows, and other rows that come before them."""
     for key, value, reason in rows.BUILT_IN:
         entry = made.line_of(key, value)
         wanted = b"" if reason is None else finding(1, listed(key), value, reason)[:-1]
@@ -147,7 +147,7 @@ def built_in(group, program):
 
 
 def settings_files(group, program):
-    """Files of settings that are wrong, missing, or in order."""
+    """Files of settings that are wrong, missing or valid."""
     for text, line, fault in rows.BAD_ROWS:
         file = program.settings(text)
         told = f"config_check: {file}:{line}: ".encode() + fault + b"\n"

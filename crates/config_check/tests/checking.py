@@ -1,4 +1,4 @@
-"""What all tests use: how the program is run, how it has to end, and how what passed is counted."""
+"""What all tests use: it runs the program, says how a run has to end, and counts what passed."""
 import collections
 import itertools
 import json
@@ -14,13 +14,13 @@ BYTES_SHOWN = 300
 CANNOT = b"config_check: cannot "
 UNREAD = b"config_check: -: "
 
-# how a run of the program ended
+# how a run of the program ended: its status, standard output and standard error
 Ended = collections.namedtuple("Ended", "status output errors")
 NO_END = Ended(f"no end after {SECONDS} seconds", b"", b"")
 
 
 class Program:
-    """The program under test, and a folder for the settings that are given to it."""
+    """The program under test, and a folder for the files of settings that it is given."""
 
     def __init__(self, path, folder):
         self.path = os.path.abspath(path)
@@ -28,18 +28,18 @@ class Program:
         self.numbers = itertools.count()
 
     def settings(self, text):
-        """The name of a new file of settings."""
+        """Writes a new file of settings, and returns its name."""
         file = self.folder / f"settings-{next(self.numbers)}"
         file.write_bytes(text)
         return str(file)
 
     def run(self, arguments, data=None, **how):
-        """How the program ends over the data; `how` is for subprocess.run."""
+        """Runs the program on the data, and returns how it ended; `how` goes to subprocess.run."""
         return run([self.path, *arguments], data, **how)
 
 
 def run(command, data=None, **how):
-    """How a command ends."""
+    """Runs a command, and returns how it ended."""
     if data is not None:
         how["input"] = data
     for end in ("stdout", "stderr"):
@@ -52,7 +52,7 @@ def run(command, data=None, **how):
 
 
 def summary(counts):
-    """The line of the numbers of entries, judged ones, unknown keys and findings."""
+    """The line with the numbers of entries, judged entries, unknown keys and findings."""
     entries, judged, unknown, findings = counts
     return b"config_check: %d entr%s, %d judged, %d unknown key%s, %d finding%s\n" % (
         entries, b"y" if entries == 1 else b"ies", judged, unknown, b"" if unknown == 1 else b"s",
@@ -60,17 +60,17 @@ def summary(counts):
 
 
 def ended(output, counts):
-    """How a run over files that can be read has to end."""
+    """How a run on files that can be read has to end."""
     return Ended(1 if output else 0, output, summary(counts))
 
 
 def by_plain_reader(rows, data, canonical=False):
-    """How a run over standard input has to end by the plain reader."""
+    """How a run on standard input has to end, according to the plain reader."""
     return ended(*plain_reader.findings(rows, data, canonical))
 
 
 def read_json(output):
-    """The members of the objects that lines of JSON are, in their order; None where they are no such lines."""
+    """The members, in order, of the JSON objects on the lines; None if the lines are not JSON objects."""
     *lines, rest = output.split(b"\n")
     try:
         return None if rest else [json.loads(line, object_pairs_hook=list) for line in lines]
@@ -79,7 +79,7 @@ def read_json(output):
 
 
 def expect_json(group, program, how, data, objects):
-    """Lines of JSON, with the members in the order of their names."""
+    """Expects these objects as lines of JSON, with their members in the order of the names."""
     came = program.run(["--format", "json", *how], data)
     group.expect((how, data, "json"), (int(bool(objects)), [sorted(one.items()) for one in objects]),
                  (came.status, read_json(came.output)))
@@ -91,7 +91,7 @@ def arguments(settings, canonical=False):
 
 
 def with_errors_cut(came, beginning):
-    """The run with only so much of its one line of errors as has to be there."""
+    """The run, with its errors cut to the length of `beginning` if they are one line."""
     is_line = came.errors.count(b"\n") == 1 and came.errors.endswith(b"\n")
     return came._replace(errors=came.errors[:len(beginning)]) if is_line else came
 
@@ -102,13 +102,13 @@ def brief(thing):
 
 
 def first_difference(wanted, came):
-    """The first line in which two texts differ, of each."""
+    """The first lines in which two texts differ, one of each text."""
     pairs = itertools.zip_longest(wanted.splitlines(True), came.splitlines(True), fillvalue=b"")
     return next(((one, other) for one, other in pairs if one != other), (wanted, came))
 
 
 def described(wanted, came):
-    """What was wanted, and what came in its place."""
+    """What was wanted, and what came instead."""
     if not (isinstance(wanted, Ended) and isinstance(came, Ended)):
         return f"    wanted {brief(wanted)}\n    came   {brief(came)}"
     lines = []
@@ -121,7 +121,7 @@ def described(wanted, came):
 
 
 class Group:
-    """A group of tests, with what passed and what failed of it."""
+    """A group of tests, with the numbers of tests that passed and that failed."""
 
     def __init__(self, name):
         self.name = name
@@ -130,7 +130,7 @@ class Group:
         self.notes = []
 
     def expect(self, given, wanted, came):
-        """Counts one test; whether it passed."""
+        """Counts one test, and returns whether it passed."""
         if wanted == came:
             self.passed += 1
             return True

@@ -1,4 +1,4 @@
-"""How the program ends where it cannot read or write, and what it writes on a terminal."""
+"""How the program ends if it cannot read or write, and what it writes on a terminal."""
 import os
 import pathlib
 import pty
@@ -12,19 +12,19 @@ from plain_reader import finding
 FULL = pathlib.Path("/dev/full")
 FINDING = b"[test] bool = maybe\n"
 MANY = 200_000
-# more than the addresses that a process has, in bytes
+# a file that is larger than the address space of a process, and that address space, in bytes
 LONG, ADDRESSES = 20_000_000, 16_000_000
 RED, PLAIN = b"\x1b[31m", b"\x1b[m"
 
 
 def expect_cannot(group, what, came, front=CANNOT):
-    """Nothing was written, and a line says what could not be read or written."""
+    """Expects that nothing was written, and that a line says what could not be read or written."""
     is_said = any(line.startswith(front) and line.endswith(b"\n") for line in came.errors.splitlines(True))
     group.expect((what, came.errors), (2, b"", True), (came.status, came.output or b"", is_said))
 
 
 def closed_pipe(group, program, how):
-    """Nothing reads the output: before the start, or after some of it."""
+    """The reader of the output is closed: before the program starts, or after it has read some bytes."""
     for data in (FINDING, FINDING * MANY):
         reader, writer = os.pipe()
         os.close(reader)
@@ -63,7 +63,7 @@ def closed_files(group, program, how):
 
 
 def memory(group, program, how):
-    """There is no memory for a file."""
+    """There is not enough memory for a file."""
     if b"__asan_init" in pathlib.Path(program.path).read_bytes():
         group.skip("the end of memory", "a checked build needs more addresses to start")
         return
@@ -82,7 +82,7 @@ def memory(group, program, how):
 
 
 def written_on_terminal(terminal):
-    """What was written on a terminal whose other end is closed."""
+    """The bytes that were written on a terminal whose other end is closed."""
     found = b""
     while True:
         try:
@@ -105,7 +105,7 @@ def on_terminal(program, how, data, environment):
 
 
 def terminal(group, program, how):
-    """The severity is red on a terminal that is not dumb, if no one refuses colors, and nowhere else."""
+    """The severity is red on a terminal that is not dumb, unless NO_COLOR has a value, and nowhere else."""
     environment = dict(os.environ, TERM="xterm")
     environment.pop("NO_COLOR", None)
     data = FINDING + b'[test] bool = "\x1b[31m"\nx\0'
@@ -121,7 +121,7 @@ def terminal(group, program, how):
 
 
 def terminal_input(group, program, how):
-    """A terminal is no standard input: a line says what to do."""
+    """If standard input is a terminal, the program does not read it, and a line says what to do."""
     ours, programs = pty.openpty()
     came = program.run(how, stdin=programs)
     os.close(programs)

@@ -1,6 +1,6 @@
-"""What Git refuses by `git config --type`, and what config_check reports, of the same texts.
+"""Compares what `git config --type` refuses with what config_check reports for the same texts.
 
-Each difference has to belong to exactly one class, of compare/classes.py or of those below.
+Each difference has to belong to exactly one class of compare/classes.py or of OWN_CLASSES.
 """
 import collections
 import concurrent.futures
@@ -22,16 +22,16 @@ from programs import Missing, Wrong  # noqa: E402
 from readers import NOT_SET, REFUSED, Git, c_library, escape_code, user_of  # noqa: E402
 
 TEXTS = 400
-# the key of a row, and the type that Git is asked for
+# the last part of a row's key, and the type that Git is asked for
 KINDS = [("bool", "bool"), ("int", "int"), ("size", "int"), ("bool-or-int", "bool-or-int"), ("color", "color")]
 SHOULD_BE = b"note: should be "
 
-# the key of the rows in which the class is expected, its rule over a case, and texts in which it is seen
+# a class: its name, the kind for which it is expected, its rule for a case, and texts that show it
 Own = collections.namedtuple("Own", "name kind rule shown")
 
 
 def number_of_git_alone(case):
-    """The number of a text that is reported, and that Git reads as this number; None for other texts."""
+    """The number of a text that is reported, although Git reads it as this number; None for other texts."""
     number = amount(case.question.text)
     return number if number is not None and case.ours is None and case.git == b"%d" % number else None
 
@@ -53,14 +53,14 @@ OWN_CLASSES = [
 
 
 def by_hand(kind):
-    """The texts that the tables have for a kind, but for those that a file does not carry."""
+    """The texts that the tables have for a kind, without those that have a NUL or a line feed."""
     shown = [text for own in OWN_CLASSES if own.kind == kind for text in own.shown]
     known = shown + [value for value in made.VALUES_BY_KEY[b"test." + kind.encode()] if value is not None]
     return [text for text in known if b"\0" not in text and b"\n" not in text]
 
 
 def questions(draw, kind, asked):
-    """What Git is asked for a kind of rows: texts by hand, of the classes, and made by mutation."""
+    """What Git is asked about a kind: texts of the classes, texts written by hand, and mutated ones."""
     known = [one.text for each in classes.CLASSES for one in each.shown if one.kind == asked]
     made_of = asked if asked in texts.MADE else "number"
     found = list(dict.fromkeys(known + by_hand(kind)))
@@ -69,7 +69,7 @@ def questions(draw, kind, asked):
 
 
 def in_terms_of_git(asked, canonical):
-    """The value of a canonical text, as Git prints it; None where the text was reported."""
+    """The value of a canonical text, as Git prints it; None if the text was reported."""
     if canonical is None:
         return None
     if asked == "color":
@@ -78,7 +78,7 @@ def in_terms_of_git(asked, canonical):
 
 
 def canonical_texts(program, how, key, values):
-    """The canonical text of each value, by what the program reports of them; None where it is wrong."""
+    """The canonical text of each value, according to the program's report; None if the value is wrong."""
     data = b"".join(made.line_of(key, value) for value in values)
     found = list(values)
     for line in program.run(how, data).output.splitlines(True):
@@ -89,7 +89,7 @@ def canonical_texts(program, how, key, values):
 
 
 def by_git(git, name, asked):
-    """The answers of Git to questions of one type and home: at once, or by halves where it refuses one."""
+    """What Git says to questions of one type and home: asked at once, or in halves if Git refuses one."""
     question = asked[0]
     how = [f"--type={question.kind}", "--null", "--get-all"]
     run = git.config(name, [one.text for one in asked], how, question.home)
@@ -105,7 +105,7 @@ def by_git(git, name, asked):
 
 
 def all_by_git(git, asked, ours):
-    """The answers of Git: what the program accepts in one file, and each other text in one of its own."""
+    """What Git says: texts that the program accepts are in one file, and each other text is in its own file."""
     parts = [[one] for one, text in zip(asked, ours) if text is None]
     accepted = [one for one, text in zip(asked, ours) if text is not None]
     parts += [accepted] if accepted else []
@@ -121,7 +121,7 @@ def classes_of(kind, case, running):
 
 
 def compare(group, program, draw, git):
-    """Asks both, and counts the differences by class."""
+    """Asks both programs, and counts the differences by class."""
     running = {"Git": git.version, "glibc": c_library()}
     install = git.install()
     how = arguments(program.settings(rows.SETTINGS), canonical=True)

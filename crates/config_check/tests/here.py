@@ -1,4 +1,4 @@
-"""The files that are read without an argument, compared with those that `git config --list --show-origin` names."""
+"""Compares the files that are read without an argument with those of `git config --list --show-origin`."""
 import os
 import pathlib
 import shutil
@@ -9,7 +9,7 @@ from checking import Ended, run
 
 WRONG = "[gc]\n\tauto = wrong\n"
 PATH = "[include]\n\tpath = %s\n"
-# the variables, and the folder in which both run
+# the environment variables, and the folder in which both programs run
 CASES = [
     ({}, "plain"), ({}, "work"), ({}, "work/deep/er"), ({}, "work/.git"), ({}, "linked"), ({}, "linked/deep"),
     ({}, "bare.git"), ({}, "bare.git/refs"), ({}, "tree"), ({}, "module"),
@@ -31,12 +31,12 @@ git init -q module; mv module/.git held; echo "gitdir: ../held" > module/.git
 
 
 def files_of(folder, output):
-    """The files that these lines name, each once, in order, by their real paths."""
+    """The real paths of the files with these names, each once, in order."""
     return list(dict.fromkeys(os.path.realpath(folder / name) for name in output))
 
 
 def by_git(git, folder, known):
-    """Git names a file by its place from the top of the worktree, if there is one."""
+    """The files that Git names; it names a file by its path from the top of the worktree, if there is one."""
     top = subprocess.run([git, "rev-parse", "--show-toplevel"], cwd=folder, env=known, check=False,
                          stdout=subprocess.PIPE, stderr=subprocess.DEVNULL).stdout.decode().rstrip("\n")
     said = subprocess.run([git, "config", "--list", "--show-origin", "--null"], cwd=folder, env=known, check=False,
@@ -46,7 +46,7 @@ def by_git(git, folder, known):
 
 
 def by_program(program, folder, known, names=()):
-    """Each of the files has a value that is wrong."""
+    """The files that the program reads, each of which has a wrong value."""
     came = run([program.path, *names], cwd=folder, env=known)
     return files_of(folder, [line.split(":")[0] for line in came.output.decode().splitlines()])
 
@@ -61,7 +61,7 @@ def spoil(home):
 
 
 def included(group, program, home, known):
-    """Included files, each once and whatever the condition; a cycle, one that is missing, no value, and the depth."""
+    """Included files are read once, whatever the condition: a cycle, a missing file, no value, and the depth."""
     folder = home / "includes"
     folder.mkdir()
     deep = [f"deep-{number}" for number in range(12)]

@@ -1,4 +1,4 @@
-"""Whole files, compared with the plain reader: cut at every byte, large, and mutated."""
+"""Runs the program on whole files, and compares it with the plain reader: on cut, large and mutated files."""
 import os
 import threading
 import time
@@ -19,13 +19,13 @@ SHORT = (b"\xef\xbb\xbfint\n[test]\r\n\tbool = maybe # yes\n\tint;\n int = 2g\n"
 
 
 def compare(group, program, how, data, **chosen):
-    """One file, by the program and by the plain reader."""
+    """Compares the program with the plain reader on one file."""
     wanted = by_plain_reader(made.ROWS, data, **chosen)
     return group.expect((how[2:-1], data), wanted, program.run(how, data))
 
 
 def cut(group, program):
-    """A short file, cut at every byte, and with each byte left out or changed."""
+    """A short file, cut at every byte, and with each byte left out or replaced by a NUL."""
     how = arguments(program.settings(rows.SETTINGS))
     for end in range(len(SHORT) + 1):
         for more in (SHORT[:end], SHORT[:end] + SHORT[end + 1:], SHORT[:end] + b"\0" + SHORT[end + 1:]):
@@ -33,7 +33,7 @@ def cut(group, program):
 
 
 def large(group, program, draw, count):
-    """So many entries, in a few seconds, and very long ones."""
+    """Checks a file with this many entries in a few seconds, and then files with very long entries."""
     how = arguments(program.settings(rows.SETTINGS), canonical=True)
     data = made.whole(draw, count)
     wanted = by_plain_reader(made.ROWS, data, canonical=True)
@@ -52,7 +52,7 @@ def large(group, program, draw, count):
 
 
 def run_in_pieces(program, how, data, size):
-    """Runs the program over a pipe into which so many bytes are written at a time."""
+    """Runs the program on a pipe into which this many bytes are written at a time."""
     reader, writer = os.pipe()
 
     def write():
@@ -61,7 +61,7 @@ def run_in_pieces(program, how, data, size):
                 os.write(writer, data[at:at + size])
                 time.sleep(SECONDS_BETWEEN_PIECES)
         except BrokenPipeError:
-            pass  # what the program wrote tells of it
+            pass  # the output of the program shows that it ended early
         os.close(writer)
 
     thread = threading.Thread(target=write)
@@ -82,7 +82,7 @@ def pieces(group, program, draw):
 
 
 def mutated(group, program, draw, count):
-    """So many mutated entries, in a few large files, and tiny files whose text is mutated too."""
+    """This many mutated entries, in a few large files, and tiny files whose text is mutated as well."""
     settings = program.settings(rows.SETTINGS)
     sizes = [min(ENTRIES_OF_A_FILE, count - at) for at in range(0, count, ENTRIES_OF_A_FILE)]
     for size in sizes + [None] * TINY_FILES:

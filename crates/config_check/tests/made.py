@@ -1,4 +1,4 @@
-"""Files that are made: of the keys and values of rows.py, whole, cut and mutated."""
+"""Makes files from the keys and values of rows.py, unchanged or mutated."""
 import re
 
 import plain_reader
@@ -21,7 +21,7 @@ def keys():
 
 
 def values_by_key():
-    """The values that the tables have for each key; the very long ones are left out."""
+    """The values that the tables have for each key, without very long ones."""
     found = {}
     tables = rows.ACCEPTED + [(key, values) for key, _, values in rows.REPORTED + rows.MEANT] + rows.SPELLINGS
     tables += [(b"test.word", [value for value, _ in rows.SHOWN])]
@@ -42,7 +42,7 @@ def escaped(text):
 
 
 def line_of(key, value):
-    """The line of a file that sets a key, as Git lists it, to a value; a NUL stays as it is."""
+    """The line of a file that sets a key, written as Git lists it, to a value; a NUL stays as it is."""
     first, middle, last = plain_reader.key_of(key)
     quoted = b"" if middle is None else b' "%s"' % re.sub(rb'([\\"])', rb"\\\1", middle)
     return b"[%s%s] %s%s\n" % (first, quoted, last, b"" if value is None else b' = "%s"' % escaped(value))
@@ -72,13 +72,13 @@ def mutated(draw, text):
 
 
 def entry(draw):
-    """A key and a value of the tables that fit together, or not."""
+    """A key and a value of the tables, which may or may not belong together."""
     key = draw.choice(list(VALUES_BY_KEY) if draw.randrange(3) else KEYS)
     return key, draw.choice(VALUES_BY_KEY.get(key, VALUES) if draw.randrange(3) else VALUES)
 
 
 def mutated_line(draw):
-    """The line of an entry whose value is changed, or of no change."""
+    """The line of an entry whose value may be mutated."""
     key, value = entry(draw)
     if value is not None and draw.randrange(4):
         value = mutated(draw, value).replace(b"\0", b"")
@@ -86,12 +86,12 @@ def mutated_line(draw):
 
 
 def many(draw, count):
-    """A file of so many mutated entries."""
+    """A file with this many entries, whose values may be mutated."""
     return b"".join(mutated_line(draw) for _ in range(count))
 
 
 def tiny(draw):
-    """A file of a few entries, whose text is changed too."""
+    """A file with a few such entries, whose text may be mutated as well."""
     text = bytearray(many(draw, draw.randrange(1, 7)))
     for _ in range(draw.choice((0, 1, 1, 2, 3))):
         at = draw.randrange(len(text) + 1)
@@ -100,5 +100,5 @@ def tiny(draw):
 
 
 def whole(draw, count):
-    """A file of entries of the tables, unchanged."""
+    """A file with this many unchanged entries of the tables."""
     return b"".join(line_of(*entry(draw)) for _ in range(count))

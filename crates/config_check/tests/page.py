@@ -1,9 +1,9 @@
-"""What the rows of git.rt say, beside the pages of Git's manual that are installed.
+"""Compares the rows of git.rt with the pages of Git's manual that are installed.
 
-Each key has to be one that git-config(1), or a page of ELSEWHERE, documents. Each word of a row has to stand in the
-section of its key, in that of another setting which it names, or in that of the option of another page which has the
-same words (OPTIONS), or Git was seen to take it (compare/settings.tsv). The words of an option whose page is not
-installed, and of rows that newer Gits have widened, are not compared. Of kinds no more is compared.
+Each key has to be documented in git-config(1), or on a page of ELSEWHERE. Each word of a row has to occur in the
+section of its key, in the section of another setting that this section names, or in the section of an option on
+another page that takes the same words (OPTIONS), unless Git was seen to take it (compare/settings.tsv). Words are not
+compared if the page of their option is not installed, or if newer Gits take more. Nothing else of a row is compared.
 """
 import gzip
 import pathlib
@@ -17,11 +17,11 @@ import settings  # noqa: E402
 SOURCE = pathlib.Path(__file__).resolve().parents[2] / "config_checks/src/git.rt"
 MANUAL = pathlib.Path("/usr/share/man")
 VERSION = "Git 2.39.5"
-# what precedes the rows of git.rt that the page does not have
+# the comment that precedes the rows of git.rt that the page does not have
 ELSEWHERE_READ = "# Keys that git-config(1) leaves to other pages"
 # keys that git-config(1) leaves to another page
 ELSEWHERE = {"filter.*.required": "gitattributes.5", "filter.*.process": "gitattributes.5"}
-# settings whose words an option has, on another page that their section names
+# settings whose words belong to an option on another page, which their section names
 OPTIONS = {
     "apply.whitespace": ("apply", "--whitespace=*"),
     "commit.cleanup": ("commit", "--cleanup=*"),
@@ -35,7 +35,7 @@ OPTIONS = {
         "--diff-merges=(off|none|on|first-parent|1|separate|m|combined|c|dense-combined|cc|remerge|r)",
     ),
 }
-# settings that a section of the page has for each `*` too: the beginning of their keys, and what the page says of them
+# settings that the page documents together, for each `*`: the prefix of their keys, and the page's term for them
 FAMILIES = {
     "credential.*.": "credential.<url>.*",
     "http.*.": "http.<url>.*",
@@ -43,15 +43,15 @@ FAMILIES = {
     "gitcvs.ext.": "gitcvs.<access_method>.<varname>",
     "gitcvs.pserver.": "gitcvs.<access_method>.<varname>",
 }
-# kinds with words of which a text is one
+# kinds for which a text may be one of the words of the row
 SINGLE = ["word", "bool-or-word", "int-or-word"]
-# what may stand before the kind of a row
+# the marks that may precede the kind of a row
 MARKS = ["alone", "needs-value", "warn"]
 ESCAPES = {r"\&": "", r"\-": "-", r"\(aq": "'", r"\(lq": '"', r"\(rq": '"'}
 
 
 def page(name):
-    """The text of a page of the manual, as `git-config.1`, without its fonts; empty where it is not there."""
+    """The text of a page of the manual, such as `git-config.1`, without fonts; empty if it is not installed."""
     file = MANUAL / f"man{name[-1]}" / f"{name}.gz"
     if not file.exists():
         return ""
@@ -62,12 +62,12 @@ def page(name):
 
 
 def key_of(term):
-    """The key of a row that stands for a term of the page: `*` is for what stands there between `<` and `>`."""
+    """The key of the row for a term of the page: `*` replaces the text from `<` to `>`."""
     return re.sub(r"<[^>]*>", "*", re.sub(r" \(.*\)$", "", term)).lower()
 
 
 def sections(text):
-    """What the page says of each key."""
+    """What the page says about each key."""
     lines = text.split("\n")
     found = {}
     for start, line in enumerate(lines):
@@ -84,7 +84,7 @@ def sections(text):
 
 
 def section(key, text, known):
-    """The section of a key, or of the family that it is of; None where there is none."""
+    """The section of a key, or of its family; None if the page has no such section."""
     for front, family in FAMILIES.items():
         if key not in known and key.startswith(front) and family in text:
             key = f"{front.split('.')[0]}.{key.removeprefix(front)}"
@@ -102,7 +102,7 @@ def named(body, known):
 
 
 def option(key, body):
-    """The section of the option that has the words of a setting, where the setting's own section names its page."""
+    """The section of the option with the words of a setting, if the setting's own section names its page."""
     command, term = OPTIONS.get(key.replace(".*", ""), ("", ""))
     if not command or re.search(rf"\bgit[ -]{command}\b", body) is None:
         return ""
@@ -114,7 +114,7 @@ def has_word(text, word):
 
 
 def rows_of_the_page():
-    """The rows of git.rt that the page is to have, each as one line."""
+    """The rows of git.rt that the page has to document, each as one line."""
     written = SOURCE.read_text(encoding="utf-8").split('"\\\n')[1].split('";')[0]
     return re.sub(r"\\\n *", "", written.split(ELSEWHERE_READ)[0]).splitlines()
 

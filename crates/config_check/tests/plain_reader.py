@@ -1,6 +1,6 @@
 """A second, plain reader of the files of config_check, from docs/CHECKING.md and docs/GRAMMAR.md alone.
 
-`findings` gives what the program has to write and its counts. Nothing here is meant to be fast.
+`findings` returns what the program has to write, and its counts. Nothing here is meant to be fast.
 """
 import collections
 import functools
@@ -16,20 +16,20 @@ COLOR_FAULT = b"Colors are specific color values and their attributes, like 'bri
 BAD_LINE = b"Git cannot read this line, and reads nothing of the file"
 NUL = b"a NUL byte outside a comment"
 
-# a key, cut at its first and at its last dot; where they are one dot, there is no middle
+# a key, cut at its first and at its last dot; if it has only one dot, there is no middle
 Key = collections.namedtuple("Key", "first middle last")
 Row = collections.namedtuple("Row", "key alone warns kind words text")
 
-# a number has any count of digits
+# a number may have any count of digits
 sys.set_int_max_str_digits(0)
 
 
 class Refused(Exception):
-    """A text that is wrong; it holds the reason."""
+    """A text is wrong; the exception holds the reason."""
 
 
 class BadRow(Exception):
-    """A line that is no row; it holds the number of the line."""
+    """A line is not a row; the exception holds the number of the line."""
 
 
 # numbers and booleans
@@ -91,7 +91,7 @@ SPACE = re.compile(b"|".join(chr(code).encode() for code in SPACES))
 
 
 def name(word):
-    """How a name of a color is displayed; None for any other word."""
+    """How the name of a color is displayed; None for any other word."""
     if word.lower() in COLOR_WORDS:
         return word.lower()
     if word == b"-1":
@@ -113,7 +113,7 @@ def attribute(word):
 
 
 def color(text):
-    """How a color is displayed; None for a text that is no color."""
+    """How a color is displayed; None for a text that is not a color."""
     names, attributes = [], set()
     for word in SPACE.split(text):
         if name(word) is not None:
@@ -126,7 +126,7 @@ def color(text):
     return b" ".join(names + known) if len(names) <= 2 else None
 
 
-# the kinds: each takes the words of the row and a text, and gives the canonical text; or it refuses
+# the kinds: each takes the words of the row and a text, and returns the canonical text or raises Refused
 
 def of_bool(_, text):
     if boolean(text) is None:
@@ -135,14 +135,14 @@ def of_bool(_, text):
 
 
 def in_range(found, low, high):
-    """The canonical text of an integer whose product lies from the one number to the other."""
+    """The canonical text of an integer whose product is at least `low` and at most `high`."""
     if not low <= product(*found) <= high:
         raise Refused(b"out of range: not from %d to %d" % (low, high))
     return integer_shown(*found)
 
 
 def bounds(words):
-    """The bounds of `int`: those of 32 bits, or two integer texts; None for any other words."""
+    """The bounds of `int`: those of 32 bits without words, or two integer texts; None for any other words."""
     if not words:
         return BITS_32[0], BITS_32[-1]
     found = [integer(word) for word in words]
@@ -189,7 +189,7 @@ def is_same(word, text, any_case):
 
 
 def matching(words, text, any_case):
-    """The first of the words that stands for this text; None if none does."""
+    """The first of the words that matches the text; None if no word matches it."""
     for word in words:
         front = word.removesuffix(b"*")
         if is_same(front, text[:len(front)] if word.endswith(b"*") else text, any_case):
@@ -203,7 +203,7 @@ def is_int(text):
 
 
 def spelled_by_form(form, words, text, any_case):
-    """The canonical text of a text that is no word of the row; None where it is wrong."""
+    """The canonical text of a text that no word of the row matches; None if the text is wrong."""
     def has(piece):
         return matching(words, piece, any_case) is not None
 
@@ -225,14 +225,14 @@ FORMS = {b"word": b"not one of: ", b"bool-or-word": b"not a boolean, nor one of:
 
 
 def meant(words, text):
-    """What is said of the word that is nearest to a text, if one is near and can be meant."""
+    """The suggestion of the word that is nearest to a text, if a word that may be suggested is near."""
     can_be = [len(word) > 2 and not word.endswith(b"*") for word in words]
     found = nearest([few_edits(word, text) if is_one else None for word, is_one in zip(words, can_be)])
     return b"" if found is None else b"; did you mean %s?" % shown(words[found])
 
 
 def of_words(kind, words, text):
-    """The canonical text: a word that differs in case alone is spelled as the row has it."""
+    """The canonical text; a word that differs only in case is spelled as in the row."""
     form, any_case = kind.removesuffix(ANY_CASE), kind.endswith(ANY_CASE)
     word = matching(words, text, any_case)
     if word is not None:
@@ -250,7 +250,7 @@ RIGHT_ALONE = [b"bool", b"bool-or-int", b"bool-or-word", b"bool-or-word" + ANY_C
 
 
 def reason(row, value, canonical):
-    """How bad a value is and why it is reported, or None; the value is None where the entry has none."""
+    """The severity and the reason of a value that is reported, or None; `value` is None for a key alone."""
     if value is None:
         return None if row.alone else b"error: no value"
     try:
@@ -265,19 +265,19 @@ def reason(row, value, canonical):
 # rows and keys
 
 def key_of(text):
-    """The parts of a key; None where it has no dot."""
+    """The parts of a key; None if the text has no dot."""
     first, dot, rest = text.partition(b".")
     middle, second_dot, last = rest.rpartition(b".")
     return Key(first.lower(), middle if second_dot else None, last.lower()) if dot else None
 
 
 def fields_of(line):
-    """What stands between spaces, tabs and CRs."""
+    """The fields of a line, which spaces, tabs and CRs separate."""
     return [field for field in re.split(rb"[ \t\r]", line) if field]
 
 
 def row_of(fields):
-    """The row that these fields are; None where they are none."""
+    """The row with these fields; None if they are not a row."""
     text, *rest = fields
     alone = {b"alone": True, b"needs-value": False}.get(rest[0]) if rest else None
     rest = rest if alone is None else rest[1:]
@@ -305,33 +305,33 @@ def rows_of(text):
 
 
 def is_matched(pattern, key):
-    """Whether the key of a row stands for this key."""
+    """Whether the key of a row covers this key."""
     is_any_middle = pattern.middle == b"*" and key.middle is not None
     return (pattern.first == key.first and (is_any_middle or pattern.middle == key.middle)
             and pattern.last in (b"*", key.last))
 
 
 def row_for(rows, text):
-    """The first row whose key matches, or None."""
+    """The first row that covers the key, or None."""
     key = key_of(text)
     return next((row for row in rows if is_matched(row.key, key)), None) if key is not None else None
 
 
-# keys that no row has
+# keys that no row covers
 
-# their sections also have settings that no row has
+# sections that also have settings without a row
 SHARED = [b"advice", b"core", b"credential", b"gui", b"user"]
 
 
 def is_swapped(one, other):
-    """Whether two texts differ by two neighbors alone, which have changed places."""
+    """Whether two texts differ only in that two neighboring bytes are swapped."""
     at = next((place for place in range(min(len(one), len(other))) if one[place] != other[place]), len(one))
     swapped = one[:at] + one[at + 1:at + 2] + one[at:at + 1] + one[at + 2:]
     return one != other and swapped == other
 
 
 def distance(one, other):
-    """How many bytes are put in, left out or replaced between two texts, ignoring ASCII case; a swap counts as one."""
+    """How many edits lead from one text to the other, ignoring ASCII case; a swap with no other edit counts as one."""
     one, other = one.lower(), other.lower()
     if is_swapped(one, other):
         return 1
@@ -344,9 +344,9 @@ def distance(one, other):
 
 
 def few_edits(one, other, long=5):
-    """How many edits lead from one text to the other, or None if they are more: more than one are many if one is short."""
+    """How many edits lead from one text to the other; None if more than two, or more than one if a text is short."""
     most = 1 if min(len(one), len(other)) < long else 2
-    # lengths that differ by more need no look at the bytes
+    # if the lengths differ by more, the bytes need not be compared
     if abs(len(one) - len(other)) > most:
         return None
     edits = distance(one, other)
@@ -354,20 +354,20 @@ def few_edits(one, other, long=5):
 
 
 def lacks_word(short, long):
-    """Whether one text is the other without some bytes that stand together, and has five bytes or more."""
+    """Whether `short` has at least five bytes, and is `long` without one run of bytes."""
     cuts = range(len(short) + 1) if 5 <= len(short) <= len(long) else []
     return any(long.startswith(short[:at]) and long.endswith(short[at:]) for at in cuts)
 
 
 def last_apart(pattern, key):
-    """How far the last parts of two keys are apart; a word that one lacks is three edits, if they are the second."""
+    """How far the last parts of two keys are apart; a missing run of bytes is three edits in a key of two parts."""
     edits = few_edits(pattern.last, key.last)
     is_word = key.middle is None and (lacks_word(pattern.last, key.last) or lacks_word(key.last, pattern.last))
     return 3 if edits is None and is_word else edits
 
 
 def apart(pattern, key):
-    """How far a key is from the key of a row, if they differ in one part, and few bytes of it; None otherwise."""
+    """How far a key is from the key of a row, if they differ in one part by few edits; None otherwise."""
     is_middle = pattern.middle == key.middle or pattern.middle == b"*" and key.middle is not None
     is_last = pattern.last in (b"*", key.last)
     if pattern.first != key.first:
@@ -379,13 +379,13 @@ def apart(pattern, key):
 
 
 def nearest(distances):
-    """The place of the first of the least distances; None where all are None."""
+    """The place of the first of the least distances; None if all distances are None."""
     near = [(edits, place) for place, edits in enumerate(distances) if edits is not None]
     return min(near)[1] if near else None
 
 
 def filled(pattern, key):
-    """A row's key as it is written, with the parts of a key for its `*`."""
+    """A row's key as it is written, with parts of a key in place of `*`."""
     first, _, rest = pattern.partition(b".")
     middle, dot, last = rest.rpartition(b".")
     parts = [first, *([key.middle if middle == b"*" else middle] if dot else []), key.last if last == b"*" else last]
@@ -393,7 +393,7 @@ def filled(pattern, key):
 
 
 def unknown(rows, text):
-    """What is said of a key that no row has; None where nothing is."""
+    """The severity and the reason of a key that no row covers; None if it is not reported."""
     key = key_of(text)
     if key is None:
         return None
@@ -410,14 +410,14 @@ UNSHOWN = re.compile("[\\\\\x00-\x1f\x7f-\x9f\udc80-\udcff]")
 
 
 def character_shown(match):
-    """A backslash, a control character, or a byte that is no part of well-formed UTF-8."""
+    """How a backslash, a control character or a byte that is not UTF-8 is shown."""
     if match[0] == "\\":
         return "\\\\"
     return "".join(f"\\x{byte:02x}" for byte in match[0].encode(errors="surrogateescape"))
 
 
 def shown(text):
-    """A text as a field of a finding shows it."""
+    """A text as it is shown in a finding."""
     return UNSHOWN.sub(character_shown, text.decode(errors="surrogateescape")).encode()
 
 
@@ -429,11 +429,11 @@ ESCAPES = {b"n": b"\n", b"t": b"\t", b"b": b"\b", b'"': b'"', b"\\": b"\\"}
 
 
 class Stopped(Exception):
-    """The place at which Git reads no further, and whether Git tells one line more than its."""
+    """Git stops reading; the exception holds the place, and whether Git reports the next line instead of its line."""
 
 
 def header(data, at):
-    """What the keys of a section begin with, and the place after its header."""
+    """The prefix of the keys of a section, and the place after its header."""
     name = NAME.match(data, at + 1)
     at = name.end()
     if data[at:at + 1] == b"]" and name[0]:
@@ -494,7 +494,7 @@ def line_of(data, at):
 
 
 def entries(data):
-    """The line, the key and the value of each entry, and the line at which Git stops, if it does, and why."""
+    """The line, key and value of each entry, and the line at which Git stops and why, or None if it does not stop."""
     found, front, at = [], b"", 3 if data.startswith(b"\xef\xbb\xbf") else 0
     try:
         while at < len(data):
@@ -507,7 +507,7 @@ def entries(data):
                 front, at = header(data, at)
             elif key is None:
                 mark = BYTE_ORDER_MARK.match(data) if at == 0 else None
-                # a mark that is not whole begins no item
+                # an incomplete mark does not begin an item
                 raise Stopped(at, mark is not None and END.match(data, mark.end()) is not None)
             elif data[key.end():key.end() + 1] == b"=":
                 value, at = value_at(data, key.end() + 1)
@@ -524,7 +524,7 @@ def entries(data):
 
 
 def finding(line, key, value, why, name=b"-"):
-    """The line of a finding; its key and its value are shown already."""
+    """The line of a finding, whose key and value are given as they are shown."""
     severity, _, text = why.partition(b": ")
     quoted = b"" if value is None else b"'%s': " % value
     return b"%s:%d: %s: %s: %s%s\n" % (name, line, severity, key, quoted, text)
@@ -562,13 +562,13 @@ SHOWN = re.compile(rb"\\(?:\\|x(..))")
 
 
 def suggestion(why):
-    """The text that a reason suggests, as it is and not as it is shown; None where it suggests none."""
+    """The text that a reason suggests, as it is before it is shown; None if the reason suggests nothing."""
     match = SUGGESTION.fullmatch(why)
     return match and SHOWN.sub(lambda one: bytes.fromhex(one[1].decode()) if one[1] else b"\\", match[1] or match[2] or b"")
 
 
 def as_json(line, key, value, why):
-    """The members of a finding in standard input."""
+    """The JSON members of a finding in standard input."""
     severity, _, text = why.partition(b": ")
     members = {"key": key, "reason": text, "severity": severity, "suggestion": suggestion(why), "value": value}
     texts = {name: None if member is None else member.decode(errors="replace") for name, member in members.items()}

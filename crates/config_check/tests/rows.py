@@ -1,6 +1,6 @@
-"""What config_check has to say of single entries, written by hand from docs/CHECKING.md.
+"""What config_check has to report about single entries, written by hand from docs/CHECKING.md.
 
-In the tables a value is None where the entry has none.
+In the tables a value is None if the entry is a key alone.
 """
 import plain_reader
 
@@ -201,7 +201,7 @@ REPORTED = [
     (b"mark.needs-warn", b"warning: not a boolean, nor one of: one", [b"x"]),
 ]
 
-# key, the reason, and the values that are near a word, each with that word: by two edits, or one if either is short
+# key, the reason, and the values that are near a word, each with that word: two edits, or one if either text is short
 MEANT = [
     (b"test.word", NO_WORD, {b"ONE": b"one", b"two": b"Two", b"on": b"one", b"onee": b"one", b"one ": b"one", b" one": b"one",
                              b"noe": b"one", b"tow": b"Two", b"wo": b"Two", b"three": b"three-3", b"threee3": b"three-3",
@@ -279,7 +279,7 @@ CANONICAL = [
     (b"test.sort-key", [b"-v:name"]),
 ]
 
-# a value of the first kind of words, which is none of them, and how it is shown
+# a value for `test.word` that is not one of its words, and how the value is shown
 SHOWN = [
     (b"a\tb", rb"a\x09b"), (b"a\nb", rb"a\x0ab"), (b"\n", rb"\x0a"), (b"a\n\nb\n", rb"a\x0a\x0ab\x0a"),
     (b"a\rb", rb"a\x0db"), (b"\\", rb"\\"), (b"\\x41\\\\", rb"\\x41\\\\"), (b"\x01\x1f", rb"\x01\x1f"),
@@ -302,7 +302,7 @@ SHOWN = [
     (b"\xf8\x88\x80\x80\x80", rb"\xf8\x88\x80\x80\x80"),
 ]
 
-# other values that are shown otherwise than they are: key, value, how it is shown, and the reason
+# other values that are not shown as they are: key, value, how it is shown, and the reason
 SHOWN_OF_KINDS = [
     (b"test.bool", b"\t1", rb"\x091", BOOLEAN_FAULT),
     (b"test.bool", b"yes\n", rb"yes\x0a", BOOLEAN_FAULT),
@@ -314,14 +314,14 @@ SHOWN_OF_KINDS = [
     (b"test.color", b"red\xa0blue", rb"red\xa0blue", COLOR_FAULT),
 ]
 
-# values that are accepted though they are shown otherwise than they are
+# values that are accepted, and that would not be shown as they are
 UNSHOWN_ACCEPTED = [
     (b"test.color", b"red\nblue"), (b"test.color", b"\n"), (b"test.color", b"\t\v\f\r \n"),
     (b"test.color", b"red\xc2\x85bold"), (b"test.color", b"red\tblue"), (b"test.text", b"\n"),
     (b"test.text", b"a\nb\tc\\"), (b"test.text", b"\x7f\xc2\x80"),
 ]
 
-# keys of rows of integers, and how they are shown
+# keys that integer rows cover, and how they are shown, or None if they are shown as Git lists them
 KNOWN_KEYS = [
     (b"mixed.case", None), (b"MIXED.case", None), (b"mIxEd.cAsE", None), (b"TEST.INT", None),
     (b"middle.x.last", None), (b"MIDDLE.x.LAST", None), (b"middle..last", None), (b"middle...last", None),
@@ -332,9 +332,9 @@ KNOWN_KEYS = [
     (b"any-last.x", None), (b"any-last.sub.x", None), (b"any-both.x.y", None), (b"any-both.a.b.c", None),
     (b"literal.a*.last", None),
 ]
-# keys that no row matches, and the key that is meant: one part differs by one edit, or by two if both texts have five
-# bytes, or eight in a section; a swap of neighbors is one, and a word in the last part of two three; the nearest row's
-# key, and the first of several
+# keys that no row covers, and the suggested key: one part differs by one edit, or by two if both texts have five bytes
+# (eight in a section); a swap of neighbors is one edit, and a run of bytes in the last part of two is three; the key of
+# the nearest row is suggested, or of the first of several
 MISSPELT_KEYS = [
     (b"test.in", b"test.int"), (b"test.intt", b"test.int"), (b"tes.int", b"test.int"), (b"testt.int", b"test.int"),
     (b"test.nit", b"test.int"), (b"tset.int", b"test.int"), (b"test.sort-ky", b"test.sort-key"),
@@ -350,14 +350,14 @@ MISSPELT_KEYS = [
     (b"test.word-case", b"test.word-any-case"), (b"test.OR-WORD", b"test.bool-or-word"), (b"test.wordless", b"test.words"),
     (b"test.int-or-words-first", b"test.int-or-word"), (b"any-lasted.x", b"any-last.x"), (b"ay-lastt.x", b"any-last.x"),
 ]
-# keys of sections that only the rows have
+# keys in sections in which only the rows have settings
 OWN_KEYS = [b"test.wrong", b"test.tni", b"middle.last", b"empty.middle", b"any-both.y", b"literal.last-one", b"test.key", b"test.sort"]
 UNKNOWN_KEYS = [
     b"test.x.int", b"test..int", b".test.int", b"..int", b"te.int", b"middle.Exact.x", b"middle.two.other",
     b"empty.xx.middle", b"any-last.x.y", b"any-last..x", b"any-last.sub.x.y", b"literal.abcd.last", b"xx.star",
     b"middle.x.lasttt", b"middle.Exact.Other-word", b"an-lats.x", b"other.key",
 ]
-# the same in sections of the built-in rows, which the second reader does not have
+# keys that the built-in rows, which the second reader does not have, do not report either
 UNKNOWN_BUILT_IN = [b"core.crlf", b"user.nickname", b"user.home", b"user.username", b"branch.x.base", b"branch.x.rebase-merges",
                     b"gitlab.url", b"alien.x"]
 
@@ -369,7 +369,7 @@ FIRST_ROWS = [
     (b"first.sub.y", b"yes", COLOR_FAULT), (b"first.sub.y", b"red", None),
 ]
 
-# keys of the program's own rows, misspelt: the key that is meant, or None where none is near
+# misspelled keys of built-in rows, and the key that is suggested, or None if no key is near
 MISSPELT_BUILT_IN = [
     (b"pull.rebas", b"pull.rebase"), (b"pul.rebase", b"pull.rebase"), (b"branch.main.remte", b"branch.main.remote"),
     (b"color.brnch.local", b"color.branch.local"), (b"core.autocrfl", b"core.autocrlf"), (b"pull.everything", None),
@@ -378,7 +378,7 @@ MISSPELT_BUILT_IN = [
     (b"maintainance.auto", b"maintenance.auto"), (b"diff.renam", b"diff.renames"), (b"core.longpath", b"core.longpaths"),
 ]
 
-# rows of the program itself: key, value, and how the reason begins
+# built-in rows: key, value, and a prefix of the line's severity and reason
 BUILT_IN = [
     (b"core.bare", b"maybe", BOOLEAN_FAULT), (b"core.bare", b"true", None), (b"core.bare", None, None),
     (b"CORE.Bare", b"2x", BOOLEAN_FAULT), (b"core.bigfilethreshold", b"lots", INTEGER_FAULT),
@@ -393,7 +393,7 @@ BUILT_IN = [
     (b"core.excludesfile", None, NO_VALUE),
 ]
 
-# rows that win over those of the program, and what they say: key, value, and the reason
+# rows that come before the built-in ones, and what they find: key, value, and the reason
 OWN_SETTINGS = b"core.bare int\npush.default color\nbranch.*.rebase int 0 0x7fffffffffffffff\n"
 OWN_ROWS = [
     (b"core.bare", b"true", INTEGER_FAULT), (b"core.bare", b"1", None),
@@ -402,11 +402,11 @@ OWN_ROWS = [
     (b"color.branch.local", b"purple", COLOR_FAULT),
 ]
 
-# what is said of a line that is no row
+# why a line is not a row
 NO_DOT, NO_KIND, NO_SUCH_KIND, NO_WORDS, WORDS, BOUNDS = (
     b"no dot in the key", b"no kind after the key", b"no such kind", b"no words after the kind",
     b"words after a kind without words", b"the bounds are not two integers")
-# texts of settings with such a line, its number, and what is said of it
+# texts of settings with such a line, its number, and why it is not a row
 BAD_ROWS = [
     (b"nodot bool\n", 1, NO_DOT), (b"test.x\n", 1, NO_KIND), (b"test.x \n", 1, NO_KIND), (b"nodot\n", 1, NO_DOT),
     (b"test.x,bool\n", 1, NO_KIND), (b"nodot boolean\n", 1, NO_DOT), (b"test.x\x0bbool\n", 1, NO_KIND),
@@ -421,11 +421,11 @@ BAD_ROWS = [
     (b"# first\n\ntest.x bool\n\ntest.y bool\ttrue\ntest.z none\n", 5, WORDS),
 ]
 
-# other texts of settings that are in order
+# other texts of settings, which are valid
 GOOD_ROWS = [b"", b"\n", b"\n\n", b"#\n", b"# nodot bool", b"#nodot bool\n\n", b"test.x bool",
              b"test.x\t \tword  a\t\tb\n", b"test.x alone\twarn int -1 0x10k\n", b"test.x int 2 1", b" \t \n\r\n", b"  # a comment\n", b"  test.x bool\r\n"]
 
-# files, what is said of them, and the numbers of entries, judged ones, unknown keys and findings
+# files, the output for them, and the numbers of entries, judged entries, unknown keys and findings
 FILES = [
     (b"", b"", (0, 0, 0, 0)), (b"# [test] int\n;", b"", (0, 0, 0, 0)), (b"int\n", b"", (1, 0, 1, 0)),
     (b"\xef\xbb\xbf[test]int", b"-:1: error: test.int: no value\n", (1, 1, 0, 1)),
@@ -436,12 +436,12 @@ FILES = [
     (b"[test]\nint\nint = 1\0\n", b"-:2: error: test.int: no value\n-:3: " + NUL, (1, 1, 0, 2)),
 ]
 
-# a file, and its line of JSON
+# a file, and the line of JSON for it
 JSON_LINE = (b'[test]\nint = "\\"\\\\\\n\x1b\xff\xc3\xa9"\n',
              b'{"file":"-","key":"test.int","line":2,"reason":"Integers needs to be positive or negative numbers which may'
              b' have a suffix like 1k, 42, or 50G","severity":"error","suggestion":null,'
              b'"value":"\\"\\\\\\n\\u001b\xef\xbf\xbd\xc3\xa9"}\n')
-# files, and the line, severity, key, value, reason and suggestion of their findings
+# files, and the line, severity, key, value, reason and suggestion of each finding
 JSON = [
     (b"", []), (b"[test]\nint = 1\n[other]x\n", []),
     (b"[test]\nint\n", [(2, "error", "test.int", None, "no value", None)]),
@@ -455,7 +455,7 @@ JSON = [
     (b"\n[test\n", [(2, "error", None, None, BAD_LINE.decode().removeprefix("error: ").strip(), None)]),
 ]
 
-# a file, and the severities at which `--fail-on` gives the status 1
+# a file, and the severities for which `--fail-on` makes the status 1
 FAIL_ON = [
     (b"[test]\nint = x\nbool = yes\n", ["note", "warning", "error"]), (b"[test\n", ["note", "warning", "error"]),
     (b"[mark]\nwarn = x\n", ["note", "warning"]), (b"[test]\nin = 1\n", ["note", "warning"]),
@@ -468,5 +468,5 @@ WRONG_ARGUMENTS = [["--no-such-argument"], ["-x"], ["--settings"], ["--show-scop
                    ["--format"], ["--format", "xml"], ["--format", "json", "--format", "json"],
                    ["--settings", "/dev/null", "--settings", "/dev/null"]]
 
-# arguments that are no UTF-8
+# arguments that are not UTF-8
 ILL_FORMED_ARGUMENTS = [[b"--canonical\xff"], [b"--settings", b"\xff"], [b"\xc3"]]

@@ -1,10 +1,10 @@
 #!/usr/bin/env python3
 """The tests of the program config_check: python3 run.py PROGRAM [--seed N] [--inputs N] [--large N]
 
-The groups run next to each other. It prints what failed, a line for each group as it ends, the
-classes of differences from Git, and last 'N passed, M failed'. The run is the same for the same seed
-and numbers of mutated entries and of those of a large file. Without Git or its manual, what needs it
-says so and counts nothing.
+The groups run at the same time. The program prints what failed, a line for each group when it ends,
+the classes of differences from Git, and at the end 'N passed, M failed'. Runs with the same seed,
+number of mutated entries (inputs) and number of entries of a large file (large) are the same. Tests
+that need Git or its manual say so if it is missing, and count nothing.
 """
 import argparse
 import concurrent.futures
@@ -23,7 +23,7 @@ from checking import Group, Program
 
 
 def groups(program, seed, count, large):
-    """The name of each group, and what runs it; each draws by itself, so that none changes another."""
+    """The name of each group, and what runs it; each group draws its own numbers, independent of the others."""
     def draw():
         return random.Random(seed)
 
@@ -41,7 +41,7 @@ def groups(program, seed, count, large):
 
 
 def run_group(group, check):
-    """Runs a group, and returns it; if its tests cannot go on, whatever the reason, one more has failed."""
+    """Runs a group and returns it; if its tests stop early for any reason, that counts as one more failure."""
     try:
         check(group)
     except Exception as error:

@@ -36,7 +36,7 @@ use Rattle.config_file.proofs.Walks.{file_begins}
 
 -- ---- counts
 
--- each count grows by one at most, and that of the entries by one
+-- the count of the entries grows by one, and each other count by at most one
 pub record AddsOne (s s' : Counts) : Type 0 where
   pub entries : s'.entries ≡ s.entries + 1
   pub unknown : s'.unknown ≤ s.unknown + 1
@@ -84,7 +84,7 @@ within_after s s' within adds = record {
   warnings = omega (arith, adds.entries, adds.warnings, within.warnings);
 }
 
--- where there is room for one more entry, there is for one more finding
+-- if there is room for one more entry, there is room for one more finding
 pub leaves_room : (s : Counts) → AreWithin s → s.entries + 1 < 2 ^ 64 → HasRoomForFinding s
 leaves_room s within room = record {
   findings = omega (arith, within.findings, room);
@@ -97,7 +97,7 @@ are_none s a b c d e i = record { entries = a i; unknown = b i; findings = c i; 
 
 -- ---- a file
 
--- these entries of the file were read, and the reader has the others left
+-- these entries of the file were read, and the reader still has the others
 abbrev pub HasRead : List ℕ → List Entry → Entries → Type 0
 HasRead text entries reader =
     (left : List Entry) (error : Option errors.Error) → HasLeft reader left error → IsFile text (entries ++ left) error
@@ -114,7 +114,7 @@ module _ (rows : List Row) (options : Options) (file text : List ℕ) where
     at_end = inr (refl, refl);
   }
 
-  -- the error is not told
+  -- without telling the error, the settings are still first settings of the file
   untold : (settings : List Setting) (told : Option errors.Error) → HasFirst file text settings told → HasFirst file text settings None
   untold settings told first = record {
     before = first.before;
@@ -131,7 +131,7 @@ module _ (rows : List Row) (options : Options) (file text : List ℕ) where
       let (after, error, is_file) = first_of text entries reader read in
       record { before = entries; after = after; error = error; is_file = is_file; are = are; at_end = inl refl }
 
-  -- memory ran out after the lines of the first settings
+  -- memory ran out after the lines of these settings
   no_memory : (w x : Option (List ℕ)) (settings : List Setting) (s : Counts) (e : AllocError)
       → HasFirst file text settings None → ReportsAll rows options settings w x s → Fails rows options file text w x (Memory e)
   no_memory w x settings s e first (lines, appended, report) = (
@@ -160,7 +160,7 @@ module _ (rows : List Row) (options : Options) (file text : List ℕ) where
       (record { before = []; after = entries; error = error; is_file = is_file; are = tt; at_end = inl refl })
       ([], Appends-nil w, nothing)
 
-  -- the entries that were read are reported
+  -- the entries that were read are reported, and the counts have room for the rest
   pub record IsReported (reader : Entries) (w x : Option (List ℕ)) (s : Counts) : Type 0 where
     pub entries : List Entry
     pub settings : List Setting
@@ -185,7 +185,7 @@ module _ (rows : List Row) (options : Options) (file text : List ℕ) where
       })
 
   module _ (w x : Option (List ℕ)) (s : Counts) (reader : Entries) (so_far : IsReported reader w x s) where
-    -- no memory for a setting
+    -- there was no memory for a setting
     pub fails_reading : (e : AllocError) → Fails rows options file text w x (Memory e)
     fails_reading e =
         no_memory w x so_far.settings s e (first_settings so_far.entries so_far.settings reader so_far.read so_far.are) so_far.all
@@ -200,7 +200,7 @@ module _ (rows : List Row) (options : Options) (file text : List ℕ) where
       are_more : AllZip (IsSettingOf file) (so_far.entries ++ entry_of entry ∷ []) (so_far.settings ++ setting ∷ [])
       are_more = zip_push (IsSettingOf file) so_far.entries so_far.settings (entry_of entry) setting so_far.are is
 
-      -- one more setting
+      -- one more setting was reported
       pub one_more : (x' : Option (List ℕ)) (s' : Counts) → length reader'.rest.now < length reader.rest.now
           → Reports rows options setting s s' x x' → IsReported reader' w x' s'
       one_more x' s' shorter (line, adds, after) =
@@ -220,7 +220,7 @@ module _ (rows : List Row) (options : Options) (file text : List ℕ) where
             within = within_after s s' so_far.within counts;
           }
 
-      -- its line failed
+      -- writing the line of the setting failed
       pub fails_within : (x' : Option (List ℕ)) (e : CheckError) → ReportsPart rows options setting s x x' e
           → Fails rows options file text w x' e
       fails_within x' (Write e) (line, (s', adds), part) = (
@@ -247,7 +247,7 @@ module _ (rows : List Row) (options : Options) (file text : List ℕ) where
       fails_within x' (Memory e) same =
           subst (λ c. Fails rows options file text w c (Memory e)) (sym same) (fails_reading e)
 
-    -- the file ends, at an error if there is one
+    -- the reader has no entries left, up to the end of the file or its error
     pub reported : (error : Option errors.Error) → HasLeft reader [] error
         → ReportsEntries rows options file text w x s error
     reported error left = record {
@@ -259,7 +259,7 @@ module _ (rows : List Row) (options : Options) (file text : List ℕ) where
   module _ (settings : List Setting) (error : Option errors.Error) (read : HasSettings file text settings error)
       (w : Option (List ℕ)) where
     module _ (x : Option (List ℕ)) (s : Counts) (all : ReportsAll rows options settings w x s) where
-      -- the line of the refused file failed
+      -- writing the line of the error failed
       pub fails_telling : (x' : Option (List ℕ)) (e : CheckError) → TellsPart options file error s x x' e
           → Fails rows options file text w x' e
       fails_telling x' (Write e) (line, (s', ends), part) = (
@@ -347,13 +347,13 @@ of_rows {options = options} {file = file} {text = text} {w = w} {x = x} {s = s} 
 
 -- ---- results
 
--- what holds of an error that `?` passes on
+-- what holds for an error that `?` passes on
 pub passed_on : {T E : Type 0} (Q : E → Type 0) (r : Result T E) (e : E) → IsErrAnd r (λ d. d ≡ e) → Q e
     → IfErr r Q
 passed_on Q (Ok v) e is q = tt
 passed_on Q (Err d) e is q = subst Q (sym is) q
 
--- what another result with the same outcome keeps at an error
+-- what holds if a result is an error also holds for another result with the same outcome
 pub err_mapped : {T D E P R : Type 0} (r : Result T E) (m : Result T D) → is_ok m ≡ is_ok r → OnErr r P
     → (P → R)
     → OnErr m R
@@ -365,7 +365,7 @@ pub any_err : {T E : Type 0} (r : Result T E) (P : Type 0) → P → OnErr r P
 any_err (Ok v) P p = tt
 any_err (Err e) P p = p
 
--- what holds at an error, and of it
+-- what follows for an error from a fact that holds after any error and from a fact about this one
 pub err_with : {T E P : Type 0} {Q R : E → Type 0} (r : Result T E) → OnErr r P → IfErr r Q
     → (P → (e : E) → Q e → R e) → IfErr r R
 err_with (Ok v) p q so = tt
@@ -374,7 +374,7 @@ err_with (Err e) p q so = so p e q
 -- ---- a wrong value
 
 module _ (rows : List Row) (options : Options) (setting : Setting) (s : Counts) where
-  -- its line was written
+  -- the line of the finding was written
   pub told_finding : {T E : Type 0} (s' : Counts) (row : Row) (reason : Reason) (severity : Severity) (r : Result T E)
       (x x' : Option (List ℕ)) → Decides rows setting.key.items row
       → HasFinding options.canonical row (value_of setting) (Some reason) → severity ≡ severity_of row.goes_on reason
@@ -388,7 +388,7 @@ module _ (rows : List Row) (options : Options) (setting : Setting) (s : Counts) 
   )
   told_finding s' row reason severity (Err e) x x' decides bad is counts appended = tt
 
-  -- a part of it was written
+  -- a part of the line was written
   part_finding : (row : Row) (reason : Reason) (severity : Severity) (e : CheckError) (x x' : Option (List ℕ))
       → Decides rows setting.key.items row → HasFinding options.canonical row (value_of setting) (Some reason)
       → severity ≡ severity_of row.goes_on reason
@@ -409,10 +409,10 @@ module _ (rows : List Row) (options : Options) (setting : Setting) (s : Counts) 
   failed_finding row reason severity (Ok v) x x' decides bad is part = tt
   failed_finding row reason severity (Err e) x x' decides bad is part = part_finding row reason severity e x x' decides bad is part
 
--- ---- a misspelt key
+-- ---- an unknown key that is reported
 
 module _ (rows : List Row) (options : Options) (setting : Setting) (s : Counts) where
-  -- its line was written
+  -- the line of the unknown key was written
   pub told_misspelt : {T E : Type 0} (s' : Counts) (key : UnknownKey) (r : Result T E) (x x' : Option (List ℕ))
       → IsUnknownKey rows setting.key.items key
       → s' ≡ counted Warning (record s { entries = s.entries + 1; unknown = s.unknown + 1 })
@@ -420,7 +420,7 @@ module _ (rows : List Row) (options : Options) (setting : Setting) (s : Counts) 
   told_misspelt s' key (Ok v) x x' is counts appended = (unknown_line options setting key, misspelt key is refl counts, appended)
   told_misspelt s' key (Err e) x x' is counts appended = tt
 
-  -- a part of it was written
+  -- a part of the line was written
   part_misspelt : (key : UnknownKey) (e : CheckError) (x x' : Option (List ℕ)) → IsUnknownKey rows setting.key.items key
       → WritesPart x x' (λ line. line ≡ unknown_line options setting key) e → ReportsPart rows options setting s x x' e
   part_misspelt key (Write e) x x' is (line, same, part) = (line, (_, misspelt key is same refl), part)

@@ -1,4 +1,4 @@
--- The edits between texts, and the nearest of several things.
+-- The edits between texts, and the nearest of several items.
 use Rattle.std.proofs.Common.{◌≡◌, ◌+◌, ◌<◌, ◌≤◌, ℕ, zero, suc, List, [], ◌∷◌, ◌++◌, length, map, take, nat_eq, get_or}
 use Rattle.std.proofs.Common.{MatchOption, Option, None, Some, Bor, refl, sym, ap, ◌∙◌, subst, arith, ◌≢◌, ◌↔◌, IsTrue, Bool}
 use Rattle.std.proofs.lemmas.Int.{clamps}
@@ -17,7 +17,7 @@ use Rattle.config_checks.specs.Nearest.Edits.{swapped, counted}
 use Rattle.config_checks.specs.Nearest.IsSwap.{at_front, further}
 use Rattle.config_checks.specs.Nearest.LeavesOut.{skipped, kept}
 
--- the places of a row of the table are no further apart than the edits there
+-- the row and the column of a place of the table differ by no more than the edits there
 next_row_apart : (c before : ℕ → ℕ) (n : ℕ) → ((j : ℕ) → (n ≤ before j + j) × (j ≤ before j + n)) → (k : ℕ)
     → (suc n ≤ next_row c before (suc n) k + k) × (k ≤ next_row c before (suc n) k + suc n)
 unfolding next_row
@@ -37,7 +37,7 @@ rows_apart (x ∷ xs) ys n before apart k =
     (next_row_apart (cost_at nat_eq x ys) before n apart) k in
     (omega (arith, more.0), omega (arith, more.1))
 
--- lengths are no further apart than the edits
+-- the lengths of two texts differ by no more than the edits between them
 pub lengths_apart : (a b : List ℕ) → (length a ≤ edits a b + length b) × (length b ≤ edits a b + length a)
 lengths_apart a b =
     let apart = rows_apart (map to_ascii_lowercase a) (map to_ascii_lowercase b) 0 (λ j. j) (λ j. (omega arith, omega arith))
@@ -46,7 +46,7 @@ lengths_apart a b =
       omega (arith, apart.1, length-map a to_ascii_lowercase, length-map b to_ascii_lowercase),
     )
 
--- a swap keeps the length
+-- a swap does not change the length
 swap_length : (a b : List ℕ) → IsSwap a b → length a ≡ length b
 swap_length _ _ (at_front differ) = refl
 swap_length _ _ (further {x} {xs} {ys} swap) = rw (swap_length xs ys swap) refl
@@ -55,7 +55,7 @@ same_first : (x y : ℕ) (xs ys : List ℕ) → x ≡ y → IsSwap (x ∷ xs) (y
 same_first _ _ _ _ same (at_front differ) = absurd (differ same)
 same_first _ _ _ _ same (further swap) = swap
 
--- after the same byte there is a swap if there is one in the rest
+-- texts that begin with the same byte differ by a swap if and only if their rests do
 pub swap_further : (r : Bool) (s t xs ys : List ℕ) (x y : ℕ) → s ≡ x ∷ xs → t ≡ y ∷ ys → x ≡ y
     → (IsTrue r ↔ IsSwap xs ys) → IsTrue r ↔ IsSwap s t
 swap_further r s t xs ys x y front back same is = rw front (rw back (
@@ -75,7 +75,7 @@ same_told : (r : Bool) (xs ys : List ℕ) → MatchBool r (xs ≡ ys) (xs ≢ ys
 same_told true xs ys same = (λ yes. same, λ e. refl)
 same_told false xs ys other = (λ yes. absurd (false≢true yes), λ e. absurd (other e))
 
--- two neighbors have changed places at the front if the rest is the same
+-- two neighbors at the front are swapped if and only if the rests are the same
 pub swap_front : (r : Bool) (s t s' t' xs ys : List ℕ) (a b b' a' : ℕ) → s ≡ a ∷ s' → t ≡ b ∷ t' → s' ≡ b' ∷ xs
     → t' ≡ a' ∷ ys → a ≢ b → b' ≡ b → a' ≡ a → r ≡ pointwise nat_eq xs ys → IsTrue r ↔ IsSwap s t
 swap_front r s t s' t' xs ys a b b' a' p q p' q' differ e f told =
@@ -84,7 +84,7 @@ swap_front r s t s' t' xs ys a b b' a' p q p' q' differ e f told =
       λ swap. is.1 (same_rest a b' b a' xs ys differ swap),
     ))))
 
--- lengths are no further apart than such edits, a swap among them
+-- the lengths of two texts differ by no more than the edits between them, if a swap is one edit
 pub lengths_near : (a b : List ℕ) (n : ℕ) → Edits a b n → (length a ≤ n + length b) × (length b ≤ n + length a)
 lengths_near a b n (swapped swap is) =
     let same = swap_length (lower a) (lower b) swap in (
@@ -94,14 +94,14 @@ lengths_near a b n (swapped swap is) =
 lengths_near a b n (counted not is) =
     let apart = lengths_apart a b in (omega (arith, is, apart.0), omega (arith, is, apart.1))
 
--- ---- a word left out
+-- ---- a run of bytes left out
 
 left_rest : (x y : ℕ) (xs ys : List ℕ) → ((word : List ℕ) → y ∷ ys ≢ word ++ (x ∷ xs)) → LeavesOut (x ∷ xs) (y ∷ ys)
     → LeavesOut xs ys
 left_rest x y xs ys none (skipped word e) = absurd (none word e)
 left_rest x y xs ys none (kept left) = left
 
--- where no word stands in front, it is left out of the rest
+-- if the second text does not end with the first one, the run of bytes is left out of its rest
 pub left_further : (r : Bool) (s t xs ys : List ℕ) (x y : ℕ) → s ≡ x ∷ xs → t ≡ y ∷ ys → x ≡ y
     → ((word : List ℕ) → t ≢ word ++ s) → (IsTrue r ↔ LeavesOut xs ys) → IsTrue r ↔ LeavesOut s t
 left_further r s t xs ys x y front back same none is = rw front (rw back (
@@ -109,16 +109,16 @@ left_further r s t xs ys x y front back same none is = rw front (rw back (
   λ left. is.1 (left_rest x y xs ys (λ word e. none word (back ∙ e ∙ ap (λ l. word ++ l) (sym front))) left),
 ))
 
--- there is one number of edits
+-- there is at most one number of edits
 pub one_count : (a b : List ℕ) (m n : ℕ) → Edits a b m → Edits a b n → m ≡ n
 one_count a b m n (swapped swap is) (swapped also' also) = is ∙ sym also
 one_count a b m n (swapped swap is) (counted not also) = absurd (not swap)
 one_count a b m n (counted not is) (swapped swap also) = absurd (not swap)
 one_count a b m n (counted not is) (counted not' also) = is ∙ sym also
 
--- ---- the nearest of those that were seen
+-- ---- the nearest of the items so far
 
--- the first ones, and the item at the next place
+-- the items before place `i`, and the item there
 pub take_more : {X : Type 0} (xs : List X) (i : ℕ) (x : X) → i < length xs → get_or xs i x ≡ x
     → take (i + 1) xs ≡ take i xs ++ x ∷ []
 take_more xs i x below here = one_more_taken xs i x below ∙ ap (λ y. take i xs ++ y ∷ []) here
@@ -130,7 +130,7 @@ module _ {A : Type 0} (Apart : A → ℕ → Type 0) where
   abbrev Found : List A → Option (Bor A) → ℕ → Type 0
   Found seen best least = MatchOption best (least ≡ 4) (λ item. (least ≤ 3) × IsFirstAt Apart seen least item.now)
 
-  -- none of those that were seen is nearer than so many edits, and the best one is the first so near; it is there below 4
+  -- no item so far is nearer than `least`, and the best is the first one as near; without a best one it is 4
   pub record IsBest (seen : List A) (best : Option (Bor A)) (least : ℕ) : Type 0 where
     pub none_nearer : All (IsNoNearer least) seen
     pub found : Found seen best least
@@ -158,7 +158,7 @@ module _ {A : Type 0} (Apart : A → ℕ → Type 0) where
         },
       )
 
-  -- far ones are passed
+  -- far items do not change the best one
   pub passes : (seen more : List A) (least : ℕ) (best : Option (Bor A)) → IsBest seen best least → AreFar Apart more
       → IsBest (seen ++ more) best least
   passes seen more least best so_far far = record {
@@ -181,7 +181,7 @@ module _ {A : Type 0} (Apart : A → ℕ → Type 0) where
     least = so_far.none_nearer;
   }
 
-  -- where each has one number of edits
+  -- if each item has at most one number of edits
   module _ (one : (item : A) (m n : ℕ) → Apart item m → Apart item n → m ≡ n) where
     none_nearer_one : (item : A) (least n : ℕ) → Apart item n → least ≤ n → All (IsNoNearer least) (item ∷ [])
     none_nearer_one item least n edits not zero d inside m also =
@@ -218,9 +218,9 @@ module _ {A : Type 0} (Apart : A → ℕ → Type 0) where
       );
     }
 
-  -- ---- one is the nearest
+  -- ---- there is at most one nearest item
 
-  -- the one at its place is no nearer
+  -- no nearest item has more edits than another nearest item
   no_nearer : (items : List A) (a b : A) (p : IsNearest Apart items a) (q : IsNearest Apart items b) → p.edits ≤ q.edits
   no_nearer items a b p q =
       p.least q.at.place b q.at.inside q.edits (subst (λ r. Apart r q.edits) (sym q.at.stands) q.at.apart)

@@ -1,4 +1,4 @@
--- A setting has one reason, and one finding.
+-- A setting has at most one reason, and at most one finding.
 use Rattle.std.proofs.Common.{◌≡◌, ℕ, inl, inr, ◌<◌, List, Bool, true, false}
 use Rattle.std.proofs.Common.{Option, None, Some, refl, sym, ap, subst, ◌∙◌, arith}
 use Rattle.std.proofs.Common.{get_or, Bor}
@@ -167,7 +167,7 @@ integer_once : (t : List ℕ) (a b : Option Reason) → IsRespelled IntegerText 
     → IsRespelled IntegerText CanonicalInteger t b → IsSameFinding a b
 integer_once = respelled_once IntegerText CanonicalInteger
 
--- the first word of a list that a text is
+-- the first word of a list that matches a text
 module _ (list : WordList) (t : List ℕ) where
   first_before : (v w : Bor (List ℕ)) (a : IsFirstWord list t v) (b : IsFirstWord list t w) → ¬ (a.place < b.place)
   first_before v w a b before =
@@ -230,7 +230,7 @@ spelling_once (kinds.Word list) (Some t) a b p q = respelled_words_once list t a
 
 -- ---- the finding
 
--- two that are the same are both there, or neither is
+-- a finding is not the same as no finding
 none_with : (a : Reason) → ¬ (IsSameFinding (Some a) None)
 none_with NoValue same = absurd (cc)
 none_with (Refused f) same = absurd (cc)

@@ -1,4 +1,4 @@
--- A text is one key, and has one row.
+-- A text is at most one key, and at most one row decides about it.
 use Rattle.std.proofs.Common.{◌≡◌, ◌≢◌, ℕ, inl, inr, ◌<◌, List, [], ◌∷◌, ◌++◌, Option, None, Some, refl, sym, ap, subst, ◌∙◌}
 use Rattle.std.proofs.Common.{arith, append_assoc, get_or, Bor}
 use Rattle.std.specs.List.{AllByRecursion}
@@ -12,7 +12,7 @@ use Rattle.config_checks.proofs.KeyLemmas.{not_without}
 use Rattle.gix_config_value.proofs.LineLemmas.{AllByRecursion-from_places}
 use Rattle.gix_config_value.proofs.OneAnswer.{first_cut as line_cut}
 
--- ---- where a byte first and last stands
+-- ---- the first and the last place of a byte
 
 each_other : (byte : ℕ) (a : List ℕ) → IsWithout byte a → AllByRecursion (λ b. b ≢ byte) a
 each_other byte a without = AllByRecursion-from_places (λ b. b ≢ byte) a (λ k below. without k 0 below)
@@ -34,7 +34,7 @@ regroup byte a x = append_assoc a (byte ∷ []) x
 
 -- ---- the parts of a key, and its row
 
--- the same texts stand between
+-- the subsections have the same bytes, or neither key has one
 abbrev pub SameBetween : Option (Bor (List ℕ)) → Option (Bor (List ℕ)) → Type 0
 SameBetween None None = Unit {0}
 SameBetween None (Some b) = ⊥

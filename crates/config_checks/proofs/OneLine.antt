@@ -16,7 +16,7 @@ join : (xs ys : List ℕ) → IsOneLine xs → IsOneLine ys → IsOneLine (xs ++
 join [] ys p q = q
 join (x ∷ xs) ys p q = (p.0, join xs ys p.1 q)
 
--- whether no byte ends a line
+-- whether the text has no line feed
 abbrev is_one_line : List ℕ → Bool
 is_one_line [] = true
 is_one_line (x ∷ xs) = not (nat_eq x 10) && is_one_line xs
@@ -28,7 +28,7 @@ one_line : (xs : List ℕ) → is_one_line xs ≡ true → IsOneLine xs
 one_line [] e = tt
 one_line (x ∷ xs) e = let both = and_parts _ _ e in (other x both.0, one_line xs both.1)
 
--- of each escape of a byte below n
+-- whether no escape of a byte below `n` has a line feed
 abbrev escapes_below : ℕ → Bool
 escapes_below zero = true
 escapes_below (suc n) = is_one_line (escape_byte n) && escapes_below n

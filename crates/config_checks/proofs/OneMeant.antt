@@ -1,4 +1,4 @@
--- An unknown key has one key that is meant, if there is one.
+-- For an unknown key at most one key is suggested.
 use Rattle.std.proofs.Common.{◌≡◌, ◌++◌, [], ◌∷◌, List, ℕ, Option, None, Some, Bor, refl, sym, ap, subst, ◌∙◌, option_map}
 use Rattle.config_checks.specs.declared.key.Key.{Key}
 use Rattle.config_checks.specs.declared.row.Row.{Row}

@@ -75,7 +75,7 @@ all_clear listed (file.header_refused is stops) = tt
 all_clear listed (file.entry_refused is stops) = tt
 all_clear listed (file.no_item is) = tt
 
--- what a report has of a setting: its file, line, key and value
+-- what a report uses of a setting: its file, line, key and value
 abbrev Facts : Type 0
 Facts = List ℕ × ℕ × List ℕ × Option (List ℕ)
 
@@ -106,7 +106,7 @@ all_once name (e ∷ entries) (x ∷ a) (y ∷ b) clear p q =
     let first = facts_once name e x y clear.0 p.0 q.0 in
     let others = all_once name entries a b clear.1 p.1 q.1 in λ i. first i ∷ others i
 
--- the settings go on after the first ones, one for each of the entries that are left
+-- the settings begin with the first ones, and one follows for each entry that is left
 begin_once : (name : List ℕ) (before after : List Entry) (first all : List Setting) → AllByRecursion IsClear (before ++ after)
     → AllZip (IsSettingOf name) before first → AllZip (IsSettingOf name) (before ++ after) all
     → (others : List Setting) × (map facts all ≡ map facts first ++ map facts others) × AllZip (IsSettingOf name) after others
@@ -152,7 +152,7 @@ module _ (options : Options) where
     suggestion = suggestion;
   })
 
-  -- the line of a setting with these facts, whose key is misspelt
+  -- the line of a setting with these facts, whose key is unknown
   abbrev key_line : Facts → List ℕ → Option (List ℕ) → List ℕ
   key_line f text meant = line_for (f.0, f.1, f.2, None) Warning text meant
 
@@ -295,7 +295,7 @@ module _ (options : Options) where
       | inr some ↦ let (front, f, is) = some in inr (x ∷ front, f, ap (λ k. x ∷ k) is)
     ]
 
-    -- the lines of the first settings begin those of all
+    -- the lines of the first settings are a prefix of the lines of all settings
     lines_begin : {first all : List Setting} {p o : List ℕ} {s t : Counts} → Report rows options first p s
         → Report rows options all o t → (others : List Facts) → map facts all ≡ map facts first ++ others
         → (rest : List ℕ) × (o ≡ p ++ rest)
@@ -323,7 +323,7 @@ module _ (options : Options) where
           ∙ append_assoc a missing (rest ++ last),
     )
 
-    -- what was written at an error begins the report
+    -- what was written before an error is a prefix of the report
     pub report_begins : (name text a b : List ℕ) (e : CheckError) (s : Counts) → BeginsReport rows options name text a e
         → IsReport rows options name text b s → (more : List ℕ) × (b ≡ a ++ more)
     report_begins name text a b e s p q =

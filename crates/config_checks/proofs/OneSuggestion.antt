@@ -1,4 +1,4 @@
--- A key has one text that is said of it, if it is unknown.
+-- An unknown key has at most one text about it.
 use Rattle.std.proofs.Common.{◌≡◌, ◌⊎◌, ◌++◌, ℕ, List, Option, None, Some, Bor, refl, sym, ap, subst, ◌∙◌, inl, inr}
 use Rattle.std.proofs.Common.{codes}
 use Rattle.config_text.specs.SameWord.{SameWord}
@@ -73,7 +73,7 @@ module _ (rows : List Row) where
   pub far_moved : (a b : Key) → SameKey a b → AreFar (RowEdits a) rows → AreFar (RowEdits b) rows
   far_moved a b same far = λ k d inside m is. far k d inside m (moved _ b a m (same_back a b same) is)
 
-  -- ---- the same text is said
+  -- ---- the same key has the same text
 
   pub filled_once : (row a b x y : List ℕ) → a ≡ b → Fills row a x → Fills row b y → x ≡ y
   filled_once row a b x y same (inl p) (inl q) = p.1 ∙ same ∙ sym q.1

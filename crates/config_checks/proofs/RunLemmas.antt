@@ -19,7 +19,7 @@ use Rattle.config_checks.specs.Suggestions.{RowEdits, HasSection}
 use Rattle.config_checks.specs.Suggestions.OnePartEdits.{in_rest, in_section}
 use Rattle.config_checks.proofs.NearestLemmas.{take_more, lengths_near}
 
--- the rows of one run more
+-- the rows of the runs before place `i`, and of the run there
 pub rows_more : (runs : List Run) (i : ℕ) (run : Run) → i < length runs → get_or runs i run ≡ run
     → rows_of (take (i + 1) runs) ≡ rows_of (take i runs) ++ run.rows.now
 rows_more runs i run below here =
@@ -35,7 +35,7 @@ same_length : (a b : List ℕ) → SameWord a b → length a ≡ length b
 same_length a b same = sym (length-map a to_ascii_lowercase) ∙ ap length same ∙ length-map b to_ascii_lowercase
 
 module _ (key : Key) where
-  -- no row of another section covers the key
+  -- no row of a run with another section covers the key
   pub other_section : (run : Run) → ¬ (SameWord run.section.now key.section.now) → CoversNone run.rows.now key
   other_section run other k d inside covers = other (sym (run.of_section k d inside) ∙ covers.section)
 
@@ -68,7 +68,7 @@ module _ (key : Key) where
 
   -- ---- the edits that lead to a key
 
-  -- where the sections' lengths are as far apart, more edits than are few lead from one to the other
+  -- if the lengths of the sections differ by too much, the key of the row is not near the key
   far_row : (row : Row) → most_edits 8 row.key.section.now key.section.now
       < abs_diff (length row.key.section.now) (length key.section.now) → (n : ℕ) → RowEdits key row n → 3 < n
   far_row row far n (in_rest same edits) =
@@ -86,7 +86,7 @@ module _ (key : Key) where
       (subst (λ l. (if nat_lt l 8 || nat_lt (length key.section.now) 8 then 1 else 2) < abs_diff l (length key.section.now))
       (sym (same_length row.key.section.now run.section.now (run.of_section k d inside))) far)
 
--- what holds of the rows of the first runs and of one more
+-- what holds for the rows of the first runs and for those of one more run
 pub all_more : (P : Row → Type 0) (runs : List Run) (i : ℕ) (run : Run) → i < length runs → get_or runs i run ≡ run
     → All P (rows_of (take i runs)) → All P run.rows.now → All P (rows_of (take (i + 1) runs))
 all_more P runs i run below here so_far also =
@@ -103,7 +103,7 @@ any_within P xs (y ∷ ys) zs some all =
       all 0 y (omega arith),
     )
 
--- a run of a section has a row of it
+-- if a run has this section, a row has it
 pub has_run : (t : List ℕ) (runs : List Run) (i : ℕ) (run : Run) → i < length runs → get_or runs i run ≡ run
     → SameWord run.section.now t → HasSection (rows_of runs) t
 has_run t runs i run below here same =
@@ -111,7 +111,7 @@ has_run t runs i run below here same =
     (any_within (λ row. SameWord row.key.section.now t) (rows_of (take i runs)) run.rows.now (rows_of (drop (i + 1) runs)) run.some
     (λ k d inside. run.of_section k d inside ∙ same))
 
--- one run more
+-- the rows of the runs so far and of one more run are the first rows
 pub runs_grow : (rows : List Row) (runs : List Run) (run : Run) (start : ℕ) → rows_of runs ≡ take start rows
     → run.rows.now ≡ take (length run.rows.now) (drop start rows)
     → rows_of (runs ++ run ∷ []) ≡ take (start + length run.rows.now) rows

@@ -10,7 +10,7 @@ use Rattle.config_checks.specs.Findings.{AppendsPart, piece_shown, shown_past, s
 use Rattle.config_checks.specs.Findings.{list_text}
 use Rattle.config_checks.proofs.WriteLemmas.{part_after}
 
--- what is shown past some bytes is what follows them
+-- showing a text past its first `n` bytes is showing what follows these bytes
 shown_past_drop : (n : ℕ) (t : List ℕ) → shown_past n t ≡ shown (drop n t)
 unfolding shown_past
 shown_past_drop zero t = refl
@@ -21,7 +21,7 @@ drop_one_less : (n : ℕ) (b : ℕ) (bs : List ℕ) → 1 ≤ n → drop (n - 1)
 drop_one_less zero b bs some = absurd (omega arith)
 drop_one_less (suc n) b bs some = ap (λ k. drop k bs) (omega arith)
 
--- a text is shown as its first piece, and then the rest
+-- a text is shown as its first piece, followed by the rest
 pub shown_front : (t : List ℕ) → 0 < length t
     → shown t ≡ piece_shown (decoded t).char (take (decoded t).size t) ++ shown (drop (decoded t).size t)
 unfolding shown_past
@@ -31,7 +31,7 @@ shown_front (b ∷ bs) some =
     ap (λ rest. piece_shown (decoded (b ∷ bs)).char (take size (b ∷ bs)) ++ rest)
     (shown_past_drop (size - 1) bs ∙ ap shown (drop_one_less size b bs (piece-bounds (b ∷ bs) some).0))
 
--- what follows the first piece is shorter
+-- the rest after the first piece is shorter than the text
 pub shorter_rest : (t : List ℕ) → 0 < length t → length (drop (decoded t).size t) < length t
 shorter_rest t some =
     let bounds = piece-bounds t some in omega (arith, length-drop {A = ℕ}, bounds.0, bounds.2)
@@ -40,18 +40,18 @@ pub not_empty : (t : List ℕ) → false ≡ (length t == 0) → 0 < length t
 not_empty [] none = absurd (cc)
 not_empty (b ∷ bs) none = omega arith
 
--- nothing is shown of nothing
+-- an empty text is shown as an empty text
 pub none_shown : (t : List ℕ) → t ≡ [] → shown t ≡ []
 unfolding shown_past
 none_shown t none = rw none refl
 
--- words are the first one, and then the others
+-- words are shown as the first word, followed by the others
 pub words_cut : (words : List (Bor (List ℕ))) (d : Bor (List ℕ)) → 1 ≤ length words
     → words_text words ≡ shown (get_or words 0 d).now ++ listed (take (length words - 1) (drop 1 words))
 words_cut [] d some = absurd (omega arith)
 words_cut (w ∷ ws) d some = ap (λ l. shown w.now ++ listed l) (sym (take_rest (w ∷ ws) 1))
 
--- after what stands before its words
+-- a part of the words of a list, after the text that precedes them
 pub list_part : (old mid new : List ℕ) (list : WordList) (words : List (Bor (List ℕ)))
     → words ≡ list.words.items → mid ≡ old ++ no_word_front list.form
     → AppendsPart (Some mid) (Some new) (words_text words) → AppendsPart (Some old) (Some new) (list_text list)

@@ -16,7 +16,7 @@ none_after : (row key : Key) → SameWord row.section.now key.section.now → ((
 none_after row key same none n (in_rest s edits) = none n edits
 none_after row key same none n (in_section other b l is) = absurd (other same)
 
--- in the same section the edits are those after it
+-- if the sections are the same, the edits are those after the section
 pub of_section : {E : Type 0} (row key : Key) → SameWord row.section.now key.section.now
     → (r : Result (Option ℕ) E) → IfOk r (λ r. IsFew (EditsAfter row key) r)
     → IfOk r (λ r. IsFew (OnePartEdits row key) r)
@@ -24,7 +24,7 @@ of_section row key same (Ok None) none = none_after row key same none
 of_section row key same (Ok (Some n)) edits = (in_rest same edits.0, edits.1)
 of_section row key same (Err e) is = tt
 
--- where what stands between is covered, the edits after the section are those of the last part
+-- if the subsection is covered, the edits after the section are those of the last part
 many_after : (row key : Key) → CoversBetween row.between key.between → ((n : ℕ) → LastEdits row key n → 3 < n)
     → (n : ℕ) → EditsAfter row key n → 3 < n
 many_after row key covers many n (in_last c not is) = many n is
@@ -36,7 +36,7 @@ of_last row key covers not (Ok None) many = many_after row key covers many
 of_last row key covers not (Ok (Some n)) edits = (in_last covers not edits.0, edits.1)
 of_last row key covers not (Err e) is = tt
 
--- ---- there is one number of edits
+-- ---- there is at most one number of edits
 
 one_between : (a b : Option (Bor (List ℕ))) (m n : ℕ) → BetweenEdits a b m → BetweenEdits a b n → m ≡ n
 one_between None None m n is also = absurd is

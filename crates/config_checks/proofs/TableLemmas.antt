@@ -22,7 +22,7 @@ use Rattle.config_checks.specs.Keys.{IsKey}
 use Rattle.config_checks.specs.declared.table.BadRow.{BadRow}
 use Rattle.config_checks.specs.Rows.{lines_of, fields_of, IsNoRow, HasMarks, IsBadKind, IsBadRow, IsBadLine, AddsRow, AddsRows}
 
--- the parts of a text, of which a `for` has taken some
+-- a `for` over the parts of a text takes them in order
 pub parts_of : {F : Type 0} {g : Mut F (Bor ℕ × Unit {0}) Bool} {f : F} (s u t : _) (taken : List (Bor (List ℕ)))
     → Yields (split_steps g) u taken t → u ≡ s → (test : ℕ → Bool) (text : List ℕ) → split_rest s ≡ text
     → split_done s ≡ false → split_callee s ≡ f
@@ -47,7 +47,7 @@ more_rows lines line a b c so_far adds =
     subst (λ all. AddsRows all a c) (sym (map-append (λ line. line.now) lines (line ∷ [])))
     (one_more (now lines) line.now a b c so_far adds)
 
--- the line after these ones is no row
+-- the line after these lines is the first bad line
 pub bad_line : (text : List ℕ) (lines : List (Bor (List ℕ))) (line : Bor (List ℕ)) (bad : BadRow) (rows rows' : List Row)
     → now lines ≡ take (length lines) (lines_of text)
     → (length lines < length (lines_of text)) × (line.now ≡ get_or (lines_of text) (length lines) line.now)
@@ -71,7 +71,7 @@ bad_line text lines line bad rows rows' before here numbered added fault =
       fault = fault;
     }
 
--- fields with a key and marks, after which no kind stands
+-- the fields have a key and marks, but what follows is a bad kind
 pub bad_kind : (fields marked : List (List ℕ)) (key name : List ℕ) (words : List (List ℕ)) (k : Key) (alone : Option Bool)
     (goes_on : Bool) (fault : RowFault) → ¬ (IsNoRow fields) → fields ≡ key ∷ marked → IsKey key k
     → HasMarks marked alone goes_on (name ∷ words) → IsBadKind name words fault → IsBadRow fields fault
@@ -91,7 +91,7 @@ no_words : (words : List (Bor (List ℕ))) → length words ≡ 0 → words ≡ 
 no_words [] none = refl
 no_words (word ∷ words) none = absurd (omega (arith, none))
 
--- a first word, a second one, and nothing more
+-- the words are exactly two
 pub two_words : (words rest more : List (Bor (List ℕ))) (a b : Bor (List ℕ)) → words ≡ a ∷ rest → rest ≡ b ∷ more
     → length more ≡ 0 → now words ≡ a.now ∷ b.now ∷ []
 two_words words rest more a b first second none =

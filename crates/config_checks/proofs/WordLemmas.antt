@@ -1,4 +1,4 @@
--- Words of a list.
+-- The words of a list, and the texts that they match.
 use Rattle.std.proofs.Common.{◌≡◌, ◌∙◌, ◌<◌, ℕ, List, [], ◌∷◌, ◌++◌, length, take, map, subst, sym, codes, Bor, All, get_or, ◌+◌}
 use Rattle.std.proofs.lemmas.List.{append_cancel_right, take_more}
 use Rattle.std.proofs.lemmas.List.Elements.{All-push}
@@ -10,13 +10,13 @@ use Rattle.config_checks.proofs.NearestLemmas.{one_count}
 use Rattle.config_checks.specs.declared.kind.WordList.{WordList}
 use Rattle.config_checks.specs.Kinds.{IsSame, IsPattern, IsWord, begins, itself, IsNoWord, IsFirstWord}
 
--- a text that is no word of the list has no first one
+-- if no word of the list matches the text, there is no first word that matches it
 pub no_first : (list : WordList) (t : List ℕ) → IsNoWord list t list.words.items → (word : Bor (List ℕ))
     → ¬ (IsFirstWord list t word)
 no_first list t none word first =
     none first.place word first.inside (subst (λ w. IsWord list t w.now) (sym first.stands) first.is_word)
 
--- a text that a word with a `*` stands for
+-- a text that a word with a final `*` matches begins with the part of the word before the `*`
 pub word_begins : (list : WordList) (t word front piece : List ℕ) → IsPattern word front → piece ≡ take (length front) t
     → IsWord list t word → IsSame list.ignores_case front piece
 word_begins list t word front piece pattern part (begins f other same) =
@@ -25,13 +25,13 @@ word_begins list t word front piece pattern part (begins f other same) =
     (subst (λ x. IsSame list.ignores_case x (take (length x) t)) equal same)
 word_begins list t word front piece pattern part (itself none same) = absurd (none front pattern)
 
--- one more piece
+-- what holds for these pieces and for one more piece
 pub more_pieces : (P : List ℕ → Type 0) (pieces : List (Bor (List ℕ))) (piece : Bor (List ℕ))
     → All P (map (λ p. p.now) pieces) → P piece.now → All P (map (λ p. p.now) (pieces ++ piece ∷ []))
 more_pieces P pieces piece all has = subst (All P) (sym (map-append (λ p. p.now) pieces (piece ∷ [])))
     (All-push P (map (λ p. p.now) pieces) piece.now all has)
 
--- nor does one more word stand for the text
+-- if no word before this place matches the text, and the word here does not, no word up to here matches it
 pub no_more : (list : WordList) (t : List ℕ) (place : ℕ) → IsNoWord list t (take place list.words.items)
     → place < length list.words.items → ((d : Bor (List ℕ)) → ¬ (IsWord list t (get_or list.words.items place d).now))
     → IsNoWord list t (take (place + 1) list.words.items)
@@ -40,7 +40,7 @@ no_more list t place none inside here = λ k d within.
     (All-push (λ w. ¬ (IsWord list t w.now)) (take place list.words.items) (get_or list.words.items place d) none (here d))
     k d within
 
--- ---- the word that is meant
+-- ---- the word that is suggested
 
 pub one_number : (t : List ℕ) (word : Bor (List ℕ)) (m n : ℕ) → WordEdits t word m → WordEdits t word n → m ≡ n
 one_number t word m n p q = one_count word.now t m n p.edits.0 q.edits.0

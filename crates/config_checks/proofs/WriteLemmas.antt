@@ -1,4 +1,4 @@
--- Bytes, write by write.
+-- Bytes that are written piece by piece.
 use Rattle.std.proofs.Common.{◌≡◌, ℕ, List, [], ◌++◌, Option, refl, sym, ap, subst, ◌∙◌, append_assoc}
 use Rattle.std.proofs.Common.{append-nil, flat_map, take, drop, take-append-drop, drop-cons, suc, ◌<◌, length, get_or, Result, Ok, Err, OnErr}
 use Rattle.std.proofs.lemmas.Grind.{flat_map-append}
@@ -6,7 +6,7 @@ use Rattle.std.specs.Io.KnownBytes.{Appends}
 use Rattle.std.proofs.KnownBytes.{Appends-nil, Appends-trans}
 use Rattle.config_checks.specs.Findings.{AppendsPart}
 
--- the bytes but for this rest were written
+-- the bytes were written, except for this rest
 pub record IsWritten (held holds : Option (List ℕ)) (bytes rest : List ℕ) : Type 0 where
   pub written : List ℕ
   pub appended : Appends held holds written
@@ -15,7 +15,7 @@ pub record IsWritten (held holds : Option (List ℕ)) (bytes rest : List ℕ) : 
 pub nothing_written : (u : Option (List ℕ)) (bytes : List ℕ) → IsWritten u u bytes bytes
 nothing_written u bytes = record { written = []; appended = Appends-nil u; parts = refl }
 
--- one piece more was written, or a part of it
+-- one more piece was written, or a part of it
 module _ (u v w : Option (List ℕ)) (bytes rest piece rest' : List ℕ) (cut : rest ≡ piece ++ rest') (so_far : IsWritten u v bytes rest) where
   pub written_more : Appends v w piece → IsWritten u w bytes rest'
   written_more more = record {
@@ -39,7 +39,7 @@ pub written_all : (u v : Option (List ℕ)) (bytes rest : List ℕ) → rest ≡
 written_all u v bytes rest none so_far =
     subst (Appends u v) (sym (append-nil so_far.written) ∙ ap (λ l. so_far.written ++ l) (sym none) ∙ sym so_far.parts) so_far.appended
 
--- after a first text a part of a second one
+-- a first text was written, and then a part of a second one
 pub part_after : (u v w : Option (List ℕ)) (front back : List ℕ) → Appends u v front → AppendsPart v w back
     → AppendsPart u w (front ++ back)
 part_after u v w front back first part = record {
@@ -53,7 +53,7 @@ list_cut : {X : Type 0} (f : X → List ℕ) (xs : List X) (i : ℕ)
     → flat_map f xs ≡ flat_map f (take i xs) ++ flat_map f (drop i xs)
 list_cut f xs i = ap (flat_map f) (sym (take-append-drop i xs)) ∙ flat_map-append f (take i xs) (drop i xs)
 
--- the texts of a list before place i
+-- the texts of a list before place `i` were written
 pub part_of_list : {X : Type 0} (f : X → List ℕ) (xs : List X) (i : ℕ) (u v : Option (List ℕ))
     → Appends u v (flat_map f (take i xs)) → AppendsPart u v (flat_map f xs)
 part_of_list f xs i u v so_far = record {
@@ -63,7 +63,7 @@ part_of_list f xs i u v so_far = record {
   parts = list_cut f xs i;
 }
 
--- and then a part of that one
+-- the texts before place `i` were written, and then a part of the text there
 pub part_in_list : {X : Type 0} (f : X → List ℕ) (xs : List X) (i : ℕ) (d : X) (u v w : Option (List ℕ))
     → i < length xs → Appends u v (flat_map f (take i xs)) → AppendsPart v w (f (get_or xs i d))
     → AppendsPart u w (flat_map f xs)
@@ -72,7 +72,7 @@ part_in_list f xs i d u v w below so_far part =
     (ap (flat_map f) (drop-cons xs i d below))
     (record { written = flat_map f (take i xs); appended = so_far; parts = list_cut f xs i }) part
 
--- and the same before more of a text
+-- a part of a text is also a part of a longer text
 pub part_before : (u w : Option (List ℕ)) (front back : List ℕ) → AppendsPart u w front → AppendsPart u w (front ++ back)
 part_before u w front back part = record {
   written = part.written;

@@ -1,4 +1,4 @@
--- The line of a finding.
+-- A finding, and its line of text.
 use Rattle.std.specs.Prelude.{◌≡◌, ℕ, zero, suc, ◌-◌, ◌/◌, ◌%◌, ◌==◌, ◌&&◌, ◌||◌, nat_lt, List, [], ◌∷◌, ◌++◌}
 use Rattle.std.specs.Prelude.{take, flat_map}
 use Rattle.std.specs.Prelude.{option_copied}
@@ -20,9 +20,9 @@ use Rattle.config_checks.specs.declared.reason.Reason.TheVariants.{NotCanonical,
 use Rattle.config_checks.specs.declared.reason.Severity.{Severity}
 use Rattle.config_checks.specs.declared.reason.Severity.TheVariants.{Error, Warning, Note}
 
--- ---- what is left of a text after an error
+-- ---- what is written of a text before an error
 
--- what was held is kept, and some first bytes of the text were appended, or none of them, or all
+-- what was held is kept, and a prefix of the text is appended, which may be empty or the whole text
 pub record AppendsPart (held holds : Option (List ℕ)) (text : List ℕ) : Type 0 where
   pub written : List ℕ
   pub missing : List ℕ
@@ -34,7 +34,7 @@ pub record AppendsPart (held holds : Option (List ℕ)) (text : List ℕ) : Type
 abbrev pub backslash : ℕ
 backslash = 0x5C
 
--- `\x` and two digits
+-- a byte as `\x` and two hexadecimal digits
 abbrev pub hex : ℕ → List ℕ
 hex b = backslash ∷ 0x78 ∷ digit_char (b / 16) ∷ digit_char (b % 16) ∷ []
 
@@ -42,8 +42,8 @@ hex b = backslash ∷ 0x78 ∷ digit_char (b / 16) ∷ digit_char (b % 16) ∷ [
 abbrev pub is_control : ℕ → Bool
 is_control c = nat_lt c 0x20 || (nat_lt 0x7E c && nat_lt c 0xA0)
 
--- the bytes of a character; in hexadecimal if it is a control character or the bytes are no character, a
--- backslash twice
+-- how bytes are shown: in hexadecimal if they are a control character or are not a character, twice if they
+-- are a backslash, and otherwise as they are
 abbrev pub piece_shown : Option ℕ → List ℕ → List ℕ
 piece_shown None bytes = flat_map hex bytes
 piece_shown (Some c) bytes =
@@ -51,7 +51,7 @@ piece_shown (Some c) bytes =
     else if c == backslash then backslash ∷ backslash ∷ []
     else bytes
 
--- past the first n bytes
+-- how the part of the text after its first `n` bytes is shown
 unfoldable pub shown_past : ℕ → List ℕ → List ℕ
 shown_past n [] = []
 shown_past (suc n) (b ∷ bs) = shown_past n bs
@@ -77,7 +77,7 @@ abbrev pub words_text : List (Bor (List ℕ)) → List ℕ
 words_text [] = []
 words_text (word ∷ words) = shown word.now ++ listed words
 
--- what stands before the words of a list
+-- the text that precedes the words of a list
 abbrev pub no_word_front : Form → List ℕ
 no_word_front forms.Word = codes "not one of: "
 no_word_front forms.BoolOrWord = codes "not a boolean, nor one of: "
@@ -92,7 +92,7 @@ list_text list = no_word_front list.form ++ words_text list.words.items
 abbrev pub word_asked : List ℕ → List ℕ
 word_asked word = shown word ++ codes "?"
 
--- the word that is meant, if one is
+-- the text that suggests a word, or nothing if there is no word to suggest
 abbrev pub meant_text : Option (Bor (List ℕ)) → List ℕ
 meant_text None = []
 meant_text (Some word) = codes "; did you mean " ++ word_asked word.now
@@ -118,28 +118,28 @@ severity_text Note = codes "note: "
 abbrev pub line_feed : ℕ
 line_feed = 10
 
--- a value in quotes, and nothing where there is none
+-- the value in quotes, or nothing if there is no value
 abbrev pub value_shown : Option (List ℕ) → List ℕ
 value_shown None = []
 value_shown (Some t) = codes "'" ++ shown t ++ codes "': "
 
--- in red, where colors are wanted
+-- the text in red if colors are wanted, and otherwise as it is
 abbrev pub painted : Bool → List ℕ → List ℕ
 painted true t = (0x1B ∷ codes "[31m") ++ t ++ (0x1B ∷ codes "[m")
 painted false t = t
 
--- a file, and a line of it
+-- the name of a file, and the number of a line
 abbrev pub place : List ℕ → ℕ → List ℕ
 place file line = shown file ++ codes ":" ++ decimal line ++ codes ": "
 
--- nothing where there is no key
+-- the key, or nothing if there is no key
 abbrev pub key_part : Option (List ℕ) → List ℕ
 key_part None = []
 key_part (Some key) = shown key ++ codes ": "
 
 -- ---- the line
 
--- what is said of a line of a file: a key alone has no value, and a line that Git cannot read no key
+-- a finding; a key alone and an unknown key have no value, and a line that Git cannot read has no key either
 pub record Finding : Type 0 where
   pub file : List ℕ
   pub line : ℕ

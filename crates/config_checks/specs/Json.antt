@@ -35,6 +35,6 @@ finding_json f =
 abbrev pub json_line : Finding → List ℕ
 json_line f = compact_text (finding_json f) ++ line_feed ∷ []
 
--- no byte ends the line
+-- the text has no line feed
 abbrev pub IsOneLine : List ℕ → Type 0
 IsOneLine = AllByRecursion (λ b. b ≢ line_feed)

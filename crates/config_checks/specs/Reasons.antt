@@ -1,4 +1,4 @@
--- What is wrong with a setting: by its row, over no value or a text, by the grammars of the values.
+-- What is wrong with the value of a setting, or with a key alone, according to its row.
 use Rattle.std.specs.Prelude.{◌≡◌, ◌≢◌, ◌⊎◌, ℕ, pos, negsuc, ◌≤ℤ◌, List, Bool, true, false}
 use Rattle.std.specs.Prelude.{Option, None, Some, if◌then◌else◌, ◌<◌, length}
 use denote.Ref.{Bor}
@@ -28,24 +28,23 @@ use Rattle.config_checks.specs.Nearest.{FewEdits, AreFar, IsNearest}
 
 -- ---- texts
 
--- nothing is wrong where the grammar gives the text a value, and else the text is refused with its reader's
--- fault
+-- no reason if the grammar gives the text a value; otherwise the fault of its reader
 abbrev pub IsJudged : {V : Type 0} → (List ℕ → V → Type 0) → (List ℕ → Fault → Type 0) → List ℕ
     → Option Reason → Type 0
 IsJudged grammar refusal t None = IsAccepted grammar t
 IsJudged grammar refusal t (Some (Refused fault)) = refusal t fault × IsRefused grammar t
 IsJudged grammar refusal t (Some _) = ⊥
 
--- from the one number to the other, both among them
+-- the number lies in the range, and may be one of its ends
 pub record IsWithin (low high n : Amount) : Type 0 where
   pub above : low.0 ≤ℤ n.0
   pub below : n.0 ≤ℤ high.0
 
--- an integer text whose number lies in the range
+-- the text is an integer text whose product lies in the range
 abbrev pub IsNumber : Amount → Amount → List ℕ → Type 0
 IsNumber low high t = (n : Amount) × AmountText t n × IsWithin low high n
 
--- the same of a number, which has to lie in a range too
+-- no reason if the text is a number in the range; otherwise that it is out of range, or its reader's fault
 abbrev pub IsJudgedWithin : Amount → Amount → List ℕ → Option Reason → Type 0
 IsJudgedWithin low high t None = IsNumber low high t
 IsJudgedWithin low high t (Some (OutOfRange l h)) =
@@ -53,7 +52,7 @@ IsJudgedWithin low high t (Some (OutOfRange l h)) =
 IsJudgedWithin low high t (Some (Refused fault)) = AmountFault t fault × IsRefused AmountText t
 IsJudgedWithin low high t (Some _) = ⊥
 
--- 32 bits
+-- the least and the greatest signed number of 32 bits
 abbrev pub least_int : Amount
 least_int = record { 0 = negsuc 2147483647 }
 
@@ -66,12 +65,12 @@ IsInt = IsNumber least_int greatest_int
 abbrev pub IsJudgedBool : List ℕ → Option Reason → Type 0
 IsJudgedBool = IsJudged BooleanText (OnlyFault faults.Boolean)
 
--- a number is judged as one, and any other text as a boolean
+-- an integer text is judged as a number of 32 bits, and any other text as a boolean
 pub record IsJudgedBoolOrInt (t : List ℕ) (r : Option Reason) : Type 0 where
   pub number : IsAccepted AmountText t → IsJudgedWithin least_int greatest_int t r
   pub other : IsRefused AmountText t → IsJudgedBool t r
 
--- how a text is right that is not one word of the list
+-- the form takes the text, even if no word of the list matches all of it
 abbrev pub IsTakenByForm : WordList → List ℕ → Form → Type 0
 IsTakenByForm list t forms.Word = ⊥
 IsTakenByForm list t forms.BoolOrWord = IsAccepted BooleanText t
@@ -80,18 +79,17 @@ IsTakenByForm list t forms.Words = AreWords list t
 IsTakenByForm list t forms.Date = HasDate list t
 IsTakenByForm list t forms.SortKey = IsSortKey list t
 
--- a word of the list, or what else the form of the list takes
+-- a word of the list matches the text, or the form of the list takes the text
 abbrev pub IsTaken : WordList → List ℕ → Type 0
 IsTaken list t = HasWord list t ⊎ IsTakenByForm list t list.form
 
--- so many edits, which are few, lead from a text to the word of a list; a word of one or two bytes is never meant, nor
--- is one that stands for others
+-- the word is near the text, `n` edits away; a word of at most two bytes, or with a final `*`, is never near
 pub record WordEdits (t : List ℕ) (word : Bor (List ℕ)) (n : ℕ) : Type 0 where
   pub long : 2 < length word.now
   pub no_pattern : (front : List ℕ) → ¬ (IsPattern word.now front)
   pub edits : FewEdits 5 word.now t n
 
--- the word that is meant by a text: the nearest one, if one is near
+-- the word that is suggested for a text: the first of the nearest words, or `None` if no word is near
 abbrev pub IsMeant : List (Bor (List ℕ)) → List ℕ → Option (Bor (List ℕ)) → Type 0
 IsMeant words t None = AreFar (WordEdits t) words
 IsMeant words t (Some word) = IsNearest (WordEdits t) words word
@@ -101,7 +99,7 @@ IsJudgedByWords list t None = IsTaken list t
 IsJudgedByWords list t (Some (NoWord l meant)) = (l.now ≡ list) × ¬ (IsTaken list t) × IsMeant list.words.items t meant
 IsJudgedByWords list t (Some _) = ⊥
 
--- ---- the reason that a setting has by its row, if it has one
+-- ---- why a setting is wrong by its row, if it is wrong
 
 abbrev pub IsJudgedText : SettingKind → List ℕ → Option Reason → Type 0
 IsJudgedText kinds.Text t r = r ≡ None
@@ -115,7 +113,8 @@ abbrev pub HasReason : Row → Option (List ℕ) → Option Reason → Type 0
 HasReason row None r = r ≡ (if row.takes_no_value then None else Some NoValue)
 HasReason row (Some t) r = IsJudgedText row.kind t r
 
--- how bad it is: Git does not go on without a value that is needed, nor at a wrong one, but where the row says so
+-- a missing value is an error, and another spelling is a note; a wrong value is a warning if Git continues
+-- after it, and otherwise an error
 abbrev pub severity_of : (goes_on : Bool) → Reason → Severity
 severity_of goes_on NoValue = Error
 severity_of goes_on (NotCanonical canonical) = Note
@@ -124,7 +123,7 @@ severity_of goes_on _ = if goes_on then Warning else Error
 
 -- ---- the canonical text that an accepted text should be
 
--- nothing where the text is canonical, and else the canonical text
+-- the canonical text, unless the text is already canonical
 abbrev pub IsRespelled : {V : Type 0} → (List ℕ → V → Type 0) → (List ℕ → Type 0) → List ℕ → Option Reason
     → Type 0
 IsRespelled grammar canonical t None = Normalizes grammar canonical t (Some t)
@@ -136,13 +135,13 @@ pub record IsRespelledBoolOrInt (t : List ℕ) (r : Option Reason) : Type 0 wher
   pub number : IsAccepted AmountText t → IsRespelled IntegerText CanonicalInteger t r
   pub other : IsRefused AmountText t → IsRespelled BooleanText CanonicalBoolean t r
 
--- the word where it is the text in other case, and else nothing
+-- the word, if the text is the same word in another case
 abbrev pub IsRespelledAs : List ℕ → Bor (List ℕ) → Option Reason → Type 0
 IsRespelledAs t word None = (word.now ≡ t) ⊎ ¬ (SameWord word.now t)
 IsRespelledAs t word (Some (OtherCase w)) = (w ≡ word) × (word.now ≢ t) × SameWord word.now t
 IsRespelledAs t word (Some _) = ⊥
 
--- booleans and numbers have a canonical text, and nothing else
+-- the canonical text of a boolean or integer, unless it is canonical; other forms have no canonical texts
 abbrev pub IsRespelledByForm : Form → List ℕ → Option Reason → Type 0
 IsRespelledByForm forms.BoolOrWord t r = IsRespelled BooleanText CanonicalBoolean t r
 IsRespelledByForm forms.IntOrWord t r = IsRespelled IntegerText CanonicalInteger t r
@@ -152,7 +151,7 @@ abbrev pub IsRespelledByWords : WordList → List ℕ → Option Reason → Type
 IsRespelledByWords list t r = ((word : Bor (List ℕ)) × IsFirstWord list t word × IsRespelledAs t word r)
     ⊎ (IsNoWord list t list.words.items × IsRespelledByForm list.form t r)
 
--- what an accepted setting should be, if it should be another text
+-- how an accepted value should be spelled, unless it is already spelled so; a key alone is never respelled
 abbrev pub HasSpelling : SettingKind → Option (List ℕ) → Option Reason → Type 0
 HasSpelling kind None r = r ≡ None
 HasSpelling kinds.Text (Some t) r = r ≡ None
@@ -162,21 +161,20 @@ HasSpelling kinds.BoolOrInt (Some t) r = IsRespelledBoolOrInt t r
 HasSpelling kinds.Color (Some t) r = IsRespelled ColorText CanonicalColor t r
 HasSpelling (kinds.Word list) (Some t) r = IsRespelledByWords list t r
 
--- what is found behind a reason: the reason, if there is one, and else, where canonical texts are wanted,
--- what it should be
+-- the reason, if there is one; otherwise, if canonical texts are wanted, how the value should be spelled
 abbrev pub IsFoundBehind : (wants_canonical : Bool) → SettingKind → Option (List ℕ) → Option Reason
     → Option Reason → Type 0
 IsFoundBehind wants_canonical kind value (Some reason) r = r ≡ Some reason
 IsFoundBehind true kind value None r = HasSpelling kind value r
 IsFoundBehind false kind value None r = r ≡ None
 
--- what is found of a setting
+-- what a check finds for a setting, by its row and its value, if it finds anything
 pub record HasFinding (wants_canonical : Bool) (row : Row) (value : Option (List ℕ)) (r : Option Reason) : Type 0 where
   pub reason : Option Reason
   pub judged : HasReason row value reason
   pub found : IsFoundBehind wants_canonical row.kind value reason r
 
--- the same finding: two that give canonical texts give the same bytes, and two that borrow a list the same list
+-- the same finding: canonical texts are compared by their bytes, and borrowed lists by what they hold
 abbrev pub IsSameFinding : Option Reason → Option Reason → Type 0
 IsSameFinding (Some (NotCanonical c)) (Some (NotCanonical d)) = c.bytes ≡ d.bytes
 IsSameFinding (Some (NoWord l v)) (Some (NoWord m w)) = (l.now ≡ m.now) × (v ≡ w)

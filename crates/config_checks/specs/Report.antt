@@ -43,7 +43,7 @@ line_of options f = line_in options.format options.color f
 abbrev pub value_of : Setting → Option (List ℕ)
 value_of setting = option_map (λ value. value.items) setting.value
 
--- the text that a value should be, if it is known
+-- the text that is suggested in place of the value, if there is one
 abbrev pub suggestion_of : Reason → Option (List ℕ)
 suggestion_of (NoWord list meant) = option_copied meant
 suggestion_of (NotCanonical canonical) = Some canonical.bytes
@@ -64,11 +64,11 @@ finding_line options setting severity reason = line_of options (record {
 abbrev pub key_text : Key → List ℕ
 key_text key = key.section.now ++ dot ∷ (between_text key.between ++ key.last.now)
 
--- the key that is meant, if one is near
+-- the text of the key that is suggested, if a key is near
 abbrev pub key_meant : UnknownKey → Option (List ℕ)
 key_meant unknown = option_map key_text unknown.nearest
 
--- the line of a setting whose key is misspelt
+-- the line that reports a setting with an unknown key
 abbrev pub unknown_line : Options → Setting → UnknownKey → List ℕ
 unknown_line options setting unknown = line_of options (record {
   file = setting.file.now;
@@ -80,7 +80,7 @@ unknown_line options setting unknown = line_of options (record {
   suggestion = key_meant unknown;
 })
 
--- what is said of a file that is refused
+-- why a file is refused at a line
 abbrev pub fault_text : Fault → List ℕ
 fault_text BadLine = codes "Git cannot read this line, and reads nothing of the file"
 fault_text Nul = codes "a NUL byte outside a comment"
@@ -98,17 +98,17 @@ refused_line options file error = line_of options (record {
 
 -- ---- the report
 
--- one finding more
+-- the counts with one more finding
 abbrev pub counted : Severity → Counts → Counts
 counted Error s = record s { findings = s.findings + 1; errors = s.errors + 1 }
 counted Warning s = record s { findings = s.findings + 1; warnings = s.warnings + 1 }
 counted Note s = record s { findings = s.findings + 1 }
 
--- no entry was counted
+-- the counts before the first entry
 abbrev pub no_counts : Counts
 no_counts = record { entries = 0; unknown = 0; findings = 0; errors = 0; warnings = 0 }
 
--- the line of a setting, empty if nothing is wrong, and the counts before and after it
+-- the line of a setting, which is empty if nothing is found, and the counts before and after it
 pub data ReportsSetting (rows : List Row) (options : Options) (setting : Setting) (s : Counts) (line : List ℕ) (s' : Counts)
     : Type 0 where
   unknown : IsUnknown rows setting.key.items → IsPassed rows setting.key.items → line ≡ []
@@ -126,14 +126,14 @@ pub data ReportsSetting (rows : List Row) (options : Options) (setting : Setting
       → s' ≡ counted (severity_of row.goes_on reason) (record s { entries = s.entries + 1 })
       → ReportsSetting rows options setting s line s'
 
--- the lines of these settings, one after the other, and their counts
+-- the lines of these settings, in order, and their counts
 pub data Report (rows : List Row) (options : Options) : List Setting → List ℕ → Counts → Type 0 where
   nothing : Report rows options [] [] no_counts
   next : (settings : List Setting) (lines : List ℕ) (s : Counts) (setting : Setting) (line : List ℕ) (s' : Counts)
       → Report rows options settings lines s → ReportsSetting rows options setting s line s'
       → Report rows options (settings ++ setting ∷ []) (lines ++ line) s'
 
--- the line of a refused file, which is a finding too; nothing where the file is read to its end
+-- the last line reports and counts the error of a refused file; it is empty if the file is read to its end
 abbrev pub EndsReport : Options → List ℕ → Option errors.Error → Counts → List ℕ → Counts → Type 0
 EndsReport options file None s last s' = (last ≡ []) × (s' ≡ s)
 EndsReport options file (Some error) s last s' =
@@ -144,7 +144,7 @@ abbrev pub HasSettings : List ℕ → List ℕ → List Setting → Option error
 HasSettings file text settings error =
     (entries : List Entry) × IsFile text entries error × AllZip (IsSettingOf file) entries settings
 
--- the lines of a file, and its counts
+-- the whole output for a file, and its counts
 pub record IsReport (rows : List Row) (options : Options) (file text output : List ℕ) (s' : Counts) : Type 0 where
   pub settings : List Setting
   pub error : Option errors.Error
@@ -156,7 +156,6 @@ pub record IsReport (rows : List Row) (options : Options) (file text output : Li
   pub ends : EndsReport options file error s last s'
   pub parts : output ≡ lines ++ last
 
--- how the counts are shown
 abbrev pub counts_shown : Counts → List ℕ
 counts_shown s =
     decimal s.entries ++ ((if s.entries == 1 then codes " entry, " else codes " entries, ")
@@ -164,14 +163,14 @@ counts_shown s =
     ++ (decimal s.unknown ++ ((if s.unknown == 1 then codes " unknown key, " else codes " unknown keys, ")
     ++ (decimal s.findings ++ (if s.findings == 1 then codes " finding" else codes " findings")))))))
 
--- ---- what a check did to its writer
+-- ---- what a check writes
 
--- `contents` and `contents'` are what the writer held before and after
+-- the whole report is appended; `contents` and `contents'` are what the writer held before and after
 abbrev pub Completes : List Row → Options → List ℕ → List ℕ → Option (List ℕ) → Option (List ℕ) → Counts → Type 0
 Completes rows options file text contents contents' s =
     (output : List ℕ) × Appends contents contents' output × IsReport rows options file text output s
 
--- the file has these first settings; its error counts as told only after all of them
+-- the file has these first settings; its error can be reported (`told`) only if no other settings follow
 pub record HasFirst (file text : List ℕ) (first : List Setting) (told : Option errors.Error) : Type 0 where
   pub before : List Entry
   pub after : List Entry
@@ -180,12 +179,12 @@ pub record HasFirst (file text : List ℕ) (first : List Setting) (told : Option
   pub are : AllZip (IsSettingOf file) before first
   pub at_end : (told ≡ None) ⊎ ((after ≡ []) × (told ≡ error))
 
--- what a failed write may have left out; if memory runs out, only whole lines are written
+-- what may be missing after an error: anything if a write failed, and nothing if memory ran out
 abbrev pub MayLack : CheckError → List ℕ → Type 0
 MayLack (Write e) missing = ⊤
 MayLack (Memory e) missing = missing ≡ []
 
--- what was written begins the lines of the first settings
+-- the output is a prefix of the lines of some first settings, followed by the line of the error if it is told
 pub record BeginsReport (rows : List Row) (options : Options) (file text output : List ℕ) (e : CheckError) : Type 0 where
   pub first : List Setting
   pub told : Option errors.Error

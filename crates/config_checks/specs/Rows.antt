@@ -1,4 +1,4 @@
--- Rows: what each setting has to be.
+-- Rows: which row decides about a key, and how rows are written.
 use Rattle.std.specs.Prelude.{◌≡◌, ◌≢◌, ◌⊎◌, ℕ, ◌+◌, ◌<◌, ◌==◌, ◌||◌, Bool, true, false, List, [], ◌∷◌, ◌++◌}
 use Rattle.std.specs.Prelude.{length, take, map, flat_map, codes, Option, None, Some, slice_index_or, All}
 use Rattle.std.specs.List.{slice_split}
@@ -41,42 +41,42 @@ pub record Decides (rows : List Row) (t : List ℕ) (row : Row) : Type 0 where
   pub is_key : IsKey t key
   pub covering : IsFirstCovering rows key row
 
--- the text is no key, or no row covers it
+-- the text is not a key, or no row covers its key
 abbrev pub IsUnknown : List Row → List ℕ → Type 0
 IsUnknown rows t = ((key : Key) → ¬ (IsKey t key)) ⊎ ((key : Key) × IsKey t key × CoversNone rows key)
 
 -- ---- how rows are written
 
--- a space, a tab, or the CR before an LF
+-- a space, a tab or a CR
 abbrev pub is_blank : ℕ → Bool
 is_blank b = (b == 32) || (b == 9) || (b == 13)
 
--- a field, if something stands in it
+-- the piece as a field, or no field if the piece is empty
 abbrev pub field_if_some : List ℕ → List (List ℕ)
 field_if_some [] = []
 field_if_some (b ∷ bs) = (b ∷ bs) ∷ []
 
--- the fields of a line: what stands between blanks
+-- the fields of a line: its pieces between blanks, without empty ones
 abbrev pub fields_of : List ℕ → List (List ℕ)
 fields_of line = flat_map field_if_some (slice_split is_blank line)
 
--- nothing, or a comment
+-- the fields of a blank line or of a comment
 abbrev pub IsNoRow : List (List ℕ) → Type 0
 IsNoRow [] = Unit {0}
 IsNoRow (field ∷ fields) = (rest : List ℕ) × (field ≡ codes "#" ++ rest)
 
--- whether a key alone is right, where the row says so: its mark
+-- the mark that says whether a key alone is right
 abbrev pub alone_mark : Bool → List ℕ
 alone_mark true = codes "alone"
 alone_mark false = codes "needs-value"
 
--- the fields after this mark, if they begin with one
+-- the mark `alone` or `needs-value` if the fields begin with one, and the fields after it
 abbrev pub CutsAlone : List (List ℕ) → Option Bool → List (List ℕ) → Type 0
 CutsAlone fields (Some alone) rest = fields ≡ alone_mark alone ∷ rest
 CutsAlone fields None rest =
     (rest ≡ fields) × ((alone : Bool) (more : List (List ℕ)) → fields ≢ alone_mark alone ∷ more)
 
--- the mark of a row at whose wrong values Git goes on, and the fields after it
+-- whether the fields begin with the mark `warn`, and the fields after it
 abbrev pub CutsWarn : List (List ℕ) → Bool → List (List ℕ) → Type 0
 CutsWarn fields true rest = fields ≡ codes "warn" ∷ rest
 CutsWarn fields false rest = (rest ≡ fields) × ((more : List (List ℕ)) → fields ≢ codes "warn" ∷ more)
@@ -87,7 +87,7 @@ pub record HasMarks (fields : List (List ℕ)) (alone : Option Bool) (goes_on : 
   pub first : CutsAlone fields alone between
   pub second : CutsWarn between goes_on rest
 
--- the name of a kind with nothing after it
+-- the name of a kind that takes neither words nor bounds
 abbrev pub plain_name : SettingKind → Option (List ℕ)
 plain_name kinds.Text = Some (codes "text")
 plain_name kinds.Bool = Some (codes "bool")
@@ -95,7 +95,6 @@ plain_name kinds.BoolOrInt = Some (codes "bool-or-int")
 plain_name kinds.Color = Some (codes "color")
 plain_name _ = None
 
--- the name of a form
 abbrev pub form_name : Form → List ℕ
 form_name forms.Word = codes "word"
 form_name forms.BoolOrWord = codes "bool-or-word"
@@ -104,17 +103,17 @@ form_name forms.Words = codes "words"
 form_name forms.Date = codes "date"
 form_name forms.SortKey = codes "sort-key"
 
--- the name of a kind of words
+-- the name of a kind with words: that of its form, followed by `-any-case` if it ignores ASCII case
 abbrev pub words_name : (ignores_case : Bool) → Form → List ℕ
 words_name true form = form_name form ++ codes "-any-case"
 words_name false form = form_name form
 
--- the bounds of `int`: those of 32 bits, or two integer texts
+-- the bounds of `int`: the range of 32 bits if there are no words, or the numbers of two integer texts
 pub data IsBounds (words : List (List ℕ)) (low high : Amount) : Type 0 where
   of_32_bits : words ≡ [] → low ≡ least_int → high ≡ greatest_int → IsBounds words low high
   these : (l h : List ℕ) → words ≡ l ∷ h ∷ [] → AmountText l low → AmountText h high → IsBounds words low high
 
--- the kind of this name and these words
+-- the kind that has this name, followed by these words
 abbrev pub IsKind : List ℕ → List (List ℕ) → SettingKind → Type 0
 IsKind name words (kinds.Word list) =
     (words_name list.ignores_case list.form ≡ name) × (words ≢ [])
@@ -128,12 +127,12 @@ pub record IsNoKind (name : List ℕ) : Type 0 where
   pub number : name ≢ codes "int"
   pub of_words : (ignores_case : Bool) (form : Form) → words_name ignores_case form ≢ name
 
--- whether a key alone is right: as the mark says, and else where the kind takes it for true
+-- whether a key alone is right: as the mark says or, without a mark, if the kind takes it as true
 abbrev pub is_right_alone : Option Bool → SettingKind → Bool
 is_right_alone (Some alone) kind = alone
 is_right_alone None kind = takes_true kind
 
--- a key, marks, the name of a kind, and words
+-- the fields are this row: a key, marks if there are any, the name of a kind, and words
 pub record IsRow (fields : List (List ℕ)) (row : Row) : Type 0 where
   pub is_row : ¬ (IsNoRow fields)
   pub key : List ℕ
@@ -147,7 +146,7 @@ pub record IsRow (fields : List (List ℕ)) (row : Row) : Type 0 where
   pub is_kind : IsKind name words row.kind
   pub takes_no_value : row.takes_no_value ≡ is_right_alone alone row.kind
 
--- why there is no kind of this name and these words
+-- why no kind has this name and these words, or that memory ran out
 abbrev pub IsBadKind : List ℕ → List (List ℕ) → RowFault → Type 0
 IsBadKind name words UnknownKind = IsNoKind name
 IsBadKind name words NoWords =
@@ -157,8 +156,7 @@ IsBadKind name words Bounds = (name ≡ codes "int") × ((low high : Amount) →
 IsBadKind name words (Memory e) = Unit {0}
 IsBadKind name words _ = ⊥
 
--- the first thing that is wrong with these fields: there is no kind, the key is none, or there is no such
--- kind
+-- what is wrong first: the key is invalid, no kind follows it, or no kind has the name and the words
 abbrev pub HasRowFault : List (List ℕ) → RowFault → Type 0
 HasRowFault fields NoKey = (key : List ℕ) × (marked : List (List ℕ)) × (fields ≡ key ∷ marked) × ((k : Key) → ¬ (IsKey key k))
 HasRowFault fields NoKind = (key : List ℕ) × (marked : List (List ℕ)) × (fields ≡ key ∷ marked)
@@ -167,29 +165,28 @@ HasRowFault fields fault = (key : List ℕ) × (marked : List (List ℕ)) × (fi
     × ((k : Key) × IsKey key k) × (alone : Option Bool) × (goes_on : Bool) × (name : List ℕ) × (words : List (List ℕ))
     × HasMarks marked alone goes_on (name ∷ words) × IsBadKind name words fault
 
--- why these fields are no row, and no comment
+-- why these fields are neither a row nor a comment nor a blank line, or that memory ran out
 abbrev pub IsBadRow : List (List ℕ) → RowFault → Type 0
 IsBadRow fields (Memory e) = Unit {0}
 IsBadRow fields fault = ¬ (IsNoRow fields) × HasRowFault fields fault
 
--- the lines of a text
+-- the lines of a text, which line feeds separate
 abbrev pub lines_of : List ℕ → List (List ℕ)
 lines_of text = slice_split (λ b. b == 10) text
 
--- one more line: it is no row, or adds one
+-- the line adds nothing if it is blank or a comment, and otherwise its row
 abbrev pub AddsRow : List ℕ → List Row → List Row → Type 0
 AddsRow line rows rows' =
     (IsNoRow (fields_of line) × (rows' ≡ rows))
     ⊎ ((row : Row) × IsRow (fields_of line) row × (rows' ≡ rows ++ row ∷ []))
 
--- these lines, in order
+-- the lines add their rows, in order
 abbrev pub AddsRows : List (List ℕ) → List Row → List Row → Type 0
 AddsRows [] rows rows' = rows' ≡ rows
 AddsRows (line ∷ lines) rows rows'' =
     (rows' : List Row) × AddsRow line rows rows' × AddsRows lines rows' rows''
 
--- the first line that is no row has this number, from 1, and this fault; the rows of the lines before it are
--- added
+-- the first bad line has this number, from 1, and this fault, and the rows of the lines before it are added
 pub record IsBadLine (text : List ℕ) (rows rows' : List Row) (bad : BadRow) : Type 0 where
   pub before : List (List ℕ)
   pub line : List ℕ

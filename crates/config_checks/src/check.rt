@@ -1,4 +1,4 @@
-//! The check of the settings of a file.
+//! Checks the settings of a file, and writes a line for each finding.
 ghost use Rattle.std.specs.Prelude.{◌≡◌, ◌==◌, if◌then◌else◌, OnOk, OnErr, IfOk, IfErr, Some};
 ghost use Rattle.std.specs.Io.KnownBytes.{Appends, Keeps};
 ghost use Rattle.config_checks.specs.Report.{counted, counts_shown, finding_line, unknown_line};
@@ -22,32 +22,32 @@ use std::alloc::{AllocError, Global};
 use std::fmt;
 use std::io::{self, ErrorKind, Write};
 
-/// Why a check ended before the end of its file.
+/// Why a check failed.
 #[derive(Drop)]
 pub enum CheckError {
     /// A write or the flush at the end failed, or a write took no byte.
     Write(io::Error),
-    /// There was no memory to look rows up, for a setting, or for the line of a finding.
+    /// There was no memory to look up a row or a suggestion, for a setting, or for the line of a finding.
     Memory(AllocError),
 }
 
 /// The counts of a check.
 #[derive(Clone, Copy, Default)]
 pub struct Counts {
-    /// The entries.
+    /// The number of entries.
     pub entries: u64,
-    /// The entries that no row covers.
+    /// The number of entries that no row covers.
     pub unknown: u64,
-    /// The findings: at most one for each entry, and one for a line that Git cannot read.
+    /// The number of findings: at most one for each entry, and one for a line that Git cannot read.
     pub findings: u64,
-    /// The findings that are errors.
+    /// The number of findings that are errors.
     pub errors: u64,
-    /// The findings that are warnings.
+    /// The number of findings that are warnings.
     pub warnings: u64,
 }
 
 impl Counts {
-    /// These counts, and one finding more.
+    /// These counts with one more finding of this severity.
     fn with(self, severity: Severity) -> Counts
         requires { HasRoomForFinding self }
         ensures { result ≡ counted severity self }
@@ -69,7 +69,7 @@ impl Counts {
     }
 }
 
-/// The word for one thing, or for several.
+/// The first text if the count is one, and otherwise the second.
 fn plural(count: u64, one: &'static str, several: &'static str) -> &'static str
     ensures { result.now ≡ (if count == 1 then one.now else several.now) }
 {
@@ -79,7 +79,7 @@ fn plural(count: u64, one: &'static str, several: &'static str) -> &'static str
 impl fmt::Display for Counts {
     ghost output = { λ s. Some (counts_shown s) };
 
-    /// Writes the counts as the last line of `config_check` has them.
+    /// Writes the counts in the form of the last line of `config_check`.
     fn fmt<W: fmt::Write>(&self, f: &mut fmt::Formatter<W>) -> fmt::Result {
         let judged = self.entries.saturating_sub(self.unknown);
         write!(
@@ -96,8 +96,8 @@ impl fmt::Display for Counts {
     }
 }
 
-/// Writes bytes, by as many writes as it takes. A write of no byte is an error.
-// `write_all` does not say that what it wrote before an error begins the bytes.
+/// Writes bytes, with as many writes as are needed. A write that takes no byte is an error.
+// The contract of `write_all` does not say that what it wrote before an error is a prefix of the bytes.
 fn write_out<W: Write>(writer: &mut W, bytes: &[u8]) -> io::Result<()>
     ensures ok { OnOk result (Appends (W.contents writer.old) (W.contents writer.new) bytes.now) }
     ensures err { OnErr result
@@ -113,7 +113,7 @@ fn write_out<W: Write>(writer: &mut W, bytes: &[u8]) -> io::Result<()>
     Ok(())
 }
 
-/// A check between two entries: its counts, and the memory for a line.
+/// The state of a check between two entries: its counts, and the memory for a line.
 #[derive(Drop)]
 struct Progress {
     counts: Counts,
@@ -121,7 +121,7 @@ struct Progress {
 }
 
 impl Progress {
-    /// Counts a finding, and writes the line of a setting whose key is misspelt.
+    /// Counts a finding, and writes the line that reports a setting with an unknown key.
     fn write_misspelt<W: Write>(
         &mut self,
         options: &Options,
@@ -142,7 +142,7 @@ impl Progress {
         write_out(writer, &self.line).map_err(CheckError::Write)
     }
 
-    /// Counts a finding, and writes the line of a setting that is wrong.
+    /// Counts a finding, and writes the line that reports a setting for a reason.
     fn write_finding<W: Write>(
         &mut self,
         options: &Options,
@@ -166,7 +166,7 @@ impl Progress {
         write_out(writer, &self.line).map_err(CheckError::Write)
     }
 
-    /// Counts a setting that no row covers, and writes its line if its key is misspelt.
+    /// Counts a setting that no row covers, and writes its line if its unknown key has to be reported.
     fn report_unknown<W: Write>(
         &mut self,
         alloc: Global,
@@ -191,7 +191,7 @@ impl Progress {
         }
     }
 
-    /// Counts a setting, and writes its line if something is wrong with it.
+    /// Counts a setting, and writes its line if it has a finding.
     fn report<W: Write>(
         &mut self,
         alloc: Global,
@@ -221,8 +221,8 @@ impl Progress {
     }
 }
 
-/// Writes the lines of the entries of a file, up to the line that Git cannot read if there is one. Returns
-/// their counts, and why that line is refused.
+/// Writes the lines of the entries of a file, up to the line that Git cannot read, if there is one. Returns
+/// the counts, and the error of that line.
 fn report_entries<W: Write>(
     alloc: Global,
     runs: &[Run<'_, '_>],
@@ -255,7 +255,7 @@ fn report_entries<W: Write>(
     Ok((progress.counts, None))
 }
 
-/// Writes the line of a file that is refused, if it is, and counts it.
+/// If a file is refused, writes the line of its error, and counts it as a finding.
 fn tell<W: Write>(
     alloc: Global,
     options: &Options,
@@ -289,17 +289,17 @@ fn flush<W: Write>(writer: &mut W) -> Result<(), CheckError>
     writer.flush().map_err(CheckError::Write)
 }
 
-/// Checks a file of this name and this text. It writes a line for each finding, in the order of the entries,
-/// and returns the counts. A line that Git cannot read is a finding too, and the last one.
+/// Checks a file with this name and this text. It writes a line for each finding, in the order of the
+/// entries, and returns the counts. A line that Git cannot read is also a finding, and the last one.
 ///
 /// Errors:
-/// - `Write`: a write or the flush at the end failed, or a write took no byte. What was written is a
-///   beginning of the lines.
-/// - `Memory`: there was no memory to look rows up, for a setting, or for a line. What was written are some
-///   first lines, each whole.
+/// - `Write`: a write or the flush at the end failed, or a write took no byte. What was written is a prefix
+///   of the lines.
+/// - `Memory`: there was no memory to look up a row or a suggestion, for a setting, or for a line. Only whole
+///   lines were written, the first ones of the report.
 ///
-/// The clauses are about writers whose contents the prover knows. It does not know them for standard output:
-/// for it the clauses say what `check_file` does with any writer.
+/// The clauses are about writers whose contents the prover knows. It does not know the contents of standard
+/// output, but `check_file` does the same with every writer.
 ///
 /// ```rust
 /// use config_checks::check::check_file;

@@ -6,13 +6,13 @@ ghost use Rattle.config_checks.specs.Reading.Steps.{IsFew};
 use std::alloc::{AllocError, Global};
 use strsim::generic_levenshtein;
 
-/// The most edits that are counted: a word that is missing counts as so many.
+/// The greatest number of edits that is counted, which is that of a missing run of bytes.
 pub(crate) const MOST_EDITS: usize = 3;
 
-/// The bytes of a text that is long: of a shorter one few edits make another word.
+/// A text of at least this many bytes is long. Two edits turn a shorter one into another word.
 pub(crate) const LONG: usize = 5;
 
-/// Whether two neighbors that differ have changed places, and all else is the same.
+/// Whether two texts differ only in that two different neighboring bytes are swapped.
 fn is_swap(from: &[u8], to: &[u8]) -> bool
     ensures { IsTrue result ↔ (IsSwap from.now to.now) }
 {
@@ -30,7 +30,7 @@ fn is_swap(from: &[u8], to: &[u8]) -> bool
     }
 }
 
-/// How many edits are few for two texts: two if both have `long` bytes or more, otherwise one.
+/// The most edits between near texts: two if both have at least `long` bytes, otherwise one.
 pub(crate) fn most_edits(long: usize, from: &[u8], to: &[u8]) -> usize
     ensures { result ≡ most_edits long from.now to.now }
 {
@@ -53,8 +53,8 @@ fn edits_between(alloc: Global, from: &[u8], to: &[u8]) -> Result<usize, AllocEr
     generic_levenshtein(alloc, from.as_slice(), to.as_slice())
 }
 
-/// How many edits lead from one text to the other, or `None` if they are not few for texts of this length.
-// Texts whose lengths differ by more are never compared: that is most of them.
+/// How many edits lead from one text to the other, or `None` if the texts are not near.
+// Most texts are not compared, since their lengths differ by more edits than near texts may have.
 pub(crate) fn few_edits(
     alloc: Global,
     long: usize,
@@ -74,7 +74,7 @@ pub(crate) fn few_edits(
     Ok(Some(edits))
 }
 
-/// What precedes the end of a text, or `None` if it ends otherwise.
+/// What precedes this suffix of a text, or `None` if the text does not end with the suffix.
 fn before_end<'a>(text: &'a [u8], end: &[u8]) -> Option<&'a [u8]>
     ensures { MatchOption result ((front : List ℕ) → text.now ≢ front ++ end.now)
         (λ front. text.now ≡ front.now ++ end.now) }
@@ -82,7 +82,7 @@ fn before_end<'a>(text: &'a [u8], end: &[u8]) -> Option<&'a [u8]>
     text.strip_suffix(end)
 }
 
-/// Whether the first text is the second one without some bytes that stand together.
+/// Whether the first text is the second one without one run of bytes, which may be empty.
 fn leaves_out(short: &[u8], long: &[u8]) -> bool
     ensures { IsTrue result ↔ (LeavesOut short.now long.now) }
 {
@@ -95,7 +95,7 @@ fn leaves_out(short: &[u8], long: &[u8]) -> bool
     }
 }
 
-/// Whether the first text lacks a word of the second one, and is long without it.
+/// Whether the first text is long, and is the second one without one run of bytes, ignoring ASCII case.
 pub(crate) fn lacks_word(alloc: Global, short: &[u8], long: &[u8]) -> Result<bool, AllocError>
     ensures { IfOk result (λ r. IsTrue r ↔ (LacksWord short.now long.now)) }
 {

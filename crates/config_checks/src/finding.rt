@@ -57,7 +57,7 @@ fn is_control(character: char) -> bool
     character < ' ' || ('\x7f' <= character && character <= '\u{9f}')
 }
 
-/// Appends the bytes of a character, or bytes that are no character.
+/// Appends a character as it is shown, or bytes that are not a character.
 fn push_piece(out: &mut Vec<u8>, character: Option<char>, bytes: &[u8]) -> Result<(), AllocError>
     ensures ok { OnOk result (out.new.items ≡ out.old.items ++ piece_shown character bytes.now) }
     ensures err { OnErr result
@@ -71,8 +71,8 @@ fn push_piece(out: &mut Vec<u8>, character: Option<char>, bytes: &[u8]) -> Resul
     }
 }
 
-/// The first character of a text if its first bytes are one, these bytes, and the rest. `None` if it is
-/// empty.
+/// The first character of a text, its bytes, and the rest of the text. The character is `None` if the bytes
+/// are not UTF-8. Returns `None` if the text is empty.
 fn first_piece(text: &[u8]) -> Option<(Option<char>, &[u8], &[u8])>
     ensures shown { MatchOption result (text.now ≡ [])
         (λ p. shown text.now ≡ piece_shown p.0 p.1.now ++ shown p.2.now) }
@@ -87,7 +87,7 @@ fn first_piece(text: &[u8]) -> Option<(Option<char>, &[u8], &[u8])>
 }
 
 /// Appends a text: control characters and invalid UTF-8 as `\xNN`, and a backslash twice. If there is no
-/// memory for all of it, `out` keeps what it had, and some first bytes of the text may follow.
+/// memory for all of it, `out` keeps what it had, and a prefix of the shown text may follow.
 pub fn push_shown(out: &mut Vec<u8>, text: &[u8]) -> Result<(), AllocError>
     ensures ok { OnOk result (out.new.items ≡ out.old.items ++ shown text.now) }
     ensures err { OnErr result
@@ -101,7 +101,7 @@ pub fn push_shown(out: &mut Vec<u8>, text: &[u8]) -> Result<(), AllocError>
     Ok(())
 }
 
-/// Appends a text, and a number.
+/// Appends a text and a number.
 fn push_number(out: &mut Vec<u8>, front: &str, number: Amount) -> Result<(), AllocError>
     ensures ok { OnOk result (out.new.items ≡ out.old.items ++ (front.now ++ signed_decimal number.0)) }
     ensures err { OnErr result
@@ -111,7 +111,7 @@ fn push_number(out: &mut Vec<u8>, front: &str, number: Amount) -> Result<(), All
     out.extend_from_slice(Buffer::new().format(number.0).as_bytes())
 }
 
-/// Appends that a number does not lie in a range.
+/// Appends the reason that a number is out of range.
 fn push_range(out: &mut Vec<u8>, low: Amount, high: Amount) -> Result<(), AllocError>
     ensures ok { OnOk result (out.new.items ≡ out.old.items ++ range_text low high) }
     ensures err { OnErr result
@@ -138,7 +138,7 @@ fn push_words(out: &mut Vec<u8>, words: &[&[u8]]) -> Result<(), AllocError>
     Ok(())
 }
 
-/// What stands before the words that a text does not have.
+/// The text that precedes the words of a list in a reason.
 fn no_word_front(form: Form) -> &'static str
     ensures { result.now ≡ no_word_front form }
 {
@@ -152,7 +152,7 @@ fn no_word_front(form: Form) -> &'static str
     }
 }
 
-/// Appends how a text should have the words of a list.
+/// Appends the reason that a text is wrong according to a list, with the words of the list.
 fn push_list(out: &mut Vec<u8>, list: &WordList<'_>) -> Result<(), AllocError>
     ensures ok { OnOk result (out.new.items ≡ out.old.items ++ list_text list.now) }
     ensures err { OnErr result
@@ -162,7 +162,7 @@ fn push_list(out: &mut Vec<u8>, list: &WordList<'_>) -> Result<(), AllocError>
     push_words(out, &list.words)
 }
 
-/// Appends a word, and a question mark.
+/// Appends a word and a question mark.
 fn push_asked(out: &mut Vec<u8>, word: &[u8]) -> Result<(), AllocError>
     ensures ok { OnOk result (out.new.items ≡ out.old.items ++ word_asked word.now) }
     ensures err { OnErr result
@@ -172,7 +172,7 @@ fn push_asked(out: &mut Vec<u8>, word: &[u8]) -> Result<(), AllocError>
     out.extend_from_slice(b"?")
 }
 
-/// Appends a word that is meant.
+/// Appends the suggestion of a word.
 fn push_word_meant(out: &mut Vec<u8>, word: &[u8]) -> Result<(), AllocError>
     ensures ok { OnOk result (out.new.items ≡ out.old.items
         ++ (codes "; did you mean " ++ word_asked word.now)) }
@@ -183,7 +183,7 @@ fn push_word_meant(out: &mut Vec<u8>, word: &[u8]) -> Result<(), AllocError>
     push_asked(out, word)
 }
 
-/// Appends the word that is meant, if one is.
+/// Appends the suggestion of a word, if there is one.
 fn push_meant(out: &mut Vec<u8>, meant: Option<&[u8]>) -> Result<(), AllocError>
     ensures ok { OnOk result (out.new.items ≡ out.old.items ++ meant_text meant.entry) }
     ensures err { OnErr result
@@ -195,7 +195,7 @@ fn push_meant(out: &mut Vec<u8>, meant: Option<&[u8]>) -> Result<(), AllocError>
     }
 }
 
-/// Appends that a text does not have the words of a list, and the word that is meant, if one is.
+/// Appends the reason that a text is wrong according to a list, and the word that is suggested, if any.
 fn push_no_word(
     out: &mut Vec<u8>,
     list: &WordList<'_>,
@@ -209,8 +209,8 @@ fn push_no_word(
     push_meant(out, meant)
 }
 
-/// Appends the text of a reason. If there is no memory for all of it, `out` keeps what it had, and some first
-/// bytes of the text may follow.
+/// Appends the text of a reason. If there is no memory for all of it, `out` keeps what it had, and a prefix
+/// of the text may follow.
 pub fn push_reason(out: &mut Vec<u8>, reason: &Reason<'_, '_>) -> Result<(), AllocError>
     ensures ok { OnOk result (out.new.items ≡ out.old.items ++ reason_text reason.now) }
     ensures err { OnErr result
@@ -232,7 +232,7 @@ pub fn push_reason(out: &mut Vec<u8>, reason: &Reason<'_, '_>) -> Result<(), All
     }
 }
 
-/// How a severity is shown before a reason.
+/// How a severity is shown in a line of text.
 fn severity_text(severity: Severity) -> &'static str
     ensures { result.now ≡ severity_text severity }
 {
@@ -243,7 +243,7 @@ fn severity_text(severity: Severity) -> &'static str
     }
 }
 
-/// Appends how bad a finding is, in red if colors are wanted.
+/// Appends the severity of a finding, in red if colors are wanted.
 fn push_severity(line: &mut Vec<u8>, color: bool, severity: Severity) -> Result<(), AllocError>
     ensures { OnOk result (line.new.items ≡ line.old.items ++ painted color (severity_text severity)) }
 {
@@ -255,7 +255,7 @@ fn push_severity(line: &mut Vec<u8>, color: bool, severity: Severity) -> Result<
     line.extend_from_slice(b"\x1b[m")
 }
 
-/// Appends a file, and a line of it.
+/// Appends the name of a file and the number of a line.
 fn push_place(line: &mut Vec<u8>, file: &str, number: usize) -> Result<(), AllocError>
     ensures { OnOk result (line.new.items ≡ line.old.items ++ place file.now number) }
 {
@@ -288,12 +288,12 @@ fn push_key(line: &mut Vec<u8>, key: Option<&[u8]>) -> Result<(), AllocError>
     line.extend_from_slice(b": ")
 }
 
-/// What is said of a line of a file.
+/// What a check finds on a line of a file.
 #[derive(Clone, Copy)]
 pub struct Finding<'f> {
     /// The name of the file.
     pub file: &'f str,
-    /// The number of the line, from 1 on.
+    /// The number of the line, from 1.
     pub line: usize,
     /// How bad it is.
     pub severity: Severity,
@@ -303,7 +303,7 @@ pub struct Finding<'f> {
     pub value: Option<&'f [u8]>,
     /// The text of the reason.
     pub reason: &'f [u8],
-    /// What the value, or an unknown key, should be, if that is known.
+    /// The text that is suggested in place of the value or of an unknown key, if there is one.
     pub suggestion: Option<&'f [u8]>,
 }
 
@@ -316,7 +316,7 @@ impl Finding<'_> {
         push_value(line, self.value)
     }
 
-    /// Appends the line of text.
+    /// Appends the finding as a line of text.
     fn push_text(&self, line: &mut Vec<u8>, color: bool) -> Result<(), AllocError>
         ensures { OnOk result (line.new.items ≡ line.old.items ++ text_line color (finding_of self.now)) }
     {
@@ -327,7 +327,7 @@ impl Finding<'_> {
         line.extend_from_slice(b"\n")
     }
 
-    /// Appends the line in the format of the options.
+    /// Appends the finding as a line in the format of the options.
     fn push_to(&self, line: &mut Vec<u8>, options: &Options) -> Result<(), AllocError>
         ensures { OnOk result (line.new.items ≡ line.old.items ++ line_of options.now (finding_of self.now)) }
     {
@@ -355,7 +355,7 @@ pub(crate) fn value_of<'s>(setting: &'s Setting<'_>) -> Option<&'s [u8]>
     bytes_of(&setting.value)
 }
 
-/// What a value should be, if the reason knows it.
+/// The text that is suggested in place of a value, if the reason has one.
 fn suggestion_of<'r>(reason: &'r Reason<'_, '_>) -> Option<&'r [u8]>
     ensures { option_copied result ≡ suggestion_of reason.now }
 {
@@ -367,7 +367,7 @@ fn suggestion_of<'r>(reason: &'r Reason<'_, '_>) -> Option<&'r [u8]>
     }
 }
 
-/// Appends the line of a setting that is wrong.
+/// Appends the line that reports a setting for a reason.
 pub(crate) fn push_finding(
     line: &mut Vec<u8>,
     options: &Options,
@@ -407,7 +407,7 @@ fn key_text(alloc: Global, key: &Key<'_>) -> Result<Vec<u8>, AllocError>
     Ok(text)
 }
 
-/// The key that is meant, if one is near.
+/// The text of the key that is suggested, if a key is near.
 fn key_meant(alloc: Global, unknown: &UnknownKey<'_>) -> Result<Option<Vec<u8>>, AllocError>
     ensures { IfOk result (λ t. option_map (λ t. t.items) t ≡ key_meant unknown.now) }
 {
@@ -417,7 +417,7 @@ fn key_meant(alloc: Global, unknown: &UnknownKey<'_>) -> Result<Option<Vec<u8>>,
     }
 }
 
-/// Appends the line of a setting whose key is misspelt.
+/// Appends the line that reports a setting with an unknown key.
 pub(crate) fn push_misspelt(
     line: &mut Vec<u8>,
     options: &Options,
@@ -444,7 +444,7 @@ pub(crate) fn push_misspelt(
     finding.push_to(line, options)
 }
 
-/// What is said of a file that is refused.
+/// Why a file is refused at a line.
 fn fault_text(fault: Fault) -> &'static str
     ensures { result.now ≡ fault_text fault }
 {
@@ -454,7 +454,7 @@ fn fault_text(fault: Fault) -> &'static str
     }
 }
 
-/// Appends the line of a file that is refused.
+/// Appends the line that reports the error of a refused file.
 pub(crate) fn push_refusal(
     line: &mut Vec<u8>,
     options: &Options,

@@ -1,6 +1,7 @@
-//! Rows for the settings that Git documents. docs/CHECKING.md says how a row is written.
+//! The built-in rows, for settings that Git documents and for those of other tools in its sections.
+//! docs/CHECKING.md says how a row is written.
 
-/// The rows of Git's settings.
+/// The text of the built-in rows, which `read_rows` reads.
 pub const SETTINGS: &str = "\
 # Settings of Git 2.39.5 as git-config(1), with the pages that it names, documents them: those of Debian's
 # package git-man 1:2.39.5-0+deb12u3. What the pages leave open is as Git 2.39.5 was seen to read it, by

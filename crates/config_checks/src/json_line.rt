@@ -30,7 +30,7 @@ fn text_json(alloc: Global, text: &[u8]) -> Result<Value, AllocError>
     Ok(Value::from(String::from_utf8_lossy(alloc, text)?))
 }
 
-/// The same of a text that may be missing, which is `null`.
+/// The same for a text that may be missing, which is then `null`.
 fn text_or_null(alloc: Global, text: Option<&[u8]>) -> Result<Value, AllocError>
     ensures { IfOk result (λ v. view v ≡ text_or_null (option_copied text.entry)) }
 {
@@ -40,7 +40,7 @@ fn text_or_null(alloc: Global, text: Option<&[u8]>) -> Result<Value, AllocError>
     }
 }
 
-/// The object of a finding.
+/// A finding as a JSON object.
 fn finding_json(alloc: Global, finding: &Finding<'_>) -> Result<Value, AllocError>
     ensures { IfOk result (λ v. view v ≡ finding_json (finding_of finding.now)) }
 {
@@ -55,7 +55,7 @@ fn finding_json(alloc: Global, finding: &Finding<'_>) -> Result<Value, AllocErro
     })
 }
 
-/// The JSON text of a finding, which is one line. Whatever the finding says, it reads back to its fields.
+/// The JSON text of a finding, which has no line feed. It always reads back to the same JSON object.
 pub fn json_text(alloc: Global, finding: &Finding<'_>) -> Result<Vec<u8>, AllocError>
     ensures text { IfOk result (λ t. t.items ≡ compact_text (finding_json (finding_of finding.now))) }
     ensures reads_back { IfOk result (λ t. read t.items ≡ Some (finding_json (finding_of finding.now))) }
@@ -64,7 +64,7 @@ pub fn json_text(alloc: Global, finding: &Finding<'_>) -> Result<Vec<u8>, AllocE
     finding_json(alloc, finding)?.to_vec(alloc)
 }
 
-/// Appends the line of a finding.
+/// Appends a finding as a line of JSON.
 pub(crate) fn push_json(line: &mut Vec<u8>, finding: &Finding<'_>) -> Result<(), AllocError>
     ensures { OnOk result (line.new.items ≡ line.old.items ++ json_line (finding_of finding.now)) }
 {

@@ -6,7 +6,7 @@ ghost use Rattle.config_checks.specs.declared.key.Key as key;
 
 use bstr::ByteSlice;
 
-/// What covers any text in the key of a row.
+/// The part of a row's key that covers any subsection or any last part.
 pub(crate) const ANY: &[u8] = b"*";
 
 /// The key of a setting, as `core.bare` or `branch.main.rebase`, or of a row, as `branch.*.rebase`.
@@ -14,13 +14,13 @@ pub(crate) const ANY: &[u8] = b"*";
 pub struct Key<'k> {
     /// The part before the first dot.
     pub section: &'k [u8],
-    /// The part between the first dot and the last, if there are two.
+    /// The subsection: the part between the first and the last dot, if there are at least two dots.
     pub between: Option<&'k [u8]>,
     /// The part after the last dot.
     pub last: &'k [u8],
 }
 
-/// The parts before and after the first such byte.
+/// The parts before and after the first byte with this value, or `None` if the text has no such byte.
 pub(crate) fn cut_first(text: &[u8], byte: u8) -> Option<(&[u8], &[u8])>
     ensures parts { MatchOption result (IsWithout byte text.now)
         (λ cut. text.now ≡ cut.0.now ++ byte ∷ cut.1.now) }
@@ -30,7 +30,7 @@ pub(crate) fn cut_first(text: &[u8], byte: u8) -> Option<(&[u8], &[u8])>
     Some((&text[..at], &text[at + 1..]))
 }
 
-/// The parts before and after the last such byte.
+/// The parts before and after the last byte with this value, or `None` if the text has no such byte.
 fn cut_last(text: &[u8], byte: u8) -> Option<(&[u8], &[u8])>
     ensures parts { MatchOption result (IsWithout byte text.now)
         (λ cut. text.now ≡ cut.0.now ++ byte ∷ cut.1.now) }
@@ -40,14 +40,14 @@ fn cut_last(text: &[u8], byte: u8) -> Option<(&[u8], &[u8])>
     Some((&text[..at], &text[at + 1..]))
 }
 
-/// Whether a text of a row is one text, ignoring ASCII case.
+/// Whether a text of a row and another text are the same, ignoring ASCII case.
 pub(crate) fn is_same_word(row: &[u8], text: &[u8]) -> bool
     ensures { IsTrue result ↔ SameWord row.now text.now }
 {
     row.eq_ignore_ascii_case(text)
 }
 
-/// Whether the part of a row between its dots covers that of a key.
+/// Whether the subsection of a row covers the subsection of a key, or neither has a subsection.
 pub(crate) fn covers_between(row: Option<&[u8]>, between: Option<&[u8]>) -> bool
     ensures { IsTrue result ↔ CoversBetween row.entry between.entry }
 {
@@ -59,7 +59,7 @@ pub(crate) fn covers_between(row: Option<&[u8]>, between: Option<&[u8]>) -> bool
 }
 
 impl<'k> Key<'k> {
-    /// Reads a key, or `None` if the text has no dot.
+    /// Cuts a text into the parts of a key. Returns `None` if the text has no dot.
     pub fn parse(text: &'k [u8]) -> Option<Key<'k>>
         ensures { MatchOption result ((k : key.Key) → ¬ (IsKey text.now k)) (IsKey text.now) }
     {
@@ -79,7 +79,7 @@ impl<'k> Key<'k> {
     }
 
     /// Whether this key of a row covers a key. Sections and last parts are compared ignoring ASCII case, and
-    /// the parts between them byte by byte. `*` covers any text between the dots, and any last part.
+    /// subsections byte by byte. A `*` in the row's key covers any subsection, or any last part.
     pub fn covers(&self, key: &Key<'_>) -> bool
         ensures { IsTrue result ↔ Covers self.now key.now }
     {

@@ -9,32 +9,32 @@ ghost use Rattle.config_checks.specs.Kinds.{takes_booleans, takes_true};
 use crate::key::is_same_word;
 use gix_config_value::integer::Amount;
 
-/// How a text has to have the words of a list.
+/// What a text has to be, given the words of a list.
 #[derive(Clone, Copy)]
 pub enum Form {
     /// It is one of the words.
     Word,
     /// It is one of the words, or a boolean text.
     BoolOrWord,
-    /// It is one of the words, or an integer text whose product lies within 32 bits.
+    /// It is one of the words, or an integer text whose product is a signed number of 32 bits.
     IntOrWord,
     /// It is a list of the words, with commas, spaces, tabs, LFs or CRs between them.
     Words,
     /// It is a date: it has a digit, or one of the words between bytes that are not letters.
     Date,
-    /// It is a key to sort by, as `-version:refname`: a word follows `-`, `version:` or `v:`, and `*`, if
-    /// they are there, and is followed by nothing or by a colon.
+    /// It is a key to sort by, such as `-version:refname`. Before the word may be `-`, `version:`, `v:` and
+    /// `*`, in this order, and after the word the text ends or goes on with a colon.
     SortKey,
 }
 
-/// The words of a row. A word that ends in `*` stands for each text with the beginning before its `*`.
+/// The words of a row. A word that ends in `*` matches each text that begins with the part before the `*`.
 #[derive(Drop)]
 pub struct WordList<'t> {
     /// The words.
     pub words: Vec<&'t [u8]>,
-    /// Whether ASCII case makes no difference.
+    /// Whether the words are compared ignoring ASCII case.
     pub ignores_case: bool,
-    /// How a text has to have them.
+    /// What a text has to be, given the words.
     pub form: Form,
 }
 
@@ -45,17 +45,17 @@ pub enum SettingKind<'t> {
     Text,
     /// A boolean text.
     Bool,
-    /// An integer text whose product lies from `low` to `high`.
+    /// An integer text whose product is at least `low` and at most `high`.
     Int { low: Amount, high: Amount },
-    /// An integer text whose product lies within 32 bits, or a boolean word.
+    /// An integer text whose product is a signed number of 32 bits, or a boolean word, or empty.
     BoolOrInt,
     /// A color text.
     Color,
-    /// A text with words of a list.
+    /// A text that is valid according to a list of words.
     Word(WordList<'t>),
 }
 
-/// Whether a byte stands between the words of a list.
+/// Whether a byte separates the words of a list.
 fn is_separator(byte: u8) -> bool
     ensures { result ≡ is_separator byte }
 {
@@ -69,7 +69,7 @@ fn has_digit(text: &[u8]) -> bool
     text.iter().any(|byte| byte.is_ascii_digit())
 }
 
-/// A text without this beginning, or all of it if it begins otherwise.
+/// A text without this prefix, or the whole text if it does not begin with the prefix.
 fn without_front<'a>(text: &'a [u8], front: &[u8]) -> &'a [u8]
     ensures { result.now ≡ without_front front.now text.now }
 {
@@ -80,7 +80,7 @@ fn without_front<'a>(text: &'a [u8], front: &[u8]) -> &'a [u8]
     }
 }
 
-/// The part of a key to sort by that begins with a name.
+/// A key to sort by without the prefixes `-`, `version:`, `v:` and `*`, in this order, if it has them.
 fn sort_name(text: &[u8]) -> &[u8]
     ensures { result.now ≡ sort_name text.now }
 {
@@ -89,7 +89,7 @@ fn sort_name(text: &[u8]) -> &[u8]
     without_front(plain, b"*")
 }
 
-/// What follows the name, or `None` if the text does not begin with it.
+/// What follows this name in a text, or `None` if the text does not begin with the name.
 fn after_name<'a>(text: &'a [u8], name: &[u8]) -> Option<&'a [u8]>
     ensures { MatchOption result ((rest : List ℕ) → text.now ≢ name.now ++ rest)
         (λ rest. text.now ≡ name.now ++ rest.now) }
@@ -97,7 +97,7 @@ fn after_name<'a>(text: &'a [u8], name: &[u8]) -> Option<&'a [u8]>
     text.strip_prefix(name)
 }
 
-/// Whether a name may end before this text.
+/// Whether the rest after a name is empty or begins with a colon.
 fn ends_name(rest: &[u8]) -> bool
     ensures { IsTrue result ↔ EndsName rest.now }
 {
@@ -107,7 +107,7 @@ fn ends_name(rest: &[u8]) -> bool
     }
 }
 
-/// Whether a text is this name, or this name and a colon with something after it.
+/// Whether a text is this name, or begins with this name and a colon.
 fn names(text: &[u8], name: &[u8]) -> bool
     ensures { IsTrue result ↔ Names text.now name.now }
 {
@@ -117,7 +117,7 @@ fn names(text: &[u8], name: &[u8]) -> bool
     }
 }
 
-/// So many first bytes of a text, or all if it has less.
+/// The first `count` bytes of a text, or the whole text if it is shorter.
 fn first_bytes(text: &[u8], count: usize) -> &[u8]
     ensures { result.now ≡ take count text.now }
 {
@@ -128,7 +128,7 @@ fn first_bytes(text: &[u8], count: usize) -> &[u8]
     }
 }
 
-/// What a word of a list has before the `*` at its end, or `None` if it does not end in one.
+/// The part of a word before its final `*`, or `None` if the word does not end in `*`.
 pub(crate) fn pattern_front(word: &[u8]) -> Option<&[u8]>
     ensures { MatchOption result ((front : List ℕ) → ¬ (IsPattern word.now front))
         (λ front. IsPattern word.now front.now) }
@@ -137,7 +137,7 @@ pub(crate) fn pattern_front(word: &[u8]) -> Option<&[u8]>
 }
 
 impl Form {
-    /// Whether it takes boolean texts.
+    /// Whether a list of this form also takes boolean texts.
     pub fn takes_booleans(&self) -> bool
         ensures { result ≡ takes_booleans self.now }
     {
@@ -146,7 +146,7 @@ impl Form {
 }
 
 impl<'t> WordList<'t> {
-    /// Whether a text is another one, in the case that this list asks for.
+    /// Whether a word and a text are the same, ignoring ASCII case if this list does.
     fn is_same(&self, word: &[u8], text: &[u8]) -> bool
         ensures { IsTrue result ↔ IsSame self.now.ignores_case word.now text.now }
     {
@@ -157,7 +157,7 @@ impl<'t> WordList<'t> {
         }
     }
 
-    /// Whether this word of the list stands for a text.
+    /// Whether this word of the list matches a text.
     fn is_word(&self, word: &[u8], text: &[u8]) -> bool
         ensures { IsTrue result ↔ IsWord self.now text.now word.now }
     {
@@ -167,7 +167,7 @@ impl<'t> WordList<'t> {
         }
     }
 
-    /// The first word of the list that stands for a text.
+    /// The first word of the list that matches a text, or `None` if no word matches it.
     pub fn find(&self, text: &[u8]) -> Option<&'t [u8]>
         ensures { MatchOption result (IsNoWord self.now text.now self.now.words.items)
             (IsFirstWord self.now text.now) }
@@ -181,7 +181,7 @@ impl<'t> WordList<'t> {
         None
     }
 
-    /// Whether a word of the list stands for a text.
+    /// Whether a word of the list matches a text.
     pub(crate) fn has(&self, text: &[u8]) -> bool
         ensures { IsTrue result ↔ HasWord self.now text.now }
     {
@@ -191,14 +191,14 @@ impl<'t> WordList<'t> {
         }
     }
 
-    /// Whether a piece of a list is empty, or a word of this list stands for it.
+    /// Whether a piece of a text is empty, or a word of this list matches it.
     fn takes_piece(&self, piece: &[u8]) -> bool
         ensures { IsTrue result ↔ IsPiece self.now piece.now }
     {
         piece.is_empty() || self.has(piece)
     }
 
-    /// Whether a text is a list of the words.
+    /// Whether a text is a list of the words, with separators between them.
     pub(crate) fn has_each(&self, text: &[u8]) -> bool
         ensures { IsTrue result ↔ AreWords self.now text.now }
     {
@@ -210,7 +210,7 @@ impl<'t> WordList<'t> {
         true
     }
 
-    /// Whether one of the words stands in a text, between bytes that are no letters.
+    /// Whether one of the words matches a piece of a text between bytes that are not letters.
     fn has_one(&self, text: &[u8]) -> bool
         ensures { IsTrue result ↔ Any (HasWord self.now) (slice_split is_no_letter text.now) }
     {
@@ -222,7 +222,7 @@ impl<'t> WordList<'t> {
         false
     }
 
-    /// Whether a text is a date.
+    /// Whether a text has a digit, or one of the words between bytes that are not letters.
     pub(crate) fn has_date(&self, text: &[u8]) -> bool
         ensures { IsTrue result ↔ HasDate self.now text.now }
     {
@@ -239,7 +239,7 @@ impl<'t> WordList<'t> {
 }
 
 impl SettingKind<'_> {
-    /// Whether a key alone is right if its row does not say so: Git reads it as true.
+    /// Whether a key alone, which Git reads as true, is right if its row has no mark that decides it.
     pub fn takes_true(&self) -> bool
         ensures { result ≡ takes_true self.now }
     {

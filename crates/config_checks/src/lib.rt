@@ -1,4 +1,4 @@
-//! What is wrong in configuration files.
+//! Finds wrong values, unknown keys and invalid lines in Git configuration files.
 #![tactic(auto)]
 
 pub mod check;

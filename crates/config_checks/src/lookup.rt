@@ -1,4 +1,4 @@
-//! Looks up the row of a key.
+//! Looks up the row that decides about a key.
 ghost use Rattle.std.specs.Prelude.{◌≡◌, ◌≤◌, [], length, take, IfOk, MatchOption};
 ghost use Rattle.config_checks.specs.Rows.{Decides, IsFirstCovering, IsUnknown, CoversNone, rows_of};
 
@@ -6,7 +6,7 @@ use crate::key::{Key, is_same_word};
 use crate::row::{Row, Run};
 use std::alloc::{AllocError, Global};
 
-/// The run that the rows begin with.
+/// The run that the rows begin with, or `None` if there are no rows.
 fn first_run<'r, 't>(rows: &'r [Row<'t>]) -> Option<Run<'r, 't>>
     ensures { MatchOption result (rows.now ≡ []) (λ run. (length run.rows.now ≤ length rows.now)
         × (run.rows.now ≡ take (length run.rows.now) rows.now)) }
@@ -22,7 +22,7 @@ fn first_run<'r, 't>(rows: &'r [Row<'t>]) -> Option<Run<'r, 't>>
     })
 }
 
-/// The rows, in order, as runs. Fails only if memory runs out.
+/// Divides rows into runs, in order. Returns an error only if memory runs out.
 pub fn runs_of<'r, 't>(alloc: Global, rows: &'r [Row<'t>]) -> Result<Vec<Run<'r, 't>>, AllocError>
     ensures { IfOk result (λ runs. rows_of runs.items ≡ rows.now) }
 {
@@ -35,7 +35,7 @@ pub fn runs_of<'r, 't>(alloc: Global, rows: &'r [Row<'t>]) -> Result<Vec<Run<'r,
     Ok(runs)
 }
 
-/// The first of these rows that covers a key.
+/// The first of these rows that covers a key, or `None` if no row covers it.
 fn first_covering<'r, 't>(rows: &'r [Row<'t>], key: &Key<'_>) -> Option<&'r Row<'t>>
     ensures { MatchOption result (CoversNone rows.now key.now)
         (λ row. IsFirstCovering rows.now key.now row.now) }
@@ -43,7 +43,7 @@ fn first_covering<'r, 't>(rows: &'r [Row<'t>], key: &Key<'_>) -> Option<&'r Row<
     rows.iter().find(|row| row.key.covers(key))
 }
 
-/// The first row that covers a key. `None` if no row covers it, or if the text is not a key.
+/// The first row that covers a key. Returns `None` if no row covers it, or if the text is not a key.
 pub fn row_for<'r, 't>(runs: &[Run<'r, 't>], key: &[u8]) -> Option<&'r Row<'t>>
     ensures { MatchOption result (IsUnknown (rows_of runs.now) key.now)
         (λ row. Decides (rows_of runs.now) key.now row.now) }

@@ -3,16 +3,16 @@
 /// How findings are written.
 #[derive(Clone, Copy)]
 pub enum Format {
-    /// Each as a line of text.
+    /// Each finding is a line of text.
     Text,
-    /// Each as a JSON object on a line of its own.
+    /// Each finding is a JSON object on a line of its own.
     Json,
 }
 
 /// The options of a check.
 #[derive(Clone, Copy)]
 pub struct Options {
-    /// Whether valid values are reported too if they are not spelled canonically.
+    /// Whether valid values are also reported if they should be spelled in another way.
     pub canonical: bool,
     /// How findings are written.
     pub format: Format,

@@ -1,4 +1,4 @@
-//! Why a setting is wrong.
+//! Why the value of a setting is wrong, and how a valid value should be spelled.
 ghost use Rattle.std.specs.Prelude.{◌≡◌, ◌↔◌, IsTrue, IfOk, option_copied, None, Some};
 ghost use Rattle.config_text.specs.declared.errors.Fault.TheVariants as faults;
 ghost use Rattle.gix_config_value.specs.Kinds.{KindGrammar, KindCanonical};
@@ -22,7 +22,7 @@ use gix_config_value::integer::Amount;
 use gix_config_value::{Boolean, Color, Fault};
 use std::alloc::{AllocError, Global};
 
-/// The most bytes of a word that is never meant: one edit makes another word of it.
+/// A word of at most this many bytes is never suggested, since one edit turns it into another word.
 const SHORT: usize = 2;
 
 /// Why a setting is wrong, or how it should be spelled.
@@ -30,38 +30,37 @@ const SHORT: usize = 2;
 pub enum Reason<'r, 't> {
     /// It has no value, and needs one.
     NoValue,
-    /// The reader of its kind refuses its text.
+    /// The reader of its kind refuses its value.
     Refused(Fault),
-    /// It is a number, but not from `low` to `high`.
+    /// Its value is a number, but less than `low` or greater than `high`.
     OutOfRange {
         low: Amount,
         high: Amount,
     },
-    /// It does not have the words of this list as the list asks for. `meant` is the nearest word, if one is
-    /// near.
+    /// Its value is wrong according to this list of words. `meant` is the nearest word, if a word is near.
     NoWord {
         list: &'r WordList<'t>,
         meant: Option<&'t [u8]>,
     },
-    /// It is valid, and this is its canonical text.
+    /// Its value is valid, but differs from this, its canonical text.
     NotCanonical(CanonicalText),
-    /// It is valid, and its list spells the word like this.
+    /// Its value is valid, but is this word of the list in another case.
     OtherCase(&'t [u8]),
 }
 
 /// How bad a finding is.
 #[derive(Clone, Copy)]
 pub enum Severity {
-    /// A command of Git ends at it.
+    /// A Git command fails because of it.
     Error,
-    /// Git warns of it, or ignores it.
+    /// Git warns about the value or ignores it, or the key is unknown.
     Warning,
-    /// Git reads it as any other spelling of the same value.
+    /// The value is valid, but it should be spelled in another way.
     Note,
 }
 
 impl Reason<'_, '_> {
-    /// How bad it is at a setting of a row, by whether Git goes on at a wrong value.
+    /// The severity of this reason, given whether Git continues after a wrong value of the setting.
     pub fn severity(&self, goes_on: bool) -> Severity
         ensures { result ≡ severity_of goes_on self.now }
     {
@@ -74,7 +73,7 @@ impl Reason<'_, '_> {
     }
 }
 
-/// Why a reader refuses a text.
+/// Why the reader of a type refuses a text, or `None` if it accepts the text.
 fn refusal_by<'r, 't, V: TryRead>(text: &[u8]) -> Option<Reason<'r, 't>>
     ensures { IsJudged V.grammar V.refusal text.now result }
 {
@@ -84,10 +83,10 @@ fn refusal_by<'r, 't, V: TryRead>(text: &[u8]) -> Option<Reason<'r, 't>>
     }
 }
 
-/// The least number of 32 bits.
+/// The least signed number of 32 bits.
 pub(crate) const LEAST_INT: Amount = Amount(-2147483648);
 
-/// The greatest number of 32 bits.
+/// The greatest signed number of 32 bits.
 pub(crate) const GREATEST_INT: Amount = Amount(2147483647);
 
 /// Whether a number lies in a range, both ends included.
@@ -97,7 +96,7 @@ fn is_within(amount: Amount, low: Amount, high: Amount) -> bool
     low.0 <= amount.0 && amount.0 <= high.0
 }
 
-/// Why a number is wrong that has to lie in a range.
+/// Why a text is not a number in a range, or `None` if it is one.
 fn number_reason<'r, 't>(text: &[u8], low: Amount, high: Amount) -> Option<Reason<'r, 't>>
     ensures { IsJudgedWithin low high text.now result }
 {
@@ -108,7 +107,7 @@ fn number_reason<'r, 't>(text: &[u8], low: Amount, high: Amount) -> Option<Reaso
     }
 }
 
-/// Whether a text is an integer text of 32 bits.
+/// Whether a text is an integer text whose product is a signed number of 32 bits.
 fn is_int(text: &[u8]) -> bool
     ensures { IsTrue result ↔ IsInt text.now }
 {
@@ -118,7 +117,7 @@ fn is_int(text: &[u8]) -> bool
     }
 }
 
-/// Why a text that has to be a boolean or a number is wrong.
+/// Why a text is wrong as a boolean or a number of 32 bits, or `None` if it is right.
 fn boolean_or_number_reason<'r, 't>(text: &[u8]) -> Option<Reason<'r, 't>>
     ensures { IsJudgedBoolOrInt text.now result }
 {
@@ -142,7 +141,7 @@ fn is_boolean(text: &[u8]) -> bool
     }
 }
 
-/// Whether a text is right that is not one word of a list.
+/// Whether the form of a list takes a text, even if no word of the list matches all of it.
 fn is_taken_by_form(list: &WordList<'_>, text: &[u8]) -> bool
     ensures { IsTrue result ↔ IsTakenByForm list.now text.now list.now.form }
 {
@@ -156,8 +155,8 @@ fn is_taken_by_form(list: &WordList<'_>, text: &[u8]) -> bool
     }
 }
 
-/// How many edits lead from a word of a list to a text. `None` if they are not few, or if the word is never
-/// meant: it is short, or ends in `*`.
+/// How many edits lead from a word of a list to a text. `None` if the two are not near, or if the word is
+/// never suggested because it is short or ends in `*`.
 fn word_edits(alloc: Global, word: &[u8], text: &[u8]) -> Result<Option<usize>, AllocError>
     ensures { IfOk result (λ r. IsFew (WordEdits text.now word.entry) r) }
 {
@@ -167,7 +166,7 @@ fn word_edits(alloc: Global, word: &[u8], text: &[u8]) -> Result<Option<usize>, 
     }
 }
 
-/// The first of the words that the fewest edits lead from, if they are few.
+/// The first of the words that are nearest to a text, or `None` if no word is near.
 fn nearest_word<'t>(
     alloc: Global,
     words: &[&'t [u8]],
@@ -188,7 +187,7 @@ fn nearest_word<'t>(
     Ok(best.copied())
 }
 
-/// Why a text is wrong that has to have the words of a list.
+/// Why a text is wrong according to a list of words, or `None` if it is right.
 fn word_reason<'r, 't>(
     alloc: Global,
     list: &'r WordList<'t>,
@@ -203,7 +202,7 @@ fn word_reason<'r, 't>(
     Ok(Some(Reason::NoWord { list, meant }))
 }
 
-/// Why a text is wrong as the value of a setting of a kind.
+/// Why a text is wrong as a value of this kind, or `None` if it is right.
 fn text_reason<'r, 't>(
     alloc: Global,
     kind: &'r SettingKind<'t>,
@@ -221,8 +220,8 @@ fn text_reason<'r, 't>(
     }
 }
 
-/// Why the value of a setting is wrong by its row, or `None` if it is valid. `value` is `None` for a key
-/// alone. An error if there was no memory to find the word that is meant.
+/// Returns why the value of a setting is wrong by its row, or `None` if it is valid. `value` is `None` for a
+/// key alone. Returns an error if there is no memory to find the nearest word.
 pub fn judge<'r, 't>(
     alloc: Global,
     row: &'r Row<'t>,
@@ -260,8 +259,7 @@ fn respelled_boolean_or_number<'r, 't>(text: &[u8]) -> Option<Reason<'r, 't>>
     }
 }
 
-/// The word of a list in its own case, or `None` if the text has it so, or is another text that it stands
-/// for.
+/// The word that matches a text, if the text is the same word in another case, and otherwise `None`.
 fn respelled_as<'r, 't>(word: &'t [u8], text: &[u8]) -> Option<Reason<'r, 't>>
     ensures { IsRespelledAs text.now word.entry result }
 {
@@ -271,7 +269,8 @@ fn respelled_as<'r, 't>(word: &'t [u8], text: &[u8]) -> Option<Reason<'r, 't>>
     Some(Reason::OtherCase(word))
 }
 
-/// The canonical text of a text that is not one word of a list, or `None` if it has no other.
+/// The canonical text of a text that no word matches. `None` if it is canonical, or if its form has no
+/// canonical texts.
 fn respelled_by_form<'r, 't>(list: &WordList<'_>, text: &[u8]) -> Option<Reason<'r, 't>>
     requires { IsTakenByForm list.now text.now list.now.form }
     ensures { IsRespelledByForm list.now.form text.now result }
@@ -283,7 +282,7 @@ fn respelled_by_form<'r, 't>(list: &WordList<'_>, text: &[u8]) -> Option<Reason<
     }
 }
 
-/// The canonical text of a text with words of a list, or `None` if the text is canonical.
+/// How a text that a list takes should be spelled, or `None` if it needs no other spelling.
 fn respelled_word<'r, 't>(list: &WordList<'t>, text: &[u8]) -> Option<Reason<'r, 't>>
     requires { IsTaken list.now text.now }
     ensures { IsRespelledByWords list.now text.now result }
@@ -309,7 +308,7 @@ fn respelled<'r, 't>(kind: &SettingKind<'t>, text: &[u8]) -> Option<Reason<'r, '
     }
 }
 
-/// How a valid value should be spelled, if canonical texts are wanted. `None` if it has no other spelling.
+/// How a valid value should be spelled. `None` if it is spelled so, or if canonical texts are not wanted.
 fn spelled<'r, 't>(
     row: &'r Row<'t>,
     value: Option<&[u8]>,
@@ -324,9 +323,9 @@ fn spelled<'r, 't>(
     respelled(&row.kind, value?)
 }
 
-/// Why the value of a setting is wrong by its row or, if it is valid and canonical texts are wanted, how it
-/// should be spelled. `None` if nothing is wrong. An error if there was no memory to find the word that is
-/// meant.
+/// Returns why the value of a setting is wrong by its row or, if it is valid and canonical texts are wanted,
+/// how it should be spelled. Returns `None` if there is nothing to report, and an error if there is no memory
+/// to find the nearest word. `value` is `None` for a key alone.
 pub fn find<'r, 't>(
     alloc: Global,
     row: &'r Row<'t>,

@@ -1,4 +1,4 @@
-//! Rows: a key, and what the values of the settings that it covers have to be.
+//! Rows of the checker's table, which say what the values of settings have to be.
 ghost use Rattle.std.specs.Prelude.{◌<◌, length};
 ghost use Rattle.std.specs.List.{All};
 ghost use Rattle.config_text.specs.SameWord.{SameWord};
@@ -6,20 +6,20 @@ ghost use Rattle.config_text.specs.SameWord.{SameWord};
 use crate::key::Key;
 use crate::kind::SettingKind;
 
-/// A key, and what the values of all settings whose keys it covers have to be.
+/// A row says what the value of a setting has to be if the key of the row covers the setting's key.
 #[derive(Drop)]
 pub struct Row<'t> {
-    /// The key, which may have `*` between its dots and as its last part.
+    /// The key, which may have `*` as its subsection and as its last part.
     pub key: Key<'t>,
-    /// Whether a key alone is right.
+    /// Whether a key alone, which has no value, is right.
     pub takes_no_value: bool,
-    /// Whether Git goes on at a wrong value: it warns of it, or ignores it.
+    /// Whether Git continues after a wrong value, since it only warns about the value or ignores it.
     pub goes_on: bool,
-    /// The kind of their values.
+    /// The kind of value that these settings need.
     pub kind: SettingKind<'t>,
 }
 
-/// Rows of one section that follow each other. A search skips most runs by their section.
+/// Consecutive rows of one section. A search skips most runs, because it first compares their sections.
 #[derive(Clone, Copy)]
 pub struct Run<'r, 't> {
     /// The section of each of the rows, ignoring ASCII case.

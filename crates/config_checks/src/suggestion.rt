@@ -17,11 +17,11 @@ use crate::key::{ANY, Key, covers_between, is_same_word};
 use crate::row::{Row, Run};
 use std::alloc::{AllocError, Global};
 
-/// The bytes of a section that is long.
+/// A section of at least this many bytes is long.
 const LONG_SECTION: usize = 8;
 
-/// How many edits lead from one part between dots to the other. `None` if they are not few, or if one is not
-/// there.
+/// How many edits lead from one subsection to the other. `None` if they are not near, or if a key has no
+/// subsection.
 fn between_edits(
     alloc: Global,
     row: Option<&[u8]>,
@@ -35,14 +35,14 @@ fn between_edits(
     }
 }
 
-/// Whether the last part of a row's key covers that of a key.
+/// Whether the last part of a row's key covers the last part of a key.
 fn covers_last(row: &[u8], last: &[u8]) -> bool
     ensures { IsTrue result ↔ CoversLast row.now last.now }
 {
     row == ANY || is_same_word(row, last)
 }
 
-/// As how many edits a word counts that one last part lacks. `None` if neither lacks a word.
+/// Three edits if one last part is long and only lacks a run of bytes of the other, and otherwise `None`.
 fn edits_of_word(alloc: Global, row: &[u8], last: &[u8]) -> Result<Option<usize>, AllocError>
     ensures { IfOk result (λ r. MatchOption r (¬ (LacksWord row.now last.now ⊎ LacksWord last.now row.now))
         (λ n. (LacksWord row.now last.now ⊎ LacksWord last.now row.now) × (n ≡ 3))) }
@@ -53,8 +53,8 @@ fn edits_of_word(alloc: Global, row: &[u8], last: &[u8]) -> Result<Option<usize>
     Ok(None)
 }
 
-/// How many edits lead from the one last part to the other. `None` if they are not few, nor one part lacks a
-/// word.
+/// How many edits lead from one last part to the other, if they are near. If they are not, a missing run of
+/// bytes counts as three edits in a key without a subsection. `None` in all other cases.
 fn last_edits(alloc: Global, row: &Key<'_>, key: &Key<'_>) -> Result<Option<usize>, AllocError>
     ensures { IfOk result (λ r. IsFew (LastEdits row.now key.now) r) }
 {
@@ -67,8 +67,8 @@ fn last_edits(alloc: Global, row: &Key<'_>, key: &Key<'_>) -> Result<Option<usiz
     }
 }
 
-/// How many edits lead from the key of a row to a key of its section, if they differ in one part alone.
-/// `None` if they are not few.
+/// How many edits lead from the key of a row to a key with the same section. `None` unless the two keys are
+/// near, and so differ in exactly one part.
 fn edits_after(alloc: Global, row: &Key<'_>, key: &Key<'_>) -> Result<Option<usize>, AllocError>
     ensures { IfOk result (λ r. IsFew (EditsAfter row.now key.now) r) }
 {
@@ -82,8 +82,8 @@ fn edits_after(alloc: Global, row: &Key<'_>, key: &Key<'_>) -> Result<Option<usi
     }
 }
 
-/// How many edits lead from the key of a row to a key, if they differ in one part alone. `None` if they are
-/// not few. `is_same` says whether the sections are the same.
+/// How many edits lead from the key of a row to a key. `None` unless the two keys are near, and so differ in
+/// exactly one part. `is_same` says whether the sections are the same.
 fn one_part_edits(
     alloc: Global,
     is_same: bool,
@@ -102,8 +102,8 @@ fn one_part_edits(
     Ok(None)
 }
 
-/// The first of the rows whose key the fewest edits lead from, or `None` if no key is near.
-// Most runs are skipped at once, since their sections' lengths differ by too much.
+/// The first of the rows whose keys are nearest to a key, or `None` if no row's key is near.
+// Most runs are skipped at once, since the lengths of the sections differ by too much.
 fn nearest<'r, 't>(
     alloc: Global,
     runs: &[Run<'r, 't>],
@@ -132,14 +132,14 @@ fn nearest<'r, 't>(
     Ok(best)
 }
 
-/// What stands for a part of a row's key: for `*` the part of the key, and else itself.
+/// The part of the key if the part of the row's key is `*`, and otherwise the row's part.
 fn filled<'k>(row: &'k [u8], part: &'k [u8]) -> &'k [u8]
     ensures { Fills row.now part.now result.now }
 {
     if row == ANY { part } else { row }
 }
 
-/// The same of the parts between the dots.
+/// The same for subsections. If one of the keys has no subsection, the result is that of the row's key.
 fn filled_between<'k>(row: Option<&'k [u8]>, between: Option<&'k [u8]>) -> Option<&'k [u8]>
     ensures { FillsBetween row.entry between.entry result }
 {
@@ -149,7 +149,7 @@ fn filled_between<'k>(row: Option<&'k [u8]>, between: Option<&'k [u8]>) -> Optio
     }
 }
 
-/// The key of a row, with the parts of a key for its `*`.
+/// The key of a row, in which the parts of a key replace `*`.
 fn filled_key<'k>(row: &Key<'k>, key: &Key<'k>) -> Key<'k>
     ensures { FillsKey row.now key.now result }
 {
@@ -160,8 +160,8 @@ fn filled_key<'k>(row: &Key<'k>, key: &Key<'k>) -> Key<'k>
     }
 }
 
-/// Whether a section also has settings that the rows do not have: those of Git for Windows and of credential
-/// helpers, what git-gui stores, what people note of themselves, and the advice of later Gits.
+/// Whether a section also has settings without a row: those of Git for Windows and of credential helpers,
+/// what git-gui stores, what users record about themselves, and the advice of later Gits.
 fn is_shared(section: &[u8]) -> bool
     ensures { IsTrue result ↔ IsShared section.now }
 {
@@ -172,7 +172,7 @@ fn is_shared(section: &[u8]) -> bool
         || is_same_word(b"user", section)
 }
 
-/// Whether a section is one of the rows'.
+/// Whether a row has this section, ignoring ASCII case.
 fn has_section(runs: &[Run<'_, '_>], section: &[u8]) -> bool
     ensures { IsTrue result ↔ HasSection (rows_of runs.now) section.now }
 {
@@ -184,7 +184,7 @@ fn has_section(runs: &[Run<'_, '_>], section: &[u8]) -> bool
     false
 }
 
-/// Whether a key has no part between dots, and a section of the rows in which only they have settings.
+/// Whether a key has no subsection, and a section of the rows that has no settings without a row.
 fn is_own(runs: &[Run<'_, '_>], key: &Key<'_>) -> bool
     ensures { IsTrue result ↔ IsOwn (rows_of runs.now) key.now }
 {
@@ -194,17 +194,17 @@ fn is_own(runs: &[Run<'_, '_>], key: &Key<'_>) -> bool
     }
 }
 
-/// A key that no row covers.
+/// A key that no row covers and that a check reports.
 #[derive(Clone, Copy)]
 pub struct UnknownKey<'k> {
-    /// The nearest key of the rows, if one is near.
+    /// The nearest key of the rows if a key is near, with parts of the unknown key in place of `*`.
     pub nearest: Option<Key<'k>>,
 }
 
-/// A key that is misspelt, of those that no row covers: it is near a row's key, or it has no part between dots
-/// and a section in which only the rows have settings. Near are keys that differ in one part: by one edit, by
-/// two if the part is long in both, or in the last one of two by a word that one of them lacks. `None` for any
-/// other key. An error if there was no memory.
+/// Returns the unknown key if a check should report it: it is near the key of a row, or it has no subsection,
+/// and only rows have settings in its section. Two keys are near if they differ in exactly one part: by one
+/// edit, by two if the part is long in both or, in the last part of a key without a subsection, by a missing
+/// run of bytes. Returns `None` for any other text, and an error if there is no memory.
 pub(crate) fn unknown_key<'k>(
     alloc: Global,
     runs: &[Run<'_, 'k>],
@@ -226,7 +226,7 @@ pub(crate) fn unknown_key<'k>(
     }
 }
 
-/// Appends a part of a key, and a dot.
+/// Appends a part of a key and a dot.
 fn push_dotted(out: &mut Vec<u8>, part: &[u8]) -> Result<(), AllocError>
     ensures ok { OnOk result (out.new.items ≡ out.old.items ++ dotted part.now) }
     ensures err { OnErr result (AppendsPart (Some out.old.items) (Some out.new.items) (dotted part.now)) }
@@ -235,7 +235,7 @@ fn push_dotted(out: &mut Vec<u8>, part: &[u8]) -> Result<(), AllocError>
     out.extend_from_slice(b".")
 }
 
-/// Appends the part between dots, if there is one, and a dot.
+/// Appends the subsection and a dot, if there is a subsection.
 fn push_between(out: &mut Vec<u8>, between: Option<&[u8]>) -> Result<(), AllocError>
     ensures ok { OnOk result (out.new.items ≡ out.old.items ++ between_shown between.entry) }
     ensures err { OnErr result (AppendsPart (Some out.old.items) (Some out.new.items)
@@ -247,7 +247,7 @@ fn push_between(out: &mut Vec<u8>, between: Option<&[u8]>) -> Result<(), AllocEr
     }
 }
 
-/// Appends what follows the section of a key.
+/// Appends what follows the section of a key and its dot.
 fn push_after(out: &mut Vec<u8>, key: &Key<'_>) -> Result<(), AllocError>
     ensures ok { OnOk result (out.new.items ≡ out.old.items ++ after_shown key.now) }
     ensures err { OnErr result (AppendsPart (Some out.old.items) (Some out.new.items) (after_shown key.now)) }
@@ -265,7 +265,7 @@ fn push_key(out: &mut Vec<u8>, key: &Key<'_>) -> Result<(), AllocError>
     push_after(out, key)
 }
 
-/// Appends a key, and a question mark.
+/// Appends a key and a question mark.
 fn push_asked(out: &mut Vec<u8>, key: &Key<'_>) -> Result<(), AllocError>
     ensures ok { OnOk result (out.new.items ≡ out.old.items ++ asked key.now) }
     ensures err { OnErr result (AppendsPart (Some out.old.items) (Some out.new.items) (asked key.now)) }
@@ -284,8 +284,8 @@ fn push_meant(out: &mut Vec<u8>, front: &str, key: &Key<'_>) -> Result<(), Alloc
     push_asked(out, key)
 }
 
-/// Appends what is said of an unknown key. If there is no memory for all of it, `out` keeps what it had, and
-/// some first bytes of the text may follow.
+/// Appends the text about an unknown key. If there is no memory for all of it, `out` keeps what it had, and a
+/// prefix of the text may follow.
 pub fn push_unknown(out: &mut Vec<u8>, unknown: &UnknownKey<'_>) -> Result<(), AllocError>
     ensures ok { OnOk result (out.new.items ≡ out.old.items ++ unknown_text unknown.now) }
     ensures err { OnErr result (AppendsPart (Some out.old.items) (Some out.new.items)

@@ -1,4 +1,4 @@
-//! Rows in their text form, one a line.
+//! Reads rows from text, in which each line is a row, a comment or blank.
 ghost use Rattle.std.specs.Prelude.{◌≡◌, ◌≢◌, Bool, Some, [], map, IfOk, IfErr, OnOk, OnErr, MatchOption};
 ghost use Rattle.config_checks.specs.declared.kind.SettingKind as kinds;
 ghost use Rattle.config_checks.specs.declared.kind.Form as forms;
@@ -29,13 +29,13 @@ pub enum RowFault {
     /// No kind has the name after its key and its marks.
     #[error("no such kind")]
     UnknownKind,
-    /// Its kind needs words, and there are none.
+    /// Its kind needs words, but no word follows it.
     #[error("no words after the kind")]
     NoWords,
-    /// It has words after a kind that takes none.
+    /// It has words after a kind that takes no words.
     #[error("words after a kind without words")]
     Words,
-    /// After `int` it has something else than two integer texts.
+    /// After `int` it has something other than two integer texts.
     #[error("the bounds are not two integers")]
     Bounds,
     /// There was no memory to hold the row.
@@ -59,7 +59,7 @@ fn is_blank(byte: u8) -> bool
     byte == b' ' || byte == b'\t' || byte == b'\r'
 }
 
-/// The fields of a line, which blanks separate.
+/// The fields of a line, which are separated by blanks.
 fn fields_of<'t>(alloc: Global, line: &'t [u8]) -> Result<Vec<&'t [u8]>, AllocError>
     ensures { IfOk result (λ v. map (λ field. field.now) v.items ≡ fields_of line.now) }
 {
@@ -72,7 +72,8 @@ fn fields_of<'t>(alloc: Global, line: &'t [u8]) -> Result<Vec<&'t [u8]>, AllocEr
     Ok(fields)
 }
 
-/// Whether a row says that a key alone is right, or that it is wrong, and the fields after this mark.
+/// Whether the fields begin with the mark `alone` (true), `needs-value` (false) or neither, and the fields
+/// after the mark.
 fn cut_alone<'f, 't>(fields: &'f [&'t [u8]]) -> (Option<bool>, &'f [&'t [u8]])
     ensures { CutsAlone (map (λ field. field.now) fields.now) result.0
         (map (λ field. field.now) result.1.now) }
@@ -84,7 +85,7 @@ fn cut_alone<'f, 't>(fields: &'f [&'t [u8]]) -> (Option<bool>, &'f [&'t [u8]])
     }
 }
 
-/// Whether a row says that Git goes on at wrong values, and the fields after this mark.
+/// Whether the fields begin with the mark `warn`, and the fields after the mark.
 fn cut_warn<'f, 't>(fields: &'f [&'t [u8]]) -> (bool, &'f [&'t [u8]])
     ensures { CutsWarn (map (λ field. field.now) fields.now) result.0
         (map (λ field. field.now) result.1.now) }
@@ -95,7 +96,7 @@ fn cut_warn<'f, 't>(fields: &'f [&'t [u8]]) -> (bool, &'f [&'t [u8]])
     }
 }
 
-/// The kind with this name, of those with nothing after it.
+/// The kind with this name, if it is a kind without words and bounds.
 fn plain_kind(name: &[u8]) -> Option<SettingKind<'static>>
     ensures { MatchOption result ((k : kinds.SettingKind) → plain_name k ≢ Some name.now)
         (λ k. (plain_name k ≡ Some name.now) × IsKind name.now [] k) }
@@ -113,7 +114,7 @@ fn plain_kind(name: &[u8]) -> Option<SettingKind<'static>>
     }
 }
 
-/// The form with this name.
+/// The form with this name, or `None` if no form has this name.
 fn form_of(name: &[u8]) -> Option<Form>
     ensures { MatchOption result ((form : forms.Form) → form_name form ≢ name.now)
         (λ form. form_name form ≡ name.now) }
@@ -135,7 +136,7 @@ fn form_of(name: &[u8]) -> Option<Form>
     }
 }
 
-/// Whether the kind of words with this name ignores case, and its form.
+/// Whether the kind with this name ignores ASCII case, and its form, if it is a kind with words.
 fn words_kind(name: &[u8]) -> Option<(bool, Form)>
     ensures { MatchOption result ((ignores : Bool) (form : forms.Form) → words_name ignores form ≢ name.now)
         (λ p. words_name p.0 p.1 ≡ name.now) }
@@ -146,7 +147,8 @@ fn words_kind(name: &[u8]) -> Option<(bool, Form)>
     }
 }
 
-/// The bounds of `int` with these words after it.
+/// The bounds of `int` by the words after it: two integer texts, or the range of 32 bits if there are no
+/// words. `None` for any other words.
 fn bounds_of(words: &[&[u8]]) -> Option<(Amount, Amount)>
     ensures { MatchOption result
         ((low high : Amount) → ¬ (IsBounds (map (λ word. word.now) words.now) low high))
@@ -167,7 +169,7 @@ fn bounds_of(words: &[&[u8]]) -> Option<(Amount, Amount)>
     }
 }
 
-/// The kind with this name and these words.
+/// The kind with this name and these words after it, or why there is no such kind.
 fn kind_of<'t>(alloc: Global, name: &[u8], words: &[&'t [u8]]) -> Result<SettingKind<'t>, RowFault>
     ensures kind { IfOk result (IsKind name.now (map (λ word. word.now) words.now)) }
     ensures refused { IfErr result (IsBadKind name.now (map (λ word. word.now) words.now)) }
@@ -197,7 +199,8 @@ fn kind_of<'t>(alloc: Global, name: &[u8], words: &[&'t [u8]]) -> Result<Setting
     }))
 }
 
-/// Reads the row of a line, or `None` if the line is empty or a comment.
+/// Reads the row on a line. Returns `None` if the line is blank or a comment, and an error if it is not a
+/// row, or if memory runs out.
 pub fn read_row<'t>(alloc: Global, line: &'t [u8]) -> Result<Option<Row<'t>>, RowFault>
     ensures row { IfOk result
         (λ r. MatchOption r (IsNoRow (fields_of line.now)) (IsRow (fields_of line.now))) }
@@ -227,7 +230,7 @@ pub fn read_row<'t>(alloc: Global, line: &'t [u8]) -> Result<Option<Row<'t>>, Ro
     }))
 }
 
-/// Appends the row of a line, if the line has one.
+/// Appends the row on a line, if the line has one.
 fn push_row<'t>(alloc: Global, rows: &mut Vec<Row<'t>>, line: &'t [u8]) -> Result<(), RowFault>
     ensures adds { OnOk result (AddsRow line.now rows.old.items rows.new.items) }
     ensures refused { IfErr result (IsBadRow (fields_of line.now)) }
@@ -242,8 +245,8 @@ fn push_row<'t>(alloc: Global, rows: &mut Vec<Row<'t>>, line: &'t [u8]) -> Resul
     }
 }
 
-/// Appends the rows of a text, in the order of its lines. If a line is not a row, only the rows of the lines
-/// before it are appended.
+/// Appends the rows of a text, in the order of its lines, and skips blank lines and comments. If another line
+/// is not a row, or memory runs out, only the rows of the lines before it are appended.
 pub fn read_rows<'t>(alloc: Global, text: &'t [u8], rows: &mut Vec<Row<'t>>) -> Result<(), BadRow>
     ensures adds { OnOk result (AddsRows (lines_of text.now) rows.old.items rows.new.items) }
     ensures refused { IfErr result (IsBadLine text.now rows.old.items rows.new.items) }

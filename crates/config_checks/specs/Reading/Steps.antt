@@ -1,4 +1,4 @@
--- How far a check has come.
+-- What the steps of a check count and write.
 use Rattle.std.specs.Prelude.{◌≡◌, ⊤, ℕ, ◌+◌, ◌^◌, ◌<◌, ◌≤◌, List, Option, None, Some}
 use Rattle.std.specs.Io.KnownBytes.{Appends}
 use Rattle.config_file.specs.declared.errors.Error as errors
@@ -11,14 +11,14 @@ use Rattle.config_checks.specs.declared.check.CheckError.TheVariants.{Write, Mem
 use Rattle.config_checks.specs.Findings.{AppendsPart}
 use Rattle.config_checks.specs.Report.{ReportsSetting, Report, EndsReport, HasSettings}
 
--- no count is over that of the entries
+-- no count is greater than that of the entries
 pub record AreWithin (s : Counts) : Type 0 where
   pub unknown : s.unknown ≤ s.entries
   pub findings : s.findings ≤ s.entries
   pub errors : s.errors ≤ s.entries
   pub warnings : s.warnings ≤ s.entries
 
--- each count fits, and leaves room for one more
+-- one more entry can be counted, and no count is greater than that of the entries
 pub record HasRoom (s : Counts) : Type 0 where
   pub entries : s.entries + 1 < 2 ^ 64
   pub others : AreWithin s
@@ -28,12 +28,12 @@ pub record HasRoomForFinding (s : Counts) : Type 0 where
   pub errors : s.errors + 1 < 2 ^ 64
   pub warnings : s.warnings + 1 < 2 ^ 64
 
--- a setting was counted, and its line written
+-- the setting is counted, and its line is written
 abbrev pub Reports : List Row → Options → Setting → Counts → Counts → Option (List ℕ) → Option (List ℕ) → Type 0
 Reports rows options setting s s' contents contents' =
     (line : List ℕ) × ReportsSetting rows options setting s line s' × Appends contents contents' line
 
--- at an error a beginning of a line is written, and nothing of it if memory ran out
+-- a prefix of such a line is written if a write failed, and nothing is written if memory ran out
 abbrev pub WritesPart : Option (List ℕ) → Option (List ℕ) → (List ℕ → Type 0) → CheckError → Type 0
 WritesPart contents contents' IsLine (Write e) = (line : List ℕ) × IsLine line × AppendsPart contents contents' line
 WritesPart contents contents' IsLine (Memory e) = contents' ≡ contents
@@ -42,7 +42,7 @@ abbrev pub ReportsPart : List Row → Options → Setting → Counts → Option 
 ReportsPart rows options setting s contents contents' e =
     WritesPart contents contents' (λ line. (s' : Counts) × ReportsSetting rows options setting s line s') e
 
--- the line of a refused file was written, if the file is refused
+-- if the file is refused, the line of its error is written and counted
 abbrev pub Tells : Options → List ℕ → Option errors.Error → Counts → Counts → Option (List ℕ) → Option (List ℕ) → Type 0
 Tells options file error s s' contents contents' =
     (line : List ℕ) × EndsReport options file error s line s' × Appends contents contents' line
@@ -51,24 +51,24 @@ abbrev pub TellsPart : Options → List ℕ → Option errors.Error → Counts �
 TellsPart options file error s contents contents' e =
     WritesPart contents contents' (λ line. (s' : Counts) × EndsReport options file error s line s') e
 
--- the lines of settings were written
+-- the lines of these settings are written
 abbrev pub ReportsAll : List Row → Options → List Setting → Option (List ℕ) → Option (List ℕ) → Counts → Type 0
 ReportsAll rows options settings contents contents' s =
     (lines : List ℕ) × Appends contents contents' lines × Report rows options settings lines s
 
--- the lines of the settings of a file were written, up to its end or to this error
+-- the lines of the settings of a file are written, up to its end or to this error
 pub record ReportsEntries (rows : List Row) (options : Options) (file text : List ℕ) (contents contents' : Option (List ℕ))
     (s : Counts) (error : Option errors.Error) : Type 0 where
   pub settings : List Setting
   pub of_file : HasSettings file text settings error
   pub all : ReportsAll rows options settings contents contents' s
 
--- a number of edits that such edits have, if it is three at most
+-- the number of edits, or `None` if there is no such number of at most three
 abbrev pub IsFew : (ℕ → Type 0) → Option ℕ → Type 0
 IsFew AreEdits None = (n : ℕ) → AreEdits n → 3 < n
 IsFew AreEdits (Some n) = AreEdits n × (n ≤ 3)
 
--- a write failed
+-- the error is a failed write
 abbrev pub IsWrite : CheckError → Type 0
 IsWrite (Write e) = ⊤
 IsWrite (Memory e) = ⊥
