@@ -87,8 +87,8 @@ def keys(group, program):
     how = arguments(program.settings(rows.SETTINGS))
     expect_entries(group, program, how, [
         (made.line_of(key, b"x"), shown or listed(key), b"x", rows.INTEGER_FAULT) for key, shown in rows.KNOWN_KEYS])
-    expect_unknown(group, program, how, rows.MISSPELT_KEYS + [(key, None) for key in rows.OWN_KEYS])
-    expect_unknown(group, program, ["-"], rows.MISSPELT_BUILT_IN)
+    expect_unknown(group, program, how, rows.MISSPELLED_KEYS + [(key, None) for key in rows.OWN_KEYS])
+    expect_unknown(group, program, ["-"], rows.MISSPELLED_BUILT_IN)
     for key in rows.UNKNOWN_KEYS + rows.UNKNOWN_BUILT_IN:
         entry = made.line_of(key, b"x")
         group.expect(entry, ended(b"", (1, 0, 1, 0)), program.run(how, entry))

@@ -335,7 +335,7 @@ KNOWN_KEYS = [
 # keys that no row covers, and the suggested key: one part differs by one edit, or by two if both texts have five bytes
 # (eight in a section); a swap of neighbors is one edit, and a run of bytes in the last part of two is three; the key of
 # the nearest row is suggested, or of the first of several
-MISSPELT_KEYS = [
+MISSPELLED_KEYS = [
     (b"test.in", b"test.int"), (b"test.intt", b"test.int"), (b"tes.int", b"test.int"), (b"testt.int", b"test.int"),
     (b"test.nit", b"test.int"), (b"tset.int", b"test.int"), (b"test.sort-ky", b"test.sort-key"),
     (b"test.bol-or-wrd", b"test.bool-or-word"), (b"test.Colour", b"test.color"),
@@ -370,7 +370,7 @@ FIRST_ROWS = [
 ]
 
 # misspelled keys of built-in rows, and the key that is suggested, or None if no key is near
-MISSPELT_BUILT_IN = [
+MISSPELLED_BUILT_IN = [
     (b"pull.rebas", b"pull.rebase"), (b"pul.rebase", b"pull.rebase"), (b"branch.main.remte", b"branch.main.remote"),
     (b"color.brnch.local", b"color.branch.local"), (b"core.autocrfl", b"core.autocrlf"), (b"pull.everything", None),
     (b"psuh.default", b"push.default"), (b"alais.st", b"alias.st"), (b"branch.main.rebsae", b"branch.main.rebase"),

@@ -14,7 +14,7 @@ use Rattle.config_checks.specs.Suggestions.{IsUnknownKey}
 use Rattle.config_checks.specs.declared.check.Counts.{Counts}
 use Rattle.config_checks.specs.declared.check.CheckError.{CheckError}
 use Rattle.config_checks.specs.declared.check.CheckError.TheVariants.{Write, Memory}
-use Rattle.config_checks.specs.Report.{finding_line, value_of, unknown_line, unknown, misspelt, right, found, nothing, next}
+use Rattle.config_checks.specs.Report.{finding_line, value_of, unknown_line, unknown, misspelled, right, found, nothing, next}
 use Rattle.config_checks.specs.Report.{HasSettings, HasFirst, Completes, Fails, counted, no_counts}
 use Rattle.config_checks.specs.Reading.Steps.{Reports, ReportsPart, ReportsAll, ReportsEntries, Tells, TellsPart}
 use Rattle.config_checks.specs.Reading.Steps.{WritesPart, IsWrite, AreWithin, HasRoomForFinding}
@@ -63,7 +63,7 @@ adds_one rows options setting s s' x x' (line, adds, appended) = elim adds [
     errors = omega arith;
     warnings = omega arith;
   })
-  | misspelt key is line after ↦
+  | misspelled key is line after ↦
       rw after (counted_one Warning s (record s { entries = s.entries + 1; unknown = s.unknown + 1 }) refl (omega arith) refl refl refl)
   | right row decides is none after ↦ rw after (record {
     entries = refl;
@@ -413,22 +413,22 @@ module _ (rows : List Row) (options : Options) (setting : Setting) (s : Counts) 
 
 module _ (rows : List Row) (options : Options) (setting : Setting) (s : Counts) where
   -- the line of the unknown key was written
-  pub told_misspelt : {T E : Type 0} (s' : Counts) (key : UnknownKey) (r : Result T E) (x x' : Option (List ℕ))
+  pub told_misspelled : {T E : Type 0} (s' : Counts) (key : UnknownKey) (r : Result T E) (x x' : Option (List ℕ))
       → IsUnknownKey rows setting.key.items key
       → s' ≡ counted Warning (record s { entries = s.entries + 1; unknown = s.unknown + 1 })
       → OnOk r (Appends x x' (unknown_line options setting key)) → OnOk r (Reports rows options setting s s' x x')
-  told_misspelt s' key (Ok v) x x' is counts appended = (unknown_line options setting key, misspelt key is refl counts, appended)
-  told_misspelt s' key (Err e) x x' is counts appended = tt
+  told_misspelled s' key (Ok v) x x' is counts appended = (unknown_line options setting key, misspelled key is refl counts, appended)
+  told_misspelled s' key (Err e) x x' is counts appended = tt
 
   -- a part of the line was written
-  part_misspelt : (key : UnknownKey) (e : CheckError) (x x' : Option (List ℕ)) → IsUnknownKey rows setting.key.items key
+  part_misspelled : (key : UnknownKey) (e : CheckError) (x x' : Option (List ℕ)) → IsUnknownKey rows setting.key.items key
       → WritesPart x x' (λ line. line ≡ unknown_line options setting key) e → ReportsPart rows options setting s x x' e
-  part_misspelt key (Write e) x x' is (line, same, part) = (line, (_, misspelt key is same refl), part)
-  part_misspelt key (Memory e) x x' is same = same
+  part_misspelled key (Write e) x x' is (line, same, part) = (line, (_, misspelled key is same refl), part)
+  part_misspelled key (Memory e) x x' is same = same
 
-  pub failed_misspelt : {T : Type 0} (key : UnknownKey) (r : Result T CheckError) (x x' : Option (List ℕ))
+  pub failed_misspelled : {T : Type 0} (key : UnknownKey) (r : Result T CheckError) (x x' : Option (List ℕ))
       → IsUnknownKey rows setting.key.items key
       → IfErr r (WritesPart x x' (λ line. line ≡ unknown_line options setting key))
       → IfErr r (ReportsPart rows options setting s x x')
-  failed_misspelt key (Ok v) x x' is part = tt
-  failed_misspelt key (Err e) x x' is part = part_misspelt key e x x' is part
+  failed_misspelled key (Ok v) x x' is part = tt
+  failed_misspelled key (Err e) x x' is part = part_misspelled key e x x' is part

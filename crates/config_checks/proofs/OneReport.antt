@@ -29,7 +29,7 @@ use Rattle.config_checks.specs.Suggestions.{IsPassed, IsUnknownKey, unknown_text
 use Rattle.config_checks.specs.Reasons.{HasFinding, IsSameFinding, severity_of}
 use Rattle.config_checks.specs.Findings.{reason_text, no_word_text}
 use Rattle.config_checks.specs.Report.{line_of, value_of, suggestion_of, key_meant, counted, finding_line}
-use Rattle.config_checks.specs.Report.{ReportsSetting, unknown, misspelt, right, found}
+use Rattle.config_checks.specs.Report.{ReportsSetting, unknown, misspelled, right, found}
 use Rattle.config_checks.specs.Report.{Report, nothing, next, EndsReport, HasSettings, IsReport, BeginsReport}
 use Rattle.config_checks.proofs.OneFinding.{finding_once}
 use Rattle.config_checks.proofs.OneKey.{known_once, row_once}
@@ -178,8 +178,8 @@ module _ (options : Options) where
         → ReportsSetting rows options a s line s'
     moved a b s s' line same (unknown u passed none is) =
         unknown (subst (IsUnknown rows) (ap (λ f. f.2) same) u) (subst (IsPassed rows) (ap (λ f. f.2) same) passed) none is
-    moved a b s s' line same (misspelt key is_key shown is) =
-        misspelt key (subst (λ k. IsUnknownKey rows k key) (ap (λ f. f.2) same) is_key)
+    moved a b s s' line same (misspelled key is_key shown is) =
+        misspelled key (subst (λ k. IsUnknownKey rows k key) (ap (λ f. f.2) same) is_key)
         (shown ∙ ap (λ f. key_line f (unknown_text key) (key_meant key)) same) is
     moved a b s s' line same (right row decides good none is) =
         right row (subst (λ k. Decides rows k row) (ap (λ f. f.2) same) decides)
@@ -194,25 +194,25 @@ module _ (options : Options) where
         → (line ≡ line') × (t ≡ t')
     setting_once setting s line line' t t' (unknown u passed none is) (unknown u' passed' none' is') =
         (none ∙ sym none', is ∙ sym is')
-    setting_once setting s line line' t t' (unknown u passed none is) (misspelt key is_key shown is') =
+    setting_once setting s line line' t t' (unknown u passed none is) (misspelled key is_key shown is') =
         absurd (not_passed rows setting.key.items key is_key passed)
     setting_once setting s line line' t t' (unknown u passed none is) (right row decides good none' is') =
         absurd (known_once rows setting.key.items row decides u)
     setting_once setting s line line' t t' (unknown u passed none is) (found row reason decides bad shown is') =
         absurd (known_once rows setting.key.items row decides u)
-    setting_once setting s line line' t t' (misspelt key is_key shown is) (unknown u passed none is') =
+    setting_once setting s line line' t t' (misspelled key is_key shown is) (unknown u passed none is') =
         absurd (not_passed rows setting.key.items key is_key passed)
-    setting_once setting s line line' t t' (misspelt key is_key shown is) (misspelt key' is_key' shown' is') =
+    setting_once setting s line line' t t' (misspelled key is_key shown is) (misspelled key' is_key' shown' is') =
         let text = text_once rows setting.key.items key key' is_key is_key' in
         let meant = meant_once rows setting.key.items key key' is_key is_key' in
         (shown ∙ (λ i. key_line (facts setting) (text i) (meant i)) ∙ sym shown', is ∙ sym is')
-    setting_once setting s line line' t t' (misspelt key is_key shown is) (right row decides good none' is') =
+    setting_once setting s line line' t t' (misspelled key is_key shown is) (right row decides good none' is') =
         absurd (known_once rows setting.key.items row decides is_key.unknown)
-    setting_once setting s line line' t t' (misspelt key is_key shown is) (found row reason decides bad shown' is') =
+    setting_once setting s line line' t t' (misspelled key is_key shown is) (found row reason decides bad shown' is') =
         absurd (known_once rows setting.key.items row decides is_key.unknown)
     setting_once setting s line line' t t' (right row decides good none is) (unknown u passed none' is') =
         absurd (known_once rows setting.key.items row decides u)
-    setting_once setting s line line' t t' (right row decides good none is) (misspelt key is_key shown is') =
+    setting_once setting s line line' t t' (right row decides good none is) (misspelled key is_key shown is') =
         absurd (known_once rows setting.key.items row decides is_key.unknown)
     setting_once setting s line line' t t' (right row decides good none is) (right row' decides' good' none' is') =
         (none ∙ sym none', is ∙ sym is')
@@ -222,7 +222,7 @@ module _ (options : Options) where
         (subst (λ r. HasFinding options.canonical r (value_of setting) (Some reason)) same bad)))
     setting_once setting s line line' t t' (found row reason decides bad shown is) (unknown u passed none is') =
         absurd (known_once rows setting.key.items row decides u)
-    setting_once setting s line line' t t' (found row reason decides bad shown is) (misspelt key is_key shown' is') =
+    setting_once setting s line line' t t' (found row reason decides bad shown is) (misspelled key is_key shown' is') =
         absurd (known_once rows setting.key.items row decides is_key.unknown)
     setting_once setting s line line' t t' (found row reason decides bad shown is) (right row' decides' good none is') =
         let same = row_once rows setting.key.items row row' decides decides' in

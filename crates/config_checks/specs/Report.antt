@@ -114,7 +114,7 @@ pub data ReportsSetting (rows : List Row) (options : Options) (setting : Setting
   unknown : IsUnknown rows setting.key.items → IsPassed rows setting.key.items → line ≡ []
       → s' ≡ record s { entries = s.entries + 1; unknown = s.unknown + 1 }
       → ReportsSetting rows options setting s line s'
-  misspelt : (key : UnknownKey) → IsUnknownKey rows setting.key.items key → line ≡ unknown_line options setting key
+  misspelled : (key : UnknownKey) → IsUnknownKey rows setting.key.items key → line ≡ unknown_line options setting key
       → s' ≡ counted Warning (record s { entries = s.entries + 1; unknown = s.unknown + 1 })
       → ReportsSetting rows options setting s line s'
   right : (row : Row) → Decides rows setting.key.items row

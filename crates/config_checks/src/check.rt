@@ -9,7 +9,7 @@ ghost use Rattle.config_checks.specs.Rows.{IsUnknown, rows_of};
 ghost use Rattle.config_checks.specs.Reading.Steps.{HasRoom, HasRoomForFinding, Reports, ReportsPart, Tells};
 ghost use Rattle.config_checks.specs.Reading.Steps.{TellsPart, ReportsEntries, WritesPart, IsWrite};
 
-use crate::finding::{push_finding, push_misspelt, push_refusal, value_of};
+use crate::finding::{push_finding, push_misspelled, push_refusal, value_of};
 use crate::lookup::{row_for, runs_of};
 use crate::options::Options;
 use crate::reason::{Reason, Severity, find};
@@ -122,7 +122,7 @@ struct Progress {
 
 impl Progress {
     /// Counts a finding, and writes the line that reports a setting with an unknown key.
-    fn write_misspelt<W: Write>(
+    fn write_misspelled<W: Write>(
         &mut self,
         options: &Options,
         setting: &Setting<'_>,
@@ -138,7 +138,7 @@ impl Progress {
     {
         self.counts = self.counts.with(Severity::Warning);
         self.line.clear();
-        push_misspelt(&mut self.line, options, setting, unknown).map_err(CheckError::Memory)?;
+        push_misspelled(&mut self.line, options, setting, unknown).map_err(CheckError::Memory)?;
         write_out(writer, &self.line).map_err(CheckError::Write)
     }
 
@@ -185,7 +185,7 @@ impl Progress {
         self.counts.entries += 1;
         self.counts.unknown += 1;
         match unknown_key(alloc, runs, &setting.key) {
-            Ok(Some(unknown)) => self.write_misspelt(options, setting, &unknown, writer),
+            Ok(Some(unknown)) => self.write_misspelled(options, setting, &unknown, writer),
             Ok(None) => Ok(()),
             Err(error) => Err(CheckError::Memory(error)),
         }

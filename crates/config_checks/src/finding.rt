@@ -418,7 +418,7 @@ fn key_meant(alloc: Global, unknown: &UnknownKey<'_>) -> Result<Option<Vec<u8>>,
 }
 
 /// Appends the line that reports a setting with an unknown key.
-pub(crate) fn push_misspelt(
+pub(crate) fn push_misspelled(
     line: &mut Vec<u8>,
     options: &Options,
     setting: &Setting<'_>,
