@@ -1,4 +1,4 @@
--- Booleans on a literal: what computes them, and from what is computed to the grammar.
+-- Booleans of literal texts: a function that computes them, and that it computes the grammar.
 use Rattle.std.proofs.Common.{◌≡◌, ℕ, ◌⊎◌, Bool, true, false, cond, ◌||◌, List, [], map, codes, Option, Some}
 use Rattle.std.proofs.Common.{None, refl, subst}
 use Rattle.std.specs.Prelude.{⊤, bytes_eq}
@@ -21,7 +21,7 @@ use Rattle.config_text.specs.Value.{IsRefused}
 use Rattle.config_text.specs.Laws.Value.{IsValueOf}
 use Rattle.config_text.proofs.OnLiterals.{value_by}
 
--- what a proof unfolds to compute `boolean_of` on a literal
+-- what a proof unfolds to compute `boolean_of` of a literal
 unfoldable pub boolean_on_literals : ⊤
 unfolding integer_on_literals
 boolean_on_literals = tt
@@ -39,7 +39,7 @@ denies t = bytes_eq t [] || (is_word t (codes "no") || (is_word t (codes "off") 
 abbrev boolean : Bool → Boolean
 boolean b = record { 0 = b }
 
--- boolean texts as a function: the truth value of a word, or whether an amount is not zero
+-- a function that reads boolean texts: the truth value of a word, or whether an amount is not zero
 abbrev pub boolean_of : List ℕ → Option Boolean
 boolean_of t =
     cond (affirms t) (Some (boolean true))
@@ -89,11 +89,11 @@ boolean_none t e = told (affirms t) (denies t) (amount_of t) refl refl refl e wh
       no_boolean t (not_from_Decides _ (affirms-Decides t) p) (not_from_Decides _ (denies-Decides t) q)
       (no_amount t r)
 
--- `boolean_of` is the grammar of booleans
+-- `boolean_of` computes the grammar of booleans
 pub boolean_of_is : IsValueOf BooleanText boolean_of
 boolean_of_is = value_by boolean_one_value boolean_derived boolean_none
 
--- a text of which `boolean_of` answers a boolean is its text, and one of which it answers none is refused
+-- a text has the value that `boolean_of` returns for it, and is refused if `boolean_of` returns `None`
 pub boolean_text : (t : List ℕ) (v : Boolean) → boolean_of t ≡ Some v → BooleanText t v
 boolean_text = boolean_derived
 

@@ -1,4 +1,4 @@
--- What git-config(1) says of booleans, on its own examples: a definition with a wrong word does not check.
+-- What git-config(1) says about booleans, with its own examples. A definition with a wrong word fails here.
 use Rattle.std.proofs.Common.{◌≡◌, ℕ, Bool, true, false, List, [], ◌∷◌, map, codes, refl}
 use Rattle.config_boolean.specs.declared.boolean.Boolean.{Boolean}
 use Rattle.config_boolean.specs.Boolean.{BooleanText, boolean_shown}
@@ -41,7 +41,7 @@ pub false_is_read : AreRead BooleanText literals_of_false
 unfolding boolean_on_literals
 false_is_read = all_read boolean_of_is literals_of_false refl
 
--- as Git reads other numbers: `git -c a.b=-2 config --type=bool a.b` answers `true`
+-- other numbers as Git reads them: `git -c a.b=-2 config --type=bool a.b` prints `true`
 abbrev numbers : List (List ℕ × Boolean)
 numbers =
     (codes "2", boolean true)
@@ -54,12 +54,12 @@ pub numbers_are_read : AreRead BooleanText numbers
 unfolding boolean_on_literals
 numbers_are_read = all_read boolean_of_is numbers refl
 
--- and as it answers
+-- the texts that Git prints
 pub booleans_are_shown : map boolean_shown (boolean true ∷ boolean false ∷ []) ≡ codes "true" ∷ codes "false"
     ∷ []
 booleans_are_shown = refl
 
--- near misses
+-- texts that are almost a boolean text
 abbrev no_booleans : List (List ℕ)
 no_booleans = codes "y" ∷ codes "of" ∷ codes "truee" ∷ codes " true" ∷ []
 

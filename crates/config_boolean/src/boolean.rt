@@ -46,7 +46,7 @@ use std::str::FromStr;
 #[derive(Clone, Copy, PartialEq, Eq, PartialOrd, Ord, Hash, Debug, Default)]
 pub struct Boolean(pub bool);
 
-/// Whether the text is a word for true, ignoring ASCII case.
+/// Returns whether the text is a word for true, ignoring ASCII case.
 #[inline(always)]
 fn affirms(text: &[u8]) -> bool
     ensures { IsTrue result ↔ (Affirms text.now) }
@@ -56,7 +56,7 @@ fn affirms(text: &[u8]) -> bool
         || equals_ignoring_case(text, b"true")
 }
 
-/// Whether the text is empty or a word for false, ignoring ASCII case.
+/// Returns whether the text is empty or a word for false, ignoring ASCII case.
 #[inline(always)]
 fn denies(text: &[u8]) -> bool
     ensures { IsTrue result ↔ (Denies text.now) }
@@ -69,8 +69,8 @@ fn denies(text: &[u8]) -> bool
         || equals_ignoring_case(text, b"false")
 }
 
-/// Reads a text that is not a word as an amount: true if that is not zero. Returns `None` if it is not an
-/// amount text.
+/// Reads a text that is neither empty nor a word as an amount, which is true if it is not zero. Returns
+/// `None` if the text is not an amount text.
 #[inline(never)]
 fn read_amount(text: &[u8]) -> Option<Boolean>
     requires affirms { ¬ (Affirms text.now) }
@@ -98,7 +98,7 @@ fn boolean_of(text: &[u8]) -> Option<Boolean>
 }
 
 impl Boolean {
-    /// The truth value.
+    /// Returns the truth value.
     pub fn is_true(self) -> bool
         ensures { result ≡ self.0 }
     {
@@ -109,7 +109,7 @@ impl Boolean {
 impl From<Boolean> for bool {
     ghost from_gives = { λ v b. b ≡ v.0 };
 
-    /// The truth value.
+    /// Returns the truth value.
     fn from(value: Boolean) -> bool {
         value.0
     }

@@ -1,7 +1,7 @@
 //! Truth values: the words for true and false, and numbers.
 //!
-//! A text that is not a word is read as an amount, by the contract of amounts alone: see [`boolean`].
-//! `specs/Boolean.antt` has the grammar.
+//! A text that is neither empty nor a word is read as an amount, and only the contract of amounts is used for
+//! it: see [`boolean`]. `specs/Boolean.antt` has the grammar.
 #![tactic(auto)]
 
 pub mod boolean;

@@ -1,4 +1,4 @@
--- The order of colors, over any order of names that is theirs.
+-- The order of colors, for any comparison of names that is the order of names.
 use Rattle.std.proofs.Common.{◌≡◌, Option, None, Some, refl}
 use Rattle.std.specs.Option.{option_cmp}
 use Rattle.std.specs.Ordering.{nat_cmp, ordering_then}

@@ -1,5 +1,5 @@
--- What git-config(1) says of colors, on its own examples, and Unicode of white space: a definition with a
--- wrong rule or a wrong spelling does not check.
+-- What git-config(1) says about colors, with its own examples, and what Unicode says about white space. A
+-- definition with a wrong rule or a wrong spelling fails here.
 use Rattle.std.proofs.Common.{◌≡◌, ℕ, true, ◌==◌, List, [], ◌∷◌, map, codes, Option, Some, None, refl}
 use Rattle.std.specs.Char.{is_whitespace}
 use Rattle.std.specs.Int.RustNames.{bit_or}
@@ -64,7 +64,7 @@ pub empty_colors_are_read : AreRead ColorText empty_colors
 unfolding color_on_literals
 empty_colors_are_read = all_read color_of-value empty_colors refl
 
--- "at most two, one for foreground and one for background", and words that name nothing
+-- "at most two, one for foreground and one for background", and words that are neither names nor attributes
 abbrev no_colors : List (List ℕ)
 no_colors = codes "red green blue" ∷ codes "bold rde" ∷ codes "red,blue" ∷ codes "brightnormal" ∷ []
 
@@ -72,7 +72,7 @@ pub no_colors_are_refused : AreRefused ColorText no_colors
 unfolding color_on_literals
 no_colors_are_refused = all_refused color_of-value no_colors refl
 
--- the code points that are white space to Unicode, U+0009 to U+3000
+-- the code points that are white space in Unicode, U+0009 to U+3000
 abbrev white_space : List ℕ
 white_space =
     0x9 ∷ 0xa ∷ 0xb ∷ 0xc ∷ 0xd ∷ 0x20 ∷ 0x85 ∷ 0xa0 ∷ 0x1680
@@ -85,6 +85,6 @@ pub white_space_is_spelled : spellings ≡ map encode white_space
 unfolding spellings encode
 white_space_is_spelled = refl
 
--- up to the last one, these and no others are white space to `char::is_whitespace` too
+-- up to U+3000, `char::is_whitespace` returns true for exactly these code points
 pub white_space_is_whole : agree_below is_whitespace (λ c. list_any (λ w. w == c) white_space) 0x3001 ≡ true
 white_space_is_whole = refl

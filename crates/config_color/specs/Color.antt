@@ -12,12 +12,12 @@ use Rattle.config_word.specs.Attribute.{AttributeText, IsKnownBit, attribute_sho
 use Rattle.config_word.specs.Name.{NameText, CanonicalName, NameFits, name_shown}
 use Rattle.config_color.specs.Words.{Words}
 
--- the color of no word: no names and no attributes
+-- the color of a text without words: no names and no attributes
 abbrev pub no_color : Color
 no_color = record { foreground = None; background = None; attributes = record { 0 = 0 } }
 
--- each word is a name text or an attribute text: the names that the words have, in order, and the union of
--- the attributes' bits
+-- each word is a name text or an attribute text; the list has the names, in order, and the number has the
+-- bits of all attributes
 pub data WordsRead : List (List ℕ) → List Name → ℕ → Type 0 where
   nothing : WordsRead [] [] 0
   name : {w : List ℕ} {ws : List (List ℕ)} {n : Name} {names : List Name} {bits : ℕ}
@@ -25,32 +25,32 @@ pub data WordsRead : List (List ℕ) → List Name → ℕ → Type 0 where
   attribute : {w : List ℕ} {ws : List (List ℕ)} {a : Attribute} {names : List Name} {bits : ℕ}
       → AttributeText w a → WordsRead ws names bits → WordsRead (w ∷ ws) names (bit_or a.0 bits)
 
--- the words of the text have these names and bits
+-- the words of the text have these names, and attributes with these bits
 pub record TextRead (t : List ℕ) (names : List Name) (bits : ℕ) : Type 0 where
   pub words : List (List ℕ)
   pub cut : Words t words
   pub read : WordsRead words names bits
 
--- the first name is the foreground and the second the background, each `None` if there is no such name; there
--- is no place for a third
+-- the first name is the foreground and the second the background, each `None` if there is no such name; a
+-- third name is not allowed
 abbrev pub Placed : List Name → Option Name → Option Name → Type 0
 Placed [] foreground background = (foreground ≡ None) × (background ≡ None)
 Placed (n ∷ []) foreground background = (foreground ≡ Some n) × (background ≡ None)
 Placed (n ∷ m ∷ []) foreground background = (foreground ≡ Some n) × (background ≡ Some m)
 Placed (n ∷ m ∷ o ∷ names) foreground background = ⊥
 
--- color text: its words are read, and their names placed
+-- color text: its words are names and attributes, with at most two names: the foreground, then the background
 pub record ColorText (t : List ℕ) (c : Color) : Type 0 where
   pub names : List Name
   pub read : TextRead t names c.attributes.0
   pub placed : Placed names c.foreground c.background
 
--- the text of a name, if there is one
+-- the shown text of a name, or no text if there is no name
 abbrev pub part_shown : Option Name → List (List ℕ)
 part_shown None = []
 part_shown (Some n) = name_shown n ∷ []
 
--- the text of the attributes, if some bit is set
+-- the shown text of the attributes, or no text if no bit is set
 abbrev pub set_shown : ℕ → List (List ℕ)
 set_shown zero = []
 set_shown (suc n) = attribute_shown (suc n) ∷ []
@@ -61,7 +61,7 @@ abbrev pub color_shown : Color → List ℕ
 color_shown c =
     join_with_byte space ((part_shown c.foreground ++ part_shown c.background) ++ set_shown c.attributes.0)
 
--- some of the rows, in their order, each at most once
+-- the second list has some of the texts of the first, in the same order, each at most once
 abbrev pub Chosen : List (List ℕ) → List (List ℕ) → Type 0
 Chosen [] [] = ⊤
 Chosen [] (w ∷ ws) = ⊥

@@ -1,4 +1,4 @@
--- The composition of two colors, and what it says of joined texts and of texts that mean the same.
+-- The composition of two colors, and relations for joined texts and for texts that mean the same.
 use Rattle.std.specs.Prelude.{◌≡◌, ℕ, ◌<◌, List, ◌∷◌, ◌++◌, length, Option, None, Some}
 use Rattle.std.specs.Option.{option_to_list}
 use Rattle.std.specs.Int.RustNames.{bit_or}
@@ -12,7 +12,8 @@ use Rattle.config_word.specs.Attribute.{AttributeText}
 abbrev pub color_names : Color → List Name
 color_names c = option_to_list c.foreground ++ option_to_list c.background
 
--- the composition: the names of a and then those of b are placed anew, and the attributes are united
+-- the composition: the names of `a` and then those of `b` become its foreground and background, and the
+-- attributes are united
 pub record Composition (a b c : Color) : Type 0 where
   pub placed : Placed (color_names a ++ color_names b) c.foreground c.background
   pub united : c.attributes.0 ≡ bit_or a.attributes.0 b.attributes.0
@@ -23,11 +24,11 @@ abbrev pub Composes : Color → Color → Option Color → Type 0
 Composes a b None = (2 < length (color_names a ++ color_names b)) × ((c : Color) → ¬ (Composition a b c))
 Composes a b (Some c) = Composition a b c × HasText ColorText c
 
--- both texts have a color, and c is their composition
+-- both texts have a color, and `c` is the composition of the two colors
 abbrev pub Joined : List ℕ → List ℕ → Color → Type 0
 Joined front back c = (a : Color) × (b : Color) × ColorText front a × ColorText back b × Composition a b c
 
--- both texts have a color, and the two colors have more than two names
+-- both texts have a color, and the two colors together have more than two names
 abbrev pub HaveTooManyNames : List ℕ → List ℕ → Type 0
 HaveTooManyNames front back =
     (a : Color) × (b : Color) × ColorText front a × ColorText back b
@@ -40,8 +41,7 @@ pub record SameWords (a b : List ℕ) : Type 0 where
   pub first : TextRead a names bits
   pub second : TextRead b names bits
 
--- two lists of words that differ in one whole attribute word, which the second list has at another place, or
--- once more
+-- the second list of words is the first with one attribute word moved to any place, or added once more
 pub data Moves (ws vs : List (List ℕ)) : Type 0 where
   moved : (w : List ℕ) (front back ahead behind : List (List ℕ)) → IsAccepted AttributeText w
       → ws ≡ front ++ w ∷ back → vs ≡ ahead ++ w ∷ behind → front ++ back ≡ ahead ++ behind → Moves ws vs

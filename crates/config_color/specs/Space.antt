@@ -1,4 +1,4 @@
--- White space: the 25 code points of Unicode that are white space, each as UTF-8 spells it.
+-- White space: the 25 code points that Unicode takes for white space, each with its bytes in UTF-8.
 use Rattle.std.specs.Prelude.{ℕ, List, [], ◌∷◌}
 use Rattle.config_text.specs.OneOf.{OneOf}
 

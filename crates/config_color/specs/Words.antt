@@ -1,8 +1,8 @@
--- The words of a text. It is cut at white space, and nothing is decoded.
+-- The words of a text, which is cut at white space without being decoded.
 use Rattle.std.specs.Prelude.{◌≡◌, ℕ, List, [], ◌∷◌, ◌++◌}
 use Rattle.config_color.specs.Space.{Space}
 
--- no white space is in the text
+-- the text contains no white space
 abbrev pub HasNoSpace : List ℕ → Type 0
 HasNoSpace text = (before space rest : List ℕ) → Space space → ¬ (text ≡ before ++ space ++ rest)
 
@@ -11,7 +11,7 @@ abbrev pub piece : List ℕ → List (List ℕ)
 piece [] = []
 piece (x ∷ text) = (x ∷ text) ∷ []
 
--- the words of a text: a text without white space is one word, and any other is cut at its last white space
+-- the words of a text: without white space it is one piece; otherwise it is cut at its last white space
 pub data Words : List ℕ → List (List ℕ) → Type 0 where
   whole : (text : List ℕ) → HasNoSpace text → Words text (piece text)
   cut : (before space rest : List ℕ) (words : List (List ℕ)) → Words before words → Space space

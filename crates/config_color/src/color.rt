@@ -1,4 +1,4 @@
-//! Colors: what text is drawn with, read from a text and shown as one.
+//! Colors: how text is drawn. A color is read from a text and shown as a text.
 ghost use Rattle.std.specs.Prelude.{◌↔◌, IsTrue, ◌≡◌, ◌+◌, ◌<◌, ◌≤◌, [], None, Some, length, slice_range};
 ghost use Rattle.std.specs.Prelude.{MatchOption};
 ghost use Rattle.std.specs.Cow.{cow_slice_items};
@@ -32,14 +32,15 @@ use std::borrow::CowSlice;
 use std::fmt;
 use std::str::FromStr;
 
-/// What text is drawn with: a foreground, a background and attributes.
+/// How text is drawn: with a foreground, a background and attributes.
 ///
 /// A text has names and attributes in any order, with Unicode white space between them. The first name is the
 /// foreground, the second the background. The empty text reads to the default color.
 ///
-/// A text with a third name, or with a word that is neither, is refused with `Fault::Color`. The canonical
-/// text has the names first and then the attributes, in at most `LONGEST_TEXT` bytes. A color with an unknown
-/// bit has no text, and neither has one with a background alone: docs/GRAMMAR.md, Colors.
+/// A text with a third name, or with a word that is neither a name nor an attribute, is refused with
+/// `Fault::Color`. The canonical text has the names first and then the attributes, in at most `LONGEST_TEXT`
+/// bytes. A color has no text if it has an unknown bit, or a background without a foreground:
+/// docs/GRAMMAR.md, Colors.
 ///
 /// ```rust
 /// use gix_config_value::color::{Attribute, Name};
@@ -75,8 +76,8 @@ impl Default for Color {
 }
 
 impl Color {
-    /// Adds a name as the foreground, or if there is one, as the background. Returns `None` if there are
-    /// both.
+    /// Adds a name as the foreground, or as the background if there is a foreground. Returns `None` if there
+    /// are both.
     #[inline(always)]
     fn with_name(self, name: Name) -> Option<Color>
         ensures { result
@@ -155,8 +156,8 @@ impl Color {
         }
     }
 
-    /// Whether some text reads to this color: each set bit has a constant, and a background comes with a
-    /// foreground.
+    /// Returns whether some text reads to this color: each set bit has a constant, and there is no background
+    /// without a foreground.
     fn is_readable(&self) -> bool
         ensures { IsTrue result ↔ (HasText ColorText self.now) }
     {
@@ -166,7 +167,7 @@ impl Color {
             && (self.background.is_none() || self.foreground.is_some())
     }
 
-    /// Returns the color as it is shown, whatever its attributes, in at most `LONGEST_TEXT` bytes.
+    /// Returns the color as it is shown, even if no text reads to it, in at most `LONGEST_TEXT` bytes.
     pub fn shown(&self) -> CanonicalText
         ensures { result.bytes ≡ color_shown self.now }
     {
@@ -197,14 +198,14 @@ impl Color {
 struct FirstWord {
     /// How many bytes come before the first white space.
     length: usize,
-    /// How many bytes that white space has, or 0 if there is none.
+    /// How many bytes that white space has, or 0 if there is no white space.
     space: usize,
 }
 
 /// How many bytes of a long word are tested at once.
 const RUN: usize = 16;
 
-/// Whether no byte of the run at `at` can begin white space.
+/// Returns true only if no byte of the run at `at` can begin white space.
 #[inline(always)]
 fn is_plain_run(text: &[u8], at: usize) -> bool
     requires { at + RUN ≤ length text.now }
@@ -218,7 +219,7 @@ fn is_plain_run(text: &[u8], at: usize) -> bool
     is_plain
 }
 
-/// Returns where the plain runs from `start` on end.
+/// Returns the end of the plain runs that follow one another from `start` on.
 fn end_of_runs(text: &[u8], start: usize) -> usize
     requires clear { IsWithoutSpace text.now start }
     requires within { start ≤ length text.now }
@@ -249,7 +250,7 @@ fn word_between(text: &[u8], start: usize, end: usize) -> Option<FirstWord>
     None
 }
 
-/// Finds the first word of a text. After its first bytes it goes on by whole runs, as far as they are plain.
+/// Finds the first word of a text. After its first bytes it skips whole runs, as long as they are plain.
 #[inline(always)]
 fn first_word(text: &[u8]) -> FirstWord
     ensures clear { IsWithoutSpace text.now result.length }
@@ -272,7 +273,7 @@ fn first_word(text: &[u8]) -> FirstWord
     }
 }
 
-/// The text without the spaces at its front.
+/// Returns the text without the spaces at its front.
 #[inline(always)]
 fn past_spaces(text: &[u8]) -> &[u8]
     ensures same { words result.now ≡ words text.now }
@@ -392,7 +393,7 @@ impl Value for Color {
         color_of(input.as_bytes())
     }
 
-    /// Whether each set bit has a constant, and a background comes with a foreground.
+    /// Returns whether each set bit has a constant, and there is no background without a foreground.
     fn has_text(&self) -> bool {
         self.is_readable()
     }

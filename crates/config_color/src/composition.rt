@@ -9,8 +9,8 @@ use crate::color::Color;
 use bitflags::Flags;
 use config_word::name::Name;
 
-/// The foreground and the background from the names of `a` and then those of `b`, or `None` if there are more
-/// than two names.
+/// Returns the names of `a` and then those of `b` as a foreground and a background, or `None` if there are
+/// more than two names.
 fn places(a: Color, b: Color) -> Option<(Option<Name>, Option<Name>)>
     ensures { result ≡ places_of a.foreground a.background b.foreground b.background }
 {
@@ -31,8 +31,8 @@ fn places(a: Color, b: Color) -> Option<(Option<Name>, Option<Name>)>
 /// `a` and then those of `b` become its foreground and background, and it has the attributes of both. Returns
 /// `None` if there are more than two names.
 ///
-/// Both colors must have a text, as [`Value::has_text`](config_text::value::Value::has_text) tells; a color
-/// that was read has one. The result has one too.
+/// Both colors must have a text, as [`Value::has_text`](config_text::value::Value::has_text) tells. A color
+/// that was read has a text, and so has the result.
 ///
 /// ```rust
 /// use gix_config_value::Color;

@@ -1,4 +1,4 @@
-//! Git's colors: what text is drawn with, as a value like `bold red #1e1e1e` says it.
+//! Git's colors: how text is drawn, as a value such as `bold red #1e1e1e` says.
 //!
 //! [`color::Color`] is a foreground, a background and a set of attributes. It is read from a text or from
 //! bytes, borrowed or owned, by `TryFrom`. The words of the text are names and attributes in any order. The
@@ -6,11 +6,10 @@
 //! input. A color is shown by `Display`, and as a [`Value`] it has one canonical text, if any text reads to
 //! it.
 //!
-//! [`composition::compose`] combines two colors as reading a text of both would, and [`space::space_at`]
-//! finds the white space of Unicode between words.
+//! [`composition::compose`] combines two colors in the same way as reading a joined text of both, and
+//! [`space::space_at`] finds the Unicode white space between words.
 //!
-//! [`laws`] states what else holds of colors: which colors have a text, what the words of a text are, and how
-//! colors compare.
+//! [`laws`] states which colors have a text, what the words of a text are, and how colors compare.
 //!
 //! [`Value`]: config_text::value::Value
 #![tactic(auto)]

@@ -1,30 +1,30 @@
-//! White space in a text, by its bytes.
+//! Finds white space in a text by its bytes, without decoding.
 ghost use Rattle.std.specs.Prelude.{◌≡◌, ℕ, ◌+◌, ◌<◌, ◌≤◌, ◌↔◌, ◌++◌, IsTrue, List, [], ◌∷◌, length, drop};
 ghost use Rattle.std.specs.Prelude.{slice_range};
 ghost use Rattle.config_color.specs.Space.{Space};
 
-/// Whether this byte is a spelling of white space.
+/// Returns whether this byte is a spelling of white space.
 fn is_narrow(first: u8) -> bool
     ensures { IsTrue result ↔ (Space (first ∷ [])) }
 {
     matches!(first, 9..=13 | 32)
 }
 
-/// Whether these two bytes are a spelling of white space.
+/// Returns whether these two bytes are a spelling of white space.
 fn is_double(first: u8, second: u8) -> bool
     ensures { IsTrue result ↔ (Space (first ∷ second ∷ [])) }
 {
     first == 0xc2 && matches!(second, 0x85 | 0xa0)
 }
 
-/// Whether this byte ends one of the spellings that begin with `e280`.
+/// Returns whether this byte ends one of the spellings that begin with `e280`.
 fn ends_general(third: u8) -> bool
     ensures { IsTrue result ↔ (Space (226 ∷ 128 ∷ third ∷ [])) }
 {
     matches!(third, 0x80..=0x8a | 0xa8 | 0xa9 | 0xaf)
 }
 
-/// Whether these three bytes are a spelling of white space.
+/// Returns whether these three bytes are a spelling of white space.
 fn is_triple(first: u8, second: u8, third: u8) -> bool
     ensures { IsTrue result ↔ (Space (first ∷ second ∷ third ∷ [])) }
 {
@@ -37,7 +37,7 @@ fn is_triple(first: u8, second: u8, third: u8) -> bool
     }
 }
 
-/// The length of the white space at the front of these bytes, or 0 if there is none.
+/// Returns the length in bytes of the white space at the front, or 0 if there is no white space.
 #[inline(always)]
 fn space_length(bytes: &[u8]) -> usize
     ensures none { result ≡ 0
@@ -54,9 +54,9 @@ fn space_length(bytes: &[u8]) -> usize
     }
 }
 
-/// The length in bytes of the white space in the input at the byte `at`, or 0 if there is none. White space
-/// is 25 code points of Unicode, which UTF-8 spells in 1 to 3 bytes: docs/GRAMMAR.md, White space and words.
-/// `at` must be at most `input.len()`.
+/// Returns the length in bytes of the white space that begins at byte `at` of the input, or 0 if none begins
+/// there. White space is 25 code points of Unicode, which have 1 to 3 bytes in UTF-8: docs/GRAMMAR.md, White
+/// space and words. `at` must be at most `input.len()`.
 ///
 /// ```rust
 /// use gix_config_value::color::space_at;

@@ -1,4 +1,4 @@
--- One turn of the count of digits, and its end at a byte that is no digit.
+-- One turn of the loop over the digits, and its end at a byte that is no digit.
 use Rattle.std.proofs.Common.{◌≡◌, refl, sym, ap, ◌∙◌, subst, arith, ℕ, zero, suc, ◌+◌, ◌-◌, ◌*◌, ◌<◌, ◌≤◌}
 use Rattle.std.proofs.Common.{add-one}
 use Rattle.std.proofs.Common.{List, [], ◌∷◌, ◌++◌, length, get_or, take, drop, length-drop, drop-cons, replicate, Option, Some}
@@ -13,7 +13,7 @@ use Rattle.config_integer.specs.Suffix.{SuffixText}
 use Rattle.config_integer.specs.Reading.Integer.{number_from, number_and_suffix, suffix_of}
 use Rattle.config_integer.specs.Laws.Suffix.{suffix_of_is}
 
--- a digit moves the count on by one byte
+-- a digit moves the loop on by one byte
 pub one_digit : (base limit n m at b : ℕ) (t : List ℕ) → at < length t → b ≡ get_or t at 0
     → digit_value b < base
     → m ≡ n * base + digit_value b → m ≤ limit
@@ -21,7 +21,7 @@ pub one_digit : (base limit n m at b : ℕ) (t : List ℕ) → at < length t →
 one_digit base limit n m at b t within byte digit sum small =
     rw (drop-cons t at 0) (rw (add-one) (grind (arith, nat_tests)))
 
--- the first byte is a digit once one byte is counted
+-- the first byte is a digit, after the first turn and after later ones
 pub first_digit : (base at b : ℕ) (t : List ℕ) → (0 < at → digit_value (get_or t 0 0) < base)
     → b ≡ get_or t at 0
     → digit_value b < base → digit_value (get_or t 0 0) < base
@@ -37,7 +37,7 @@ number_end : (base limit n at b : ℕ) (t : List ℕ) → at < length t → b �
     → number_from base limit n (drop at t) ≡ option_map (λ s. (n, Some s)) (suffix_of (drop at t))
 number_end base limit n at b t within byte other = rw (drop-cons t at 0) (grind (arith, nat_tests))
 
--- a zero that another zero follows changes no number
+-- a zero that is followed by another zero does not change the number
 two_zeros : (base limit : ℕ) (ds : List ℕ) → 0 < base → base ≤ 16
     → number_and_suffix base limit (48 ∷ ds) ≡ number_and_suffix base limit (48 ∷ 48 ∷ ds)
 two_zeros base limit ds low high =
@@ -57,7 +57,7 @@ without_zero base limit t long first second low high =
       dropped (x ∷ []) long first second = absurd (omega arith)
       dropped (x ∷ y ∷ ds) long first second = rw (first, second) (two_zeros base limit ds low high)
 
--- the same of more zeros
+-- a run of zeros before a zero does not change the number
 many_zeros : (n base limit : ℕ) (ds : List ℕ) → 0 < base → base ≤ 16
     → number_and_suffix base limit (48 ∷ ds) ≡ number_and_suffix base limit (replicate n 48 ++ 48 ∷ ds)
 many_zeros zero base limit ds low high = refl
@@ -76,7 +76,7 @@ without_run base limit (x ∷ y ∷ cs) ds long first second after e run low hig
     ∙ many_zeros 17 base limit ds low high
     ∙ sym (rw (first, second, same) refl)
 
--- after a digit, a byte that is no digit ends the count: the rest is a suffix, or the text is refused
+-- after a digit, a byte that is no digit ends the loop: the rest is a suffix, or the text is refused
 pub ended : (base limit n at b : ℕ) (t : List ℕ) (r o : Option Suffix) → r ≡ o → at < length t → base ≤ 36
     → digit_value (get_or t 0 0) < base → b ≡ get_or t at 0 → base ≤ digit_value b
     → number_from base limit 0 t ≡ number_from base limit n (drop at t)

@@ -1,4 +1,4 @@
--- Integers and amounts on a literal: what computes them, and from what is computed to the grammars.
+-- Integers and amounts of literal texts: functions that compute them, and that these compute the grammars.
 use Rattle.std.proofs.Common.{◌≡◌, ℕ, ℤ, pos, negsuc, Bool, true, false, List, Option, Some, None, nat_lt}
 use Rattle.std.proofs.Common.{refl, ap, subst, sym, arith}
 use Rattle.std.specs.Prelude.{⊤, Result, Ok, Err, IfOk, IfErr}
@@ -20,12 +20,12 @@ use Rattle.config_text.specs.Value.{IsRefused}
 use Rattle.config_text.specs.Laws.Value.{IsValueOf}
 use Rattle.config_text.proofs.OnLiterals.{refused_by}
 
--- what a proof unfolds to compute `suffix_of`, `integer_of` and `amount_of` on a literal
+-- what a proof unfolds to compute `suffix_of`, `integer_of` and `amount_of` of a literal
 unfoldable pub integer_on_literals : ⊤
 unfolding suffix_of
 integer_on_literals = tt
 
--- a text of which `integer_of` answers an integer is its text, and one of which it answers none is refused
+-- a text has the value that `integer_of` returns for it, and is refused if `integer_of` returns `None`
 pub integer_text : (t : List ℕ) (v : Integer) → integer_of t ≡ Some v → IntegerText t v
 integer_text = integer_of_is.derived
 
@@ -41,11 +41,11 @@ abbrev amount_in : Integer → Bool → Option Amount
 amount_in v true = Some (record { 0 = product v })
 amount_in v false = None
 
--- the product of an integer, where it is in range
+-- the product of an integer, or `None` if it is out of range
 abbrev pub amount_from : Integer → Option Amount
 amount_from v = amount_in v (is_in_range (product v))
 
--- amount texts as a function: the product of the integer that is read
+-- a function that reads amount texts: the product of the integer that is read, if it is in range
 abbrev pub amount_of : List ℕ → Option Amount
 amount_of t = option_and_then amount_from (integer_of t)
 
@@ -81,11 +81,11 @@ amount_derived t a e = told (integer_of t) refl e where
     ranged true r e = subst (AmountText t) (same_Some _ a e) (in_range_product t v (integer_text t v p) r)
     ranged false r e = absurd (none-some a e)
 
--- `amount_of` is the grammar of amounts
+-- `amount_of` computes the grammar of amounts
 pub amount_of_is : IsValueOf AmountText amount_of
 amount_of_is = record { found = amount_found; derived = amount_derived }
 
--- an integer text whose product is out of range is refused for that
+-- an integer text whose product is out of range has the fault `Overflow`
 pub product_overflows : (refuses : ℤ → Type 0) (t : List ℕ) (v : Integer) → integer_of t ≡ Some v
     → is_in_range (product v) ≡ false → IntegerFault refuses t faults.Overflow
 product_overflows refuses t v e out = (
@@ -99,7 +99,7 @@ product_overflows refuses t v e out = (
   out_of_range_told (product v) out,
 )
 
--- a text with a product in range is refused only where the caller's type refuses that product
+-- a text with a product in range has a fault only if the caller's type refuses that product
 refused_product : (refuses : ℤ → Type 0) (t : List ℕ) (f : Fault) (z : ℤ) → ProductInRange t z
     → IntegerFault refuses t f → refuses z
 refused_product refuses t faults.Integer z p r = absurd (r p.product_text.integer p.product_text.text)
@@ -110,7 +110,7 @@ refused_product refuses t faults.OutOfRange z p r =
 refused_product refuses t faults.Boolean z p r = absurd r
 refused_product refuses t faults.Color z p r = absurd r
 
--- of a text whose product the caller's type takes, `Integer::from_bytes` returns what the type makes of it
+-- if the caller's type accepts the product of a text, `Integer::from_bytes` returns what the type makes of it
 pub converts : {T : Type 0} (accepts : ℤ → T → Type 0) (refuses : ℤ
     → Type 0) (t : List ℕ) (z : ℤ) (r : Result T Error)
     → ProductInRange t z → ¬ (refuses z) → IfOk r (λ x. (y : ℤ) × ProductInRange t y × accepts y x)
@@ -120,7 +120,7 @@ converts accepts refuses t z (Ok x) p takes ok err =
 converts accepts refuses t z (Err e) p takes ok err =
     absurd (takes (refused_product refuses t e.fault z p err))
 
--- the same of amounts as of integers
+-- a text has the amount that `amount_of` returns for it, and is refused if `amount_of` returns `None`
 pub amount_text : (t : List ℕ) (v : Amount) → amount_of t ≡ Some v → AmountText t v
 amount_text = amount_of_is.derived
 

@@ -1,6 +1,6 @@
--- What git-config(1) says of integers, on examples: a definition with a wrong letter, factor or base does not
--- check. As Git and C read them, and not on that page, are `0x`, `0b`, a leading `0`, `g`, signs, both ends
--- of the range, and the refused rows.
+-- What git-config(1) says about integers, with examples. A definition with a wrong letter, factor or base
+-- fails here. Not on that page, but as Git and C read them, are `0x`, `0b`, a leading `0`, `g`, signs, both
+-- ends of the range, and the refused texts.
 use Rattle.std.proofs.Common.{◌≡◌, ℕ, ℤ, pos, negsuc, List, [], ◌∷◌, map, codes, Option, Some, None, refl}
 use Rattle.config_integer.specs.declared.integer.Integer.{Integer}
 use Rattle.config_integer.specs.declared.suffix.Suffix.{Suffix}
@@ -64,8 +64,8 @@ pub amounts_are_read : AreRead AmountText amounts
 unfolding integer_on_literals
 amounts_are_read = all_read amount_of_is amounts refl
 
--- no such suffix, two of them, a space, a suffix alone, and nothing; no digit of the base, no digit, and one
--- beyond each end of the range
+-- no such suffix, two suffixes, a space, a suffix alone, and the empty text; no digit of the base, no digit,
+-- two signs, and a number beyond each end of the range
 abbrev no_integers : List (List ℕ)
 no_integers =
     codes "10x" ∷ codes "1kb" ∷ codes "1 k" ∷ codes "k" ∷ codes ""
@@ -76,7 +76,7 @@ pub no_integers_are_refused : AreRefused IntegerText no_integers
 unfolding integer_on_literals
 no_integers_are_refused = all_refused integer_of_is no_integers refl
 
--- the product leaves the range of the number
+-- the product is out of range
 pub too_large : AmountFault (codes "9223372036854775807k") faults.Overflow
 unfolding integer_on_literals
 too_large =

@@ -5,11 +5,11 @@ use Rattle.config_text.specs.declared.errors.Fault.{Fault}
 use Rattle.config_integer.specs.declared.amount.Amount.{Amount}
 use Rattle.config_integer.specs.Integer.{ProductInRange, IntegerFault, CanonicalNumber}
 
--- amount text: an integer text whose product is this number, in range
+-- amount text: an integer text whose product is this number and is in range
 abbrev pub AmountText : List ℕ → Amount → Type 0
 AmountText t v = ProductInRange t v.0
 
--- why a text is not an amount text: it is not an integer text, or its product is out of range
+-- the fault of a text: `Integer` if it is not an integer text, `Overflow` if its product is out of range
 abbrev pub AmountFault : List ℕ → Fault → Type 0
 AmountFault t fault = IntegerFault (λ _. ⊥) t fault
 
@@ -17,6 +17,6 @@ AmountFault t fault = IntegerFault (λ _. ⊥) t fault
 abbrev pub amount_shown : Amount → List ℕ
 amount_shown v = signed_decimal v.0
 
--- the canonical texts of an amount: canonical numbers, with no suffix
+-- the canonical texts of amounts: canonical numbers, without a suffix
 abbrev pub CanonicalAmount : List ℕ → Type 0
 CanonicalAmount t = CanonicalNumber t

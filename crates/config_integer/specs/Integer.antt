@@ -26,7 +26,7 @@ pub data Magnitude (t : List ℕ) (n : ℕ) : Type 0 where
       → n ≡ place_sum ds 2
       → Magnitude t n
 
--- a magnitude, or a sign and a magnitude
+-- a magnitude, or a sign and a magnitude, with its signed number
 pub data SignedText (t : List ℕ) (z : ℤ) : Type 0 where
   plain : (n : ℕ) → Magnitude t n → z ≡ pos n → SignedText t z
   plus : (m : List ℕ) (n : ℕ) → t ≡ codes "+" ++ m → Magnitude m n → z ≡ pos n → SignedText t z
@@ -37,12 +37,12 @@ pub record NumberText (t : List ℕ) (z : ℤ) : Type 0 where
   pub signed : SignedText t z
   pub in_range : IsInI64 z
 
--- nothing, or a suffix text
+-- the empty text if there is no suffix, otherwise a suffix text
 abbrev pub SuffixIfAny : List ℕ → Option Suffix → Type 0
 SuffixIfAny t None = t ≡ []
 SuffixIfAny t (Some s) = SuffixText t s
 
--- integer text: a number, then nothing or one suffix
+-- integer text: a number text, then nothing or one suffix text
 pub record IntegerText (t : List ℕ) (v : Integer) : Type 0 where
   pub front : List ℕ
   pub back : List ℕ
@@ -50,7 +50,7 @@ pub record IntegerText (t : List ℕ) (v : Integer) : Type 0 where
   pub number : NumberText front v.value
   pub unit : SuffixIfAny back v.suffix
 
--- product: the number times the factor of its suffix, or times 1 without one; it has no bound
+-- product: the number times the factor of its suffix, or times 1 if there is no suffix; it has no bound
 abbrev pub product : Integer → ℤ
 product v = v.value *ℤ pos (option_map_or factor v.suffix 1)
 
@@ -65,8 +65,8 @@ pub record ProductInRange (t : List ℕ) (z : ℤ) : Type 0 where
   pub product_text : ProductText t z
   pub in_range : IsInI64 z
 
--- why no number is read from a text: it is not an integer text, its product is out of range, or the caller's
--- type refuses the product
+-- the fault of a text that gives no number: `Integer` if it is not an integer text, `Overflow` if its product
+-- is out of range, and `OutOfRange` if the caller's type refuses the product
 abbrev pub IntegerFault : (ℤ → Type 0) → List ℕ → Fault → Type 0
 IntegerFault refuses t faults.Integer = IsRefused IntegerText t
 IntegerFault refuses t faults.Overflow = (z : ℤ) × ProductText t z × ¬ (IsInI64 z)
@@ -77,7 +77,7 @@ IntegerFault refuses t _ = ⊥
 abbrev pub integer_shown : Integer → List ℕ
 integer_shown v = signed_decimal v.value ++ option_map_or suffix_shown v.suffix []
 
--- digits that begin with 1 to 9, of a number of at most `most`
+-- decimal digits that begin with 1 to 9 and write a number of at most `most`
 pub record PlainDigits (most : ℕ) (t : List ℕ) : Type 0 where
   pub first : ℕ
   pub others : List ℕ
@@ -86,13 +86,13 @@ pub record PlainDigits (most : ℕ) (t : List ℕ) : Type 0 where
   pub digits : AllDigits 10 others
   pub small : place_sum t 10 ≤ most
 
--- the canonical texts of a number: 0, or plain digits, with a `-` before those of a negative number
+-- the canonical texts of numbers: `0`, or plain digits, with a `-` before them if the number is negative
 pub data CanonicalNumber (t : List ℕ) : Type 0 where
   nought : t ≡ codes "0" → CanonicalNumber t
   positive : PlainDigits 9223372036854775807 t → CanonicalNumber t
   negative : (m : List ℕ) → t ≡ codes "-" ++ m → PlainDigits 9223372036854775808 m → CanonicalNumber t
 
--- the canonical texts of an integer: a canonical number, then nothing or a canonical suffix
+-- the canonical texts of integers: a canonical number, then nothing or a canonical suffix
 pub record CanonicalInteger (t : List ℕ) : Type 0 where
   pub front : List ℕ
   pub back : List ℕ

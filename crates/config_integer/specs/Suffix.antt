@@ -9,13 +9,13 @@ SuffixText t Kibi = (t ≡ codes "k") ⊎ (t ≡ codes "K")
 SuffixText t Mebi = (t ≡ codes "m") ⊎ (t ≡ codes "M")
 SuffixText t Gibi = (t ≡ codes "g") ⊎ (t ≡ codes "G")
 
--- what a suffix multiplies by
+-- the number that a suffix multiplies by
 abbrev pub factor : Suffix → ℕ
 factor Kibi = 1024
 factor Mebi = 1048576
 factor Gibi = 1073741824
 
--- the power of 2 that the factor is
+-- the exponent: the factor is 2 to the power of this number
 abbrev pub offset : Suffix → ℕ
 offset Kibi = 10
 offset Mebi = 20
@@ -27,6 +27,6 @@ suffix_shown Kibi = codes "k"
 suffix_shown Mebi = codes "m"
 suffix_shown Gibi = codes "g"
 
--- the canonical texts
+-- the canonical texts of suffixes: the letters in lower case
 abbrev pub CanonicalSuffix : List ℕ → Type 0
 CanonicalSuffix t = (t ≡ codes "k") ⊎ (t ≡ codes "m") ⊎ (t ≡ codes "g")

@@ -34,7 +34,7 @@ use std::str::FromStr;
 ///
 /// A text has at most one sign and at most one suffix. Its number is decimal, or hexadecimal after `0x`,
 /// binary after `0b`, octal after `0`. Letters may be in either case. The number is from -9223372036854775808
-/// to 9223372036854775807; the product with its suffix may be out of that range.
+/// to 9223372036854775807, but its product with the suffix may be out of that range.
 ///
 /// Any other text is refused with `Fault::Integer`, including one with white space or `_`. The canonical text
 /// is the number in decimal and the suffix in lower case: docs/GRAMMAR.md, Integers.
@@ -51,12 +51,12 @@ use std::str::FromStr;
 pub struct Integer {
     /// The number before the suffix, with its sign.
     pub value: i64,
-    /// The unit that multiplies the number, if it was written with one.
+    /// The suffix that multiplies the number, or `None` if it was written without a suffix.
     pub suffix: Option<Suffix>,
 }
 
-/// Reads the input, or returns `None` if it is not an integer text. It goes over the input once, from its
-/// first byte on, and stops at the byte that makes it invalid.
+/// Reads the input, or returns `None` if it is not an integer text. It goes over the input once, from the
+/// front, and stops at the byte that makes the input invalid.
 #[inline(always)]
 pub fn scan(input: &[u8]) -> Option<Integer>
     ensures { Reads IntegerText input.now result }
@@ -67,7 +67,7 @@ pub fn scan(input: &[u8]) -> Option<Integer>
     Some(Integer { value, suffix })
 }
 
-/// Whether the text begins with `-`, and the text without its sign.
+/// Returns whether the text begins with `-`, and the text without its sign.
 #[inline(always)]
 fn sign_and_rest(text: &[u8]) -> (bool, &[u8])
     ensures { (result.0, result.1.now) ≡ sign_and_rest text.now }
@@ -79,7 +79,7 @@ fn sign_and_rest(text: &[u8]) -> (bool, &[u8])
     }
 }
 
-/// The largest magnitude of a negative number of `i64`, or of a number that is not negative.
+/// Returns the largest magnitude of a negative `i64`, or of an `i64` that is not negative.
 #[inline(always)]
 fn largest(is_negative: bool) -> u64
     ensures { result ≡ largest is_negative }
@@ -91,7 +91,7 @@ fn largest(is_negative: bool) -> u64
     }
 }
 
-/// The number with this sign and magnitude, or `None` if it does not fit `i64`.
+/// Returns the number with this sign and magnitude, or `None` if it does not fit `i64`.
 #[inline(always)]
 fn with_sign(is_negative: bool, magnitude: u64) -> Option<i64>
     ensures { SomeIff result (magnitude ≤ largest is_negative) (with_sign is_negative magnitude) }
@@ -103,7 +103,7 @@ fn with_sign(is_negative: bool, magnitude: u64) -> Option<i64>
     }
 }
 
-/// Reads an integer text and returns its product as a `T`, or why it has none.
+/// Reads an integer text and returns its product as a `T`, or the fault if that is not possible.
 fn product_as<T: TryFrom<i64>>(text: &[u8]) -> Result<T, Fault>
 where
     T::Error: Drop,
@@ -202,7 +202,7 @@ impl Integer {
 impl fmt::Display for Integer {
     ghost output = { λ v. Some (integer_shown v) };
 
-    /// Writes the number in decimal, and the letter of its suffix.
+    /// Writes the number in decimal, and then the letter of its suffix, if it has one.
     fn fmt<W: fmt::Write>(&self, f: &mut fmt::Formatter<W>) -> fmt::Result {
         // Reading the field tells the prover its range.
         let _value = self.value;
@@ -228,7 +228,7 @@ impl Integer {
         }
     }
 
-    /// Reads the input as an integer and returns its product as a `T`. An error has the whole input, and the
+    /// Reads the input as an integer and returns its product as a `T`. An error has the whole input and the
     /// first of these faults that applies (docs/GRAMMAR.md, Integers):
     ///
     /// - `Fault::Integer`: the input is not an integer text.
@@ -277,7 +277,7 @@ impl Value for Integer {
         true
     }
 
-    /// Writes the number in decimal, and the letter of its suffix, in at most 21 bytes.
+    /// Writes the number in decimal, and then the letter of its suffix, if it has one, in at most 21 bytes.
     fn write_to(&self, text: &mut CanonicalText) {
         text.push_str(Buffer::new().format(self.value));
         if let Some(suffix) = self.suffix {

@@ -6,10 +6,11 @@ use crate::suffix::{Suffix, suffix_of};
 use config_text::digits::digit_of;
 use config_text::words::begins_with_run;
 
-/// 2 to the power of 59. A smaller number with one more digit of any base is less than 2 to the power of 63.
+/// 2 to the power of 59. A smaller number with one more digit, in any base up to 16, is below 2 to the power
+/// of 63.
 const CHECKED_FROM: u64 = 0x0800_0000_0000_0000;
 
-/// The number with one more digit of the base, or `None` if that is more than `limit`.
+/// Returns the number with one more digit of the base, or `None` if that is more than `limit`.
 #[inline(always)]
 fn with_digit(number: u64, base: u64, digit: u64, limit: u64) -> Option<u64>
     requires high { base ≤ 16 }
@@ -24,7 +25,8 @@ fn with_digit(number: u64, base: u64, digit: u64, limit: u64) -> Option<u64>
     if number <= limit { Some(number) } else { None }
 }
 
-/// The number of one or more digits of the base, if it is at most `limit`, and the suffix after them.
+/// Reads one or more digits of the base, whose number is at most `limit`, and the suffix after them, if there
+/// is one. Returns `None` for any other text.
 #[inline(always)]
 fn number_and_suffix(text: &[u8], base: u64, limit: u64) -> Option<(u64, Option<Suffix>)>
     requires high { base ≤ 16 }
@@ -51,7 +53,7 @@ fn number_and_suffix(text: &[u8], base: u64, limit: u64) -> Option<(u64, Option<
     }
 }
 
-/// The base that the first bytes name, and the text from its first digit on.
+/// Returns the base that the first bytes of the text mark, and the text from its first digit on.
 #[inline(always)]
 fn base_and_digits(text: &[u8]) -> (u64, &[u8])
     ensures { (result.0, result.1.now) ≡ base_and_digits text.now }
@@ -64,7 +66,7 @@ fn base_and_digits(text: &[u8]) -> (u64, &[u8])
     }
 }
 
-/// The text without those zeros at its front that another zero follows, which change no number.
+/// Returns the text without each leading zero before another zero. Such zeros do not change the number.
 #[inline(always)]
 fn without_zeros(text: &[u8]) -> &[u8]
     ensures { (base limit : ℕ) → 0 < base → base ≤ 16
@@ -81,7 +83,8 @@ fn without_zeros(text: &[u8]) -> &[u8]
     rest
 }
 
-/// The magnitude of a text without a sign, if it is at most `limit`, and its suffix.
+/// Reads a text without a sign as a magnitude of at most `limit` and a suffix, if there is one. Returns
+/// `None` for any other text.
 #[inline(always)]
 pub(crate) fn magnitude_and_suffix(text: &[u8], limit: u64) -> Option<(u64, Option<Suffix>)>
     requires { 9223372036854775807 ≤ limit }

@@ -53,7 +53,7 @@ pub(crate) fn suffix_of(text: &[u8]) -> Option<Suffix>
 }
 
 impl Suffix {
-    /// The power of 2 that the suffix multiplies by: 10, 20 or 30.
+    /// Returns the exponent of the power of 2 that the suffix multiplies by: 10, 20 or 30.
     pub fn bitwise_offset(self) -> usize
         ensures offset { result ≡ offset self }
         ensures power { 2 ^ result ≡ factor self }
@@ -65,7 +65,7 @@ impl Suffix {
         }
     }
 
-    /// What the suffix multiplies by.
+    /// Returns the number that the suffix multiplies by.
     pub(crate) fn factor(self) -> i64
         ensures { result ≡ pos (factor self) }
     {
@@ -76,7 +76,7 @@ impl Suffix {
         }
     }
 
-    /// The suffix as it is shown.
+    /// Returns the letter that the suffix is shown as.
     pub(crate) fn letter(self) -> &'static str
         ensures { result.now ≡ suffix_shown self }
     {

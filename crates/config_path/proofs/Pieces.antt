@@ -1,4 +1,4 @@
--- The pieces of a text: where the first one ends, and that those of UTF-8 are UTF-8.
+-- The pieces of a text: where the first one ends, and that the pieces of UTF-8 are UTF-8.
 use Rattle.std.proofs.Common.{◌≡◌, ◌<◌, ◌+◌, ◌==◌, ℕ, zero, suc, List, [], ◌∷◌, Bool, true, false, not, Option, None, Some, ◌⊎◌, inl, inr}
 use Rattle.std.proofs.Common.{length, take, drop, get_or, bytes_eq, refl, sym, subst, arith, eqb-true, IsUtf8, if◌then◌else◌}
 use Rattle.std.specs.List.{AllByRecursion, list_any, position_or_len}
@@ -33,7 +33,7 @@ first_piece separator text i first passes =
     subst (λ k. pieces separator text ≡ take k text ∷ pieces separator (drop (k + 1) text)) at
     (slice_split_first (λ b. b == separator) text 0 (omega (arith, at, first.high)))
 
--- at most so many bytes
+-- the pieces of UTF-8 are UTF-8, for a text of fewer than `n` bytes
 pieces_are_utf8 : (separator : ℕ) → separator < 128 → (n : ℕ) (text : List ℕ) → length text < n → IsUtf8 text
     → AllByRecursion IsUtf8 (pieces separator text)
 pieces_are_utf8 separator ascii zero text short utf8 = absurd (omega (arith, short))

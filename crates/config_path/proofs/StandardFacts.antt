@@ -1,17 +1,17 @@
--- What git-config(1) says of pathnames, on its own examples: a definition with a wrong mark or form does not
--- check.
+-- What git-config(1) says about path names, with its own examples. A definition with a wrong mark or form
+-- fails here.
 use Rattle.std.proofs.Common.{◌≡◌, ◌≢◌, ℕ, List, [], ◌∷◌, codes, Some, None, true, refl, ap, arith, get_or}
 use Rattle.std.specs.List.{AllByRecursion}
 use Rattle.config_path.specs.Interpolation.{Form, HasForm, IsOneName, join}
 use Rattle.config_path.specs.Interpolation.Form.{below_prefix, below_home, below_user, other}
 use Rattle.config_path.specs.Path.{Marked}
 
--- each value of the rows has the form beside it
+-- each value has the form in its row
 abbrev HaveForms : List (List ℕ × Form) → Type 0
 HaveForms rows = AllByRecursion (λ (row : List ℕ × Form). HasForm row.0 row.1) rows
 
--- "begins with ~/ or ~user/": the home directory, and that of a user; beyond that page, `~` alone. "If a path
--- starts with %(prefix)/, the remainder is interpreted as a path relative to Git's runtime prefix"
+-- "begins with ~/ or ~user/": the home directory, and that of a user; `~` alone is not on that page. "If a
+-- path starts with %(prefix)/, the remainder is interpreted as a path relative to Git's runtime prefix"
 abbrev expanded : List (List ℕ × Form)
 expanded =
     (codes "~/x", below_home (Some (codes "x")))
@@ -20,7 +20,7 @@ expanded =
     ∷ (codes "%(prefix)/bin/", below_prefix (codes "bin/"))
     ∷ []
 
--- texts that begin with different bytes
+-- texts that begin with different bytes are different
 other_first : (a b : ℕ) (s t : List ℕ) → a ≢ b → a ∷ s ≢ b ∷ t
 other_first a b s t differ e = differ (ap (λ l. get_or l 0 0) e)
 
@@ -45,8 +45,8 @@ literal_path = (
 pub optional_path : Marked (codes ":(optional)~/x") true (codes "~/x")
 optional_path = refl
 
--- a directory and a rest are joined by one slash, as in "~/ is expanded to the value of $HOME"; which
--- directory it is, the path table says
+-- a directory and a rest are joined by one slash, as in "~/ is expanded to the value of $HOME"; the path
+-- table says which directory it is
 pub joined : (join (codes "/home/user") (codes "x") ≡ codes "/home/user/x")
     × (join (codes "/home/user/") (codes "x") ≡ codes "/home/user/x")
 joined = (refl, refl)

@@ -1,4 +1,4 @@
--- What a path value gives: the path table.
+-- The result of interpolating a path value: the path table.
 use Rattle.std.specs.Prelude.{◌≡◌, ◌≢◌, ℕ, nat_eq, List, [], ◌∷◌, ◌++◌, codes, Option, None, Some}
 use Rattle.std.specs.Prelude.{option_copied, Result, Ok, Err, string_bytes, IsUtf8, if◌then◌else◌, ⊤}
 use Rattle.std.specs.Fn.{Once, FnOnceReturnsAt}
@@ -38,11 +38,11 @@ abbrev pub below : List ℕ → Option (List ℕ) → List ℕ
 below name None = name
 below name (Some rest) = name ++ codes "/" ++ rest
 
--- a text that does not begin with this
+-- the value does not begin with `front`
 abbrev pub LacksFront : List ℕ → List ℕ → Type 0
 LacksFront front value = (rest : List ℕ) → value ≢ front ++ rest
 
--- what a value of each form is; each value has just one form
+-- the value has this form; each value has exactly one form
 abbrev pub HasForm : List ℕ → Form → Type 0
 HasForm value empty = value ≡ []
 HasForm value (below_prefix rest) = value ≡ codes "%(prefix)/" ++ rest
@@ -56,35 +56,35 @@ abbrev pub separator : List ℕ → List ℕ
 separator [] = []
 separator (c ∷ cs) = if ends_with nat_eq (c ∷ cs) (codes "/") then [] else codes "/"
 
--- joined: a rest that begins with `/` replaces the directory
+-- joined: the rest alone if it begins with `/`, otherwise the directory, the separator and the rest
 abbrev pub join : List ℕ → List ℕ → List ℕ
 join dir rest = if starts_with nat_eq rest (codes "/") then rest else dir ++ separator dir ++ rest
 
 -- ---- the path table
 
--- the users that a caller knows: no lookup, or one, which relates a name to the homes that it may give
+-- the users that a caller knows: no lookup, or a lookup and the homes that it may return for each name
 pub data Users : Type 1 where
   no_lookup : Users
   looked_up : (may_give : List ℕ → Option (List ℕ) → Type 0) → Users
 
--- what a caller knows of the directories that a path may refer to
+-- what a caller knows about the directories that a path may refer to
 pub record Known : Type 1 where
   pub install_dir : Option (List ℕ)
   pub home_dir : Option (List ℕ)
   pub users : Users
 
--- what a value gives: a text, a fault, or the fault that the bytes at this place are not UTF-8
+-- the result for a value: a text, an error, or the error that the bytes at this place are not UTF-8
 pub data PathResult : Type 0 where
   text : List ℕ → PathResult
   fault : Error → PathResult
   ill_formed : Place → List ℕ → PathResult
 
--- these bytes are UTF-8 and the row decides; or they are not, which is the fault
+-- if the bytes are UTF-8, the row decides; otherwise the result is the error that they are not
 pub data WhereUtf8 (place : Place) (bytes : List ℕ) (row : Type 0) (result : PathResult) : Type 0 where
   utf8 : IsUtf8 bytes → row → WhereUtf8 place bytes row result
   other_bytes : ¬ (IsUtf8 bytes) → result ≡ ill_formed place bytes → WhereUtf8 place bytes row result
 
--- a row for a directory: its result if there is no directory, and a rest with its place, which has to be
+-- a row: the directory, the result if there is no directory, and the rest with its place, which has to be
 -- UTF-8
 pub record Row : Type 0 where
   pub dir : Option (List ℕ)
@@ -92,7 +92,7 @@ pub record Row : Type 0 where
   pub rest : Option (List ℕ)
   pub place : Place
 
--- what the row gives: the directory, or the directory and the rest joined
+-- the result of a row: `missing` without a directory, the directory without a rest, otherwise the two joined
 pub data IsBelow (row : Row) (result : PathResult) : Type 0 where
   no_dir : row.dir ≡ None → result ≡ row.missing → IsBelow row result
   no_rest : (dir : List ℕ) → row.dir ≡ Some dir → row.rest ≡ None → result ≡ text dir → IsBelow row result
@@ -104,13 +104,13 @@ pub data IsBelow (row : Row) (result : PathResult) : Type 0 where
 abbrev pub home_row : Option (List ℕ) → Option (List ℕ) → Row
 home_row home rest = record { dir = home; missing = fault UserNotFound; rest = rest; place = PastUser }
 
--- below the home of the user of this name: first there has to be a lookup, and then the name has to be UTF-8
+-- the result for a user's home: it needs a lookup and a name in UTF-8; then the row of the home decides
 abbrev pub IsBelowUser : Users → List ℕ → Option (List ℕ) → PathResult → Type 0
 IsBelowUser no_lookup name rest result = result ≡ fault LookupMissing
 IsBelowUser (looked_up may_give) name rest result = WhereUtf8 Username name
     ((home : Option (List ℕ)) × may_give name home × IsBelow (home_row home rest) result) result
 
--- the path table: what a value of this form gives
+-- the path table: the result for a value of this form
 abbrev pub Gives : Known → Form → PathResult → Type 0
 Gives known empty result = result ≡ fault PathMissing
 Gives known (below_prefix rest) result = IsBelow (record {
@@ -128,7 +128,7 @@ Gives known (below_home rest) result = IsBelow (record {
 Gives known (below_user name rest) result = IsBelowUser known.users name rest result
 Gives known (other value) result = WhereUtf8 Whole value (result ≡ text value) result
 
--- what the table gives at the form that the value has
+-- the result of the table for the form that the value has
 pub record PathTable (known : Known) (value : List ℕ) (result : PathResult) : Type 0 where
   pub form : Form
   pub has_form : HasForm value form
@@ -141,17 +141,17 @@ abbrev pub refusal : Error → PathResult
 refusal (IllFormed place input) = ill_formed place input.now
 refusal e = fault e
 
--- what was returned as a result of the table
+-- the returned text or error as a result of the table
 abbrev pub returned : Result (String Global) Error → PathResult
 returned (Ok s) = text (string_bytes s)
 returned (Err e) = refusal e
 
--- this result is returned; or out of memory, if its text is not empty
+-- this result is returned; or `Memory`, which is possible only if the result is a text that is not empty
 abbrev pub IsAllocated : PathResult → Result (String Global) Error → Type 0
 IsAllocated result (Err (Memory e)) = (t : List ℕ) × (result ≡ text t) × (t ≢ [])
 IsAllocated result r = result ≡ returned r
 
--- interpolated: what the table gives is returned
+-- interpolated: the result of the table is returned, or `Memory`
 pub record Interpolated (known : Known) (value : List ℕ) (r : Result (String Global) Error) : Type 0 where
   pub result : PathResult
   pub table : PathTable known value result
@@ -171,7 +171,7 @@ abbrev pub users_of : {F : Type 0} → Once F (Bor (List ℕ) × Unit {0}) (Opti
 users_of lookup None = no_lookup
 users_of lookup (Some f) = looked_up (LooksUp lookup f)
 
--- what a context knows
+-- the directories and users that a context knows
 abbrev pub known_in : {F : Type 0} → Once F (Bor (List ℕ) × Unit {0}) (Option (Bor (List ℕ))) → Context F
     → Known
 known_in lookup context = record {
@@ -180,16 +180,16 @@ known_in lookup context = record {
   users = users_of lookup context.home_for_user;
 }
 
--- ---- laws: what a lookup that is a function makes of the table
+-- ---- conditions of the laws
 
--- a name has one home
+-- the lookup, if there is one, may return only one home for each name
 abbrev pub HaveOneHome : Users → Type 0
 HaveOneHome no_lookup = ⊤
 HaveOneHome (looked_up may_give) =
     (name : List ℕ) (home other_home : Option (List ℕ)) → may_give name home → may_give name other_home
     → home ≡ other_home
 
--- memory was refused
+-- the result is the error `Memory`
 abbrev pub IsOutOfMemory : Result (String Global) Error → Type 0
 IsOutOfMemory (Err (Memory e)) = ⊤
 IsOutOfMemory r = ⊥
@@ -204,7 +204,7 @@ place_shown Username = codes "username"
 place_shown PastUser = codes "path past ~user/"
 place_shown Whole = codes "path"
 
--- what a refusal is printed as
+-- the text that an error is printed as
 abbrev pub path_error_text : Error → List ℕ
 path_error_text PathMissing = codes "path is missing"
 path_error_text InstallDirMissing = codes "git install dir is missing"
@@ -214,13 +214,13 @@ path_error_text UserNotFound = codes "pwd user info is missing"
 path_error_text (IllFormed place input) = codes "Ill-formed UTF-8 in " ++ place_shown place
 path_error_text (Memory e) = codes "no memory"
 
--- the class of a refusal
+-- the class of an error
 abbrev pub class_of : Error → Class
 class_of (IllFormed place input) = class.Validation
 class_of (Memory e) = class.Memory
 class_of _ = class.NotFound
 
--- the same refusal: ill-formed bytes at one place are compared byte by byte
+-- the same error; in `IllFormed` the places have to be the same, and the inputs have to have the same bytes
 abbrev pub IsSameError : Error → Error → Type 0
 IsSameError (IllFormed place bytes) (IllFormed at input) = (place ≡ at) × (bytes.now ≡ input.now)
 IsSameError (IllFormed place bytes) f = ⊥

@@ -18,7 +18,7 @@ abbrev pub parts_result : Result Parts Error → PathResult
 parts_result (Ok p) = text (parts_text p)
 parts_result (Err e) = refusal e
 
--- a form by its bytes
+-- a form of the code as a form of the table, by its bytes
 abbrev pub form_in : code.Form → Form
 form_in forms.Empty = empty
 form_in (forms.BelowPrefix rest) = below_prefix rest.now
@@ -26,11 +26,11 @@ form_in (forms.BelowHome rest) = below_home (option_copied rest)
 form_in (forms.BelowUser name rest) = below_user name.now (option_copied rest)
 form_in (forms.Other value) = other value.now
 
--- the text of a directory and what follows it
+-- the text that a joint makes with this directory
 abbrev pub joint_text : List ℕ → Joint → List ℕ
 joint_text dir j = (if j.has_dir then dir else []) ++ (if j.has_slash then codes "/" else []) ++ j.rest.now
 
--- the same, or an error, as a result of the path table
+-- a joint with this directory, or an error, as a result of the path table
 abbrev pub joint_result : List ℕ → Result Joint Error → PathResult
 joint_result dir (Ok j) = text (joint_text dir j)
 joint_result dir (Err e) = refusal e

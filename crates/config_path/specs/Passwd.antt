@@ -13,7 +13,7 @@ colon = 58
 abbrev pub nul : ℕ
 nul = 0
 
--- the pieces of a text between one separator and the next
+-- the pieces of a text that is cut at each separator
 abbrev pub pieces : ℕ → List ℕ → List (List ℕ)
 pieces separator text = slice_split (λ b. b == separator) text
 
@@ -23,7 +23,7 @@ home_of_fields name (user ∷ password ∷ id ∷ group ∷ comment ∷ home ∷
     if bytes_eq user name then Some home else None
 home_of_fields name _ = None
 
--- the home in the first of these lines that has one
+-- the home in the first of these lines that has a home
 abbrev pub home_in_lines : List ℕ → List (List ℕ) → Option (List ℕ)
 home_in_lines name [] = None
 home_in_lines name (line ∷ lines) =
@@ -34,6 +34,6 @@ abbrev pub home_in : List ℕ → List ℕ → Option (List ℕ)
 home_in passwd name =
     if list_any (λ b. b == nul) name then None else home_in_lines name (pieces line_feed passwd)
 
--- what a lookup of users in a passwd text gives for a name
+-- the home is what a lookup in the passwd text returns for the name
 abbrev pub IsHomeIn : List ℕ → List ℕ → Option (List ℕ) → Type 0
 IsHomeIn passwd name home = home ≡ home_in passwd name

@@ -15,12 +15,12 @@ Marked text false kept = (kept ≡ text) × ((rest : List ℕ) → text ≢ code
 abbrev pub IsPathOf : List ℕ → Path → Type 0
 IsPathOf text path = Marked text path.is_optional (bstring_bytes path.value)
 
--- equal bytes and an equal flag
+-- two paths with the same bytes and the same flag
 pub record IsEqualPath (p q : Path) : Type 0 where
   pub bytes : bstring_bytes p.value ≡ bstring_bytes q.value
   pub flag : p.is_optional ≡ q.is_optional
 
--- by the bytes, then by the flag, false first
+-- the order of paths: by the bytes, then by the flag, false first
 abbrev pub path_order : Path → Path → Ordering
 path_order p q = then_cmp (λ a b. slice_cmp nat_cmp (bstring_bytes a.value) (bstring_bytes b.value))
     (λ a b. bool_cmp a.is_optional b.is_optional) p q

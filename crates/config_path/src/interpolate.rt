@@ -32,7 +32,7 @@ pub struct Context<'a, F> {
     pub git_install_dir: Option<&'a str>,
     /// The home directory of the current user, for `~`.
     pub home_dir: Option<&'a str>,
-    /// The home directory of a user by name, for `~user`.
+    /// The lookup of a user's home directory by name, for `~user`.
     pub home_for_user: Option<F>,
 }
 
@@ -66,7 +66,7 @@ pub enum Place {
     Whole,
 }
 
-/// What kind of refusal an `Error` is.
+/// The class of an `Error`, which says what kind of refusal it is.
 ///
 /// ```rust
 /// use gix_config_value::path::interpolate::{Class, Error};
@@ -79,9 +79,9 @@ pub enum Place {
 pub enum Class {
     /// Something that the value refers to is missing.
     NotFound,
-    /// The value itself is at fault.
+    /// The value itself is invalid.
     Validation,
-    /// Out of memory.
+    /// There is no memory for the result.
     Memory,
 }
 
@@ -120,14 +120,14 @@ pub enum Error<'p> {
         /// The bytes of that part.
         input: &'p [u8],
     },
-    /// Out of memory for the result.
+    /// There is no memory for the result.
     Memory(AllocError),
 }
 
 impl fmt::Display for Place {
     ghost output = { λ place. Some (place_shown place) };
 
-    /// Writes the words for the part, as the text of `IllFormed` has them.
+    /// Writes the words that name the part in the text of `IllFormed`.
     fn fmt<W: fmt::Write>(&self, f: &mut fmt::Formatter<W>) -> fmt::Result {
         f.write_str(match self {
             Place::PastPrefix => "path past %(prefix)",
@@ -140,7 +140,7 @@ impl fmt::Display for Place {
 }
 
 impl Place {
-    /// The text of an error whose bytes are at this place.
+    /// Returns the text of an `IllFormed` error with this place.
     fn ill_formed_text(self) -> &'static str
         ensures { result.now ≡ codes "Ill-formed UTF-8 in " ++ place_shown self }
     {
@@ -155,7 +155,7 @@ impl Place {
 }
 
 impl Error<'_> {
-    /// What kind of refusal this is.
+    /// Returns what kind of refusal this is.
     pub fn class(&self) -> Class
         ensures { result ≡ class_of self.now }
     {
@@ -170,7 +170,7 @@ impl Error<'_> {
         }
     }
 
-    /// What `Display` prints, without the bytes that are not UTF-8.
+    /// Returns what `Display` prints, which does not have the bytes that are not UTF-8.
     ///
     /// ```rust
     /// use gix_config_value::path::interpolate::Error;
@@ -208,7 +208,7 @@ impl<'a, F> Default for Context<'a, F> {
         × (context.home_dir ≡ None)
         × (context.home_for_user ≡ None) };
 
-    /// No directory and no lookup.
+    /// Returns a context without directories and without a lookup.
     fn default() -> Context<'a, F> {
         Context {
             git_install_dir: None,
@@ -229,7 +229,7 @@ fn split_piece(text: &[u8], separator: u8) -> Option<(&[u8], &[u8])>
     Some((&text[..at], &text[at + 1..]))
 }
 
-/// What follows the first `count` fields of a line, or `None` if it has no more fields than those.
+/// Returns what follows the first `count` fields of a line, or `None` if it has at most `count` fields.
 fn past_fields(line: &[u8], count: usize) -> Option<&[u8]>
     ensures { MatchOption result (length (pieces colon line.now) ≤ count)
         (λ rest. FollowsFields count (pieces colon line.now) (pieces colon rest.now)) }
@@ -242,7 +242,7 @@ fn past_fields(line: &[u8], count: usize) -> Option<&[u8]>
     Some(rest)
 }
 
-/// The home directory in one line, if the line has seven fields of which the first is the name.
+/// Returns the home in a line of exactly seven fields whose first is the name, or `None` for any other line.
 fn home_in_line<'a>(line: &'a [u8], name: &[u8]) -> Option<&'a [u8]>
     ensures { option_copied result ≡ home_of_fields name.now (pieces colon line.now) }
 {
@@ -258,7 +258,7 @@ fn home_in_line<'a>(line: &'a [u8], name: &[u8]) -> Option<&'a [u8]>
     }
 }
 
-/// As [`home_for_user`], in a passwd text of any bytes.
+/// Does the same as [`home_for_user`], for a passwd text and a name of any bytes.
 pub fn home_in_passwd<'a>(passwd: &'a [u8], name: &[u8]) -> Option<&'a [u8]>
     ensures { option_copied result ≡ home_in passwd.now name.now }
 {

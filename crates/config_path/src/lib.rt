@@ -14,8 +14,8 @@
 //! An [`interpolate::Error`] says why a call failed, and has an [`interpolate::Class`]. Calls that allocate
 //! their result take the allocator.
 //!
-//! [`laws`] states what else holds of paths: a text gives one path, how paths compare, and that a value has
-//! one result in the table of `interpolate`.
+//! [`laws`] states that a text gives one path, how paths compare, and that a value has one result in the
+//! table of `interpolate`.
 #![tactic(auto)]
 
 pub mod interpolate;

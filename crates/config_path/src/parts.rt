@@ -1,7 +1,7 @@
 //! What a path value means, as borrowed parts: a directory, a `/` and a rest.
 //!
-//! This takes no memory. `Path::interpolate` makes one text of the parts, and a caller with a buffer writes
-//! them there.
+//! Finding the parts takes no memory. `Path::interpolate` joins them into one text, and a caller with a
+//! buffer can write them there.
 ghost use Rattle.std.specs.Prelude.{◌≡◌, ◌≢◌, [], IsUtf8, MatchResult, codes, if◌then◌else◌};
 ghost use Rattle.std.specs.Prelude.{option_copied, string_bytes, Some};
 ghost use Rattle.std.specs.Option.{ForSome};
@@ -47,7 +47,7 @@ pub struct Parts<'a, 'p> {
 }
 
 impl Parts<'_, '_> {
-    /// What follows the directory: a `/` or nothing.
+    /// Returns what follows the directory: a `/` or nothing.
     #[inline(always)]
     pub fn slash(&self) -> &'static str
         ensures { result.now ≡ (if self.now.has_slash then codes "/" else []) }
@@ -87,7 +87,7 @@ pub fn text_at<'p>(place: Place, bytes: &'p [u8]) -> Result<&'p str, Error<'p>>
     }
 }
 
-/// What follows a directory, and what of the two stays.
+/// How a rest is joined to a directory: which parts come before the rest, and the rest itself.
 ///
 /// ```rust
 /// use gix_config_value::path::interpolate::Place;
@@ -99,7 +99,7 @@ pub fn text_at<'p>(place: Place, bytes: &'p [u8]) -> Result<&'p str, Error<'p>>
 /// ```
 #[derive(Clone, Copy)]
 pub struct Joint<'p> {
-    /// Whether the directory stays: a rest that begins with `/` replaces it.
+    /// Whether the directory is kept: a rest that begins with `/` replaces it.
     pub has_dir: bool,
     /// Whether a `/` follows the directory.
     pub has_slash: bool,
@@ -108,7 +108,7 @@ pub struct Joint<'p> {
 }
 
 impl<'p> Joint<'p> {
-    /// The rest below a directory.
+    /// Returns how the rest is joined to the directory.
     fn of(dir: &[u8], rest: &'p str) -> Joint<'p>
         ensures { joint_text dir.now result ≡ join dir.now rest.now }
     {
@@ -126,7 +126,7 @@ impl<'p> Joint<'p> {
         }
     }
 
-    /// The parts with this directory.
+    /// Returns the parts that this joint makes with the directory.
     fn with<'a>(self, dir: &'a str) -> Parts<'a, 'p>
         ensures { parts_text result ≡ joint_text dir.now self.entry }
     {
@@ -138,8 +138,8 @@ impl<'p> Joint<'p> {
     }
 }
 
-/// How a rest, if there is one, is put below a directory of any bytes. Fails with `IllFormed` at the place if
-/// the rest is not UTF-8.
+/// Returns how a rest, if there is one, is joined to a directory of any bytes. Fails with `IllFormed` at the
+/// place if the rest is not UTF-8.
 pub fn joint_of<'p>(
     dir: &[u8],
     rest: Option<&'p [u8]>,
@@ -186,7 +186,8 @@ fn below_dir<'a, 'p>(
     }
 }
 
-/// The same below the directory that the lookup returns for the name.
+/// Does the same with the directory that the lookup returns for the name. Fails with `LookupMissing` without
+/// a lookup, with `IllFormed` if the name is not UTF-8, and with `UserNotFound` if there is no directory.
 fn below_user<'p, 'a, F>(
     lookup: Option<F>,
     name: &'p [u8],
@@ -232,13 +233,14 @@ pub enum Form<'p> {
     BelowPrefix(&'p [u8]),
     /// It is `~`, or begins with `~/`, and this follows.
     BelowHome(Option<&'p [u8]>),
-    /// It begins with `~` and this name, and what follows the `/` after the name, if there is one.
+    /// It begins with `~` and this name. The second field is what follows the `/` after the name, if there is
+    /// a `/`.
     BelowUser(&'p [u8], Option<&'p [u8]>),
-    /// It is any other value: this one.
+    /// It is any other value, which is this one.
     Other(&'p [u8]),
 }
 
-/// The form of a value, which tells the directory that it asks for.
+/// Returns the form of a value, which says which directory it refers to.
 pub fn form_of(value: &[u8]) -> Form<'_>
     ensures { HasForm value.now (form_in result) }
 {
@@ -269,8 +271,8 @@ fn unchanged<'a, 'p>(value: &'p [u8]) -> Result<Parts<'a, 'p>, Error<'p>>
     })
 }
 
-/// Returns the parts that the path table gives for a value. It refuses as `Path::interpolate` does, but never
-/// with `Memory`, which the table never gives.
+/// Returns the parts that the path table gives for a value. It fails with the same errors as
+/// `Path::interpolate`, except for `Memory`, which the table never gives.
 pub fn parts_of<'p, 'a, F>(
     value: &'p [u8],
     context: Context<'a, F>,

@@ -37,8 +37,8 @@ pub struct Path {
     pub is_optional: bool,
 }
 
-/// Whether the bytes begin with the mark of an optional path, and what follows it. Without the mark that is
-/// all bytes. Only one mark is cut off.
+/// Returns whether the bytes begin with the mark of an optional path, and the bytes without that mark. Only
+/// one mark is cut off.
 ///
 /// ```rust
 /// use gix_config_value::path::cut_mark;
@@ -56,7 +56,7 @@ pub fn cut_mark(bytes: &[u8]) -> (bool, &[u8])
     }
 }
 
-/// What follows the front, or `None` if the bytes do not begin with it.
+/// Returns what follows `front`, or `None` if the bytes do not begin with it.
 pub(crate) fn strip_front<'a>(bytes: &'a [u8], front: &[u8]) -> Option<&'a [u8]>
     ensures { MatchOption result
         ((rest : List ℕ) → bytes.now ≢ front.now ++ rest)
@@ -68,8 +68,8 @@ pub(crate) fn strip_front<'a>(bytes: &'a [u8], front: &[u8]) -> Option<&'a [u8]>
 impl From<BString> for Path {
     ghost from_gives = { λ value path. IsPathOf (bstring_bytes value) path };
 
-    /// The path of these bytes. One leading `:(optional)` is cut off and makes the path optional. A second
-    /// one is part of the path. The memory of the bytes is reused.
+    /// Returns the path of these bytes. One leading `:(optional)` is cut off and makes the path optional. A
+    /// second one is part of the path. The memory of the bytes is reused.
     fn from(value: BString) -> Path {
         let mut bytes = value.into_vec();
         let (is_optional, _path) = cut_mark(&bytes);
@@ -84,16 +84,16 @@ impl From<BString> for Path {
 }
 
 impl Path {
-    /// The path of a text, copied. One leading `:(optional)` is cut off, as by `From<BString>`.
-    /// Fails only if memory runs out.
+    /// Copies a text into a path. One leading `:(optional)` is cut off, as by `From<BString>`. Fails only if
+    /// memory runs out.
     pub fn from_text(alloc: Global, value: &str) -> Result<Path, AllocError>
         ensures { IfOk result (IsPathOf value.now) }
     {
         Path::from_bstr(alloc, BStr::from(value))
     }
 
-    /// The path of a byte string, copied. One leading `:(optional)` is cut off, as by
-    /// `From<BString>`. Fails only if memory runs out.
+    /// Copies a byte string into a path. One leading `:(optional)` is cut off, as by `From<BString>`. Fails
+    /// only if memory runs out.
     pub fn from_bstr(alloc: Global, value: BStr<'_>) -> Result<Path, AllocError>
         ensures { IfOk result (IsPathOf (bstr_bytes value.entry)) }
     {
@@ -104,9 +104,9 @@ impl Path {
         })
     }
 
-    /// The path of bytes that are borrowed or owned. One leading `:(optional)` is cut off, as by
-    /// `From<BString>`. Owned bytes are reused, which never fails; borrowed ones are copied, which fails only
-    /// if memory runs out.
+    /// Returns the path of bytes that are borrowed or owned. One leading `:(optional)` is cut off, as by
+    /// `From<BString>`. Owned bytes are reused, which never fails; borrowed bytes are copied, which fails
+    /// only if memory runs out.
     pub fn from_cow(alloc: Global, value: CowSlice<'_, u8>) -> Result<Path, AllocError>
         ensures path { IfOk result (IsPathOf (cow_slice_items value.entry)) }
         ensures owned { IsOwnedSlice value.entry → IsOk result }
@@ -114,7 +114,7 @@ impl Path {
         Ok(Path::from(BString::new(value.into_owned(alloc)?)))
     }
 
-    /// An equal path. Fails only if memory runs out.
+    /// Returns an equal path. Fails only if memory runs out.
     pub fn clone(&self, alloc: Global) -> Result<Path, AllocError>
         ensures { IfOk result (IsEqualPath self.now) }
     {
@@ -131,7 +131,7 @@ impl Path {
         self.value.as_bytes()
     }
 
-    /// The bytes of the path, without the mark, as a byte string.
+    /// Returns the bytes of the path, without the mark, as a byte string.
     pub fn as_bstr(&self) -> BStr<'_>
         ensures { bstr_bytes result ≡ bstring_bytes self.now.value }
     {
@@ -139,8 +139,8 @@ impl Path {
     }
 
     /// Replaces what the path begins with: `%(prefix)/` by the install directory, `~` by the home directory,
-    /// and `~user` by what the lookup returns for that name. A rest that begins with `/` is the whole result.
-    /// Any other value is returned unchanged.
+    /// and `~user` by what the lookup returns for that name. If the rest begins with `/`, the rest alone is
+    /// the result. Any other value is returned unchanged.
     ///
     /// Whether the path is optional makes no difference. The lookup is called at most once, with the user's
     /// name, and must be callable with any text. The result takes one allocation, or no allocation if it is
@@ -148,12 +148,12 @@ impl Path {
     ///
     /// Errors:
     /// - `PathMissing`: the path is empty.
-    /// - `InstallDirMissing`, `HomeMissing`, `LookupMissing`: the path needs what the context
+    /// - `InstallDirMissing`, `HomeMissing`, `LookupMissing`: the path needs something that the context
     ///   lacks.
     /// - `UserNotFound`: the lookup returns `None`.
-    /// - `IllFormed`: the rest, the name or, in any other value, the whole is not UTF-8. The error
-    ///   lends those bytes.
-    /// - `Memory`: out of memory.
+    /// - `IllFormed`: the rest, the user's name, or the whole of any other value is not UTF-8. The error has
+    ///   those bytes.
+    /// - `Memory`: there is no memory for the result.
     ///
     /// The first row of the table in docs/GRAMMAR.md, Paths, that fits the path decides.
     ///

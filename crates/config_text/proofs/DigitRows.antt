@@ -1,4 +1,4 @@
--- The table of digits: what each byte is worth in base 16, and 16 for a byte that is no digit.
+-- The table of digits: the value of each byte in base 16, or 16 if the byte is no digit.
 use Rattle.std.proofs.Common.{◌≡◌, ℕ, zero, suc, ◌+◌, ◌<◌, ◌≤◌, ◌==◌, nat_lt, List, [], ◌∷◌, length, get_or}
 use Rattle.std.proofs.Common.{Bool, true, ◌&&◌, ◌||◌, refl, subst, arith}
 use Rattle.std.proofs.lemmas.Bool.Decides.{nat_tests}
@@ -6,12 +6,12 @@ use Rattle.std.proofs.lemmas.Bool.{and_parts}
 use Rattle.std.specs.Char.{digit_value}
 use Rattle.config_text.specs.declared.digits.TheConstants.{DIGITS}
 
--- whether a byte has this row: 16 where it is no digit of base 16
+-- whether the byte has this value in the table: its digit value, or 16 if that is not below 16
 abbrev is_row : ℕ → ℕ → Bool
 is_row byte worth = (nat_lt (digit_value byte) 16 && (worth == digit_value byte))
     || (nat_lt 15 (digit_value byte) && (worth == 16))
 
--- whether these are the rows from this byte on
+-- whether these are the values in the table from this byte on
 abbrev are_rows : ℕ → List ℕ → Bool
 are_rows byte [] = true
 are_rows byte (worth ∷ rows) = is_row byte worth && are_rows (suc byte) rows
@@ -26,7 +26,7 @@ row_at (worth ∷ rows) from (suc i) byte e h l =
     row_at rows (suc from) i byte (omega arith) (and_parts (is_row from worth) (are_rows (suc from) rows) h).1
     (omega arith)
 
--- what the table says of a byte
+-- the table has the right value for each byte
 pub digit_at : (byte : ℕ) → byte < 256 → is_row byte (get_or DIGITS byte 0) ≡ true
 digit_at byte l = row_at DIGITS 0 byte byte (omega arith) refl l
 

@@ -1,4 +1,4 @@
--- From the contract of an exact reader to its answer for a text whose value is known, or which is known to be
+-- What an exact reader returns, by its contract, for a text whose value is known, or which is known to be
 -- refused.
 use Rattle.std.proofs.Common.{◌≡◌, ℕ, List, Option, Some, None, Result, Ok, Err, refl, ap, map, [], ◌∷◌}
 use Rattle.std.specs.List.{AllByRecursion}
@@ -10,19 +10,19 @@ use Rattle.config_text.specs.Refusals.{ReadsOr}
 abbrev pub OneValue : {V : Type 0} → (List ℕ → V → Type 0) → Type 0
 OneValue {V} grammar = (t : List ℕ) (v w : V) → grammar t v → grammar t w → v ≡ w
 
--- of a text with this value an exact reader answers the value
+-- for a text with this value, an exact reader returns the value
 pub read_some : {V : Type 0} {grammar : List ℕ → V → Type 0} → OneValue grammar
     → (t : List ℕ) (v : V) (r : Option V) → grammar t v → Reads grammar t r → r ≡ Some v
 read_some one t v (Some w) text reads = ap Some (one t w v reads text)
 read_some one t v None text reads = absurd (reads v text)
 
--- of a text that the grammar refuses it answers none
+-- for a text that the grammar refuses, an exact reader returns `None`
 pub read_none : {V : Type 0} (grammar : List ℕ → V → Type 0) (t : List ℕ) (r : Option V)
     → IsRefused grammar t → Reads grammar t r → r ≡ None
 read_none grammar t (Some v) refused reads = absurd (refused v reads)
 read_none grammar t None refused reads = refl
 
--- the same of a reader that answers a `Result`, whatever it refuses with: `ReadsText`, `ReadsBytes`,
+-- the same for a reader that returns a `Result`, with an error of any type: `ReadsText`, `ReadsBytes`,
 -- `ReadsFault`
 pub read_ok : {V E : Type 0} {grammar : List ℕ → V → Type 0} (refusal : E → Type 0) → OneValue grammar
     → (t : List ℕ) (v : V) (r : Result V E) → grammar t v → ReadsOr grammar refusal t r → r ≡ Ok v
@@ -35,13 +35,13 @@ pub read_err : {V E : Type 0} (grammar : List ℕ → V → Type 0) (refusal : E
 read_err grammar refusal t (Ok v) refused reads = absurd (refused v reads)
 read_err grammar refusal t (Err e) refused reads = (e, refl, reads.0)
 
--- where the grammar as a function answers none, the grammar refuses the text
+-- if the function that computes the grammar returns `None`, the grammar refuses the text
 pub refused_by : {V : Type 0} {grammar : List ℕ → V → Type 0} {value_of : List ℕ → Option V}
     → IsValueOf grammar value_of → (t : List ℕ) → value_of t ≡ None → IsRefused grammar t
 refused_by law t e v text = cc (e, law.found t v text)
 
--- a function is the grammar where its answer is the text's one value, and the text is refused where it
--- answers none
+-- a function computes the grammar if each value that it returns is the text's only value, and it returns
+-- `None` only for refused texts
 pub value_by : {V : Type 0} {grammar : List ℕ → V → Type 0} {value_of : List ℕ → Option V} → OneValue grammar
     → ((t : List ℕ) (v : V) → value_of t ≡ Some v → grammar t v)
     → ((t : List ℕ) → value_of t ≡ None → IsRefused grammar t) → IsValueOf grammar value_of
@@ -51,7 +51,7 @@ value_by {V} {grammar} {value_of} one derived refused =
       told t v (Some w) e h = ap Some (one t w v (derived t w e) h)
       told t v None e h = absurd (refused t e v h)
 
--- each text of the rows has the value beside it
+-- each text has the value in its row
 abbrev pub AreRead : {V : Type 0} → (List ℕ → V → Type 0) → List (List ℕ × V) → Type 0
 AreRead {V} grammar rows = AllByRecursion (λ (row : List ℕ × V). grammar row.0 row.1) rows
 
@@ -59,7 +59,7 @@ AreRead {V} grammar rows = AllByRecursion (λ (row : List ℕ × V). grammar row
 abbrev pub AreRefused : {V : Type 0} → (List ℕ → V → Type 0) → List (List ℕ) → Type 0
 AreRefused grammar texts = AllByRecursion (λ t. IsRefused grammar t) texts
 
--- both are gained from the grammar as a function, by one equation of lists
+-- both follow from the function that computes the grammar, by one equation of lists
 pub all_read : {V : Type 0} {grammar : List ℕ → V → Type 0} {value_of : List ℕ → Option V}
     → IsValueOf grammar value_of → (rows : List (List ℕ × V))
     → map (λ row. value_of row.0) rows ≡ map (λ row. Some row.1) rows → AreRead grammar rows

@@ -1,4 +1,4 @@
--- One entry decides, so a name has one answer at most.
+-- One entry decides, so a name has at most one result.
 use Rattle.std.proofs.Common.{◌≡◌, inl, inr, ℕ, List, Some, sym, subst, ap, ◌∙◌}
 use Rattle.std.specs.List.{slice_get}
 use Rattle.std.proofs.lemmas.Bool.{cases_order}

@@ -1,11 +1,11 @@
--- Entries whose texts are replaced by others of the same values answer each name as before.
+-- If the texts of entries are replaced by others with the same values, each name keeps its result.
 use Rattle.std.proofs.Common.{◌≡◌, ◌⊎◌, inl, inr, ℕ, zero, suc, List, [], ◌∷◌, Some, sym, subst, ap, ◌∙◌}
 use Rattle.std.specs.List.{AllZip}
 use Rattle.std.proofs.lemmas.Option.{same_Some, none-some}
 use Rattle.config_text.specs.Settings.{IsNamed, Decides, Finds, decided, absent, DecidingIsRefused}
 use Rattle.config_text.specs.Settings.{IsReplaced, kept, replaced, SameAnswers}
 
--- two texts are one, or have the same value
+-- two texts are the same, or have the same value
 abbrev SameText : {V : Type 0} → (List ℕ → V → Type 0) → List ℕ → List ℕ → Type 0
 SameText {V} grammar t u = (t ≡ u) ⊎ ((v : V) × grammar t v × grammar u v)
 
@@ -38,7 +38,7 @@ entries_back grammar [] (f ∷ fs) all = absurd all
 entries_back grammar (e ∷ es) [] all = absurd all
 entries_back grammar (e ∷ es) (f ∷ fs) all = (entry_back grammar e f all.0, entries_back grammar es fs all.1)
 
--- a name stands at the same places, each time with a text of the same value
+-- a name is at the same places in both lists, with the same text or a text of the same value
 named_on : {V : Type 0} (grammar : List ℕ → V → Type 0) (es fs : List (List ℕ × List ℕ))
     → AllZip (SameEntry grammar) es fs
     → (n : List ℕ) (i : ℕ) (t : List ℕ) → IsNamed es n i t

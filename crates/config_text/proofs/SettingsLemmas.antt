@@ -1,4 +1,4 @@
--- The deciding entry, from what holds of the borrowed entries at each index.
+-- The deciding entry, from facts about the borrowed entry at each index.
 use Rattle.std.proofs.Common.{◌≡◌, ◌≢◌, ◌<◌, ◌≤◌, ◌+◌, ℕ, zero, suc, List, [], ◌∷◌, Some, Bor, length, get_or}
 use Rattle.std.proofs.Common.{refl, subst, ◌∙◌, ap, arith}
 use Rattle.std.specs.List.{slice_get, HoldsAt, AllWithin}
@@ -8,7 +8,7 @@ use Rattle.config_text.specs.Settings.{entry_texts, IsNamed, IsAbsent, Decides, 
 use Rattle.config_text.specs.Settings.{DecidingIsRefused}
 use Rattle.config_text.specs.Value.{IsRefused}
 
--- the entry at a place of which the texts are named
+-- if the entry at an index has this name, there is a borrowed entry at the index with this name
 named_entry : (es : List (Bor (List ℕ) × Bor (List ℕ))) (n : List ℕ) (j : ℕ) (t : List ℕ)
     → IsNamed (entry_texts es) n j t
     → (e : Bor (List ℕ) × Bor (List ℕ)) × (slice_get es j ≡ Some e) × (e.0.now ≡ n)
@@ -16,7 +16,7 @@ named_entry [] n j t named = absurd (none-some (n, t) named)
 named_entry (e ∷ es) n zero t named = (e, refl, ap (λ p. p.0) (same_Some _ _ named))
 named_entry (e ∷ es) n (suc j) t named = named_entry es n j t named
 
--- an index at which no entry has the name
+-- no entry from index `low` on has the name
 not_named : (es : List (Bor (List ℕ) × Bor (List ℕ))) (n : List ℕ) (low : ℕ)
     → AllWithin (λ e. e.0.now ≢ n) es low (length es)
     → (j : ℕ) (t : List ℕ) → low ≤ j → ¬ (IsNamed (entry_texts es) n j t)
@@ -40,7 +40,7 @@ pub absent_by : (es : List (Bor (List ℕ) × Bor (List ℕ))) (n : List ℕ)
     → AllWithin (λ e. e.0.now ≢ n) es 0 (length es) → IsAbsent (entry_texts es) n
 absent_by es n nowhere j t = not_named es n 0 nowhere j t (omega arith)
 
--- at the deciding entry the answer is what its text reads to
+-- the result is what the text of the deciding entry reads to
 pub finds_at : {V : Type 0} (grammar : List ℕ → V → Type 0) (es : List (List ℕ × List ℕ)) (n : List ℕ)
     (default : V) (i : ℕ) (t u : List ℕ) (v : V)
     → Decides es n i u → t ≡ u → grammar t v → Finds grammar es n default v

@@ -1,4 +1,4 @@
--- The bytes that definitions name.
+-- Names for bytes and for ranges of bytes.
 use Rattle.std.specs.Prelude.{ℕ, ◌⊎◌}
 use Rattle.std.specs.Int.{IsInRange}
 

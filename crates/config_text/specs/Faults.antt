@@ -1,4 +1,4 @@
--- What a fault is printed as: the texts of the Rust crate, except for `OutOfRange`, which names no type here.
+-- The texts that faults are printed as: those of the Rust crate, except that `OutOfRange` names no type here.
 use Rattle.std.specs.Prelude.{ℕ, List, codes}
 use Rattle.config_text.specs.declared.errors.Fault.{Fault}
 use Rattle.config_text.specs.declared.errors.Fault.TheVariants as faults

@@ -16,11 +16,11 @@ pub record HasOrder {V H : Type 0} (same : V → V → Type 0) (order : V → V 
   pub agrees : (v w : V) → eq v w ≡ is_eq (cmp v w)
   pub hashes : (v w : V) → IsTrue (eq v w) → hash_input v ≡ hash_input w
 
--- `==` says whether two values are the same
+-- `==` is true exactly if the two values are the same
 abbrev pub Equates : {V : Type 0} → (V → V → Type 0) → (V → V → Bool) → Type 0
 Equates {V} same eq = (v w : V) → (IsTrue (eq v w)) ↔ (same v w)
 
--- a clone is the value that it is made from, and making it never fails
+-- a clone is the same value as its original, and cloning never fails
 pub record IsCopied {V : Type 0} (is_clone : V → V → Type 0) (is_infallible : V → Type 0) : Type 0 where
   pub same : (v w : V) → is_clone v w → w ≡ v
   pub always : (v : V) → is_infallible v

@@ -1,8 +1,8 @@
-//! What a byte is worth as a digit.
+//! The value of a byte as a digit.
 ghost use Rattle.std.specs.Prelude.{◌≡◌, ◌<◌, ◌≤◌};
 ghost use Rattle.std.specs.Char.{digit_value};
 
-/// What each byte is worth as a hexadecimal digit, and 16 if it is not one.
+/// The value of each byte as a hexadecimal digit, or 16 if the byte is no such digit.
 #[rattlefmt::skip]
 const DIGITS: [u8; 256] = [
     16, 16, 16, 16, 16, 16, 16, 16, 16, 16, 16, 16, 16, 16, 16, 16,
@@ -23,7 +23,7 @@ const DIGITS: [u8; 256] = [
     16, 16, 16, 16, 16, 16, 16, 16, 16, 16, 16, 16, 16, 16, 16, 16,
 ];
 
-/// The value of a hexadecimal digit, and 16 for any other byte.
+/// Returns the value of a hexadecimal digit, which is 0 to 15, or 16 for any other byte.
 #[inline(always)]
 pub fn digit_of(byte: u8) -> u8
     ensures digit { result < 16 → digit_value byte ≡ result }

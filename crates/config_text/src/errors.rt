@@ -5,11 +5,11 @@ ghost use Rattle.config_text.specs.Faults.{fault_text};
 use bstr::BStr;
 use thiserror::Error as ThisError;
 
-/// Why a reader refuses a text. A fault is always one of the text, and never of memory.
+/// Why a reader refuses a text. A fault is always about the text, and never about memory.
 ///
-/// Booleans are refused with `Boolean`; names, attributes and colors with `Color`; integers with `Integer`;
-/// amounts with `Integer` first and `Overflow` second. `Integer::from_bytes` returns `OutOfRange` third.
-/// docs/GRAMMAR.md has the texts of each kind.
+/// Booleans are refused with `Boolean`, integers with `Integer`, and names, attributes and colors with
+/// `Color`. Amounts are refused with `Integer` or `Overflow`, and `Integer::from_bytes` with `Integer`,
+/// `Overflow` or `OutOfRange`: the first that applies. docs/GRAMMAR.md has the texts of each kind.
 ///
 /// ```rust
 /// use gix_config_value::Fault;
@@ -35,13 +35,13 @@ pub enum Fault {
     Color,
 }
 
-/// The text of `Fault::Integer`, word for word that of the Rust crate.
+/// The text of `Fault::Integer`, which is word for word the text of the Rust crate.
 const INTEGER_TEXT: &str =
     "Integers needs to be positive or negative numbers which may have a suffix like 1k, 42, or 50G";
 
 impl Fault {
-    /// What `Display` prints, a different text for each fault. The texts are those of the Rust crate, except
-    /// that `OutOfRange` names no type here. They name the kind, and not what is wrong in the text.
+    /// Returns what `Display` prints, a different text for each fault. The texts are those of the Rust crate,
+    /// except that `OutOfRange` names no type here. They name the kind, and not what is wrong in the text.
     ///
     /// ```rust
     /// use gix_config_value::Fault;
@@ -66,7 +66,8 @@ impl Fault {
 /// A refusal of a borrowed text: the fault, and the whole input.
 ///
 /// Each `TryFrom` of a `&str` or a `BStr` returns it, except for suffixes, and so does `Integer::from_bytes`.
-/// It is not an error type and has no text. Its [`Fault`] is one, and `?` converts it to that.
+/// It is not an error type and has no text. Its [`Fault`] is an error type, and `?` converts the refusal to
+/// it.
 ///
 /// ```rust
 /// use bstr::BStr;
@@ -84,10 +85,10 @@ pub struct Error<'a> {
     pub input: BStr<'a>,
 }
 
-/// A refusal of an input that is or may be owned: the fault, and the input handed back.
+/// A refusal of an input that is or may be owned: the fault, and the input, which is handed back.
 ///
 /// The readers of `BString` and `CowSlice` return it, and copy nothing. It is not an error type and has no
-/// text. Its [`Fault`] is one, and `?` converts it to that; the input is then dropped.
+/// text. Its [`Fault`] is an error type, and `?` converts the refusal to it and drops the input.
 ///
 /// ```rust
 /// use bstr::BString;
@@ -109,7 +110,7 @@ pub struct Returned<V> {
 impl<'a> From<Error<'a>> for Fault {
     ghost from_gives = { λ error fault. fault ≡ error.fault };
 
-    /// Why the text was refused, so that `?` passes on a refusal of a borrowed text as a `Fault`.
+    /// Returns why the text was refused, so that `?` passes on a refusal of a borrowed text as a `Fault`.
     fn from(error: Error<'a>) -> Fault {
         error.fault
     }
@@ -118,8 +119,8 @@ impl<'a> From<Error<'a>> for Fault {
 impl<V: Drop> From<Returned<V>> for Fault {
     ghost from_gives = { λ returned fault. fault ≡ returned.fault };
 
-    /// Why the text was refused, so that `?` passes on a refusal of an owned text as a `Fault`. The input is
-    /// dropped.
+    /// Returns why the text was refused, so that `?` passes on a refusal of an owned text as a `Fault`. The
+    /// input is dropped.
     fn from(returned: Returned<V>) -> Fault {
         returned.fault
     }

@@ -1,4 +1,4 @@
-//! Why a value has no JSON value, and texts as JSON.
+//! Why a value has no JSON value, and texts as JSON strings.
 ghost use Rattle.config_text.specs.Json.{GivesJsonText};
 
 use serde_json::Value;
@@ -7,7 +7,7 @@ use thiserror::Error;
 
 /// Why a value has no JSON value: docs/GRAMMAR.md, JSON values.
 ///
-/// Integers fail with `Overflow` alone; names, attributes and suffixes with `Memory` alone; booleans never
+/// Integers fail only with `Overflow`, and names, attributes and suffixes only with `Memory`. Booleans never
 /// fail.
 ///
 /// ```rust
@@ -27,7 +27,7 @@ pub enum JsonError {
     Memory(AllocError),
 }
 
-/// Returns the text as a JSON string. It asks for memory once, but not for the empty text. Fails with
+/// Returns the text as a JSON string. It asks for memory once, or not at all if the text is empty. Fails with
 /// `JsonError::Memory` if memory is refused.
 pub fn string(alloc: Global, text: &str) -> Result<Value, JsonError>
     ensures { GivesJsonText text.now result }

@@ -1,16 +1,18 @@
-//! What it means for a text to be read as a value, whatever the kind of value.
+//! What it means to read a text as a value, for any kind of value.
 //!
-//! - [`value`]: the trait `Value`, with what a kind owes: exact reading, one canonical text for each
-//!   value, and the laws that make the two fit. The normalizer and the comparison are written once over it.
-//! - [`errors`]: why a text is refused, and the input that is given back with it.
-//! - [`readers`]: the readers of a type over borrowed and owned inputs, written once.
-//! - [`digits`]: what a byte is worth as a digit.
-//! - [`words`]: a text compared with a word.
+//! - [`value`]: the trait `Value`, which says what a kind has to provide: exact reading, one canonical text
+//!   for each value, and the laws that connect the two. It also has a normalizer and a comparison for all
+//!   kinds.
+//! - [`errors`]: why a text is refused, together with the input.
+//! - [`readers`]: readers of borrowed and owned inputs, for all kinds that say why they refuse a text.
+//! - [`digits`]: the value of a byte as a digit.
+//! - [`words`]: comparisons of a text with a word.
 //! - [`json`]: why a value has no JSON value, and texts as JSON.
-//! - [`settings`]: a setting by name, of a list of entries.
-//! - [`laws`]: what holds of settings, and what `==` and `clone` return.
+//! - [`settings`]: looks up a setting by its name in a list of entries.
+//! - [`laws`]: laws of settings, and what `==` and `clone` return.
 //!
-//! This crate knows no kind of value. Its definitions are at the top of `specs/`; `specs/Laws/` holds lemmas.
+//! This crate defines no kind of value. Its definitions are at the top of `specs/`; `specs/Laws/` holds
+//! lemmas.
 #![tactic(auto)]
 
 pub mod digits;

@@ -1,4 +1,4 @@
-//! The readers of a type, written once. Each calls the type's [`TryRead`], and adds the input to the fault.
+//! Readers for each type that implements [`TryRead`]. They add the input to the fault of its `try_read`.
 ghost use Rattle.std.specs.Prelude.{ℕ, List};
 ghost use Rattle.std.specs.Cow.{cow_slice_items};
 ghost use Rattle.bstr.specs.Owned.{bstring_bytes};
@@ -10,8 +10,8 @@ use crate::value::Value;
 use bstr::{BStr, BString};
 use std::borrow::CowSlice;
 
-/// A value whose reader says why it refuses a text. Six of the seven kinds do; a suffix is refused without a
-/// fault.
+/// A value whose reader says why it refuses a text. Six of the seven kinds have such a reader; a suffix is
+/// refused without a fault.
 ///
 /// ```rust
 /// use gix_config_value::canonical::TryRead;
@@ -29,7 +29,7 @@ pub trait TryRead: Value {
         ensures { ReadsFault Self.grammar refusal text.now result };
 }
 
-/// Reads a byte string. A refusal has the fault of `try_read` and lends the whole input.
+/// Reads a byte string. An error has the fault of `try_read` and the whole borrowed input.
 pub fn read_bytes<V: TryRead>(input: BStr<'_>) -> Result<V, Error<'_>>
     ensures { ReadsBytes V.grammar V.refusal input.entry result }
 {
@@ -39,14 +39,14 @@ pub fn read_bytes<V: TryRead>(input: BStr<'_>) -> Result<V, Error<'_>>
     }
 }
 
-/// Reads a text. A refusal has the fault of `try_read` and lends the whole input.
+/// Reads a text. An error has the fault of `try_read` and the whole borrowed input.
 pub fn read_text<V: TryRead>(input: &str) -> Result<V, Error<'_>>
     ensures { ReadsText V.grammar V.refusal input.now result }
 {
     read_bytes(BStr::from(input))
 }
 
-/// Reads an owned byte string. A refusal has the fault of `try_read` and hands the input back.
+/// Reads an owned byte string. An error has the fault of `try_read` and hands the input back.
 pub fn read_owned<V: TryRead>(input: BString) -> Result<V, Returned<BString>>
     ensures { ReadsOwned V.grammar V.refusal (bstring_bytes input) input result }
 {
@@ -56,7 +56,7 @@ pub fn read_owned<V: TryRead>(input: BString) -> Result<V, Returned<BString>>
     }
 }
 
-/// Reads a byte slice that is borrowed or owned. A refusal has the fault of `try_read` and hands the input
+/// Reads a byte slice that is borrowed or owned. An error has the fault of `try_read` and hands the input
 /// back.
 pub fn read_cow<V: TryRead>(input: CowSlice<'_, u8>) -> Result<V, Returned<CowSlice<'_, u8>>>
     ensures { ReadsOwned V.grammar V.refusal (cow_slice_items input.entry) input.entry result }

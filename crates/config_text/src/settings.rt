@@ -1,12 +1,12 @@
-//! Settings by name. The last entry of a name decides.
+//! Looks up settings by name. The last entry with a name decides.
 ghost use Rattle.std.specs.Prelude.{MatchOption, MatchResult};
 ghost use Rattle.config_text.specs.Settings.{entry_texts, IsAbsent, Decides, Finds, DecidingIsRefused};
 
 use crate::value::Value;
 use bstr::BStr;
 
-/// A setting whose deciding entry has a text without a value: docs/GRAMMAR.md, Settings. If the type is a
-/// [`TryRead`](crate::readers::TryRead), its `try_read` says why.
+/// A refused setting: the text of its deciding entry has no value (docs/GRAMMAR.md, Settings). If the type
+/// implements [`TryRead`](crate::readers::TryRead), its `try_read` says why.
 ///
 /// ```rust
 /// use gix_config_value::Boolean;
@@ -20,13 +20,13 @@ use bstr::BStr;
 /// ```
 #[derive(Clone, Copy, PartialEq, Eq, Debug)]
 pub struct Refused<'a> {
-    /// The index of the deciding entry, from 0.
+    /// The index of the deciding entry, counted from 0.
     pub index: usize,
     /// The text of the deciding entry.
     pub input: &'a [u8],
 }
 
-/// The last entry of this name: its index and its text. `None` if no entry has the name.
+/// Returns the index and the text of the last entry with this name, or `None` if no entry has the name.
 fn deciding_entry<'a>(entries: &[(&[u8], &'a [u8])], name: &[u8]) -> Option<(usize, &'a [u8])>
     ensures { MatchOption result (IsAbsent (entry_texts entries.now) name.now)
         (λ e. Decides (entry_texts entries.now) name.now e.0 e.1.now) }
@@ -35,12 +35,12 @@ fn deciding_entry<'a>(entries: &[(&[u8], &'a [u8])], name: &[u8]) -> Option<(usi
     Some((index, entries[index].1))
 }
 
-/// Returns the value of a setting. An entry is a name and a text. The last entry with exactly this name
-/// decides, and earlier ones are not read. If there is no such entry, the default is returned. If the type
-/// gives the text of the deciding entry no value, it is refused: docs/GRAMMAR.md, Settings.
+/// Returns the value of a setting. An entry is a name and a text, and the last entry with exactly this name
+/// decides; earlier ones are not read. Returns the default if no entry has the name, and refuses the setting
+/// if the type's grammar gives the text of the deciding entry no value: docs/GRAMMAR.md, Settings.
 ///
-/// Names are compared byte by byte, so their case counts. Git takes a key without `=` for true: give it the
-/// text `true`.
+/// Names are compared byte by byte, so their case matters. Git reads a key without `=` as true, so give its
+/// entry the text `true`.
 ///
 /// ```rust
 /// use gix_config_value::Boolean;

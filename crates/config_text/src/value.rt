@@ -8,18 +8,18 @@ ghost use Rattle.config_text.specs.Value.{HasMeaning, Means, Normalizes, Compare
 use arrayvec::ArrayString;
 use bstr::BStr;
 
-/// How many bytes the longest canonical text has: two of the longest names, the words of all
-/// attributes, and the spaces between.
+/// The length in bytes of the longest canonical text: two of the longest names and the words of all
+/// attributes, with one space between.
 pub const LONGEST_TEXT: usize = 127;
 
-/// A canonical text. It has room for the longest.
+/// A canonical text, in a buffer with room for the longest one.
 pub type CanonicalText = ArrayString<LONGEST_TEXT>;
 
-/// A kind of value that has texts: which texts read to which value, and which one of them is canonical. A
-/// caller's own type may be one too.
+/// A kind of value: which texts read to which values, and which one of the texts of a value is canonical.
+/// Callers may implement it for types of their own.
 ///
 /// `read` takes any bytes, and returns `None` if they are not a text of the kind: docs/GRAMMAR.md has a
-/// section for each. [`TryRead`](crate::readers::TryRead) says why they are refused.
+/// section for each kind. [`TryRead`](crate::readers::TryRead) says why a text is refused.
 ///
 /// ```rust
 /// use bstr::BStr;
@@ -44,19 +44,19 @@ pub trait Value: Copy + Eq {
     fn read(input: BStr<'_>) -> Option<Self>
         ensures { Reads grammar (bstr_bytes input.entry) result };
 
-    /// Whether some text of the kind reads to this value.
+    /// Returns whether some text of the kind reads to this value.
     fn has_text(&self) -> bool
         ensures { IsTrue result ↔ (HasText grammar self.now) };
 
-    /// Writes the one canonical text that reads to this value into an empty text. Some text must read to the
-    /// value, as `has_text` tells.
+    /// Writes the only canonical text that reads to this value into an empty text. The value must have a
+    /// text, as `has_text` tells.
     fn write_to(&self, text: &mut CanonicalText)
         requires value { HasText grammar self.now }
         requires empty { text.old.bytes ≡ [] }
         ensures { text.new.bytes ≡ displayed self.now };
 
-    /// Returns the one canonical text that reads to this value, which is its displayed text. Some text must
-    /// read to the value, as `has_text` tells.
+    /// Returns the only canonical text that reads to this value, which is the text that it is shown as. The
+    /// value must have a text, as `has_text` tells.
     fn text(&self) -> CanonicalText
         requires { HasText grammar self.now }
         ensures text { IsTextOf grammar canonical self.now result.bytes }
@@ -76,10 +76,10 @@ pub trait Value: Copy + Eq {
     ghost one_text: { (s t : List ℕ) (v : Self)
         → canonical s → canonical t → grammar s v → grammar t v → s ≡ t };
 
-    /// A canonical text is read: it has a value.
+    /// Each canonical text has a value.
     ghost canonical_reads: { (t : List ℕ) → canonical t → IsAccepted grammar t };
 
-    /// A value that has a text is shown as its canonical text, and so reads back.
+    /// A value that has a text is shown as its canonical text, which reads back to the value.
     ghost shown_is_text: { (v : Self) → HasText grammar v → IsTextOf grammar canonical v (displayed v) };
 
     /// Each text is accepted or refused.
@@ -89,8 +89,8 @@ pub trait Value: Copy + Eq {
     ghost equal_is_same: { (v w : Self) → (IsTrue (Self.eq v w)) ↔ (v ≡ w) };
 }
 
-/// The canonical text that reads to the value of the input, or `None` if the input has no value. A canonical
-/// input is returned byte for byte, by the law [`one_meaning`].
+/// Returns the canonical text that has the same value as the input, or `None` if the input has no value. A
+/// canonical input is returned byte for byte, by the law [`one_meaning`].
 ///
 /// ```rust
 /// use bstr::BStr;
@@ -108,8 +108,8 @@ pub fn normalize_as<V: Value>(input: BStr<'_>) -> Option<CanonicalText>
     Some(value.text())
 }
 
-/// Replaces the text by the canonical text that reads to the value of the input, and returns whether the
-/// input has a value. If it has none, the text is left empty.
+/// Replaces the text by the canonical text that has the same value as the input, and returns whether the
+/// input has a value. If it has no value, the text is left empty.
 #[inline(always)]
 pub fn normalize_into_as<V: Value>(input: BStr<'_>, text: &mut CanonicalText) -> bool
     ensures text { Normalizes V.grammar V.canonical (bstr_bytes input.entry)
@@ -126,7 +126,7 @@ pub fn normalize_into_as<V: Value>(input: BStr<'_>, text: &mut CanonicalText) ->
     }
 }
 
-/// Whether two texts of a type mean the same, or `None` if the type's grammar gives one of them no value.
+/// Returns whether two texts have the same value, or `None` if the type's grammar gives one of them no value.
 pub fn same_as<V: Value>(a: BStr<'_>, b: BStr<'_>) -> Option<bool>
     ensures { Compares V.grammar (bstr_bytes a.entry) (bstr_bytes b.entry) result }
 {
@@ -135,8 +135,8 @@ pub fn same_as<V: Value>(a: BStr<'_>, b: BStr<'_>) -> Option<bool>
     Some(left == right)
 }
 
-/// What the input means: its value, and the only canonical text that reads to this value. Both are `None` if
-/// the input has no value. No memory is taken for the text.
+/// Returns what the input means: its value, and the only canonical text that reads to this value. Both are
+/// `None` if the input has no value. The text takes no allocation.
 ///
 /// ```rust
 /// use bstr::BStr;
@@ -155,7 +155,8 @@ pub fn meaning<V: Value>(input: BStr<'_>) -> (Option<V>, Option<CanonicalText>)
 }
 
 /// Values are equal exactly if their canonical texts are, so accepted texts mean the same exactly if their
-/// normalized texts are equal. A text has one meaning, and a canonical text is its own normalized text.
+/// normalized texts are equal. A text has at most one meaning, and a canonical text is its own normalized
+/// text.
 pub fn one_meaning<V: Value>()
     ensures values { (v w : V) (s t : List ℕ) → IsTextOf V.grammar V.canonical v s
         → IsTextOf V.grammar V.canonical w t → (v ≡ w) ↔ (s ≡ t) }

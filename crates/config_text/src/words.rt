@@ -1,9 +1,9 @@
-//! A text compared with a word or a run of bytes of known length. As the length is known, a compiler can write
-//! each comparison out, or compare all bytes at once.
+//! Comparisons of a text with a word or a run of bytes. As the compiler knows the length, it can unroll each
+//! comparison, or compare all bytes at once.
 ghost use Rattle.std.specs.Prelude.{◌≡◌, ◌↔◌, ◌++◌, IsTrue, bytes_eq, drop, map, replicate};
 ghost use Rattle.std.specs.Char.{to_ascii_lowercase};
 
-/// Whether the text is this word.
+/// Returns whether the text is exactly this word.
 #[inline(always)]
 pub fn equals<const N: usize>(text: &[u8], word: &[u8; N]) -> bool
     ensures { result ≡ bytes_eq text.now word.now }
@@ -19,7 +19,7 @@ pub fn equals<const N: usize>(text: &[u8], word: &[u8; N]) -> bool
     true
 }
 
-/// Whether the text is this word, ignoring ASCII case.
+/// Returns whether the text is this word, ignoring ASCII case.
 #[inline(always)]
 pub fn equals_ignoring_case<const N: usize>(text: &[u8], word: &[u8; N]) -> bool
     ensures { result ≡ bytes_eq (map to_ascii_lowercase text.now) (map to_ascii_lowercase word.now) }
@@ -36,7 +36,7 @@ pub fn equals_ignoring_case<const N: usize>(text: &[u8], word: &[u8; N]) -> bool
     true
 }
 
-/// Whether the text begins with a run of `N` such bytes.
+/// Returns whether the text begins with a run of `N` copies of the byte.
 #[inline(always)]
 pub fn begins_with_run<const N: usize>(text: &[u8], byte: u8) -> bool
     ensures { IsTrue result ↔ (text.now ≡ replicate N byte ++ drop N text.now) }

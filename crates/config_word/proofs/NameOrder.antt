@@ -8,7 +8,7 @@ use Rattle.config_word.specs.declared.name.Name.TheVariants as names
 use Rattle.config_word.specs.contracts.name.NameOrd.TheImpl.{ghosts}
 use Rattle.config_word.specs.Orders.{name_order}
 
--- a comparison that decides last
+-- a comparison that is followed by `Equal` decides alone
 then_Equal : (o : Ordering) → o ≡ ordering_then o Equal
 then_Equal Less = refl
 then_Equal Equal = refl

@@ -1,4 +1,4 @@
--- The words of colors on a literal: what computes them, and from what is computed to the grammars.
+-- The words of colors of literal texts: functions that compute them, and that these compute the grammars.
 use Rattle.std.proofs.Common.{◌≡◌, ℕ, List, Option, Some, None}
 use Rattle.std.specs.Prelude.{⊤}
 use Rattle.config_word.specs.declared.attribute.Attribute.{Attribute}
@@ -12,20 +12,19 @@ use Rattle.config_word.specs.Laws.Item.{item_name, item_attribute, item-law, nam
 use Rattle.config_text.specs.Value.{IsRefused}
 use Rattle.config_text.proofs.OnLiterals.{refused_by}
 
--- what a proof unfolds to compute `item_of`, `name_of` and `attribute_of` on a literal
+-- what a proof unfolds to compute `item_of`, `name_of` and `attribute_of` of a literal
 unfoldable pub item_on_literals : ⊤
 unfolding attributes word_names
 item_on_literals = tt
 
--- name texts and attribute texts as functions
+-- functions that read name texts and attribute texts
 abbrev pub name_of : List ℕ → Option Name
 name_of t = item_name (item_of t)
 
 abbrev pub attribute_of : List ℕ → Option Attribute
 attribute_of t = item_attribute (item_of t)
 
--- a text of which these answer an item, a name or an attribute is its text, and it is refused where they
--- answer none
+-- a text has the item, name or attribute that these return for it, and is refused if they return `None`
 pub item_text : (t : List ℕ) (v : Item) → item_of t ≡ Some v → ItemText t v
 item_text = item-law.derived
 

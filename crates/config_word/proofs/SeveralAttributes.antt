@@ -1,4 +1,4 @@
--- What several attributes are shown as has a space, and no attribute text has one.
+-- The shown text of several attributes has a space, and no attribute text has a space.
 use Rattle.std.proofs.Common.{◌≡◌, ◌≢◌, ℕ, inl, inr, Bool, true, false, cond, not, ◌&&◌, List, [], ◌∷◌, ◌++◌}
 use Rattle.std.proofs.Common.{map, filter, refl, sym, ap, ◌∙◌, arith, ◌==◌}
 use Rattle.std.proofs.lemmas.Bool.{and_parts}
@@ -24,11 +24,11 @@ spellings-no_space : list_all (λ row. list_all no_space (row.2 ∷ row.3)) attr
 unfolding attributes
 spellings-no_space = refl
 
--- a byte that is no space in lower case is none
+-- a byte that is no space in lower case is no space
 lowered_byte : (c : ℕ) → not (to_ascii_lowercase c == space) ≡ true → not (c == space) ≡ true
 lowered_byte c h = grind (arith, nat_tests)
 
--- the same of a text
+-- a text that has no space in lower case has no space
 lowered : (t : List ℕ) → no_space (map to_ascii_lowercase t) ≡ true → no_space t ≡ true
 lowered [] h = refl
 lowered (c ∷ cs) h =
@@ -45,7 +45,7 @@ text-no_space t a (AttributeText.reset s e) =
 
 -- ---- two words have a space between them
 
--- a text with a space is not without one
+-- a text with a space is not a text without a space
 spaced : (x rest : List ℕ) → no_space (x ++ space ∷ rest) ≡ false
 spaced [] rest = refl
 spaced (c ∷ cs) rest = rw (spaced cs rest) (none (not (c == space))) where
@@ -61,13 +61,13 @@ HasOne rows = (x : AttributeRow) × (rest : List AttributeRow) × (rows ≡ x �
 abbrev HasTwo : List AttributeRow → Type 0
 HasTwo rows = (x y : AttributeRow) × (rest : List AttributeRow) × (rows ≡ x ∷ y ∷ rest)
 
--- a row more, or not, after one
+-- adding a row, or not, leaves one row or more
 one-told : (b : Bool) (first : AttributeRow) (rows : List AttributeRow) → HasOne rows
     → HasOne (cond b (first ∷ rows) rows)
 one-told true first rows h = (first, rows, refl)
 one-told false first rows h = h
 
--- where a row passes the test, one is kept
+-- if a row passes the test, at least one row is kept
 one-kept : (p : AttributeRow → Bool) (rows : List AttributeRow) (r : AttributeRow) → OneOf rows r → p r ≡ true
     → HasOne (filter p rows)
 one-kept p [] r o h = absurd o
@@ -75,17 +75,17 @@ one-kept p (first ∷ rows) r (inl e) h =
     let kept : p first ≡ true = rw (← e) h in rw kept (first, filter p rows, refl)
 one-kept p (first ∷ rows) r (inr o) h = one-told (p first) first (filter p rows) (one-kept p rows r o h)
 
--- a row before one makes two
+-- adding a row to one or more rows makes two rows or more
 front : (first : AttributeRow) (rows : List AttributeRow) → HasOne rows → HasTwo (first ∷ rows)
 front first rows h = (first, h.0, h.1, ap (λ rest. first ∷ rest) h.2)
 
--- a row more, or not, after two
+-- adding a row, or not, leaves two rows or more
 two-told : (b : Bool) (first : AttributeRow) (rows : List AttributeRow) → HasTwo rows
     → HasTwo (cond b (first ∷ rows) rows)
 two-told true first rows h = (first, h.0, h.1 ∷ h.2, ap (λ rest. first ∷ rest) h.3)
 two-told false first rows h = h
 
--- where two rows of different bits pass the test, two are kept
+-- if two rows of different bits pass the test, at least two rows are kept
 two-kept : (p : AttributeRow → Bool) (rows : List AttributeRow) (r s : AttributeRow) → OneOf rows r
     → OneOf rows s → r.1 ≢ s.1
     → p r ≡ true → p s ≡ true → HasTwo (filter p rows)
@@ -105,7 +105,7 @@ two-spaced : (rows : List AttributeRow) → HasTwo rows
 two-spaced rows h =
     rw h.3 (spaced h.0.2 (join_with_byte space (map (λ (row : AttributeRow). row.2) (h.1 ∷ h.2))))
 
--- where two known bits are set, what is shown is no attribute text
+-- if two known bits are set, the shown text is not an attribute text
 pub several_refused : (a : Attribute) (i j : ℕ) → i ≢ j → IsKnownBit i → IsKnownBit j → bit_at a.0 i ≡ 1
     → bit_at a.0 j ≡ 1
     → IsRefused AttributeText (attribute_shown a.0)

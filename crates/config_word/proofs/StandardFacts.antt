@@ -1,6 +1,5 @@
--- What git-config(1) says of the words of colors: a definition with a wrong word, number or bit does not
--- check. Each of the words stands here, and each attribute beside the constant that the code gives its
--- name.
+-- What git-config(1) says about the words of colors. A definition with a wrong word, number or bit fails
+-- here. All words are listed here, and each attribute with the constant that has its name in the code.
 use Rattle.std.proofs.Common.{◌≡◌, ℕ, List, [], ◌∷◌, ◌++◌, map, codes, refl}
 use Rattle.config_word.specs.declared.attribute.Attribute.{Attribute}
 use Rattle.config_word.specs.declared.attribute.TheConstants.Attribute.{BOLD, DIM, UL, BLINK, REVERSE, ITALIC}
@@ -56,12 +55,12 @@ pub bright_colors_are_read : AreRead NameText bright_colors
 unfolding item_on_literals
 bright_colors_are_read = all_read name-law bright_colors refl
 
--- each is shown as this word
+-- each of these names is shown as its word
 pub names_are_shown : map (λ row. name_shown row.1) (basic_colors ++ bright_colors)
     ≡ map (λ row. row.0) (basic_colors ++ bright_colors)
 names_are_shown = refl
 
--- "numbers between 0 and 255", and "24-bit RGB values as hex, like #ff0ab3". Beyond that page: `#f1b` is
+-- "numbers between 0 and 255", and "24-bit RGB values as hex, like #ff0ab3". Not on that page: `#f1b` is
 -- `#ff11bb`, since Git 2.46, and `-1` is normal.
 abbrev numbered_colors : List (List ℕ × Name)
 numbered_colors =
@@ -118,7 +117,7 @@ pub attributes_unset_are_read : AreRead AttributeText attributes_unset
 unfolding item_on_literals
 attributes_unset_are_read = all_read attribute-law attributes_unset refl
 
--- Beyond that page: the bit of each attribute, and the word that it is shown as, are those of the Rust crate.
+-- not on that page: the bit of each attribute, and the word that it is shown as, are those of the Rust crate
 abbrev constants : List (Attribute × ℕ × List ℕ)
 constants =
     (BOLD, 0x2, codes "bold")
@@ -145,8 +144,8 @@ pub attributes_are_shown : map (λ row. attribute_shown row.0.0) constants ≡ m
 unfolding attributes
 attributes_are_shown = refl
 
--- "except normal and default"; a number above 255; five digits; no bright attribute, and no `reset` to turn
--- off
+-- "except normal and default"; a number above 255; five digits; a bright attribute; `reset` turned off; the
+-- empty text
 abbrev no_words : List (List ℕ)
 no_words =
     codes "brightnormal" ∷ codes "brightdefault" ∷ codes "256" ∷ codes "#ff0ab" ∷ codes "brightbold"

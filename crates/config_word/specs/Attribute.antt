@@ -15,15 +15,15 @@ AttributeRow = List ℕ × ℕ × List ℕ × List (List ℕ)
 abbrev pub constant_of : AttributeRow → List ℕ
 constant_of row = row.0
 
--- its bit
+-- the bit of the constant
 abbrev pub bit_of : AttributeRow → ℕ
 bit_of row = row.1
 
--- the word that it is shown as
+-- the word that the constant is shown as
 abbrev pub shown_word : AttributeRow → List ℕ
 shown_word row = row.2
 
--- each word that reads to it
+-- all spellings of the constant: the word that it is shown as, then the others
 abbrev pub spellings_of : AttributeRow → List (List ℕ)
 spellings_of row = row.2 ∷ row.3
 
@@ -47,7 +47,7 @@ attributes =
     ∷ (codes "NO_STRIKE", 27, codes "nostrike", codes "no-strike" ∷ [])
     ∷ []
 
--- the constants' names and values
+-- the name and the value of each constant
 abbrev pub attribute_flags : List (List ℕ × ℕ)
 attribute_flags = map (λ row. (constant_of row, 2 ^ bit_of row)) attributes
 
@@ -55,7 +55,7 @@ attribute_flags = map (λ row. (constant_of row, 2 ^ bit_of row)) attributes
 abbrev pub IsKnownBit : ℕ → Type 0
 IsKnownBit bit = OneOf (map bit_of attributes) bit
 
--- attribute text: a spelling of one constant, or `reset`, ignoring ASCII case
+-- attribute text: exactly a spelling of one constant, or the word `reset` in any case
 pub data AttributeText (t : List ℕ) (a : Attribute) : Type 0 where
   word : (row : AttributeRow) → OneOf attributes row → OneOf (spellings_of row) t → a.0 ≡ 2 ^ bit_of row
       → AttributeText t a
@@ -70,7 +70,7 @@ attribute_words bits = map shown_word (filter (λ row. bit_at bits (bit_of row) 
 abbrev pub attribute_shown : ℕ → List ℕ
 attribute_shown bits = join_with_byte space (attribute_words bits)
 
--- the words of the canonical texts, by rising bit
+-- the words that are canonical texts, by rising bit
 unfoldable pub rising_words : List (List ℕ)
 rising_words =
     codes "bold" ∷ codes "dim" ∷ codes "italic" ∷ codes "ul" ∷ codes "blink" ∷ codes "reverse"
@@ -78,6 +78,6 @@ rising_words =
     ∷ codes "reset" ∷ codes "nodim" ∷ codes "nobold" ∷ codes "noitalic" ∷ codes "noul" ∷ codes "noblink"
     ∷ codes "noreverse" ∷ codes "nostrike" ∷ []
 
--- the canonical texts: one of these words
+-- the canonical texts of attributes: these words
 abbrev pub CanonicalAttribute : List ℕ → Type 0
 CanonicalAttribute t = OneOf rising_words t

@@ -15,7 +15,7 @@ use Rattle.config_text.specs.Numerals.{place_sum}
 use Rattle.config_text.specs.OneOf.{OneOf}
 use Rattle.config_text.specs.SameWord.{SameWord}
 
--- two lower-case hexadecimal digits
+-- the two lower-case hexadecimal digits of a number below 256
 abbrev pub hex_pair : ℕ → List ℕ
 hex_pair n = digit_char (n / 16) ∷ digit_char (n % 16) ∷ []
 
@@ -55,9 +55,9 @@ pub record HexPair (high low n : ℕ) : Type 0 where
   pub low_digit : digit_value low < 16
   pub number : n ≡ 16 * digit_value high + digit_value low
 
--- name text: a name's word, ignoring ASCII case; `-1`; an optional `+` and decimal digits whose number is at
--- most 255; or `#` with two hexadecimal digits for each of red, green and blue, or with one, which is then
--- taken twice
+-- name text: the word of a name, ignoring ASCII case; `-1`; an optional `+` and decimal digits whose number
+-- is at most 255; or `#` and two hexadecimal digits for each of red, green and blue, or one digit for each,
+-- which is taken twice
 pub data NameText (t : List ℕ) (n : Name) : Type 0 where
   word : OneOf word_names n → SameWord t (name_shown n) → NameText t n
   minus_one : t ≡ codes "-1" → n ≡ Normal → NameText t n
@@ -75,7 +75,7 @@ NameFits (Ansi n) = n ≤ 255
 NameFits (Rgb r g b) = (r ≤ 255) × (g ≤ 255) × (b ≤ 255)
 NameFits _ = ⊤
 
--- the words of the canonical texts
+-- the words that are canonical texts
 unfoldable pub lower_words : List (List ℕ)
 lower_words =
     codes "normal" ∷ codes "default" ∷ codes "black" ∷ codes "brightblack" ∷ codes "red"

@@ -11,7 +11,7 @@ use Rattle.config_word.specs.declared.name.Name.TheVariants.{BrightYellow, Blue,
 use Rattle.config_word.specs.declared.name.Name.TheVariants.{BrightMagenta, Cyan, BrightCyan, White}
 use Rattle.config_word.specs.declared.name.Name.TheVariants.{BrightWhite, Ansi, Rgb}
 
--- by the number that the bits write
+-- the order of sets of attributes: by the number that the bits write
 abbrev pub attribute_order : Attribute → Attribute → Ordering
 attribute_order = on (λ a. a.0) nat_cmp
 
@@ -45,6 +45,6 @@ name_numbers (Ansi n) = n ∷ []
 name_numbers (Rgb r g b) = r ∷ g ∷ b ∷ []
 name_numbers _ = []
 
--- by the place, then by the numbers from the first on
+-- the order of names: by the place, then by the numbers, the first one first
 abbrev pub name_order : Name → Name → Ordering
 name_order = then_cmp (on name_place nat_cmp) (on name_numbers (slice_cmp nat_cmp))

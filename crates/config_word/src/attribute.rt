@@ -29,12 +29,12 @@ use std::str::FromStr;
 /// A set of attributes, such as bold or not underlined. Each attribute is one bit; bits that have
 /// no constant are kept.
 ///
-/// A text is one word, such as `bold`, `noul` or `no-ul`, and reads to the set of its bit. Words are read in
-/// lower case only, except `reset`, which is read in any case. Any other text is refused with `Fault::Color`,
-/// and so are two words.
+/// A text is one word, such as `bold`, `noul` or `no-ul`, and reads to the set with this one bit. Words are
+/// read in lower case only, except `reset`, which is read in any case. Any other text is refused with
+/// `Fault::Color`, and so are two words.
 ///
-/// A set is shown as the words of its known bits. It has a text exactly if one known bit is set, and no
-/// other; that word is then canonical: docs/GRAMMAR.md, Attributes.
+/// A set is shown as the words of its known bits. It has a text exactly if only one bit is set and this bit
+/// is known; its word is then canonical: docs/GRAMMAR.md, Attributes.
 ///
 /// ```rust
 /// use gix_config_value::Fault;
@@ -93,17 +93,17 @@ impl Flags for Attribute {
 
     ghost set_of = { λ a. a.0 };
 
-    /// The constants, each with its name, by rising bit.
+    /// Returns the constants with their names, by rising bit.
     fn flags<'a>() -> &'a [Flag<Attribute>] {
         Attribute::FLAGS
     }
 
-    /// The set as a number. Each of its bits is an attribute.
+    /// Returns the set as a number, each bit of which is an attribute.
     fn bits(&self) -> u32 {
         self.0
     }
 
-    /// The set of these bits, including those that have no constant.
+    /// Returns the set of these bits, including those that have no constant.
     fn from_bits_retain(bits: u32) -> Attribute {
         Attribute(bits)
     }
@@ -122,7 +122,7 @@ macro_rules! shown {
     };
 }
 
-/// The words that are shown, by rising bit.
+/// The constants and the words that they are shown as, by rising bit.
 const SHOWN: [Shown; 15] = [
     shown!(BOLD, "bold"),
     shown!(DIM, "dim"),
@@ -141,24 +141,24 @@ const SHOWN: [Shown; 15] = [
     shown!(NO_STRIKE, "nostrike"),
 ];
 
-/// The constants and their words.
+/// Returns the constants and the words that they are shown as, by rising bit.
 fn shown_words() -> &'static [Shown]
     ensures { map shown_row result.now ≡ shown_rows }
 {
     &SHOWN
 }
 
-/// How many rows one loop shows. The compiler writes out a loop of eight rows, each with a copy of known
-/// length, and does not write out one of all.
+/// How many rows one loop shows. The compiler unrolls a loop over eight rows, and knows the length of each
+/// copy, but it does not unroll a loop over all rows.
 const HALF: usize = 8;
 
-/// How many bytes all words of [`SHOWN`] have with a space between each two. That is the longest text without
-/// two names of the longest and the space after each.
+/// The length in bytes of all words of [`SHOWN`] with one space between. It is the length of the longest text
+/// without two of the longest names and a space after each.
 pub const LONGEST_SET: usize = LONGEST_TEXT - 2 * (LONGEST_NAME + 1);
 
 impl Attribute {
-    /// Appends the words of the rows that are in the set, with a space before each. The first has none if the
-    /// text begins with it. Returns whether the text still begins with the next word.
+    /// Appends the words of the rows that are in the set, with a space before each; if `begins` is true, the
+    /// first word has no space before it. Returns whether the next word is still the first.
     #[inline(always)]
     fn push_words(self, rows: &[Shown], begins: bool, text: &mut CanonicalText) -> bool
         requires { length text.old.bytes
@@ -180,7 +180,7 @@ impl Attribute {
     }
 
     /// Appends the words of the known bits that are set, by rising bit, with one space between. There must be
-    /// room for `LONGEST_SET` bytes. Colors append their attributes by it.
+    /// room for `LONGEST_SET` bytes. Colors use it to append their attributes.
     #[inline(always)]
     pub fn push_to(self, text: &mut CanonicalText)
         requires { length text.old.bytes + LONGEST_SET ≤ LONGEST_TEXT }
@@ -191,8 +191,8 @@ impl Attribute {
         self.push_words(second, is_first, text);
     }
 
-    /// The set as it is shown: the words of its known bits, by rising bit, with one space between, in at most
-    /// `LONGEST_SET` bytes.
+    /// Returns the set as it is shown: the words of its known bits, by rising bit, with one space between, in
+    /// at most `LONGEST_SET` bytes.
     pub fn shown(self) -> CanonicalText
         ensures bytes { result.bytes ≡ attribute_shown self.0 }
         ensures text { HasText AttributeText self
@@ -203,7 +203,7 @@ impl Attribute {
         text
     }
 
-    /// Whether the set is one of the constants. Texts read to no other sets.
+    /// Returns whether the set is one of the constants. No other set has a text.
     fn is_constant(self) -> bool
         ensures { IsTrue result ↔ (HasText AttributeText self) }
     {
@@ -289,7 +289,7 @@ impl Value for Attribute {
         attribute_of(input.as_bytes())
     }
 
-    /// Whether exactly one bit is set, and that bit has a constant.
+    /// Returns whether exactly one bit is set, and that bit has a constant.
     fn has_text(&self) -> bool {
         self.is_constant()
     }

@@ -26,7 +26,8 @@ pub enum Item {
     Attribute(Attribute),
 }
 
-/// The number that decimal digits write, if there is at least one and the number is at most 255.
+/// Returns the number that decimal digits write, or `None` if there are no digits or other bytes, or if the
+/// number is more than 255.
 fn palette_number(digits: &[u8]) -> Option<u8>
     ensures { result ≡ palette_of digits.now }
 {
@@ -43,7 +44,7 @@ fn palette_number(digits: &[u8]) -> Option<u8>
     Some(number)
 }
 
-/// The value of a hexadecimal digit.
+/// Returns the value of a hexadecimal digit, or `None` for any other byte.
 #[inline(always)]
 fn hex_value(digit: u8) -> Option<u8>
     ensures { SomeIff result (digit_value digit < 16) (digit_value digit) }
@@ -52,7 +53,7 @@ fn hex_value(digit: u8) -> Option<u8>
     if value < 16 { Some(value) } else { None }
 }
 
-/// The number that two hexadecimal digits write.
+/// Returns the number that two hexadecimal digits write, or `None` if one of them is no such digit.
 #[inline(always)]
 fn hex_pair(high: u8, low: u8) -> Option<u8>
     ensures { result ≡ hex_pair_of high low }
@@ -60,7 +61,8 @@ fn hex_pair(high: u8, low: u8) -> Option<u8>
     Some(16 * hex_value(high)? + hex_value(low)?)
 }
 
-/// The color of six hexadecimal digits, or of three, each of which is taken twice.
+/// Returns the color of six hexadecimal digits, or of three, each of which is taken twice. Returns `None` for
+/// any other text.
 fn rgb(digits: &[u8]) -> Option<Name>
     ensures { result ≡ rgb_of digits.now }
 {
@@ -75,7 +77,7 @@ fn rgb(digits: &[u8]) -> Option<Name>
     }
 }
 
-/// Reads an item. Its first byte is looked at before any word is compared.
+/// Reads an item, or returns `None`. Words are compared only if the first byte is not `#`, `+` or a digit.
 #[inline(always)]
 fn read_item(input: &[u8]) -> Option<Item>
     ensures { result ≡ item_of input.now }

@@ -4,7 +4,7 @@
 //!   `TryFrom` and `FromStr`, shown by `Display`, and has one canonical text if some text reads to it
 //!   ([`Value`](config_text::value::Value)).
 //! - [`item::word`] reads one word as whichever of the two it is.
-//! - [`laws`] has what holds of both: each law is the contract of a function that does nothing.
+//! - [`laws`] has the laws of both, each of which is the contract of a function that does nothing.
 //!
 //! The grammars of names and of attributes, and how both are shown and ordered, are `Name`, `Attribute`,
 //! `Item` and `Orders` in `specs/`. `specs/Reading/` says what the private functions compute, and

@@ -27,9 +27,9 @@ use std::str::FromStr;
 
 /// A color's name: a word, a palette number, or red, green and blue.
 ///
-/// The eighteen words are read in any case of their letters, and `-1` as `normal`. A palette number is 0 to
-/// 255; a `+` and zeros may come before it. Red, green and blue are `#` and six hexadecimal digits, or three,
-/// each taken twice.
+/// The eighteen words are read in any case, and `-1` is read as `normal`. A palette number is 0 to 255, and a
+/// `+` and zeros may come before it. Red, green and blue are written as `#` and six hexadecimal digits, or as
+/// `#` and three, each of which is taken twice.
 ///
 /// Any other text is refused with `Fault::Color`. The canonical text is the word in lower case, the number in
 /// decimal, or `#` and six lower-case digits: docs/GRAMMAR.md, Color names.
@@ -88,7 +88,7 @@ pub enum Name {
     Rgb(u8, u8, u8),
 }
 
-/// The bytes of the longest word of a name, `brightmagenta`.
+/// The length in bytes of the longest word of a name, `brightmagenta`.
 pub const LONGEST_NAME: usize = 13;
 
 /// Appends the two lower-case hexadecimal digits of a byte.
@@ -100,7 +100,7 @@ fn push_hex(text: &mut CanonicalText, byte: u8)
     text.push_str(hex_digit(byte % 16));
 }
 
-/// The lower-case hexadecimal digit of a number below 16.
+/// Returns the lower-case hexadecimal digit of a number below 16.
 fn hex_digit(number: u8) -> &'static str
     requires { number < 16 }
     ensures { result.now ≡ digit_char number ∷ [] }
@@ -126,7 +126,7 @@ fn hex_digit(number: u8) -> &'static str
 }
 
 impl Name {
-    /// The name's place in the order of declaration: 0 for `Normal` to 19 for `Rgb`.
+    /// Returns the name's place in the order of declaration: 0 for `Normal` to 19 for `Rgb`.
     #[inline(always)]
     pub fn place(self) -> u8
         ensures { result ≡ name_place self }
@@ -155,8 +155,8 @@ impl Name {
         }
     }
 
-    /// The name at this place in the order of declaration, or `None` if that name has numbers or there is no
-    /// such place.
+    /// Returns the name at this place in the order of declaration, or `None` if names at this place have
+    /// numbers or there is no such place.
     #[inline(always)]
     #[tactic(auto, unfolding(crate::specs::Name::word_names))]
     pub fn at_place(place: u8) -> Option<Name>
@@ -185,8 +185,8 @@ impl Name {
         }
     }
 
-    /// Appends the name as it is shown. There must be room for `LONGEST_NAME` bytes. Colors append their
-    /// names by it.
+    /// Appends the name as it is shown. There must be room for `LONGEST_NAME` bytes. Colors use it to append
+    /// their names.
     #[inline(always)]
     pub fn push_to(self, text: &mut CanonicalText)
         requires { length text.old.bytes + LONGEST_NAME ≤ LONGEST_TEXT }
@@ -226,7 +226,7 @@ impl Name {
         text.push_str(word);
     }
 
-    /// The name as it is shown, which is its canonical text, of at most `LONGEST_NAME` bytes.
+    /// Returns the name as it is shown, which is its canonical text, in at most `LONGEST_NAME` bytes.
     pub fn shown(self) -> CanonicalText
         ensures bytes { result.bytes ≡ name_shown self }
         ensures text { IsTextOf NameText CanonicalName self result.bytes }

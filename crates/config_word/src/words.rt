@@ -1,4 +1,4 @@
-//! The words of names and of attributes, found by their length.
+//! The words of names and attributes, found by their length. `of_two` compares words of two bytes, and so on.
 #![tactic(auto, unfolding(crate::specs::Attribute::attributes, crate::specs::Name::word_names))]
 
 ghost use Rattle.std.specs.Prelude.{◌≡◌};
@@ -9,7 +9,7 @@ use crate::item::Item;
 use crate::name::Name;
 use config_text::words::{equals, equals_ignoring_case};
 
-/// What the text means if it is one of these words, otherwise `None`. The function before a word compares it.
+/// What the text means if it is one of the words, otherwise `None`. The function before a word compares it.
 macro_rules! first_of {
     ($text:ident, $($compared:ident $word:literal => $kind:ident::$constant:ident),+) => {
         $(if $compared($text, $word) {
@@ -20,7 +20,6 @@ macro_rules! first_of {
     };
 }
 
-/// What a word of two bytes means.
 #[inline(always)]
 fn of_two(text: &[u8]) -> Option<Item>
     ensures { result ≡ found (of_length 2 word_table) text.now }
@@ -31,7 +30,6 @@ fn of_two(text: &[u8]) -> Option<Item>
     )
 }
 
-/// What a word of three bytes means.
 #[inline(always)]
 fn of_three(text: &[u8]) -> Option<Item>
     ensures { result ≡ found (of_length 3 word_table) text.now }
@@ -42,7 +40,6 @@ fn of_three(text: &[u8]) -> Option<Item>
     )
 }
 
-/// What a word of four bytes means.
 #[inline(always)]
 fn of_four(text: &[u8]) -> Option<Item>
     ensures { result ≡ found (of_length 4 word_table) text.now }
@@ -55,7 +52,6 @@ fn of_four(text: &[u8]) -> Option<Item>
     )
 }
 
-/// What a word of five bytes means.
 #[inline(always)]
 fn of_five(text: &[u8]) -> Option<Item>
     ensures { result ≡ found (of_length 5 word_table) text.now }
@@ -71,7 +67,6 @@ fn of_five(text: &[u8]) -> Option<Item>
     )
 }
 
-/// What a word of six bytes means.
 #[inline(always)]
 fn of_six(text: &[u8]) -> Option<Item>
     ensures { result ≡ found (of_length 6 word_table) text.now }
@@ -86,7 +81,6 @@ fn of_six(text: &[u8]) -> Option<Item>
     )
 }
 
-/// What a word of seven bytes means.
 #[inline(always)]
 fn of_seven(text: &[u8]) -> Option<Item>
     ensures { result ≡ found (of_length 7 word_table) text.now }
@@ -100,7 +94,6 @@ fn of_seven(text: &[u8]) -> Option<Item>
     )
 }
 
-/// What a word of eight bytes means.
 #[inline(always)]
 fn of_eight(text: &[u8]) -> Option<Item>
     ensures { result ≡ found (of_length 8 word_table) text.now }
@@ -112,7 +105,6 @@ fn of_eight(text: &[u8]) -> Option<Item>
     )
 }
 
-/// What a word of nine bytes means.
 #[inline(always)]
 fn of_nine(text: &[u8]) -> Option<Item>
     ensures { result ≡ found (of_length 9 word_table) text.now }
@@ -125,7 +117,6 @@ fn of_nine(text: &[u8]) -> Option<Item>
     )
 }
 
-/// What a word of ten bytes means.
 #[inline(always)]
 fn of_ten(text: &[u8]) -> Option<Item>
     ensures { result ≡ found (of_length 10 word_table) text.now }
@@ -137,7 +128,6 @@ fn of_ten(text: &[u8]) -> Option<Item>
     )
 }
 
-/// What a word of eleven bytes means.
 #[inline(always)]
 fn of_eleven(text: &[u8]) -> Option<Item>
     ensures { result ≡ found (of_length 11 word_table) text.now }
@@ -149,7 +139,6 @@ fn of_eleven(text: &[u8]) -> Option<Item>
     )
 }
 
-/// What a word of twelve bytes means.
 #[inline(always)]
 fn of_twelve(text: &[u8]) -> Option<Item>
     ensures { result ≡ found (of_length 12 word_table) text.now }
@@ -157,7 +146,6 @@ fn of_twelve(text: &[u8]) -> Option<Item>
     first_of!(text, equals_ignoring_case b"brightyellow" => Name::BrightYellow)
 }
 
-/// What a word of thirteen bytes means.
 #[inline(always)]
 fn of_thirteen(text: &[u8]) -> Option<Item>
     ensures { result ≡ found (of_length 13 word_table) text.now }
@@ -165,7 +153,7 @@ fn of_thirteen(text: &[u8]) -> Option<Item>
     first_of!(text, equals_ignoring_case b"brightmagenta" => Name::BrightMagenta)
 }
 
-/// What the text means if it is one of the words.
+/// Returns what the text means if it is a word of a name or of an attribute, otherwise `None`.
 #[inline(always)]
 pub(crate) fn known_word(text: &[u8]) -> Option<Item>
     ensures { result ≡ known text.now }

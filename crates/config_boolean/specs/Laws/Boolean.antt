@@ -1,4 +1,4 @@
--- The laws of `Value` for booleans, from those for amounts, whose texts begin with no letter.
+-- The laws of `Value` for booleans, from those for amounts, whose texts do not begin with a letter.
 use Rattle.std.proofs.Common.{◌≡◌, ◌≢◌, refl, sym, ap, ◌∙◌, subst, arith, ◌↔◌, ◌⊎◌, inl, inr}
 use Rattle.std.proofs.Common.{ℕ, zero, suc, ◌≤◌, lit≤, ℤ, pos, negsuc, Bool, true, false, cond, IsTrue}
 use Rattle.std.proofs.Common.{List, [], ◌∷◌, length, get_or, map, codes}
@@ -17,7 +17,7 @@ use Rattle.config_integer.specs.Laws.Integer.{product_first}
 use Rattle.config_boolean.specs.Boolean.{Affirms, Denies, BooleanText, CanonicalBoolean, boolean_shown}
 use Rattle.config_boolean.specs.Boolean.BooleanText.{affirmed, denied, counted}
 
--- a word in lower case begins with a letter, and so do the texts that are the same word
+-- a text that is the same word as a word in lower case begins with a byte after `9`
 letter_first : (t w : List ℕ) → 97 ≤ get_or w 0 0 → SameWord t w → 58 ≤ get_or t 0 0
 letter_first t [] l e = absurd (omega arith)
 letter_first [] (d ∷ ds) l e = absurd (cc (e))
@@ -38,7 +38,7 @@ denied_first t (inl h) = letter_first t (codes "no") (omega arith) h
 denied_first t (inr (inl h)) = letter_first t (codes "off") (omega arith) h
 denied_first t (inr (inr h)) = letter_first t (codes "false") (omega arith) h
 
--- no text is two of these: a word for true, a word for false, a number
+-- no text is two of these: a word for true, a word for false or the empty text, an amount text
 affirms_or_counts : (t : List ℕ) (n : Amount) → Affirms t → ¬ (AmountText t n)
 affirms_or_counts t n a p = omega (arith, affirms_first t a, product_first t n.0 p.product_text)
 
@@ -105,7 +105,6 @@ pub boolean_shown_is_text : (v : Boolean) → HasText BooleanText v
     → IsTextOf BooleanText CanonicalBoolean v (boolean_shown v)
 boolean_shown_is_text v h = boolean_shown_is_canonical v
 
--- each boolean has a text
 pub boolean_has_text : (v : Boolean) → HasText BooleanText v
 boolean_has_text v = (boolean_shown v, boolean_shown_reads v)
 
@@ -128,7 +127,7 @@ nonzero (pos zero) = false
 nonzero (pos (suc n)) = true
 nonzero (negsuc n) = true
 
--- it tells whether the number is not zero
+-- `nonzero` is true exactly if the number is not zero
 pub nonzero_is : (z : ℤ) → IsTrue (nonzero z) ↔ (z ≢ pos 0)
 nonzero_is (pos zero) = (λ h. absurd (cc (h)), λ h. absurd (h refl))
 nonzero_is (pos (suc n)) = (λ h e. cc (e), λ h. refl)
@@ -137,7 +136,7 @@ nonzero_is (negsuc n) = (λ h e. cc (e), λ h. refl)
 same_word_told : (t w : List ℕ) → Told (SameWord t w)
 same_word_told t w = text_told (map to_ascii_lowercase t) (map to_ascii_lowercase w)
 
--- a text that is no word and no amount text is no boolean text
+-- a text that is neither empty nor a word nor an amount text is not a boolean text
 pub boolean_refused : (t : List ℕ) → ¬ (Affirms t) → ¬ (Denies t) → IsRefused AmountText t
     → IsRefused BooleanText t
 boolean_refused t a d p v (affirmed h e) = a h

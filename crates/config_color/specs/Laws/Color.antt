@@ -1,5 +1,5 @@
--- The laws of color text: reading words joined and parted, names placed, and that a text has at most one
--- color.
+-- The laws of color texts: how joined and split words are read, how names are placed, and that a text has at
+-- most one color.
 use Rattle.std.proofs.Common.{◌≡◌, ◌≢◌, take, drop, slice_range, ℕ, ◌+◌, ◌<◌, ◌≤◌, ◌⊎◌, inl, inr, List, []}
 use Rattle.std.proofs.Common.{◌∷◌, ◌++◌, length, Option, Some, None, refl, sym, ap, subst, ◌∙◌, append_assoc}
 use Rattle.std.proofs.Common.{arith}
@@ -35,7 +35,7 @@ word_item-value = item-law
 pub or_assoc : (a b c : ℕ) → bit_or (bit_or a b) c ≡ bit_or a (bit_or b c)
 or_assoc a b c = same_from_bits _ _ (λ i. simp bit_at_or (omega arith))
 
--- the words that are read are those that the function gives
+-- the words that are read are those that the function `words` gives
 pub read_words : {t : List ℕ} {names : List Name} {bits : ℕ} → TextRead t names bits
     → WordsRead (words t) names bits
 read_words {names = names} {bits = bits} h =
@@ -56,7 +56,7 @@ WordsRead-join {ys = ys} {ms = ms} {j = j}
     subst (λ (i : ℕ). WordsRead (w ∷ ws ++ ys) (names ++ ms) i) (sym (or_assoc a.0 bits j))
     (WordsRead.attribute t (WordsRead-join r s))
 
--- what the words of both parts read to
+-- the names and bits of two lists of words, which together are those of the joined list
 pub record PartsRead (xs ys : List (List ℕ)) (names : List Name) (bits : ℕ) : Type 0 where
   pub front_names : List Name
   pub back_names : List Name
@@ -112,7 +112,7 @@ one_name w n m p q = let e = item_one_value w (items.Name n) (items.Name m) p q 
 pub one_attribute : (w : List ℕ) (a b : Attribute) → AttributeText w a → AttributeText w b → a ≡ b
 one_attribute w a b p q = let e = item_one_value w (items.Attribute a) (items.Attribute b) p q in cc
 
--- words have one reading
+-- words are read in at most one way
 pub WordsRead-one : {ws : List (List ℕ)} {ns ms : List Name} {i j : ℕ} → WordsRead ws ns i → WordsRead ws ms j
     → (ns ≡ ms) × (i ≡ j)
 WordsRead-one WordsRead.nothing WordsRead.nothing = (refl, refl)
@@ -146,19 +146,19 @@ Placed-one (n ∷ []) f b g d p q = (cc, cc)
 Placed-one (n ∷ m ∷ []) f b g d p q = (cc, cc)
 Placed-one (n ∷ m ∷ o ∷ ns) f b g d p q = absurd p
 
--- where at most two names can be placed
+-- the foreground and background of at most two names
 pub placing : (ns : List Name) → length ns ≤ 2 → (f : Option Name) × (b : Option Name) × Placed ns f b
 placing [] l = (None, None, (refl, refl))
 placing (n ∷ []) l = (Some n, None, (refl, refl))
 placing (n ∷ m ∷ []) l = (Some n, Some m, (refl, refl))
 placing (n ∷ m ∷ o ∷ ns) l = absurd (omega arith)
 
--- colors with the same parts
+-- colors with the same parts are the same
 pub same_color : (c d : Color) → c.foreground ≡ d.foreground → c.background ≡ d.background
     → c.attributes.0 ≡ d.attributes.0 → c ≡ d
 same_color c d e f g = λ i. record { foreground = e i; background = f i; attributes = record { 0 = g i } }
 
--- one more name is placed behind those that are placed already
+-- one more name is placed after those that are already placed
 next_placed : (ns : List Name) (f b : Option Name) (bits : ℕ) (n : Name) (more : List Name)
     (g d : Option Name) → Placed ns f b
     → Placed (ns ++ n ∷ more) g d
@@ -199,7 +199,7 @@ next_from (m ∷ []) f b bits n c p e =
 next_from (m ∷ o ∷ []) f b bits n c p e = let h = rw (p.0, p.1) at e in absurd (cc)
 next_from (m ∷ o ∷ k ∷ ns) f b bits n c p e = absurd p
 
--- what the words read to, read from the front
+-- words with a reading give the same color if they are read from the front
 reading_found : {ws : List (List ℕ)} {names : List Name} {bits : ℕ} (p c : Color) (ns : List Name)
     → WordsRead ws names bits
     → Placed ns p.foreground p.background → Placed (ns ++ names) c.foreground c.background
@@ -223,7 +223,7 @@ reading_found p c ns (WordsRead.attribute {w = w} {a = a} {bits = more} t r) bef
     }) c ns r before after
     (united ∙ sym (or_assoc p.attributes.0 a.0 more)))
 
--- what words read from the front read to
+-- the names and bits of words that are read from the front, after a color with the names `ns`
 pub record ReadOn (ws : List (List ℕ)) (p c : Color) (ns : List Name) : Type 0 where
   pub names : List Name
   pub bits : ℕ
@@ -287,7 +287,7 @@ reading_derived (w ∷ ws) p c ns before h =
             united = r.united ∙ or_assoc p.attributes.0 a.0 r.bits;
           }
 
--- color text as a function
+-- `color_of` computes the grammar of colors
 pub color_of-value : IsValueOf ColorText color_of
 color_of-value = record {
   found = λ t c h. reading_found no_color c [] (read_words h.read) (refl, refl) h.placed
@@ -317,27 +317,27 @@ and_then_both : (o : Option Color) (more : Color → Option Color)
 and_then_both None more = refl
 and_then_both (Some c) more = refl
 
--- one more word, by the item that it was found to be
+-- one more word adds the item that an exact reader returns for it
 pub read_word : (c : Color) (t : List ℕ) (r : Option Item) → t ≢ [] → Reads ItemText t r
     → read_from c (piece t) ≡ option_and_then (λ i. with_item c i) r
 read_word c [] r n h = absurd (n refl)
 read_word c (x ∷ t) r n h =
     rw (sym (read_by word_item-value (x ∷ t) r h)) (and_then_only (option_and_then (λ i. with_item c i) r))
 
--- a piece, and the words behind it
+-- a piece is read first, and then the words after it
 read_piece : (c : Color) (t : List ℕ) (ws : List (List ℕ))
     → read_from c (piece t ++ ws) ≡ option_and_then (λ d. read_from d ws) (read_from c (piece t))
 read_piece c [] ws = refl
 read_piece c (x ∷ t) ws =
     and_then_both (option_and_then (λ i. with_item c i) (word_item (x ∷ t))) (λ d. read_from d ws)
 
--- what follows the last word reads to the color itself
+-- what follows the last word does not change the color
 at_end : (o : Option Color) → o ≡ option_and_then (λ d. read_from d (words [])) o
 unfolding words
 at_end None = refl
 at_end (Some d) = refl
 
--- a text whose first word is n bytes long, with s bytes of white space after it, or at its end
+-- a text is read by its first word, of `n` bytes, then by what follows the `s` bytes of white space after it
 read_step : (c : Color) (text : List ℕ) (n s : ℕ) → IsWithoutSpace text n → n + s ≤ length text
     → (0 < s → Space (slice_range text n (n + s))) → (s ≡ 0 → n ≡ length text)
     → read_from c (words text) ≡ option_and_then (λ d. read_from d (words (drop (n + s) text)))
@@ -356,7 +356,7 @@ read_step c text n s clear within parted last =
           ∙ read_piece c (take n text) (words (drop (n + s) text))
     ]
 
--- the walk: what the words of the input read to is what the color so far and the words of the rest read to
+-- the loop: reading the words of the input is the same as reading those of the rest after the color so far
 pub walk_refused : (input rest : List ℕ) (c : Color) (n s : ℕ)
     → read_from no_color (words input) ≡ read_from c (words rest)
     → IsWithoutSpace rest n → n + s ≤ length rest → (0 < s → Space (slice_range rest n (n + s)))

@@ -1,5 +1,5 @@
--- The laws of `Value` for colors: canonical texts read, one for each color, and it is the text that the color
--- is shown as.
+-- The laws of `Value` for colors: each canonical text has a color, a color has at most one canonical text,
+-- and it is the text that the color is shown as.
 use Rattle.std.proofs.Common.{◌≡◌, ◌≢◌, ℕ, zero, suc, ◌+◌, ◌^◌, ◌<◌, ◌≤◌, ◌↔◌, ◌⊎◌, inl, inr, ◌&&◌, nat_le}
 use Rattle.std.proofs.Common.{Bool, true, false, ◌==◌, List, [], ◌∷◌, ◌++◌, length, map, filter, Option, Some}
 use Rattle.std.proofs.Common.{None, bit_and, min, refl, sym, ap, subst, ◌∙◌, length-append, arith}
@@ -47,7 +47,7 @@ use Rattle.config_color.specs.Laws.Split.{eqb_told}
 abbrev pub set_words : ℕ → List AttributeRow → List (List ℕ)
 set_words bits rows = map (λ row. row.2) (filter (λ row. bit_at bits row.1 == 1) rows)
 
--- the bits of the rows
+-- the union of the rows' bits
 abbrev pub bits_of : List AttributeRow → ℕ
 bits_of [] = 0
 bits_of (row ∷ rows) = bit_or (2 ^ row.1) (bits_of rows)
@@ -57,7 +57,7 @@ abbrev pub AreRead : List AttributeRow → Type 0
 AreRead [] = ⊤
 AreRead (row ∷ rows) = AttributeText row.2 (record { 0 = 2 ^ row.1 }) × AreRead rows
 
--- the rows' bits rise from low on
+-- the rows' bits rise, and the first is at least `low`
 abbrev pub Rise : ℕ → List AttributeRow → Type 0
 Rise low [] = ⊤
 Rise low (row ∷ rows) = (low ≤ row.1) × Rise (row.1 + 1) rows
@@ -68,7 +68,7 @@ and_or a b m = same_from_bits _ _ (λ i. simp (bit_at_or, bit_at_and) (omega ari
 or_and : (m a b : ℕ) → bit_and m (bit_or a b) ≡ bit_or (bit_and m a) (bit_and m b)
 or_and m a b = same_from_bits _ _ (λ i. simp (bit_at_or, bit_at_and) (omega arith))
 
--- a bit is set, or it is not
+-- a bit is set or it is not
 bit_told : (n i : ℕ) → (bit_at n i ≡ 1) ⊎ (bit_at n i ≡ 0)
 bit_told n i = let l = bit_at-lt n i in grind arith
 
@@ -84,7 +84,7 @@ and_zero n = same_from_bits _ _ (λ i. simp (bit_at_and, bit_at-zero) (omega ari
 zero_and : (n : ℕ) → bit_and 0 n ≡ 0
 zero_and n = same_from_bits _ _ (λ i. simp (bit_at_and, bit_at-zero) (omega arith))
 
--- the words of the set bits read to those bits
+-- the words of the set bits are read as those bits
 set_words_read : (rows : List AttributeRow) (bits : ℕ) → AreRead rows
     → WordsRead (set_words bits rows) [] (bit_and bits (bits_of rows))
 set_words_read [] bits h = subst (λ (n : ℕ). WordsRead [] [] n) (sym (and_zero bits)) WordsRead.nothing
@@ -119,7 +119,7 @@ set_words_zero : (rows : List AttributeRow) → set_words 0 rows ≡ []
 set_words_zero [] = refl
 set_words_zero (row ∷ rows) = rw (bit_at-zero row.1) (set_words_zero rows)
 
--- bits that agree from the rows' on have the same words
+-- numbers whose bits agree from `low` on have the same words
 set_words_same : (low : ℕ) (rows : List AttributeRow) (a b : ℕ) → Rise low rows
     → ((i : ℕ) → low ≤ i → bit_at a i ≡ bit_at b i)
     → set_words a rows ≡ set_words b rows
@@ -131,7 +131,7 @@ set_words_same low (row ∷ rows) a b r h =
       | inr e ↦ rw (h row.1 r.0 ∙ e, e) more
     ]
 
--- chosen words read to bits of which they are the words
+-- chosen words are read as bits from `low` on, and are the words of these bits
 pub record ChosenRead (low : ℕ) (rows : List AttributeRow) (ws : List (List ℕ)) : Type 0 where
   pub bits : ℕ
   pub read : WordsRead ws [] bits
@@ -226,11 +226,11 @@ bit_row (row ∷ rows) i h =
           (omega (arith, h, bit_at_or (2 ^ row.1) (bits_of rows) i, bit_at-pow_other row.1 i other)))
     ]
 
--- a set without other bits than those of the constants
+-- the set has no bits except those of the constants
 abbrev IsMasked : ℕ → Type 0
 IsMasked bits = bit_and bits (bits_of attributes) ≡ bits
 
--- which is the same as that each set bit is known
+-- a set whose bits are all known has no bits except those of the constants
 known_mask : (bits : ℕ) → AreKnown bits → IsMasked bits
 known_mask bits known = same_from_bits _ _
     (λ i. bit_at_and bits (bits_of attributes) i ∙ at_bit i (bit_told bits i)) where
@@ -245,7 +245,7 @@ mask_known bits h = λ i e.
     let both = bit_at_and bits (bits_of attributes) i in
     bit_row attributes i (omega (arith, masked, e, both, bit_at-lt (bits_of attributes) i))
 
--- chosen words of the canonical ones
+-- words that are chosen from the canonical ones are read
 rising_read : (ws : List (List ℕ)) → Chosen rising_words ws → ChosenRead 0 attributes ws
 rising_read ws c =
     chosen_read attributes 0 ws attributes_rise attributes_read
@@ -269,7 +269,7 @@ attribute_known w a (AttributeText.word row o p e) =
     (all-one (λ (row : AttributeRow). bit_and (2 ^ row.1) mask == 2 ^ row.1) attributes row refl o))
 attribute_known w a (AttributeText.reset p e) = rw e refl
 
--- the bits that words read to are known
+-- words are read as bits that are all known
 WordsRead-known : {ws : List (List ℕ)} {ns : List Name} {bits : ℕ} → WordsRead ws ns bits → IsMasked bits
 WordsRead-known WordsRead.nothing = zero_and (bits_of attributes)
 WordsRead-known (WordsRead.name t r) = WordsRead-known r
@@ -278,17 +278,17 @@ WordsRead-known (WordsRead.attribute {w = w} {a = a} {bits = more} t r) =
     let back = WordsRead-known r in
     and_or a.0 more (bits_of attributes) ∙ cc
 
--- names that have texts
+-- each of the names has a text
 abbrev HaveTexts : List Name → Type 0
 HaveTexts ns = AllByRecursion (HasText NameText) ns
 
--- the names that words read to have texts
+-- words are read as names that all have texts
 names_have_texts : {ws : List (List ℕ)} {ns : List Name} {bits : ℕ} → WordsRead ws ns bits → HaveTexts ns
 names_have_texts WordsRead.nothing = tt
 names_have_texts (WordsRead.name {w = w} t r) = ((w, t), names_have_texts r)
 names_have_texts (WordsRead.attribute t r) = names_have_texts r
 
--- the displayed names read to them
+-- the shown texts of names are read as the names
 names_read : (ns : List Name) → HaveTexts ns → WordsRead (map name_shown ns) ns 0
 names_read [] h = WordsRead.nothing
 names_read (n ∷ ns) h = WordsRead.name (name_shown_is_text n h.0).reads_to (names_read ns h.1)
@@ -297,7 +297,7 @@ names_canonical : (ns : List Name) → HaveTexts ns → AllByRecursion Canonical
 names_canonical [] h = tt
 names_canonical (n ∷ ns) h = ((name_shown_is_text n h.0).canonical_text, names_canonical ns h.1)
 
--- canonical names are displayed names
+-- the texts are what some names are shown as, and are read as these names
 pub record NamesRead (ts : List (List ℕ)) : Type 0 where
   pub names : List Name
   pub read : WordsRead ts names 0
@@ -319,7 +319,7 @@ canonical_names_read (t ∷ ts) h = with_name (name_canonical_reads t h.0) (cano
         as_many = ap suc more.as_many;
       }
 
--- names and then words of attributes read to the names and to the attributes' bits
+-- texts of names and then words of attributes are read as the names and the bits of the attributes
 names_and_words : (ts ws : List (List ℕ)) (ns : List Name) (bits : ℕ) → WordsRead ts ns 0
     → WordsRead ws [] bits
     → WordsRead (ts ++ ws) ns bits
@@ -329,14 +329,14 @@ names_and_words ts ws ns bits r s =
 
 -- ---- the text that a color is shown as
 
--- words that are joined after others are joined with them
+-- joining words to others that are joined already is the same as joining all of them
 join_last : (xs : List (List ℕ)) (y : List ℕ) (ys : List (List ℕ))
     → join_with_byte space (xs ++ join_with_byte space (y ∷ ys) ∷ []) ≡ join_with_byte space (xs ++ y ∷ ys)
 join_last [] y ys = refl
 join_last (x ∷ []) y ys = refl
 join_last (x ∷ z ∷ xs) y ys = ap (λ t. x ++ space ∷ t) (join_last (z ∷ xs) y ys)
 
--- the names' texts are those of foreground and background
+-- the shown foreground and background are what the names are shown as
 parts_named : (ns : List Name) (f b : Option Name) → Placed ns f b
     → part_shown f ++ part_shown b ≡ map name_shown ns
 parts_named [] f b p = rw (p.0, p.1) refl
@@ -359,7 +359,7 @@ join_set xs (suc n) e = some (attribute_words (suc n)) refl where
       absurd (omega (arith, no_words_no_bits r))
   some (y ∷ ys) k = rw k (join_last xs y ys)
 
--- it is the names' texts and the attributes' words, with a space between
+-- a color is shown as its names and the words of its attributes, with a space between
 shown_spaced : (c : Color) (ns : List Name) → Placed ns c.foreground c.background → IsMasked c.attributes.0
     → color_shown c ≡ join_with_byte space (map name_shown ns ++ attribute_words c.attributes.0)
 shown_spaced c ns placed e =
@@ -367,7 +367,7 @@ shown_spaced c ns placed e =
     ∙ ap (λ xs. join_with_byte space (xs ++ attribute_words c.attributes.0))
     (parts_named ns c.foreground c.background placed)
 
--- a canonical text reads to a color, and is its displayed text
+-- a canonical text has a color, and is what this color is shown as
 canonical_shown : (t : List ℕ) → CanonicalColor t → (c : Color) × ColorText t c × (t ≡ color_shown c)
 canonical_shown t h = whole (canonical_names_read h.names h.named) (rising_read h.words h.chosen) where
   plain : list_all is_plain_word (h.names ++ h.words) ≡ true
@@ -408,7 +408,7 @@ color_one_text s t v p q r u =
 
 -- ---- its length
 
--- the letters of words, and one byte after each
+-- the number of bytes of words, with one more for each word
 abbrev weight : List (List ℕ) → ℕ
 weight [] = 0
 weight (w ∷ ws) = length w + 1 + weight ws
@@ -435,7 +435,7 @@ set_weight : (bits : ℕ) → weight (set_shown bits) ≤ LONGEST_SET + 1
 set_weight zero = omega arith
 set_weight (suc n) = omega (arith, attribute_short (suc n))
 
--- two of the longest names and the longest set, with a space between, are the longest text
+-- no color is longer than two of the longest names and the longest set, with a space between
 color_short : (c : Color) → PartFits c.foreground → PartFits c.background
     → length (color_shown c) ≤ LONGEST_TEXT
 color_short c f b =
@@ -451,14 +451,14 @@ color_short c f b =
 
 -- ---- the laws
 
--- names that have texts have numbers that fit
+-- the numbers of names that have texts are bytes
 texts_fit : (ns : List Name) (f b : Option Name) → HaveTexts ns → Placed ns f b → PartFits f × PartFits b
 texts_fit [] f b h p = rw (p.0, p.1) (tt, tt)
 texts_fit (n ∷ []) f b h p = rw (p.0, p.1) (name_fits h.0.0 n h.0.1, tt)
 texts_fit (n ∷ m ∷ []) f b h p = rw (p.0, p.1) (name_fits h.0.0 n h.0.1, name_fits h.1.0.0 m h.1.0.1)
 texts_fit (n ∷ m ∷ o ∷ ns) f b h p = absurd p
 
--- a color is shown as its canonical text where its names have texts and its bits are known
+-- a color is shown as its canonical text if its names have texts and its bits are known
 shown_is_text : (c : Color) (ns : List Name) → Placed ns c.foreground c.background → HaveTexts ns
     → IsMasked c.attributes.0
     → IsTextOf ColorText CanonicalColor c (color_shown c)
@@ -497,12 +497,12 @@ pub color_shown_is_text : (c : Color) → HasText ColorText c
 color_shown_is_text c (t, h) =
     shown_is_text c h.names h.placed (names_have_texts h.read.read) (WordsRead-known h.read.read)
 
--- a color that was read has numbers that fit
+-- the numbers of a color that was read are bytes
 pub parts_fit : (t : List ℕ) (c : Color) → ColorText t c → PartFits c.foreground × PartFits c.background
 parts_fit t c h =
     texts_fit h.names c.foreground c.background (names_have_texts h.read.read) h.placed
 
--- which colors have a text: those whose set bits are known, with a background only beside a foreground
+-- a color has a text exactly if its set bits are known and it has no background without a foreground
 pub color_has_text : (c : Color) → PartFits c.foreground → PartFits c.background
     → (HasText ColorText c) ↔ (AreKnown c.attributes.0 × (c.foreground ≡ None → c.background ≡ None))
 color_has_text c f b = (
@@ -523,17 +523,17 @@ color_has_text c f b = (
 
 -- ---- tests that the code makes
 
--- whether the parts of two colors are the same, in the order in which `==` tries them
+-- whether the parts of two colors are the same, in the order in which `==` compares them
 abbrev pub same_parts : (Name → Name → Bool) → Color → Color → Bool
 same_parts E v w =
     option_eq E v.foreground w.foreground
     && (option_eq E v.background w.background && (v.attributes.0 == w.attributes.0))
 
--- tests all of which pass
+-- three tests that are all true
 all_pass : (a b c : Bool) → (a && (b && c)) ≡ true → (a ≡ true) × (b ≡ true) × (c ≡ true)
 all_pass a b c h = let k = and_parts a (b && c) h in let l = and_parts b c k.1 in (k.0, l.0, l.1)
 
--- colors are equal where their parts are
+-- the test of the parts is true exactly if the colors are the same
 pub color_equal : (E : Name → Name → Bool) → ((n m : Name) → (IsTrue (E n m)) ↔ (n ≡ m))
     → (v w : Color) → (IsTrue (same_parts E v w)) ↔ (v ≡ w)
 color_equal E law v w = (to, from) where
@@ -574,7 +574,7 @@ known_told all bits r e f = (
   all_bits : ℕ
   all_bits = known_bits_of attribute_flags
 
--- the test whether a background stands beside a foreground, where there is one
+-- the test whether there is no background without a foreground
 pub none_told : (o : Option Name) (n : Bool) → is_some o ≡ not n → n ≡ true → o ≡ None
 none_told None n e h = refl
 none_told (Some x) n e h = let k = rw h at e in absurd (cc)

@@ -1,5 +1,5 @@
--- The laws of composition: the color of a joined text is the composition of its parts' colors, and what
--- follows from that for `same`.
+-- The laws of composition: the color of a joined text is the composition of its parts' colors, and what this
+-- means for `same`.
 use Rattle.std.proofs.Common.{◌≡◌, ℕ, ◌+◌, ◌<◌, ◌≤◌, ◌↔◌, ◌⊎◌, inl, inr, List, [], ◌∷◌, ◌++◌, length, codes}
 use Rattle.std.proofs.Common.{Option, Some, None, IfSome, Bool, IsTrue, refl, sym, ap, subst, ◌∙◌}
 use Rattle.std.proofs.Common.{append_assoc, length-append, arith}
@@ -21,7 +21,7 @@ use Rattle.config_text.specs.Value.{IsAccepted, IsRefused, HasText, Compares}
 use Rattle.config_color.specs.Reading.Split.{words}
 use Rattle.config_color.specs.Laws.Split.{words_joined, space_byte}
 
--- a color that has a text has a background only beside a foreground
+-- a color that has a text has no background without a foreground
 pub background_beside : (t : List ℕ) (c : Color) → ColorText t c → c.foreground ≡ None → c.background ≡ None
 background_beside t c h e = beside h.names c.foreground c.background h.placed e where
   beside : (ns : List Name) (f b : Option Name) → Placed ns f b → f ≡ None → b ≡ None
@@ -30,7 +30,7 @@ background_beside t c h e = beside h.names c.foreground c.background h.placed e 
   beside (n ∷ m ∷ []) f b p e = absurd (cc)
   beside (n ∷ m ∷ o ∷ ns) f b p e = absurd p
 
--- the composition of the parts' colors is the color of the text that is joined of them by white space
+-- if white space joins two texts, the composition of their colors is the color of the joined text
 pub joined_reads : (front space back : List ℕ) (c : Color) → Space space → Joined front back c
     → ColorText (front ++ space ++ back) c
 joined_reads front space back c s (a, b, p, q, k) =
@@ -88,7 +88,7 @@ reads_joined front space back c s h = parted (WordsRead-split (words front) (wor
         },
       )
 
--- a joined text is refused exactly where a part is refused or the names are too many
+-- a joined text is refused exactly if a part is refused or there are too many names
 pub joined_refused : (front space back : List ℕ) → Space space
     → (IsRefused ColorText (front ++ space ++ back))
     ↔ (IsRefused ColorText front ⊎ IsRefused ColorText back ⊎ HaveTooManyNames front back)
@@ -133,7 +133,7 @@ joined_refused front space back s = (λ r. told r (color_decided front) (color_d
           Placed-short (color_names a ++ color_names b) c.foreground c.background k.placed,
         )
 
--- texts have one color exactly where their words are the same
+-- two texts have the same color exactly if their words have the same names and bits
 pub same_words : (a b : List ℕ) (v w : Color) → ColorText a v → ColorText b w → (v ≡ w) ↔ (SameWords a b)
 same_words a b v w p q = (agree, meet) where
   agree : v ≡ w → SameWords a b
@@ -158,7 +158,7 @@ same_words a b v w p q = (agree, meet) where
       (subst (λ (ns : List Name). Placed ns w.foreground w.background) (o.0 ∙ sym m.0) q.placed) in
       same_color v w placed.0 placed.1 (m.1 ∙ sym o.1)
 
--- what `same` answers for color texts is said by their words
+-- `same` returns true for two color texts exactly if their words have the same names and bits
 pub compares_words : (a b : List ℕ) (result : Option Bool) → Compares ColorText a b result
     → IfSome result (λ same. IsTrue same ↔ (SameWords a b))
 compares_words a b None refused = tt
@@ -166,7 +166,7 @@ compares_words a b (Some same) (v, w, compared) =
     let law = same_words a b v w compared.first compared.second in
     (λ e. law.0 (compared.equal.0 e), λ s. compared.equal.1 (law.1 s))
 
--- a composition of colors that have texts has one
+-- a composition of colors that have a text has a text
 pub composition_has_text : (a b c : Color) → HasText ColorText a → HasText ColorText b → Composition a b c
     → HasText ColorText c
 composition_has_text a b c (s, p) (t, q) k =
@@ -175,7 +175,7 @@ composition_has_text a b c (s, p) (t, q) k =
 pub some_none : (n : Name) → Some n ≡ None → ⊥
 some_none n e = cc
 
--- the places that the names of two colors have
+-- `places_of` gives the foreground and background of the names of two colors
 places_some : (f b g d : Option Name) (h i : Option Name) → (f ≡ None → b ≡ None) → (g ≡ None → d ≡ None)
     → places_of f b g d ≡ Some (h, i)
     → Placed ((option_to_list f ++ option_to_list b) ++ (option_to_list g ++ option_to_list d)) h i
@@ -196,7 +196,7 @@ places_some (Some n) (Some o) None None h i p q e =
 places_some (Some n) (Some o) None (Some m) h i p q e = absurd (some_none m (q refl))
 places_some (Some n) (Some o) (Some m) d h i p q e = absurd (cc)
 
--- there is no place for more than two
+-- if `places_of` gives `None`, there are more than two names
 places_none : (f b g d : Option Name) → (f ≡ None → b ≡ None) → (g ≡ None → d ≡ None)
     → places_of f b g d ≡ None
     → 2 < length ((option_to_list f ++ option_to_list b) ++ (option_to_list g ++ option_to_list d))
@@ -227,7 +227,7 @@ places_refuse a b (s, p) (t, q) e =
       )),
     )
 
--- two colors have one composition, or none
+-- `compose` has only one result for two colors
 pub composes_one : (a b : Color) (r s : Option Color) → Composes a b r → Composes a b s → r ≡ s
 composes_one a b None None p q = refl
 composes_one a b None (Some d) p q = absurd (p.1 d q.0)

@@ -1,4 +1,4 @@
--- Attribute words add their bits wherever they stand, and once more adds nothing.
+-- An attribute word adds its bits wherever it is, and adds nothing if it is repeated.
 use Rattle.std.proofs.Common.{◌≡◌, ℕ, List, [], ◌∷◌, ◌++◌, ◌↔◌, sym, ap, subst, ◌∙◌, arith}
 use Rattle.std.specs.Int.RustNames.{bit_or}
 use Rattle.std.proofs.lemmas.Nat.Bits.{bit_at_or, same_from_bits}
@@ -19,7 +19,7 @@ or_swap a b c = same_from_bits _ _ (λ i. simp bit_at_or (omega arith))
 or_again : (a b : ℕ) → bit_or a (bit_or a b) ≡ bit_or a b
 or_again a b = same_from_bits _ _ (λ i. simp bit_at_or (omega arith))
 
--- an attribute word put between words that are read adds its bits
+-- an attribute word that is inserted among words adds its bits
 put_in : {w : List ℕ} {a : Attribute} (front back : List (List ℕ)) {names : List Name} {bits : ℕ}
     → AttributeText w a
     → WordsRead (front ++ back) names bits → WordsRead (front ++ w ∷ back) names (bit_or a.0 bits)
@@ -29,7 +29,7 @@ put_in {w = w} {a = a} (x ∷ front) back {names = names} t (WordsRead.attribute
     subst (λ (i : ℕ). WordsRead (x ∷ front ++ w ∷ back) names i) (or_swap b.0 a.0 more)
     (WordsRead.attribute u (put_in front back t r))
 
--- without it the other words are read, with the other bits
+-- without an attribute word the other words are read; its bits and theirs are all bits
 taken_out : (w : List ℕ) (a : Attribute) (front back : List (List ℕ)) {names : List Name} {bits : ℕ}
     → AttributeText w a
     → WordsRead (front ++ w ∷ back) names bits
@@ -43,7 +43,7 @@ taken_out w a (x ∷ front) back t (WordsRead.attribute {a = b} u r) =
     let o = taken_out w a front back t r in
     (bit_or b.0 o.0, WordsRead.attribute u o.1, ap (λ i. bit_or b.0 i) o.2 ∙ or_swap b.0 a.0 o.0)
 
--- an attribute word that stands at another place reads to the same
+-- words with an attribute word at another place are read the same
 moved_reads : (w : List ℕ) (a : Attribute) (front back ahead behind : List (List ℕ)) (names : List Name)
     (bits : ℕ) → AttributeText w a
     → front ++ back ≡ ahead ++ behind → WordsRead (front ++ w ∷ back) names bits
@@ -53,7 +53,7 @@ moved_reads w a front back ahead behind names bits t e r =
     subst (λ (i : ℕ). WordsRead (ahead ++ w ∷ behind) names i) (sym o.2)
     (put_in ahead behind t (subst (λ (ws : List (List ℕ)). WordsRead ws names o.0) e o.1))
 
--- an attribute word that already stands among the words reads to the same once more
+-- words with one of their attribute words once more are read the same
 again_reads : (w : List ℕ) (a : Attribute) (ws front back ahead behind : List (List ℕ)) (names : List Name)
     (bits : ℕ) → AttributeText w a
     → ws ≡ front ++ w ∷ back → ws ≡ ahead ++ behind → WordsRead ws names bits
@@ -64,7 +64,7 @@ again_reads w a ws front back ahead behind names bits t e f r =
     (ap (λ i. bit_or a.0 i) o.2 ∙ (or_again a.0 o.0 ∙ sym o.2))
     (put_in ahead behind t (subst (λ (ws : List (List ℕ)). WordsRead ws names bits) f r))
 
--- and what is read with it once more is read without
+-- words are read the same without an attribute word that they have once more
 once_reads : (w : List ℕ) (a : Attribute) (ws front back ahead behind : List (List ℕ)) (names : List Name)
     (bits : ℕ) → AttributeText w a
     → ws ≡ front ++ w ∷ back → ws ≡ ahead ++ behind → WordsRead (ahead ++ w ∷ behind) names bits
@@ -76,7 +76,7 @@ once_reads w a ws front back ahead behind names bits t e f r =
     subst (λ (i : ℕ). WordsRead ws names i)
     (p.2 ∙ (sym (or_again a.0 p.0) ∙ (ap (λ i. bit_or a.0 i) (sym p.2) ∙ sym o.2))) read
 
--- words that differ in the place, or in the number, of one attribute word read to the same
+-- words are read the same if an attribute word is moved or repeated
 moves_read : (ws vs : List (List ℕ)) (names : List Name) (bits : ℕ) → Moves ws vs
     → (WordsRead ws names bits) ↔ (WordsRead vs names bits)
 moves_read ws vs names bits (Moves.moved w front back ahead behind (a, p) e f same) = (
@@ -94,7 +94,7 @@ moves_read ws vs names bits (Moves.repeated w front back ahead behind (a, p) e f
       (subst (λ (ws : List (List ℕ)). WordsRead ws names bits) f r),
 )
 
--- and so have texts with such words the same color
+-- texts with such words have the same color
 pub moved_words : (t u : List ℕ) (ws vs : List (List ℕ)) (c : Color) → Words t ws → Words u vs → Moves ws vs
     → (ColorText t c) ↔ (ColorText u c)
 moved_words t u ws vs c w v m = (

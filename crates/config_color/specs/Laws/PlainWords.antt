@@ -1,5 +1,5 @@
--- Words of printing ASCII bytes: no white space stands in them, so a text that is joined of them by spaces
--- has these words.
+-- Words of printing ASCII bytes. They contain no white space, so a text that joins them by spaces has these
+-- words.
 use Rattle.std.proofs.Common.{◌≡◌, ℕ, ◌≤◌, inl, inr, Bool, true, false, ◌&&◌, codes, nat_le, List, [], ◌∷◌}
 use Rattle.std.proofs.Common.{◌++◌, Option, Some, None, refl, ◌∙◌, arith}
 use Rattle.std.specs.List.{AllByRecursion, join_with_byte, list_all}
@@ -17,11 +17,11 @@ use Rattle.config_color.specs.Laws.Space.{start_not}
 use Rattle.config_color.specs.Reading.Split.{after_space, last_cut, words}
 use Rattle.config_color.specs.Laws.Split.{after_space_is, words_none, words_joined, space_byte}
 
--- a printing ASCII byte other than the space
+-- a plain byte: a printing ASCII byte other than the space
 abbrev pub is_plain : ℕ → Bool
 is_plain b = nat_le 33 b && nat_le b 126
 
--- one such byte or more, and no other
+-- a plain word: one or more plain bytes, and no others
 abbrev pub is_plain_word : List ℕ → Bool
 is_plain_word [] = false
 is_plain_word (x ∷ xs) = is_plain x && list_all is_plain xs
@@ -34,7 +34,7 @@ range_plain : (b : ℕ) → 33 ≤ b → b ≤ 126 → is_plain b ≡ true
 range_plain b l h =
     and_from (nat_le 33 b) (nat_le b 126) (grind (arith, nat_tests)) (grind (arith, nat_tests))
 
--- no spelling of white space begins with a plain byte
+-- no white space begins at a plain byte
 not_before : (x : ℕ) (text : List ℕ) → is_plain x ≡ true → after_space (x ∷ text) ≡ None
 not_before x text h = told (after_space (x ∷ text)) refl where
   told : (o : Option (List ℕ)) → after_space (x ∷ text) ≡ o → after_space (x ∷ text) ≡ None
@@ -54,7 +54,7 @@ plain_word : (w : List ℕ) → is_plain_word w ≡ true → words w ≡ w ∷ [
 plain_word [] h = absurd (cc)
 plain_word (x ∷ xs) h = words_none (x ∷ xs) (plain_uncut (x ∷ xs) h)
 
--- the words of a text that is joined of plain words by spaces
+-- the words of a text that joins plain words by spaces
 pub words_spaced : (ws : List (List ℕ)) → list_all is_plain_word ws ≡ true
     → words (join_with_byte space ws) ≡ ws
 words_spaced [] h = words_none [] refl

@@ -1,4 +1,4 @@
--- Which bytes the spellings of white space have.
+-- The bytes of the spellings of white space.
 use Rattle.std.proofs.Common.{◌≡◌, ℕ, ◌+◌, ◌<◌, ◌≤◌, ◌⊎◌, inl, inr, Bool, true, false, ◌||◌, nat_le, List, []}
 use Rattle.std.proofs.Common.{◌∷◌, ◌++◌, length, get_or, drop, refl, ap, arith}
 use Rattle.std.proofs.lemmas.Bool.Decides.{leb_tells, nat_tests}
@@ -39,7 +39,7 @@ pub bytes_triple : (a b c : ℕ)
 unfolding spellings
 bytes_triple a b c h = grind arith
 
--- what stands first in a text that begins with a spelling
+-- the text begins with a spelling of one, two or three bytes
 pub data Begins (text : List ℕ) : Type 0 where
   one : (a : ℕ) (rest : List ℕ) → text ≡ a ∷ rest → Space (a ∷ []) → Begins text
   two : (a b : ℕ) (rest : List ℕ) → text ≡ a ∷ b ∷ rest → Space (a ∷ b ∷ []) → Begins text
@@ -50,7 +50,7 @@ pub no_empty : Space [] → ⊥
 unfolding spellings
 no_empty h = grind arith
 
--- and none has more than three bytes
+-- no spelling has more than three bytes
 no_longer : (a b c d : ℕ) (more : List ℕ) → Space (a ∷ b ∷ c ∷ d ∷ more) → ⊥
 unfolding spellings
 no_longer a b c d more h = grind arith
@@ -62,7 +62,7 @@ begins text (a ∷ b ∷ []) rest h e = two a b rest e h
 begins text (a ∷ b ∷ c ∷ []) rest h e = three a b c rest e h
 begins text (a ∷ b ∷ c ∷ d ∷ more) rest h e = absurd (no_longer a b c d more h)
 
--- a text begins with no spelling where its first byte, its first two and its first three are none
+-- a text does not begin with a spelling if neither its first byte nor its first two or three bytes are one
 pub begins_not : (text : List ℕ) → (1 ≤ length text → ¬ (Space (get_or text 0 0 ∷ [])))
     → (2 ≤ length text → ¬ (Space (get_or text 0 0 ∷ get_or text 1 0 ∷ [])))
     → (3 ≤ length text → ¬ (Space (get_or text 0 0 ∷ get_or text 1 0 ∷ get_or text 2 0 ∷ [])))
@@ -76,7 +76,7 @@ begins_not text p q r space rest h e = refuted text p q r (begins text space res
   refuted text p q r (two a b rest e s) = (rw e at q) (omega arith) s
   refuted text p q r (three a b c rest e s) = (rw e at r) (omega arith) s
 
--- the first byte of a spelling
+-- whether the first byte is at most 32 or at least 194
 abbrev is_start : List ℕ → Bool
 is_start [] = false
 is_start (a ∷ more) = nat_le a 32 || nat_le 194 a
@@ -85,7 +85,7 @@ space_start : (a : ℕ) (more : List ℕ) → Space (a ∷ more) → nat_le a 32
 unfolding spellings
 space_start a more s = all-one is_start spellings (a ∷ more) refl s
 
--- a text that begins with another byte begins with no spelling
+-- a text whose first byte is between 32 and 194 does not begin with a spelling
 pub start_not : (text : List ℕ) → 32 < get_or text 0 0 → get_or text 0 0 < 194
     → (space rest : List ℕ) → Space space → ¬ (text ≡ space ++ rest)
 start_not text low high [] rest s e = no_empty s

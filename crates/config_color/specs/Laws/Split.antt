@@ -1,5 +1,5 @@
--- The laws of words: each text has one list of them, which the function gives; the words of a text that is
--- joined of two by white space; and the first word of a text that is walked from its front.
+-- The laws of words: each text has one list of words, which the function gives; the words of two texts that
+-- are joined by white space; and the first word of a text that is read from the front.
 use Rattle.std.proofs.Common.{◌≡◌, ℕ, zero, suc, ◌+◌, ◌-◌, ◌<◌, ◌≤◌, ◌==◌, ◌⊎◌, inl, inr, Bool, true, false}
 use Rattle.std.proofs.Common.{List, [], ◌∷◌, ◌++◌, length, map, get_or, take, drop, slice_range, Option, Some}
 use Rattle.std.proofs.Common.{replicate, None, refl, sym, ap, subst, ◌∙◌, append_assoc, arith}
@@ -18,7 +18,7 @@ pub space_byte : Space (32 ∷ [])
 unfolding spellings
 space_byte = inr (inr (inr (inr (inr (inl refl)))))
 
--- a test of equal numbers, told
+-- two numbers are equal and the test says so, or the test says that they are not
 pub eqb_told : (x y : ℕ) → ((x == y ≡ true) × (x ≡ y)) ⊎ (x == y ≡ false)
 eqb_told x y = told (x == y) refl (Decides-eqb x y) where
   told : (b : Bool) → x == y ≡ b → Decides (x == y) (x ≡ y) → ((x == y ≡ true) × (x ≡ y)) ⊎ (x == y ≡ false)
@@ -51,19 +51,19 @@ after_one_is (row ∷ rows) text rest h = told (after row text) refl h (after_on
   told (Some r) e k more = (row, inl refl, after_is row text rest (e ∙ k))
   told None e k more = let found = more k in (found.0, inr found.1, found.2)
 
--- what follows a spelling at the head of a text
+-- if `after_space` returns a rest, the text is a spelling and that rest
 pub after_space_is : (text rest : List ℕ) → after_space text ≡ Some rest
     → (space : List ℕ) × Space space × (text ≡ space ++ rest)
 unfolding after_space spellings
 after_space_is text rest h = after_one_is spellings text rest h
 
--- a cut of the end of a text is a cut of the text
+-- the last cut of the end of a text is the last cut of the whole text
 cut_append : (before text b r : List ℕ) → last_cut text ≡ Some (b, r)
     → last_cut (before ++ text) ≡ Some (before ++ b, r)
 cut_append [] text b r h = h
 cut_append (x ∷ before) text b r h = rw (cut_append before text b r h) refl
 
--- the last cut of `front ++ rest`, where `rest` has none
+-- the last cut of `front ++ rest`, if `rest` has no cut
 abbrev cut_in : List ℕ → List ℕ → Option Cut
 cut_in [] rest = None
 cut_in (x ∷ front) rest = cut_at x (after_space (x ∷ front ++ rest)) (cut_in front rest)
@@ -77,7 +77,7 @@ each_cut : (rest : List ℕ) → map (λ row. cut_in row rest) spellings ≡ map
 unfolding after_space spellings
 each_cut rest = refl
 
--- after a spelling that no other follows, the cut is at that spelling
+-- if a text begins with a spelling, and has no cut after it, its last cut is at its front
 last_space : (space rest : List ℕ) → Space space → last_cut rest ≡ None
     → last_cut (space ++ rest) ≡ Some ([], rest)
 unfolding spellings
@@ -89,7 +89,7 @@ last_space space rest s h = cut_in-is space rest h ∙ same_at spellings (each_c
   same_at (row ∷ rows) e (inl is) = rw is (cc)
   same_at (row ∷ rows) e (inr o) = same_at rows (cc) o
 
--- the cut of a text is told
+-- a text has a last cut or no cut
 pub cut_told : (text : List ℕ) → (last_cut text ≡ None) ⊎ ((cut : Cut) × (last_cut text ≡ Some cut))
 cut_told text = told (last_cut text) refl where
   told : (o : Option Cut) → last_cut text ≡ o
@@ -105,7 +105,7 @@ abbrev back_of : Option Cut → List ℕ
 back_of None = []
 back_of (Some c) = c.1
 
--- what stands before the cut is shorter
+-- what comes before the last cut is shorter than the text
 cut_shorter : (text : List ℕ) (cut : Cut) → last_cut text ≡ Some cut → length cut.0 < length text
 cut_shorter [] cut h = absurd (cc)
 cut_shorter (x ∷ text) cut h =
@@ -133,13 +133,13 @@ within_enough (suc n) (suc m) text p q =
           (omega (arith, cut_shorter text c.0 c.1))))
     ]
 
--- where no spelling stands in the text: itself, or no word where it is empty
+-- the words of a text without a cut: the text itself, or no word if it is empty
 pub words_none : (text : List ℕ) → last_cut text ≡ None → words text ≡ piece text
 unfolding words
 words_none [] h = refl
 words_none (x ∷ text) h = rw h refl
 
--- otherwise: the words of what stands before the last spelling, then what follows it
+-- the words of a text with a cut: the words of what comes before the last cut, then what follows it
 pub words_some : (text : List ℕ) (cut : Cut) → last_cut text ≡ Some cut
     → words text ≡ words cut.0 ++ piece cut.1
 unfolding words
@@ -177,12 +177,12 @@ words_joined_within (suc n) before space rest l s =
           (words_joined_within n before space c.0.0 (omega (arith, cut_shorter rest c.0 c.1)) s)
     ]
 
--- the words of two texts joined by a spelling are those of the one, then those of the other
+-- the words of two texts joined by white space are those of the first, then those of the second
 pub words_joined : (before space rest : List ℕ) → Space space
     → words (before ++ (space ++ rest)) ≡ words before ++ words rest
 words_joined before space rest s = words_joined_within (length rest) before space rest (omega arith) s
 
--- what follows a run of spaces at the front of a text has the words of the text
+-- a text has the same words without a run of spaces at its front
 past_run : (n : ℕ) (cs : List ℕ) → words (drop n (replicate n 32 ++ cs)) ≡ words (replicate n 32 ++ cs)
 unfolding words
 past_run zero cs = refl
@@ -192,13 +192,13 @@ pub words_past_run : (n : ℕ) (t cs : List ℕ) → t ≡ replicate n 32 ++ cs
     → words (take (length t - n) (drop n t)) ≡ words t
 words_past_run n t cs run = ap words (take_rest t n) ∙ rw run (past_run n cs)
 
--- the same of one space
+-- a text has the same words without a space at its front
 pub words_past_space : (t : List ℕ) → 1 ≤ length t → get_or t 0 0 ≡ 32
     → words (take (length t - 1) (drop 1 t)) ≡ words t
 words_past_space [] l e = absurd (omega arith)
 words_past_space (c ∷ cs) l e = words_past_run 1 (c ∷ cs) cs (ap (λ b. b ∷ cs) e)
 
--- where no spelling stands at the first n places, nothing is cut in front of them
+-- if no white space begins at the first `n` places, the first `n` bytes have no cut
 uncut : (n : ℕ) (text : List ℕ) → IsWithoutSpace text n → last_cut (take n text) ≡ None
 uncut zero text h = refl
 uncut (suc n) [] h = refl
@@ -212,7 +212,7 @@ uncut (suc n) (x ∷ text) h =
           (ap (λ t. x ∷ t) (sym (take-append-drop n text))
           ∙ (ap (λ t. t ++ drop n text) found.2 ∙ append_assoc found.0 r (drop n text))))
 
--- the words of a text at whose place n the first spelling stands, s bytes long
+-- the words of a text whose first white space begins at place `n` and has `s` bytes
 pub words_step : (text : List ℕ) (n s : ℕ) → IsWithoutSpace text n → n + s ≤ length text
     → Space (slice_range text n (n + s))
     → words text ≡ piece (take n text) ++ words (drop (n + s) text)
@@ -228,12 +228,12 @@ words_step text n s h l k =
           (sym (take-append-drop s (drop n text))
           ∙ ap (λ t. take s (drop n text) ++ t) (drop-drop s n text)))
 
--- the words of a text in which no spelling stands
+-- the words of a text in which no white space begins
 pub words_last : (text : List ℕ) → IsWithoutSpace text (length text) → words text ≡ piece text
 words_last text h = words_none text
     (let k = uncut (length text) text h in ap last_cut (sym (take_all (length text) text (omega arith))) ∙ k)
 
--- the parts of a cut
+-- a text is what comes before its last cut, a spelling, and what follows the cut
 cut_parts : (text : List ℕ) (cut : Cut) → last_cut text ≡ Some cut
     → (space : List ℕ) × Space space × (text ≡ cut.0 ++ (space ++ cut.1))
 cut_parts [] cut h = absurd (cc)
@@ -256,7 +256,7 @@ cut_parts (x ∷ text) cut h =
           (k.0, k.1, k.2 ∙ (ap (λ t. t ++ (k.0 ++ r)) f ∙ ap (λ t. cut.0 ++ (k.0 ++ t)) g))
       at_place x text cut None e None h more = absurd (cc)
 
--- a text in which no spelling stands has no cut
+-- a text without white space has no cut
 no_cut : (text : List ℕ) → ((before space rest : List ℕ) → Space space → ¬ (text ≡ before ++ (space ++ rest)))
     → last_cut text ≡ None
 no_cut text h =
@@ -265,7 +265,7 @@ no_cut text h =
       | inr c ↦ let k = cut_parts text c.0 c.1 in absurd (h c.0.0 k.0 c.0.1 k.1 k.2)
     ]
 
--- a text in which no spelling stands is its own one word
+-- a text without white space is its only word, or has no word if it is empty
 pub words_whole : (text : List ℕ) → HasNoSpace text → words text ≡ piece text
 words_whole text h = words_none text
     (no_cut text (λ before space rest s e. h before space rest s (e ∙ sym (append_assoc before space rest))))
@@ -283,7 +283,7 @@ uncut_whole text h before space rest s e =
       refuted cut k = let l : last_cut text ≡ Some cut = ap last_cut (e ∙ append_assoc before space rest)
           ∙ k in cc (h, l)
 
--- what follows the last cut has none
+-- what follows the last cut has no cut
 cut_is_last : (text : List ℕ) (cut : Cut) → last_cut text ≡ Some cut → last_cut cut.1 ≡ None
 cut_is_last [] cut h = absurd (cc)
 cut_is_last (x ∷ text) cut h =
@@ -312,7 +312,7 @@ cut_is_last (x ∷ text) cut h =
           let k = after_space_is (x ∷ text) r e in ap last_cut (sym g) ∙ uncut_rest x text k.0 r k.1 k.2 f
       at_place x text cut None e None f h more = absurd (cc)
 
--- the function gives words
+-- the function gives the words of a text
 pub words_are : (text : List ℕ) → Words text (words text)
 words_are text = within (length text) text (omega arith) where
   at_cut : (text : List ℕ) (cut : Cut) → last_cut text ≡ Some cut → Words cut.0 (words cut.0)
@@ -335,7 +335,7 @@ words_are text = within (length text) text (omega arith) where
     told (suc n) text l (inr (cut, e)) =
         at_cut text cut e (told n cut.0 (omega (arith, cut_shorter text cut e)) (cut_told cut.0))
 
--- and a text has no other words
+-- a text has no other words
 pub words_only : {text : List ℕ} {ws : List (List ℕ)} → Words text ws → ws ≡ words text
 words_only (Words.whole t h) = sym (words_whole t h)
 words_only (Words.cut b s r ws w k h) =
@@ -347,7 +347,7 @@ pub one_words : (text : List ℕ)
     → (ws : List (List ℕ)) × Words text ws × ((vs : List (List ℕ)) → Words text vs → vs ≡ ws)
 one_words text = (words text, words_are text, λ vs w. words_only w)
 
--- the words of two texts joined by a spelling are those of the one, then those of the other
+-- the words of two texts joined by white space are those of the first, then those of the second
 pub joined_words : (before space rest : List ℕ) (ws vs : List (List ℕ)) → Space space → Words before ws
     → Words rest vs
     → Words (before ++ space ++ rest) (ws ++ vs)

@@ -1,5 +1,5 @@
--- Color text as a function, from the front: what the code computes, proved in `Laws.Color` to be `ColorText`.
--- The contracts of private functions cite it, and no public one does.
+-- A function that reads color texts from the front, as the code does. `Laws.Color` proves that it computes
+-- `ColorText`. Only the contracts of private functions cite it.
 use Rattle.std.specs.Prelude.{ℕ, ◌+◌, ◌<◌, ◌≤◌, List, [], ◌∷◌, ◌++◌, length, slice_index, slice_range, Option}
 use Rattle.std.specs.Prelude.{None, Some}
 use Rattle.std.specs.Int.RustNames.{bit_or}
@@ -16,11 +16,11 @@ use Rattle.config_color.specs.Reading.Split.{IsWithoutSpace}
 use Rattle.config_word.specs.Reading.Item.{item_of}
 use Rattle.config_color.specs.Reading.Split.{words}
 
--- what a word stands for
+-- the item that a word means
 unfoldable pub word_item : List ℕ → Option Item
 word_item t = item_of t
 
--- the color with one more name: the foreground, else the background, else there is no place for it
+-- the color with one more name: the foreground, or the background if there is a foreground, or `None` if both
 abbrev pub next_name : Option Name → Option Name → ℕ → Name → Option Color
 next_name None background bits n =
     Some (record { foreground = Some n; background = background; attributes = record { 0 = bits } })
@@ -38,7 +38,7 @@ with_item c (items.Attribute a) =
       attributes = record { 0 = bit_or c.attributes.0 a.0 };
     })
 
--- the color of these words, behind those that gave the color so far
+-- the color of these words, after those that gave the color so far
 abbrev pub read_from : Color → List (List ℕ) → Option Color
 read_from c [] = Some c
 read_from c (w ∷ ws) = option_and_then (λ d. read_from d ws)
@@ -48,7 +48,7 @@ read_from c (w ∷ ws) = option_and_then (λ d. read_from d ws)
 abbrev pub color_of : List ℕ → Option Color
 color_of t = read_from no_color (words t)
 
--- the places of the names of two colors, where each has a background only beside a foreground
+-- the foreground and background from the names of two colors, for colors without a background alone
 abbrev pub places_of : Option Name → Option Name → Option Name → Option Name
     → Option (Option Name × Option Name)
 places_of None b g d = Some (g, d)
@@ -57,15 +57,15 @@ places_of (Some n) None g (Some m) = None
 places_of (Some n) (Some o) None d = Some (Some n, Some o)
 places_of (Some n) (Some o) (Some m) d = None
 
--- the names as they are shown
+-- the foreground and the background as they are shown
 abbrev pub names_shown : Option Name → Option Name → List ℕ
 names_shown f b = join_with_byte space (part_shown f ++ part_shown b)
 
--- the bytes from one place on and before another are such that no white space begins with them
+-- no byte from place `from` to before place `to` can begin white space
 abbrev pub ArePlain : List ℕ → ℕ → ℕ → Type 0
 ArePlain text from to = (k : ℕ) → from ≤ k → k < to → (32 < slice_index text k) × (slice_index text k < 194)
 
--- the first white space of the text comes after so many bytes, and has so many
+-- the first white space of the text comes after `before` bytes and has `space` bytes
 abbrev pub EndsWord : List ℕ → ℕ → ℕ → Type 0
 EndsWord text before space =
     IsWithoutSpace text before × (before + space ≤ length text) × (0 < space)

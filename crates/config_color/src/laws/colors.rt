@@ -27,16 +27,15 @@ pub fn one_words()
         → (ws : List (List ℕ)) × Words text ws × ((vs : List (List ℕ)) → Words text vs → vs ≡ ws) }
 {}
 
-/// The words of a text are those of what comes before any white space in it, then those of what
-/// follows.
+/// The words of a text are those of the part before any white space in it, then those of the part after it.
 pub fn joined_words()
     ensures { (before space rest : List ℕ) (ws vs : List (List ℕ)) → Space space
         → Words before ws → Words rest vs → Words (before ++ space ++ rest) (ws ++ vs) }
 {}
 
-/// Two texts joined by white space have a color exactly if both have one and these have a composition, which
-/// is the color. They are refused exactly if one of them is refused, or if their colors have more than two
-/// names.
+/// Two texts joined by white space have a color exactly if both have a color and the two colors have a
+/// composition, which is that color. They are refused exactly if one of them is, or if there are more than
+/// two names.
 pub fn joined()
     ensures read { (front space back : List ℕ) (c : Color) → Space space
         → (ColorText (front ++ space ++ back) c) ↔ (Joined front back c) }
@@ -45,7 +44,7 @@ pub fn joined()
         ↔ (IsRefused ColorText front ⊎ IsRefused ColorText back ⊎ HaveTooManyNames front back) }
 {}
 
-/// `compose` has only one result for two colors: their one composition, or `None` if they have none.
+/// `compose` has one result for two colors: their only composition, or `None` if they have no composition.
 pub fn one_composition()
     ensures { (a b : Color) (r s : Option Color) → Composes a b r → Composes a b s → r ≡ s }
 {}
@@ -58,7 +57,7 @@ pub fn same_words()
 {}
 
 /// Moving one whole attribute word to another place, or repeating it, changes nothing: both texts have the
-/// same color, or neither has one.
+/// same color, or neither has a color.
 pub fn moved_words()
     ensures { (t u : List ℕ) (ws vs : List (List ℕ)) (c : Color) → Words t ws → Words u vs
         → Moves ws vs → (ColorText t c) ↔ (ColorText u c) }

@@ -26,7 +26,7 @@ amount_decided t =
 pub amount_refused : (t : List ℕ) (f : Fault) → AmountFault t f → IsRefused AmountText t
 amount_refused t f r v p = refusal_tells (λ _. ⊥) (λ z h k. k) t f r v.0 p
 
--- a number text is the amount text of its number
+-- a number text is an amount text of its number
 number_amount : (t : List ℕ) (z : ℤ) → NumberText t z → ProductInRange t z
 number_amount t z n = record {
   product_text = record {

@@ -1,4 +1,4 @@
--- Integer texts have the one value that the function returns, and a text has one product.
+-- `integer_of` computes the grammar of integers, and a text has at most one product.
 use Rattle.std.proofs.Common.{◌≡◌, refl, sym, ap, ◌∙◌, subst, arith, ℕ, ℤ, ◌<◌, ◌≤◌, ◌⊎◌, inl, inr}
 use Rattle.std.proofs.Common.{Bool, true, false, cond, List, [], ◌∷◌, ◌++◌, append_assoc, get_or, drop}
 use Rattle.std.proofs.Common.{Option, Some, None}
@@ -26,7 +26,7 @@ use Rattle.config_integer.specs.Laws.Magnitude.{magnitude_found, magnitude_deriv
 
 -- ---- signs
 
--- a number and its largest magnitude
+-- a number is in range exactly if its magnitude is at most the largest one
 pub in_range_of : (b : Bool) (n : ℕ) → n ≤ largest b → IsInI64 (with_sign b n)
 in_range_of true n h = record { low = omega (arith, ints); high = omega (arith, ints) }
 in_range_of false n h = record { low = omega (arith, ints); high = omega (arith, ints) }
@@ -35,11 +35,11 @@ pub in_range_only : (b : Bool) (n : ℕ) → IsInI64 (with_sign b n) → n ≤ l
 in_range_only true n r = omega (arith, ints, r.low)
 in_range_only false n r = omega (arith, ints, r.high)
 
--- a text without a sign
+-- a text that begins with a digit has no sign
 digit_rest : (t : List ℕ) → IsInRange 48 57 (get_or t 0 0) → sign_and_rest t ≡ (false, t)
 digit_rest t r = grind (arith, nat_tests, r.0)
 
--- an integer text is read, from its sign and what follows it
+-- the function returns the value of each integer text
 integer_found : (t : List ℕ) (v : Integer) → IntegerText t v → integer_of t ≡ Some v
 integer_found t v h = signed h.number.signed where
   found : (b : Bool) (m : List ℕ) (n : ℕ) → sign_and_rest t ≡ (b, m ++ h.back) → Magnitude m n
@@ -59,7 +59,7 @@ integer_found t v h = signed h.number.signed where
   signed (plus m n e k z) = found false m n (rw (h.parts, e) refl) k z
   signed (minus m n e k z) = found true m n (rw (h.parts, e) refl) k z
 
--- what is read is an integer text
+-- if the function returns a value, the text is an integer text of it
 
 mapped : {A B : Type 0} (f : A → B) (r : Option A) (v : B) → option_map f r ≡ Some v
     → (x : A) × (r ≡ Some x) × (f x ≡ v)
@@ -109,7 +109,7 @@ integer_one_value = one_value_by integer_of_is
 pub integer_decided : (t : List ℕ) → IsAccepted IntegerText t ⊎ IsRefused IntegerText t
 integer_decided = decided_by integer_of_is
 
--- a text has one product, and it is told whether it has one in range
+-- a text has at most one product, and it is decided whether it has one in range
 pub product_one_value : (t : List ℕ) (y z : ℤ) → ProductText t y → ProductText t z → y ≡ z
 product_one_value t y z p q =
     p.number ∙ ap product (integer_one_value t p.integer q.integer p.text q.text) ∙ sym q.number
@@ -130,7 +130,7 @@ product_told t =
       | inr h ↦ inr (λ z k. h k.product_text.integer k.product_text.text)
     ]
 
--- a text with a product begins with a digit or a sign
+-- the first byte of a text with a product is one of `+` to `9`
 pub product_first : (t : List ℕ) (z : ℤ) → ProductText t z → IsInRange 43 57 (get_or t 0 0)
 product_first t z p =
     subst (λ l. IsInRange 43 57 (get_or l 0 0)) (sym p.text.parts) (first p.text.number.signed) where
@@ -141,7 +141,7 @@ product_first t z p =
       first (plus m n e k f) = rw e (omega arith, omega arith)
       first (minus m n e k f) = rw e (omega arith, omega arith)
 
--- a conversion that refuses no product in range refuses a text only where it has none
+-- if the caller's type refuses no product in range, a text with a fault has no product in range
 pub refusal_tells : (refuses : ℤ → Type 0) → ((z : ℤ) → IsInI64 z → ¬ (refuses z)) → (t : List ℕ) (f : Fault)
     → IntegerFault refuses t f
     → (z : ℤ) → ¬ (ProductInRange t z)
@@ -151,7 +151,7 @@ refusal_tells refuses never t faults.Overflow r z p =
 refusal_tells refuses never t faults.OutOfRange r z p = never r.0 r.1.in_range r.2
 refusal_tells refuses never t _ r z p = r
 
--- a text that gives no number has one fault
+-- a text has at most one fault
 pub one_refusal : (refuses : ℤ → Type 0) (t : List ℕ) (f g : Fault) → IntegerFault refuses t f
     → IntegerFault refuses t g → f ≡ g
 one_refusal refuses t faults.Integer faults.Integer r s = refl

@@ -1,4 +1,4 @@
--- Displayed integers are the canonical texts, and each canonical text is that of its value.
+-- An integer is shown as a canonical text, and each canonical text is what its value is shown as.
 use Rattle.std.proofs.Common.{◌≡◌, true, false, ℕ, ℤ, pos, negsuc, neg_ℤ, zero, suc, ◌+◌, ◌*◌, ◌^◌, ◌<◌, ◌≤◌}
 use Rattle.std.proofs.Common.{◌⊎◌, inl, inr, List, [], ◌∷◌, ◌++◌, length, get_or, Option, Some, None, refl}
 use Rattle.std.proofs.Common.{sym, ap, ◌∙◌, subst, arith, length-append}
@@ -62,7 +62,7 @@ signed_negative (suc n) h = refl
 digits_magnitude : (most : ℕ) (t : List ℕ) → PlainDigits most t → Magnitude t (place_sum t 10)
 digits_magnitude most t p = plain_digits p.first p.others p.spelled p.from_one p.digits refl
 
--- a canonical number is the displayed text of the number that it writes
+-- the text writes a number, and is what this number is shown as
 pub record ShownNumber (t : List ℕ) : Type 0 where
   pub number : ℤ
   pub text : NumberText t number
@@ -122,7 +122,7 @@ pub integer_one_text : (s t : List ℕ) (v : Integer) → CanonicalInteger s →
     → IntegerText s v → IntegerText t v → s ≡ t
 integer_one_text = one_text_by integer_one_value canonical_shown
 
--- the displayed text of a number in range is a canonical number, of at most 20 bytes
+-- the text is a canonical text of the number, of at most 20 bytes
 pub record IsShownNumber (z : ℤ) (t : List ℕ) : Type 0 where
   pub canonical_number : CanonicalNumber t
   pub text : NumberText t z

@@ -1,4 +1,4 @@
--- A magnitude and the suffix after it have the one value that the function returns.
+-- `magnitude_of` returns exactly the magnitude of a text, if it is at most `limit`, and the suffix after it.
 use Rattle.std.proofs.Common.{◌≡◌, ◌≢◌, refl, sym, ap, ◌∙◌, subst, arith, ℕ, ◌+◌, ◌*◌, ◌<◌, ◌≤◌, ◌⊎◌, inl}
 use Rattle.std.proofs.Common.{inr}
 use Rattle.std.proofs.Common.{Bool, true, false, cond, List, [], ◌∷◌, ◌++◌, get_or, drop, Option, Some, None}
@@ -23,7 +23,7 @@ use Rattle.config_integer.specs.Laws.Suffix.{suffix_of_is}
 
 -- ---- the suffix
 
--- a suffix text is one letter, no digit in any base, and no `x`
+-- the text is one letter that is neither a digit in a base up to 16 nor `x`
 pub record IsLetter (back : List ℕ) (c : ℕ) : Type 0 where
   pub alone : back ≡ c ∷ []
   pub low : 16 ≤ digit_value c
@@ -37,7 +37,7 @@ suffix_letter back Mebi (inr e) = (77, record { alone = e; low = omega arith; hi
 suffix_letter back Gibi (inl e) = (103, record { alone = e; low = omega arith; high = omega arith })
 suffix_letter back Gibi (inr e) = (71, record { alone = e; low = omega arith; high = omega arith })
 
--- what follows a number begins with no digit
+-- what follows a number does not begin with a digit
 no_digit : (c : ℕ) (cs : List ℕ) (o : Option Suffix) → SuffixIfAny (c ∷ cs) o → digit_value c < 16 → ⊥
 no_digit c cs None u d = cc (u)
 no_digit c cs (Some s) u d =
@@ -68,7 +68,7 @@ number_from_found base limit l h (c ∷ cs) n back o digits small unit =
           → number_from base limit n ((c ∷ cs) ++ back) ≡ Some (digits_value_after base m cs, o)
       step m is ge e = grind (arith, nat_tests, digits.0)
 
--- what is read is digits, and nothing or a suffix after them
+-- the text has digits that continue `n` to `m`, which is at most `limit`, and then nothing or a suffix
 record DigitsText (base limit n : ℕ) (t : List ℕ) (m : ℕ) (o : Option Suffix) : Type 0 where
   front : List ℕ
   back : List ℕ
@@ -124,7 +124,7 @@ number_from_derived base limit (c ∷ cs) n m o small e =
           no_more_digits base limit n m (c ∷ cs) (Some s) o small (some_pair_parts n m (Some s) o e)
           (suffix_of_is.derived (c ∷ cs) s u)
 
--- the same of one digit or more
+-- one or more digits are read as the number that they write
 number_found : (base limit : ℕ) → 1 ≤ base → base ≤ 16 → (ds back : List ℕ) (o : Option Suffix)
     → IsNumeral base ds → place_sum ds base ≤ limit → SuffixIfAny back o
     → number_and_suffix base limit (ds ++ back) ≡ Some (place_sum ds base, o)
@@ -137,7 +137,7 @@ number_found base limit l h (c ∷ cs) back o digits small unit =
       first : {r : Option (ℕ × Option Suffix)} (b : Bool) → b ≡ true → cond b r None ≡ r
       first b e = rw e refl
 
--- a numeral of at most `limit`, and nothing or a suffix after it
+-- the text is a numeral of at most `limit`, and then nothing or a suffix
 record NumeralText (base limit : ℕ) (t : List ℕ) (m : ℕ) (o : Option Suffix) : Type 0 where
   front : List ℕ
   back : List ℕ
@@ -176,7 +176,7 @@ number_derived base limit h (c ∷ cs) m o e = first (nat_lt (digit_value c) bas
 
 -- ---- the base
 
--- no letter that marks a base after a `0`
+-- not one of `x`, `X`, `b` and `B`, which mark a base after a `0`
 abbrev not_marked : ℕ → Type 0
 not_marked c = (c ≢ 120) × (c ≢ 88) × (c ≢ 98) × (c ≢ 66)
 
@@ -196,7 +196,7 @@ binary_base : (t : List ℕ) → get_or t 0 0 ≡ 48 → (get_or t 1 0 ≡ 98) �
 binary_base t z (inl h) = grind (arith, nat_tests)
 binary_base t z (inr h) = grind (arith, nat_tests)
 
--- a letter that marks a base has a digit's value of its own, and so is no suffix and no octal digit
+-- a byte marks no base if its digit value is neither that of `x` nor that of `b`
 not_marked_by : (c : ℕ) → ¬ (digit_value c ≡ 33) → ¬ (digit_value c ≡ 11) → not_marked c
 not_marked_by c x b = (at 120 x, at 88 x, at 98 b, at 66 b) where
   at : (d : ℕ) → ¬ (digit_value c ≡ digit_value d) → c ≢ d
@@ -226,7 +226,7 @@ unmarked ds z x y (inr e) = inr (ap (λ c. 48 ∷ c ∷ ds) e)
 
 -- ---- the magnitude
 
--- digits of a base that are those of a magnitude are read as it
+-- if the base and the digits of a text are known, its magnitude is the number that the digits write
 numeral_found : (limit : ℕ) (t ds back : List ℕ) (base n : ℕ) (o : Option Suffix) → 1 ≤ base → base ≤ 16
     → base_and_digits t ≡ (base, ds ++ back) → IsNumeral base ds → n ≡ place_sum ds base → n ≤ limit
     → SuffixIfAny back o
@@ -263,7 +263,7 @@ magnitude_found limit front back n o (binary ds m a s) small unit =
     rw k.1 (numeral_found limit (48 ∷ k.0 ∷ (ds ++ back)) ds back 2 n o (omega arith) (omega arith)
     (binary_base (48 ∷ k.0 ∷ (ds ++ back)) refl k.2) a s small unit)
 
--- what is read as a magnitude and a suffix is one
+-- the text is a magnitude of at most `limit`, and then nothing or a suffix
 pub record MagnitudeText (limit : ℕ) (t : List ℕ) (n : ℕ) (o : Option Suffix) : Type 0 where
   pub front : List ℕ
   pub back : List ℕ

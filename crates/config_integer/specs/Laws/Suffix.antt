@@ -59,7 +59,6 @@ suffix_told t Gibi = either_told (text_told t (codes "g")) (text_told t (codes "
 pub suffix_decided : (t : List ℕ) → IsAccepted SuffixText t ⊎ IsRefused SuffixText t
 suffix_decided t = decided_among SuffixText suffixes each_suffix t (suffix_told t)
 
--- each suffix has a text
 pub suffix_has_text : (v : Suffix) → HasText SuffixText v
 suffix_has_text v = (suffix_shown v, (suffix_shown_is v)) where
   suffix_shown_is : (v : Suffix) → SuffixText (suffix_shown v) v
@@ -67,7 +66,7 @@ suffix_has_text v = (suffix_shown v, (suffix_shown_is v)) where
   suffix_shown_is Mebi = inl refl
   suffix_shown_is Gibi = inl refl
 
--- `suffix_of` is the grammar of suffixes
+-- `suffix_of` computes the grammar of suffixes
 suffix_found : (t : List ℕ) (v : Suffix) → SuffixText t v → suffix_of t ≡ Some v
 unfolding suffix_of
 suffix_found t Kibi (inl e) = rw e refl

@@ -1,4 +1,4 @@
--- Each value has just one form and one result in the path table.
+-- Each value has exactly one form, and one result in the path table.
 use Rattle.std.proofs.Common.{◌≡◌, ◌≢◌, inl, inr, ◌⊎◌, ℕ, List, [], ◌∷◌, ◌++◌, codes, Option, None, Some}
 use Rattle.std.proofs.Common.{Result, Bool, true, false, refl, sym, ap, ◌∙◌, subst, arith, drop, IsUtf8, Ok}
 use Rattle.std.proofs.Common.{Err, ◌↔◌}
@@ -23,7 +23,7 @@ use Rattle.config_path.specs.Interpolation.WhereUtf8.{utf8, other_bytes}
 use Rattle.config_path.specs.Interpolation.IsBelow.{no_dir, no_rest, both}
 use Rattle.config_path.specs.Interpolation.Form.{empty, below_prefix, below_home, below_user, other}
 
--- a name and what follows it are told by the text
+-- the names are the same, and so is what follows them
 pub record SameBelow (m n : List ℕ) (r s : Option (List ℕ)) : Type 0 where
   pub name : m ≡ n
   pub rest : r ≡ s
@@ -63,7 +63,7 @@ same_rest r s e = (same_below [] [] r s e tt tt).rest
 one_tail : (value t u : List ℕ) → value ≡ 126 ∷ t → value ≡ 126 ∷ u → t ≡ u
 one_tail value t u p q = cc
 
--- a value has no two forms
+-- a value has at most one form
 pub one_form : (value : List ℕ) (f g : Form) → HasForm value f → HasForm value g → f ≡ g
 one_form value empty empty p q = refl
 one_form value empty (below_prefix s) p q = absurd (grind arith)
@@ -144,7 +144,7 @@ same_some x y o p q = cc
 some_none : (x : List ℕ) (o : Option (List ℕ)) → o ≡ Some x → ¬ (o ≡ None)
 some_none x o p q = let e : Some x ≡ None = sym p ∙ q in cc (e)
 
--- where one row has one result
+-- a row with one result has one result with the check for UTF-8
 one_where : (place : Place) (bytes : List ℕ) (P Q : Type 0) (r s : PathResult) → (P → Q → r ≡ s)
     → WhereUtf8 place bytes P r → WhereUtf8 place bytes Q s → r ≡ s
 one_where place bytes P Q r s one (utf8 u p) (utf8 v q) = one p q
@@ -176,7 +176,7 @@ one_user (looked_up may_give) one name rest r s p q =
     (λ h k. one_below _ r s h.2 (subst (λ x. IsBelow (home_row x rest) s) (one name k.0 h.0 k.1 h.1) k.2))
     p q
 
--- a form has one result
+-- a form has at most one result
 pub one_row : (known : Known) → HaveOneHome known.users → (form : Form) (r s : PathResult)
     → Gives known form r
     → Gives known form s → r ≡ s
@@ -186,14 +186,14 @@ one_row known one (below_home rest) r s p q = one_below _ r s p q
 one_row known one (below_user name rest) r s p q = one_user known.users one name rest r s p q
 one_row known one (other value) r s p q = one_where Whole value _ _ r s (λ e f. e ∙ sym f) p q
 
--- a value has one result
+-- a value has at most one result
 pub one_result_of : (known : Known) → HaveOneHome known.users → (value : List ℕ) (r s : PathResult)
     → PathTable known value r → PathTable known value s → r ≡ s
 one_result_of known one value r s p q =
     one_row known one p.form r s p.gives
     (subst (λ f. Gives known f s) (one_form value q.form p.form q.has_form p.has_form) q.gives)
 
--- ---- the table never gives out of memory
+-- ---- the table never gives `Memory`
 
 where_memory : (place : Place) (bytes : List ℕ) (P : Type 0) (e : AllocError) → ¬ P
     → ¬ (WhereUtf8 place bytes P (fault (Memory e)))
@@ -247,7 +247,7 @@ is_returned result (Err UserNotFound) p n = p
 is_returned result (Err (IllFormed place input)) p n = p
 is_returned result (Err (Memory e)) p n = absurd (n tt)
 
--- what is returned, or out of memory
+-- the result is `Memory` or it is not
 by_memory : (r : Result (String Global) Error) → ((e : AllocError) × (r ≡ Err (Memory e)))
     ⊎ (¬ (IsOutOfMemory r))
 by_memory (Ok s) = inr (λ h. h)
@@ -273,7 +273,7 @@ one_returned known one value r s p q memory = elim (by_memory r) [
       ∙ is_returned q.result s q.allocated (λ h. m (memory.1 h)))
 ]
 
--- ---- another lookup, that may give what the first may
+-- ---- another lookup, which may return what the first may return
 
 where_more : (place : Place) (bytes : List ℕ) (P Q : Type 0) (r : PathResult) → (IsUtf8 bytes → P → Q)
     → WhereUtf8 place bytes P r → WhereUtf8 place bytes Q r

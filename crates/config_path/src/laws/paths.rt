@@ -22,8 +22,8 @@ pub fn one_path()
     ensures { (text : List ℕ) (p q : Path) → IsPathOf text p → IsPathOf text q → IsEqualPath p q }
 {}
 
-/// Paths are equal if their bytes and their flags are. They are ordered by their bytes and then by their
-/// flag, `false` first. What is hashed is the bytes and then the flag.
+/// Paths are equal exactly if their bytes and their flags are. They are ordered by their bytes and then by
+/// their flag, `false` first. The bytes and then the flag are hashed.
 pub fn path_order()
     ensures order { HasOrder IsEqualPath path_order ⟦<Path as PartialEq>⟧.eq ⟦<Path as Ord>⟧.cmp
         ⟦<Path as PartialOrd>⟧.partial_cmp ⟦<Path as Hash>⟧.hash_input }
@@ -31,12 +31,12 @@ pub fn path_order()
         ≡ ⟦<BString as Hash>⟧.hash_input p.value ++ ⟦<bool as Hash>⟧.hash_input p.is_optional }
 {}
 
-/// A value has one result in the path table, if the lookup has one home for each name.
+/// A value has one result in the path table, if the lookup returns only one home for each name.
 ///
 /// - `form`: a value has exactly one form.
 /// - `table`: a form has one result.
-/// - `memory`: the table never gives out of memory.
-/// - `result`: two results of one value are the same, if memory was refused to both or to neither.
+/// - `memory`: the table never gives `Memory`.
+/// - `result`: two results of one value are the same, if both or neither of them are `Memory`.
 pub fn one_result<'a, F>()
 where
     F: FnOnce(&str) -> Option<&'a str> + Drop,

@@ -24,7 +24,7 @@ digits_value_after_is base n (c ∷ cs) =
 pub place_sum_is : (base : ℕ) (ds : List ℕ) → place_sum ds base ≡ digits_value base ds
 place_sum_is base ds = omega (arith, digits_value_after_is base 0 ds)
 
--- digits further on make the number no smaller
+-- further digits make a number no smaller
 pub digits_value_after_ge : (base : ℕ) → 1 ≤ base → (ds : List ℕ) (n : ℕ) → n ≤ digits_value_after base n ds
 digits_value_after_ge base h [] n = omega arith
 digits_value_after_ge base h (c ∷ cs) n =
@@ -33,11 +33,11 @@ digits_value_after_ge base h (c ∷ cs) n =
       step : {m : ℕ} → n * base + digit_value c ≤ m → n ≤ m
       step l = grind arith
 
--- the range of a number is that of `i64`
+-- a number that fits 64 bits with a sign is in range
 pub in_range_from_fits : (z : ℤ) → FitsSigned w64 z → IsInI64 z
 in_range_from_fits z f = record { low = omega (arith, ints); high = omega (arith, ints) }
 
--- a number is in range, or it is not
+-- a number is in range or it is not
 pub range_told : (z : ℤ) → IsInI64 z ⊎ (¬ (IsInI64 z))
 range_told (pos n) =
     elim (cases_lt n 9223372036854775808) [

@@ -1,4 +1,4 @@
--- What stands in a mapped, a joined and a flattened list, and what holds of it.
+-- The elements of mapped, joined and flattened lists, and facts about all elements of a list.
 use Rattle.std.proofs.Common.{ℕ, subst, ◌≡◌, ◌⊎◌, Bool, true, inl, inr, List, [], ◌∷◌, ◌++◌, map, flat_map}
 use Rattle.std.proofs.Common.{refl, ap, ◌∙◌}
 use Rattle.std.specs.List.{list_all}
@@ -48,7 +48,7 @@ OneOf-from_flat_map f (x ∷ xs) y h =
       | inr b ↦ (let r = OneOf-from_flat_map f xs y b in (r.0, inr r.1, r.2))
     ]
 
--- where it is told of each of finitely many values whether a text has it, each text is accepted or refused
+-- if it is decided for each of finitely many values whether a text has it, the text is accepted or refused
 pub decided_among : {V : Type 0} (grammar : List ℕ → V → Type 0) (vs : List V) → ((v : V) → OneOf vs v)
     → (t : List ℕ) → ((v : V) → Told (grammar t v)) → IsAccepted grammar t ⊎ IsRefused grammar t
 decided_among {V} grammar vs all t told =
@@ -65,7 +65,7 @@ decided_among {V} grammar vs all t told =
             ]
           ]
 
--- what passes for each of a list passes for one of them
+-- a test that is true for all elements of a list is true for each of them
 pub all-one : {X : Type 0} (p : X → Bool) (xs : List X) (x : X) → list_all p xs ≡ true → OneOf xs x
     → p x ≡ true
 all-one p [] x h o = absurd o

@@ -1,4 +1,4 @@
--- From a grammar as a function: one value a text, and that each text is accepted or refused.
+-- If a function computes a grammar, a text has at most one value, and is accepted or refused.
 use Rattle.std.proofs.Common.{◌≡◌, ℕ, ◌⊎◌, inl, inr, List, Option, Some, None, Bool, true, false, refl, sym}
 use Rattle.std.proofs.Common.{ap, ◌∙◌}
 use Rattle.std.specs.Str.{bytes_eq}
@@ -6,13 +6,13 @@ use Rattle.std.proofs.lemmas.Slice.Eq.{bytes_eq-Decides}
 use Rattle.std.specs.Bool.{Decides}
 use Rattle.config_text.specs.Value.{IsAccepted, IsRefused, HasText, Reads, IsTextOf, HasMeaning}
 
--- a grammar as a function: it answers the value that the grammar gives, and none where it gives none
+-- the function computes the grammar: it returns the value that the grammar gives a text, otherwise `None`
 pub record IsValueOf {V : Type 0} (grammar : List ℕ → V → Type 0)
     (value_of : List ℕ → Option V) : Type 0 where
   pub found : (t : List ℕ) (v : V) → grammar t v → value_of t ≡ Some v
   pub derived : (t : List ℕ) (v : V) → value_of t ≡ Some v → grammar t v
 
--- a text is the word, or it is not
+-- a text is the word or it is not
 pub text_told : (t w : List ℕ) → (t ≡ w) ⊎ (¬ (t ≡ w))
 text_told t w = told (bytes_eq t w) (bytes_eq-Decides t w) where
   told : (b : Bool) → Decides b (t ≡ w) → (t ≡ w) ⊎ (¬ (t ≡ w))
@@ -32,7 +32,7 @@ pub one_value_by : {V : Type 0} {grammar : List ℕ → V → Type 0} {value_of 
     → (t : List ℕ) (v w : V) → grammar t v → grammar t w → v ≡ w
 one_value_by law t v w p q = cc (law.found t v p, law.found t w q)
 
--- what an exact reader answers is what the function answers
+-- an exact reader returns what the function returns
 pub read_by : {V : Type 0} {grammar : List ℕ → V → Type 0} {value_of : List ℕ → Option V}
     → IsValueOf grammar value_of
     → (t : List ℕ) (r : Option V) → Reads grammar t r → r ≡ value_of t
@@ -48,14 +48,14 @@ pub reads_by : {V : Type 0} {grammar : List ℕ → V → Type 0} {value_of : Li
 reads_by law t (Some v) e = law.derived t v (cc (e))
 reads_by law t None e = λ v h. cc (e, law.found t v h)
 
--- what each canonical text tells: the value that it has, as which it is shown
+-- the text has a value, and is the text that this value is shown as
 pub record IsShown {V : Type 0} (grammar : List ℕ → V → Type 0) (shown : V → List ℕ)
     (t : List ℕ) : Type 0 where
   pub value : V
   pub reads_to : grammar t value
   pub same : t ≡ shown value
 
--- each value has one canonical text where canonical texts are shown ones
+-- a value has at most one canonical text, if each canonical text is the shown text of a value that it has
 pub one_text_by : {V : Type 0} {grammar : List ℕ → V → Type 0} {shown : V → List ℕ}
     {canonical : List ℕ → Type 0}
     → ((t : List ℕ) (v w : V) → grammar t v → grammar t w → v ≡ w)
@@ -72,7 +72,7 @@ pub canonical_reads_by : {V : Type 0} {grammar : List ℕ → V → Type 0} {sho
     → IsAccepted grammar t
 canonical_reads_by law t p = let k = law t p in (k.value, k.reads_to)
 
--- a text with a value means this value and the text that shows it
+-- a text with a value means this value, and the text that the value is shown as
 pub means_shown : {V : Type 0} {grammar : List ℕ → V → Type 0} {canonical : List ℕ → Type 0}
     {displayed : V → List ℕ}
     → ((t : List ℕ) (v w : V) → grammar t v → grammar t w → v ≡ w)
@@ -87,7 +87,7 @@ means_shown {displayed = displayed} one_value one_text shown t v h =
       only_text = λ r p k. one_text r (displayed v) v p text.canonical_text k text.reads_to;
     }
 
--- a fact is told if it holds, or it does not
+-- it is decided whether this holds
 abbrev pub Told : Type 0 → Type 0
 Told P = P ⊎ (¬ P)
 

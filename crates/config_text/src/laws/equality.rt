@@ -21,20 +21,20 @@ pub fn faults()
     ensures texts { (f g : Fault) → fault_text f ≡ fault_text g → f ≡ g }
 {}
 
-/// Refusals of borrowed texts are equal exactly if their faults are, and the bytes of their inputs.
+/// Refusals of borrowed texts are equal exactly if their faults and the bytes of their inputs are the same.
 pub fn errors()
     ensures equality { Equates IsSameError ⟦<Error<'static> as PartialEq>⟧.eq }
     ensures clones { IsCopied ⟦<Error<'static> as Clone>⟧.is_clone
         ⟦<Error<'static> as Clone>⟧.is_infallible }
 {}
 
-/// Refusals that hand a text back are equal exactly if their faults are the same, and their inputs are equal
-/// by the equality of their type.
+/// Refusals that hand the input back are equal exactly if their faults are the same, and their inputs are
+/// equal by the `==` of their type.
 pub fn returned<V: PartialEq + Drop>()
     ensures { Equates (IsSameReturned V.eq) ⟦<Returned<V> as PartialEq>⟧.eq }
 {}
 
-/// Refused settings are equal exactly if their indices are, and the bytes of their texts.
+/// Refused settings are equal exactly if their indices and the bytes of their texts are the same.
 pub fn refused()
     ensures equality { Equates IsSameRefused ⟦<Refused<'static> as PartialEq>⟧.eq }
     ensures clones { IsCopied ⟦<Refused<'static> as Clone>⟧.is_clone

@@ -5,8 +5,8 @@ ghost use Rattle.config_text.specs.Settings.{IsReplaced, SameAnswers, OneAnswer}
 
 use crate::value::Value;
 
-/// If some texts of a list of entries are replaced by canonical texts of the same values, each name keeps its
-/// result. That is the value, whatever the default, or the index of the refusal and the refused text.
+/// If some texts in a list of entries are replaced by canonical texts of the same values, each name keeps its
+/// result. This is its value, whatever the default is, or the index of the refused entry and its text.
 pub fn replaced_values<V: Value>()
     ensures { (es fs : List (List ℕ × List ℕ)) → AllZip (IsReplaced V.grammar V.canonical) es fs
         → SameAnswers V.grammar es fs }

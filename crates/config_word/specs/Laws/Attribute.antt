@@ -1,4 +1,4 @@
--- The laws of `Value` for attributes, and what is said of several.
+-- The laws of `Value` for attributes, and how several attributes are shown.
 use Rattle.std.proofs.Common.{◌≡◌, ℕ, zero, suc, ◌+◌, ◌*◌, ◌^◌, ◌<◌, ◌≤◌, ◌⊎◌, ◌↔◌, inl, inr, Bool, true}
 use Rattle.std.proofs.Common.{false, cond, ◌||◌, List, [], ◌∷◌, ◌++◌, map, filter, flat_map, length, take}
 use Rattle.std.proofs.Common.{drop, codes, refl, sym, ap, ◌∙◌, arith, lit≤, ◌==◌, nat_le, bit_and}
@@ -27,17 +27,15 @@ use Rattle.config_text.specs.Value.{IsAccepted, IsRefused, IsTextOf, HasText}
 use Rattle.config_text.specs.Laws.Value.{IsShown, canonical_reads_by, decided_by, one_text_by, one_value_by}
 use Rattle.config_word.specs.Laws.Item.{attribute-law, reset-known}
 
--- a text is that of one attribute at most
 pub attribute_one_value : (t : List ℕ) (v w : Attribute) → AttributeText t v → AttributeText t w → v ≡ w
 attribute_one_value = one_value_by attribute-law
 
--- each text is told to be that of an attribute, or of none
 pub attribute_decided : (t : List ℕ) → IsAccepted AttributeText t ⊎ IsRefused AttributeText t
 attribute_decided = decided_by attribute-law
 
 -- ---- one attribute
 
--- what a text reads to is one constant
+-- the set is one of the constants
 abbrev IsConstant : Attribute → Type 0
 IsConstant a = (row : AttributeRow) × OneOf attributes row × (a.0 ≡ 2 ^ row.1)
 
@@ -51,22 +49,22 @@ singles-shown : list_all (λ row. bytes_eq (attribute_shown (2 ^ row.1)) row.2) 
 unfolding attributes
 singles-shown = refl
 
--- the same of one row
+-- one constant is shown as its word
 single-shown : (row : AttributeRow) → OneOf attributes row → attribute_shown (2 ^ row.1) ≡ row.2
 single-shown row o =
     (bytes_eq-Decides (attribute_shown (2 ^ row.1)) row.2).0
     (all-one (λ (r : AttributeRow). bytes_eq (attribute_shown (2 ^ r.1)) r.2) attributes row singles-shown o)
 
--- the same of an attribute
+-- a set that is a constant is shown as the word of the constant
 constant-shown : (a : Attribute) (k : IsConstant a) → attribute_shown a.0 ≡ k.0.2
 constant-shown a (row, o, e) = ap attribute_shown e ∙ single-shown row o
 
--- the words of the canonical texts are those of the constants
+-- the words that are canonical texts are the words of the constants
 rising : map (λ row. row.2) attributes ≡ rising_words
 unfolding attributes rising_words
 rising = refl
 
--- a word fits into the longest set
+-- no word is longer than the longest set
 words-short : list_all (λ row. nat_le (length row.2) LONGEST_SET) attributes ≡ true
 unfolding attributes
 words-short = refl
@@ -86,16 +84,14 @@ canonical-shown s c =
       same = r.2 ∙ sym (single-shown r.0 r.1);
     }
 
--- a canonical text is that of an attribute
 pub attribute_canonical_reads : (t : List ℕ) → CanonicalAttribute t → IsAccepted AttributeText t
 attribute_canonical_reads = canonical_reads_by canonical-shown
 
--- an attribute has one canonical text at most
 pub attribute_one_text : (s t : List ℕ) (v : Attribute) → CanonicalAttribute s → CanonicalAttribute t
     → AttributeText s v → AttributeText t v → s ≡ t
 attribute_one_text = one_text_by attribute_one_value canonical-shown
 
--- what an attribute that has a text is shown as is its canonical text
+-- an attribute that has a text is shown as its canonical text
 pub attribute_shown_is_text : (v : Attribute) → HasText AttributeText v
     → IsTextOf AttributeText CanonicalAttribute v (attribute_shown v.0)
 attribute_shown_is_text v h = told (text-constant h.0 v h.1) where
@@ -109,7 +105,7 @@ attribute_shown_is_text v h = told (text-constant h.0 v h.1) where
         short = omega arith;
       })
 
--- an attribute has a text exactly where one bit is set and known
+-- a set has a text exactly if only one bit is set and that bit is known
 pub attribute_has_text : (a : Attribute)
     → (HasText AttributeText a) ↔ ((bit : ℕ) × IsKnownBit bit × (a.0 ≡ 2 ^ bit))
 attribute_has_text a = (to, from) where
@@ -128,23 +124,23 @@ attribute_has_text a = (to, from) where
 abbrev pub spaced : List (List ℕ) → List ℕ
 spaced words = flat_map (λ w. space ∷ w) words
 
--- words with a space between are what is left to write at first
+-- at the beginning, the words with a space between are left to write
 pub join-remaining : (words : List (List ℕ)) → join_with_byte space words ≡ remaining true words
 join-remaining [] = refl
 join-remaining (w ∷ []) = sym (append-nil w)
 join-remaining (w ∷ x ∷ xs) = ap (λ rest. w ++ space ∷ rest) (join-remaining (x ∷ xs))
 
--- a multiple below 2 of a power is the power exactly where it is the one of 1
+-- if `b` is 0 or 1, `b` times a power of 2 is that power exactly if `b` is 1
 bit_test-of : (k b : ℕ) → b < 2 → (b * 2 ^ k == 2 ^ k) ≡ (b == 1)
 bit_test-of k zero h = let p = pow_pos k in grind (arith, nat_tests)
 bit_test-of k (suc zero) h = let e : 1 * 2 ^ k ≡ 2 ^ k = omega arith in grind (arith, nat_tests)
 bit_test-of k (suc (suc b)) h = absurd (omega arith)
 
--- the test that the code makes
+-- the test that the code makes is true exactly if the bit is set
 bit_test : (bits k : ℕ) → (bit_and bits (2 ^ k) == 2 ^ k) ≡ (bit_at bits k == 1)
 bit_test bits k = ap (λ n. n == 2 ^ k) (and_pow bits k) ∙ bit_test-of k (bit_at bits k) (bit_at-lt bits k)
 
--- one row more, with its bit in the set or not
+-- one more row, whose bit is in the set or not
 words_in-step : (x y : Bool) (p : ℕ × List ℕ) (row : AttributeRow) (ps : List (ℕ × List ℕ))
     (rows : List AttributeRow) → x ≡ y → p.1 ≡ row.2
     → map (λ (q : ℕ × List ℕ). q.1) ps ≡ map (λ (r : AttributeRow). r.2) rows
@@ -168,11 +164,11 @@ words_in-rows bits (row ∷ rows) =
 pub words_in-shown : (bits : ℕ) → words_in bits shown_rows ≡ attribute_words bits
 words_in-shown bits = words_in-rows bits attributes
 
--- at first all that is shown is left to write
+-- at the beginning, the whole shown text is left to write
 pub shown-remaining : (bits : ℕ) → attribute_shown bits ≡ remaining true (words_in bits shown_rows)
 shown-remaining bits = join-remaining (attribute_words bits) ∙ ap (remaining true) (sym (words_in-shown bits))
 
--- the words of some rows and of further ones
+-- the words of two lists of rows are those of the first, then those of the second
 words_in-append : (bits : ℕ) (xs ys : List (ℕ × List ℕ))
     → words_in bits (xs ++ ys) ≡ words_in bits xs ++ words_in bits ys
 words_in-append bits xs ys =
@@ -193,7 +189,7 @@ both_parts bits n rows front back h f b =
     (sym (map-append shown_row front back) ∙ ap (map shown_row) whole ∙ h)
     ∙ sym (shown-remaining bits)
 
--- some words have no more bytes than with further ones
+-- words have no more bytes than the same words with further ones
 pub remaining-prefix : (begins : Bool) (xs ys : List (List ℕ))
     → length (remaining begins xs) ≤ length (remaining begins (xs ++ ys))
 remaining-prefix true [] ys = omega arith
@@ -204,12 +200,12 @@ remaining-prefix false xs ys =
     let whole = ap length (flat_map-append (λ w. space ∷ w) xs ys) ∙ length-append (spaced xs) (spaced ys) in
     omega (arith, whole)
 
--- no word has no byte
+-- without words, nothing is left to write
 pub remaining-none : (begins : Bool) → remaining begins [] ≡ []
 remaining-none true = refl
 remaining-none false = refl
 
--- one row more, left out or not
+-- one more row, which is left out or not
 spaced-step : (x : Bool) (w : List ℕ) (row : AttributeRow) (rows all : List AttributeRow)
     → length (spaced (map (λ (r : AttributeRow). r.2) rows))
     ≤ length (spaced (map (λ (r : AttributeRow). r.2) all))
@@ -218,14 +214,14 @@ spaced-step : (x : Bool) (w : List ℕ) (row : AttributeRow) (rows all : List At
 spaced-step true w row rows all h = simp length-append (omega arith)
 spaced-step false w row rows all h = simp length-append (omega arith)
 
--- fewer words have no more bytes
+-- some of the words have no more bytes than all of them
 spaced-filter : (p : AttributeRow → Bool) (rows : List AttributeRow)
     → length (spaced (map (λ (r : AttributeRow). r.2) (filter p rows)))
     ≤ length (spaced (map (λ (r : AttributeRow). r.2) rows))
 spaced-filter p [] = lit≤ tt
 spaced-filter p (row ∷ rows) = spaced-step (p row) [] row (filter p rows) rows (spaced-filter p rows)
 
--- the bytes of all words, with a space before each
+-- the number of bytes of all words, with a space before each
 spaced-all : length (spaced (map (λ row. row.2) attributes)) ≡ LONGEST_SET + 1
 unfolding attributes
 spaced-all = refl
@@ -238,7 +234,7 @@ remaining-short (w ∷ ws) n h =
     let p = length-append (space ∷ w) (spaced ws) in
     simp length-append (omega arith)
 
--- attributes are shown in no more bytes than all of them
+-- a set is shown in no more bytes than all attributes
 pub attribute_short : (bits : ℕ) → length (attribute_shown bits) ≤ LONGEST_SET
 attribute_short bits =
     let all = spaced-all in
@@ -275,7 +271,7 @@ one-any bits (first ∷ rows) row (inl f) e =
     rw ((Decides-eqb (2 ^ first.1) bits).1 same) refl
 one-any bits (first ∷ rows) row (inr o) e = rw (one-any bits rows row o e) (or-true (2 ^ first.1 == bits))
 
--- a set is one of the constants exactly where it has a text
+-- a set is one of the constants exactly if it has a text
 pub constant_told : (a : Attribute)
     → IsTrue (list_any (λ (row : ℕ × List ℕ). row.0 == a.0) shown_rows) ↔ (HasText AttributeText a)
 constant_told a = (to, from) where

@@ -1,4 +1,4 @@
--- `item_of` is `ItemText`: a text has at most one item, and each text is told.
+-- `item_of` computes `ItemText`, so a text has at most one item.
 use Rattle.std.proofs.Common.{◌≡◌, ℕ, ◌+◌, ◌-◌, ◌*◌, ◌^◌, ◌<◌, ◌≤◌, ◌⊎◌, inl, inr, Bool, true, false, cond}
 use Rattle.std.proofs.Common.{not, ◌&&◌, ◌||◌, List, [], ◌∷◌, map, flat_map, length, codes, Option, Some}
 use Rattle.std.proofs.Common.{None, nat_le, nat_lt, ◌==◌, option_map, refl, sym, ap, ◌∙◌, arith, suc}
@@ -37,12 +37,12 @@ use Rattle.config_word.specs.Reading.Item.{hex_pair_of, rgb_from, rgb_of, palett
 abbrev lowered : List ℕ → List ℕ
 lowered t = map to_ascii_lowercase t
 
--- no row of the list has the word
+-- no row of the list has the word of this row, ignoring ASCII case
 abbrev is_new : WordRow → List WordRow → Bool
 is_new row [] = true
 is_new row (other ∷ rows) = not (bytes_eq (lowered other.0) (lowered row.0)) && is_new row rows
 
--- no two rows have one word, ignoring ASCII case
+-- no two rows have the same word, ignoring ASCII case
 abbrev are_apart : List WordRow → Bool
 are_apart [] = true
 are_apart (row ∷ rows) = is_new row rows && are_apart rows
@@ -53,11 +53,11 @@ fits_cases : (folds : Bool) (t w : List ℕ)
 fits_cases true t w h = (bytes_eq-Decides (lowered t) (lowered w)).0 h
 fits_cases false t w h = ap (map to_ascii_lowercase) ((bytes_eq-Decides t w).0 h)
 
--- the same of a row
+-- a text that fits a row is the word of the row, ignoring ASCII case
 fits-lowered : (row : WordRow) (t : List ℕ) → fits row t ≡ true → lowered t ≡ lowered row.0
 fits-lowered row t h = fits_cases row.1 t row.0 h
 
--- a row without its word in a list has another word than each row of the list
+-- if no row of a list has the word of a row, each row of the list has another word
 is_new-apart : (row other : WordRow) (rows : List WordRow) → is_new row rows ≡ true → OneOf rows other
     → ¬ (lowered other.0 ≡ lowered row.0)
 is_new-apart row other [] h o = absurd o
@@ -71,14 +71,14 @@ is_new-apart row other (first ∷ rows) h (inr o) =
     is_new-apart row other rows (and_parts (not (bytes_eq (lowered first.0) (lowered row.0)))
     (is_new row rows) h).1 o
 
--- what a later row says is found where the first does not fit
+-- if the first row does not fit, the item of a later row is found
 found-told : (first row : WordRow) (rows : List WordRow) (t : List ℕ) → ¬ (fits first t ≡ true)
     → found rows t ≡ Some row.2
     → (x : Bool) → fits first t ≡ x → cond x (Some first.2) (found rows t) ≡ Some row.2
 found-told first row rows t no_fit rest true h = absurd (no_fit h)
 found-told first row rows t no_fit rest false h = rest
 
--- the row that fits is the one that is found
+-- the item of a row that fits is found
 row-found : (rows : List WordRow) (row : WordRow) (t : List ℕ) → are_apart rows ≡ true → OneOf rows row
     → fits row t ≡ true → found rows t ≡ Some row.2
 row-found [] row t apart o f = absurd o
@@ -91,11 +91,11 @@ row-found (first ∷ rows) row t apart (inr o) f =
     (row-found rows row t b.1 o f)
     (fits first t) refl
 
--- a row of the list that fits the text and stands for the item
+-- a row of the list that fits the text and has the item
 abbrev FoundRow : List WordRow → List ℕ → Item → Type 0
 FoundRow rows t i = (row : WordRow) × OneOf rows row × (fits row t ≡ true) × (row.2 ≡ i)
 
--- what is found behind a first row, or at it
+-- an item is found at the first row or after it
 found-row-told : (first : WordRow) (rows : List WordRow) (t : List ℕ) (i : Item)
     → (found rows t ≡ Some i → FoundRow rows t i)
     → (x : Bool) → fits first t ≡ x → cond x (Some first.2) (found rows t) ≡ Some i
@@ -103,43 +103,43 @@ found-row-told : (first : WordRow) (rows : List WordRow) (t : List ℕ) (i : Ite
 found-row-told first rows t i rest true f e = (first, inl refl, f, cc)
 found-row-told first rows t i rest false f e = let r = rest e in (r.0, inr r.1, r.2, r.3)
 
--- what is found is what some row that fits says
+-- an item that is found is the item of a row that fits
 found-row : (rows : List WordRow) (t : List ℕ) (i : Item) → found rows t ≡ Some i → FoundRow rows t i
 found-row [] t i h = cc
 found-row (first ∷ rows) t i h =
     found-row-told first rows t i (λ e. found-row rows t i e) (fits first t) refl h
 
--- no two of the words are one, ignoring ASCII case
+-- no two words are the same, ignoring ASCII case
 word_table-apart : are_apart word_table ≡ true
 unfolding attributes word_names
 word_table-apart = refl
 
 -- ---- the first byte of a word
 
--- neither `#` nor `+` nor a digit
+-- a word byte: neither `#` nor `+` nor a digit
 abbrev is_word_byte : ℕ → Bool
 is_word_byte c = not (c == 35) && (not (c == 43) && not (is_ascii_digit c))
 
--- a text that begins with such a byte
+-- a text that begins with a word byte
 abbrev starts_word : List ℕ → Bool
 starts_word [] = false
 starts_word (c ∷ cs) = is_word_byte c
 
--- each of the words begins with such a byte
+-- each of the words begins with a word byte
 word_table-starts : list_all (λ row. starts_word (lowered row.0)) word_table ≡ true
 unfolding attributes word_names
 word_table-starts = refl
 
--- what the tests of the first byte answer there
+-- the results of the tests of the first byte for a word byte
 byte_marks : (c : ℕ) → is_word_byte c ≡ true
     → ((c == 35) ≡ false) × ((c == 43) ≡ false) × (is_ascii_digit c ≡ false)
 byte_marks c h = grind (arith, nat_tests)
 
--- such a byte is one in capitals too
+-- a byte is a word byte if it is one in lower case
 lowered_byte : (c : ℕ) → is_word_byte (to_ascii_lowercase c) ≡ true → is_word_byte c ≡ true
 lowered_byte c h = grind (arith, nat_tests)
 
--- what each row's word begins with, each text that fits it begins with
+-- a text that fits a row begins with a word byte
 starts-fits : (row : WordRow) (t : List ℕ) → OneOf word_table row → fits row t ≡ true → starts_word t ≡ true
 starts-fits row t o f =
     told t (ap starts_word (fits-lowered row t f)
@@ -148,7 +148,7 @@ starts-fits row t o f =
       told [] h = h
       told (c ∷ cs) h = lowered_byte c h
 
--- a word that fits has the text's length
+-- a word that fits a text has the length of the text
 length-fits : (row : WordRow) (t : List ℕ) → fits row t ≡ true → (length row.0 == length t) ≡ true
 length-fits row t f =
     let e : length (lowered t) ≡ length (lowered row.0) = ap length (fits-lowered row t f) in
@@ -164,7 +164,7 @@ skipped : (row : WordRow) (t : List ℕ) (rest : Option Item) (x : Bool) → fit
 skipped row t rest true f no_fit = cc (length-fits row t f)
 skipped row t rest false f no_fit = refl
 
--- one row more, of this length or of another
+-- one more row, with a word of this length or of another
 found_of_length-told : (first : WordRow) (rows : List WordRow) (t : List ℕ)
     → found (of_length (length t) rows) t ≡ found rows t
     → (x : Bool) → (length first.0 == length t) ≡ x
@@ -173,23 +173,23 @@ found_of_length-told : (first : WordRow) (rows : List WordRow) (t : List ℕ)
 found_of_length-told first rows t rest true e = ap (cond (fits first t) (Some first.2)) rest
 found_of_length-told first rows t rest false e = rest ∙ skipped first t (found rows t) (fits first t) refl e
 
--- only a word of the text's length fits
+-- looking only among the words of the text's length finds the same item
 found_of_length : (rows : List WordRow) (t : List ℕ) → found (of_length (length t) rows) t ≡ found rows t
 found_of_length [] t = refl
 found_of_length (first ∷ rows) t =
     found_of_length-told first rows t (found_of_length rows t) (length first.0 == length t) refl
 
--- a text that begins as a word does stands for what the table says
+-- a text that begins with a word byte has the item that the table has for it
 item_of-word : (t : List ℕ) → starts_word t ≡ true → item_of t ≡ found word_table t
 item_of-word [] h = found_of_length word_table []
 item_of-word (c ∷ cs) h =
     let m = byte_marks c h in rw (m.0, m.1, m.2) (found_of_length word_table (c ∷ cs))
 
--- a text that fits a row stands for what the row says
+-- a text that fits a row has the item of the row
 row-item : (row : WordRow) (t : List ℕ) → OneOf word_table row → fits row t ≡ true → item_of t ≡ Some row.2
 row-item row t o f = item_of-word t (starts-fits row t o f) ∙ row-found word_table row t word_table-apart o f
 
--- and so it does among the words of its length
+-- `known` finds the item of a row that fits
 row-known : (row : WordRow) (t : List ℕ) → OneOf word_table row → fits row t ≡ true → known t ≡ Some row.2
 row-known row t o f = found_of_length word_table t ∙ row-found word_table row t word_table-apart o f
 
@@ -203,11 +203,11 @@ digit-is d h = let r = digit_from_value d h in grind (arith, nat_tests)
 digit-from : (d : ℕ) → is_ascii_digit d ≡ true → (digit_value d < 10) × (digit_value d ≡ d - 48)
 digit-from d h = grind (arith, nat_tests)
 
--- one digit more, in the two ways to add it
+-- one more digit, added in two ways
 shifted : (n v k p : ℕ) → (n * 10 + v) * 10 ^ k + p ≡ n * 10 ^ suc k + (v * 10 ^ k + p)
 shifted n v k p = rw (pow-suc 10 k) (omega arith)
 
--- digits that follow make a number no smaller
+-- further digits make a number no smaller
 one_more : (n v k p : ℕ) → n * 10 ^ suc k + (v * 10 ^ k + p) ≤ 255 → n * 10 + v ≤ 255
 one_more n v k p h =
     let e = shifted n v k p in
@@ -215,12 +215,12 @@ one_more n v k p h =
     le-mul_of_pos_right (n * 10 + v) (one-le-pow k 10 (lit< tt)) in
     omega arith
 
--- the sum of one digit more
+-- the place sum with one more digit in front
 place_sum-more : (d : ℕ) (ds : List ℕ) → digit_value d < 10
     → place_sum (d ∷ ds) 10 ≡ (d - 48) * 10 ^ length ds + place_sum ds 10
 place_sum-more d ds h = ap (λ x. x * 10 ^ length ds + place_sum ds 10) (digit-is d h).1
 
--- digits whose sum is small enough are read to it
+-- digits that make a number of at most 255 are read as this number
 decimal-found : (ds : List ℕ) (n : ℕ) → AllDigits 10 ds → n * 10 ^ length ds + place_sum ds 10 ≤ 255
     → decimal_from ds n ≡ Some (n * 10 ^ length ds + place_sum ds 10)
 decimal-found [] n all h = ap Some (omega arith)
@@ -231,11 +231,11 @@ decimal-found (d ∷ ds) n all h =
     let rest = decimal-found ds (n * 10 + (d - 48)) all.1 (omega arith) in
     rw ((digit-is d all.0).0, le-leb (n * 10 + (d - 48)) 255 small) (rest ∙ ap Some (omega arith))
 
--- digits that are read behind a number, and the number of both
+-- `ds` are digits, and after the number `n` they write `k`, which is at most 255
 abbrev DecimalRead : List ℕ → ℕ → ℕ → Type 0
 DecimalRead ds n k = AllDigits 10 ds × (k ≡ n * 10 ^ length ds + place_sum ds 10) × (k ≤ 255)
 
--- one digit, and what is read behind it
+-- one digit, and what is read after it
 decimal-derived-told : (d : ℕ) (ds : List ℕ) (n k : ℕ)
     → (n * 10 + (d - 48) ≤ 255 → decimal_from ds (n * 10 + (d - 48)) ≡ Some k
     → DecimalRead ds (n * 10 + (d - 48)) k)
@@ -250,20 +250,20 @@ decimal-derived-told d ds n k rest true true digit fit h =
 decimal-derived-told d ds n k rest true false digit fit h = cc
 decimal-derived-told d ds n k rest false y digit fit h = cc
 
--- what is read are digits, and their sum is small enough
+-- if a number is read, it is at most 255 and written by digits
 decimal-derived : (ds : List ℕ) (n k : ℕ) → n ≤ 255 → decimal_from ds n ≡ Some k → DecimalRead ds n k
 decimal-derived [] n k small h = let e : n ≡ k = cc in (tt, omega arith, omega arith)
 decimal-derived (d ∷ ds) n k small h =
     decimal-derived-told d ds n k (λ small_more e. decimal-derived ds (n * 10 + (d - 48)) k small_more e)
     (is_ascii_digit d) (nat_le (n * 10 + (d - 48)) 255) refl refl h
 
--- a number of the palette
+-- digits that write a number of at most 255 are read as this palette number
 pub palette-found : (ds : List ℕ) → IsNumeral 10 ds → place_sum ds 10 ≤ 255
     → palette_of ds ≡ Some (place_sum ds 10)
 palette-found [] h small = absurd (omega (arith, h.0))
 palette-found (d ∷ ds) h small = decimal-found (d ∷ ds) 0 h.1 (omega arith) ∙ ap Some (omega arith)
 
--- a number that is read is the sum of decimal digits
+-- a palette number that is read is the place sum of decimal digits
 pub palette-derived : (ds : List ℕ) (k : ℕ) → palette_of ds ≡ Some k
     → IsNumeral 10 ds × (k ≡ place_sum ds 10) × (k ≤ 255)
 palette-derived [] k h = cc
@@ -273,12 +273,12 @@ palette-derived (d ∷ ds) k h =
 
 -- ---- hexadecimal digits
 
--- two hexadecimal digits are read to the number that they write
+-- two hexadecimal digits are read as the number that they write
 pair-found : (a b n : ℕ) → HexPair a b n → hex_pair_of a b ≡ Some n
 pair-found a b n h = rw (lt-ltb (digit_value a) 16 h.high_digit, lt-ltb (digit_value b) 16 h.low_digit)
     (ap Some (sym h.number))
 
--- what is read to a number are two hexadecimal digits that write it
+-- if a number is read, the two bytes are hexadecimal digits that write it
 pair-derived : (a b n : ℕ) → hex_pair_of a b ≡ Some n → HexPair a b n
 pair-derived a b n h = told (nat_lt (digit_value a) 16) (nat_lt (digit_value b) 16) refl refl h where
   told : (x y : Bool) → nat_lt (digit_value a) 16 ≡ x → nat_lt (digit_value b) 16 ≡ y
@@ -289,27 +289,27 @@ pair-derived a b n h = told (nat_lt (digit_value a) 16) (nat_lt (digit_value b) 
 
 -- ---- names and attributes are found
 
--- `-1` stands for `normal`
+-- `-1` means `Normal`
 minus_one-item : item_of (codes "-1") ≡ Some (items.Name names.Normal)
 unfolding attributes word_names
 minus_one-item = refl
 
--- what the tests of the first byte answer at a digit
+-- the results of the tests of the first byte for a digit
 digit_marks : (d : ℕ) → digit_value d < 10
     → ((d == 35) ≡ false) × ((d == 43) ≡ false) × (is_ascii_digit d ≡ true)
 digit_marks d h = let r = digit_from_value d h in grind (arith, nat_tests)
 
--- decimal digits stand for the palette number that they write
+-- decimal digits mean the palette number that they write, if it is at most 255
 palette_item-found : (ds : List ℕ) → IsNumeral 10 ds → place_sum ds 10 ≤ 255
     → palette_item ds ≡ Some (items.Name (names.Ansi (place_sum ds 10)))
 palette_item-found ds h small = rw (palette-found ds h small) refl
 
--- a text that begins with a digit is read as a palette number
+-- a text of decimal digits is read as a palette number
 item_of-digits : (ds : List ℕ) → IsNumeral 10 ds → item_of ds ≡ palette_item ds
 item_of-digits [] h = absurd (omega (arith, h.0))
 item_of-digits (d ∷ ds) h = let m = digit_marks d h.1.0 in rw (m.0, m.1, m.2) refl
 
--- the text of a name stands for the name
+-- a name text means its name
 name-found : (t : List ℕ) (n : Name) → NameText t n → item_of t ≡ Some (items.Name n)
 name-found t n (NameText.word o s) =
     row-item (name_row n) t
@@ -332,7 +332,7 @@ fits-self : (t : List ℕ) (folds : Bool) (i : Item) → fits (t, folds, i) t �
 fits-self t true i = (bytes_eq-Decides (lowered t) (lowered t)).1 refl
 fits-self t false i = (bytes_eq-Decides t t).1 refl
 
--- a spelling of an attribute is a word
+-- each spelling of an attribute has a row in the table
 spelling-row : (row : AttributeRow) (w : List ℕ) → OneOf attributes row → OneOf (row.2 ∷ row.3) w
     → OneOf word_table (w, row.1 == 8, attribute_item row.1)
 spelling-row row w o h =
@@ -347,11 +347,11 @@ pub reset-known : OneOf attributes (codes "RESET", 8, codes "reset", [])
 unfolding attributes
 reset-known = inr (inr (inr (inr (inr (inr (inr (inl refl)))))))
 
--- a bit is the attribute that has it alone
+-- the item of a bit is the attribute that has only this bit
 attribute_is : (a : Attribute) (bit : ℕ) → a.0 ≡ 2 ^ bit → attribute_item bit ≡ items.Attribute a
 attribute_is a bit e = ap (λ n. items.Attribute (record { 0 = n })) (sym e)
 
--- the text of an attribute fits a row of the attribute
+-- an attribute text fits a row of its attribute
 attribute-row : (t : List ℕ) (a : Attribute) → AttributeText t a
     → (row : WordRow) × OneOf word_table row × (fits row t ≡ true) × (row.2 ≡ items.Attribute a)
 attribute-row t a (AttributeText.word row o h e) = (
@@ -367,27 +367,27 @@ attribute-row t a (AttributeText.reset s e) = (
   attribute_is a 8 e,
 )
 
--- so it stands for the attribute
+-- an attribute text means its attribute
 attribute-found : (t : List ℕ) (a : Attribute) → AttributeText t a → item_of t ≡ Some (items.Attribute a)
 attribute-found t a h = let r = attribute-row t a h in row-item r.0 t r.1 r.2 ∙ ap Some r.3
 
 attribute-known : (t : List ℕ) (a : Attribute) → AttributeText t a → known t ≡ Some (items.Attribute a)
 attribute-known t a h = let r = attribute-row t a h in row-known r.0 t r.1 r.2 ∙ ap Some r.3
 
--- the text of an item stands for the item
+-- an item text means its item
 item-found : (t : List ℕ) (v : Item) → ItemText t v → item_of t ≡ Some v
 item-found t (items.Name n) h = name-found t n h
 item-found t (items.Attribute a) h = attribute-found t a h
 
--- ---- what is found is a name or an attribute
+-- ---- what is read is a name or an attribute
 
--- only bit 8 is read in either case, and has one spelling
+-- bit 8, which is read ignoring ASCII case, has only the spelling `reset`
 reset-spelled : list_all (λ row. not (row.1 == 8)
     || list_all (λ w. bytes_eq w (codes "reset")) (row.2 ∷ row.3)) attributes ≡ true
 unfolding attributes
 reset-spelled = refl
 
--- the same of a row
+-- a spelling of the constant with bit 8 is `reset`
 reset-only : (row : AttributeRow) (w : List ℕ) → OneOf attributes row → (row.1 == 8) ≡ true
     → OneOf (row.2 ∷ row.3) w → w ≡ codes "reset"
 reset-only row w o e h =
@@ -396,7 +396,7 @@ reset-only row w o e h =
     let q : list_all (λ w. bytes_eq w (codes "reset")) (row.2 ∷ row.3) ≡ true = rw e at p in
     (bytes_eq-Decides w (codes "reset")).0 (all-one (λ w. bytes_eq w (codes "reset")) (row.2 ∷ row.3) w q h)
 
--- a text that fits a spelling is an attribute text
+-- a text that fits a spelling of a constant is an attribute text
 spelled : (row : AttributeRow) (w t : List ℕ) → OneOf attributes row → OneOf (row.2 ∷ row.3) w
     → (x : Bool) → (row.1 == 8) ≡ x → cond x (bytes_eq (lowered t) (lowered w)) (bytes_eq t w) ≡ true
     → AttributeText t (record { 0 = 2 ^ row.1 })
@@ -407,7 +407,7 @@ spelled row w t o h true e f =
 spelled row w t o h false e f =
     AttributeText.word row o (rw ((bytes_eq-Decides t w).0 f) h) refl
 
--- a text that fits a row is one of what the row says
+-- a text that fits a row is an item text of the row's item
 row-text : (row : WordRow) (t : List ℕ) → OneOf word_table row → fits row t ≡ true → ItemText t row.2
 row-text row t o f =
     elim (OneOf-from_append (map name_row word_names)
@@ -422,7 +422,7 @@ row-text row t o f =
           rw q.2 (spelled r.0 q.0 t r.1 q.1 (r.0.1 == 8) refl (rw q.2 at f)))
     ]
 
--- a color has red, green and blue
+-- a color that is read has red, green and blue
 rgb_from-parts : (x y z : Option ℕ) (n : Name) → rgb_from x y z ≡ Some n
     → (r g b : ℕ) × (x ≡ Some r) × (y ≡ Some g) × (z ≡ Some b) × (n ≡ names.Rgb r g b)
 rgb_from-parts (Some r) (Some g) (Some b) n h = (r, g, b, refl, refl, refl, cc)
@@ -430,7 +430,7 @@ rgb_from-parts (Some r) (Some g) None n h = cc
 rgb_from-parts (Some r) None z n h = cc
 rgb_from-parts None y z n h = cc
 
--- digits that are read to a color write it
+-- if digits are read as a color, `#` and the digits are a name text of the color
 rgb-derived : (ds : List ℕ) (n : Name) → rgb_of ds ≡ Some n → NameText (35 ∷ ds) n
 rgb-derived (a ∷ b ∷ c ∷ d ∷ e ∷ f ∷ []) n h =
     let p = rgb_from-parts (hex_pair_of a b) (hex_pair_of c d) (hex_pair_of e f) n h in
@@ -442,14 +442,14 @@ rgb-derived (a ∷ c ∷ e ∷ []) n h =
     (pair-derived e e p.2 p.5) p.6
 rgb-derived _ n h = cc
 
--- the same behind `#`
+-- if digits are read as a color, `#` and the digits are an item text of the color
 rgb_item-derived : (ds : List ℕ) (v : Item) → rgb_item ds ≡ Some v → ItemText (35 ∷ ds) v
 rgb_item-derived ds v h = told (rgb_of ds) refl h where
   told : (x : Option Name) → rgb_of ds ≡ x → option_map items.Name x ≡ Some v → ItemText (35 ∷ ds) v
   told (Some n) e f = let same : items.Name n ≡ v = cc in rw (← same) (rgb-derived ds n e)
   told None e f = cc
 
--- digits that are read to a palette number write it, also behind `+`
+-- if digits are read as a palette number, they are an item text of it, alone or after `+`
 palette_item-derived : (t ds : List ℕ) (v : Item) → (t ≡ ds) ⊎ (t ≡ 43 ∷ ds) → palette_item ds ≡ Some v
     → ItemText t v
 palette_item-derived t ds v spelled h = told (palette_of ds) refl h where
@@ -461,12 +461,12 @@ palette_item-derived t ds v spelled h = told (palette_of ds) refl h where
       rw (← same) (NameText.palette ds k spelled r.0 r.1 r.2 refl)
   told None e f = cc
 
--- what the table says of a text, the grammar says
+-- an item that the table has for a text is an item of the text in the grammar
 known-derived : (t : List ℕ) (v : Item) → known t ≡ Some v → ItemText t v
 known-derived t v h = let r = found-row word_table t v (sym (found_of_length word_table t) ∙ h) in
     rw (← r.3) (row-text r.0 t r.1 r.2)
 
--- what is read of a text, the grammar says
+-- an item that is read from a text is an item of the text in the grammar
 item-derived : (t : List ℕ) (v : Item) → item_of t ≡ Some v → ItemText t v
 item-derived [] v h = known-derived [] v h
 item-derived (c ∷ cs) v h = told (c == 35) (c == 43) (is_ascii_digit c) refl refl h where
@@ -482,36 +482,36 @@ item-derived (c ∷ cs) v h = told (c == 35) (c == 43) (is_ascii_digit c) refl r
 
 -- ---- the laws
 
--- `item_of` is the grammar of items
+-- `item_of` computes the grammar of items
 pub item-law : IsValueOf ItemText item_of
 item-law = record { found = item-found; derived = item-derived }
 
--- an answer that is what `item_of` gives reads the text
+-- the result of `item_of` is the result of an exact reader of items
 pub item_reads : (t : List ℕ) (r : Option Item) → r ≡ item_of t → Reads ItemText t r
 item_reads t r e = reads_by item-law t r e
 
--- no text is that of two items
+-- a text has at most one item
 pub item_one_value : (t : List ℕ) (v w : Item) → ItemText t v → ItemText t w → v ≡ w
 item_one_value = one_value_by item-law
 
--- no text is both a name's and an attribute's
+-- no text is both a name text and an attribute text
 pub not_both : (t : List ℕ) (n : Name) (a : Attribute) → NameText t n → ¬ (AttributeText t a)
 not_both t n a p q =
     let e : items.Name n ≡ items.Attribute a = item_one_value t (items.Name n) (items.Attribute a) p q in cc
 
--- the name of an item
+-- the name, if the item is one
 abbrev pub item_name : Option Item → Option Name
 item_name (Some (items.Name n)) = Some n
 item_name (Some (items.Attribute a)) = None
 item_name None = None
 
--- the attribute of an item
+-- the attribute, if the item is one
 abbrev pub item_attribute : Option Item → Option Attribute
 item_attribute (Some (items.Attribute a)) = Some a
 item_attribute (Some (items.Name n)) = None
 item_attribute None = None
 
--- the name of `item_of` is the grammar of names
+-- the name in the result of `item_of` computes the grammar of names
 pub name-law : IsValueOf NameText (λ t. item_name (item_of t))
 name-law = record {
   found = λ t n h. rw (name-found t n h) refl;
@@ -522,7 +522,7 @@ name-law = record {
   told t n (Some (items.Attribute a)) e f = cc
   told t n None e f = cc
 
--- the attribute of `item_of` is the grammar of attributes
+-- the attribute in the result of `item_of` computes the grammar of attributes
 pub attribute-law : IsValueOf AttributeText (λ t. item_attribute (item_of t))
 attribute-law = record {
   found = λ t a h. rw (attribute-found t a h) refl;
@@ -535,13 +535,13 @@ attribute-law = record {
   told t a (Some (items.Name n)) e f = cc
   told t a None e f = cc
 
--- an answer that reads the text as an item reads it as a name
+-- the name in the result of an exact reader of items is the result of an exact reader of names
 pub reads_name : (t : List ℕ) (r : Option Item) → Reads ItemText t r → Reads NameText t (item_name r)
 reads_name t (Some (items.Name n)) h = h
 reads_name t (Some (items.Attribute a)) h = λ n p. not_both t n a p h
 reads_name t None h = λ n p. h (items.Name n) p
 
--- what the words say of a text reads it as an attribute
+-- the attribute that the words have for a text is the result of an exact reader of attributes
 pub known_reads : (t : List ℕ) (r : Option Item) → r ≡ known t → Reads AttributeText t (item_attribute r)
 known_reads t (Some (items.Attribute a)) e = known-derived t (items.Attribute a) (sym e)
 known_reads t (Some (items.Name n)) e = λ a p. let k = attribute-known t a p in cc

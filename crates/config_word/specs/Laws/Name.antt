@@ -25,11 +25,9 @@ use Rattle.config_text.specs.Value.{IsAccepted, IsRefused, IsTextOf, HasText}
 use Rattle.config_text.specs.Laws.Value.{IsShown, canonical_reads_by, decided_by, one_text_by, one_value_by}
 use Rattle.config_word.specs.Laws.Item.{name-law}
 
--- a text is that of one name at most
 pub name_one_value : (t : List ℕ) (v w : Name) → NameText t v → NameText t w → v ≡ w
 name_one_value = one_value_by name-law
 
--- each text is told to be that of a name, or of none
 pub name_decided : (t : List ℕ) → IsAccepted NameText t ⊎ IsRefused NameText t
 name_decided = decided_by name-law
 
@@ -42,12 +40,12 @@ weight c cs h =
     let v : digit_value c ≡ c - 48 = grind (arith, nat_tests) in
     ap (λ x. x * 10 ^ length cs + place_sum cs 10) v
 
--- decimal digits as std's lemmas on numerals take them
+-- decimal digits in the form that std's lemmas on numerals need
 numerals : IsNumeralModel (AllDigits 10) (λ ds. place_sum ds 10)
 numerals = numerals_by_weight (AllDigits 10) tells_digits (λ ds. place_sum ds 10)
     record { empty = refl; more = weight }
 
--- a number is shown by digits whose sum it is
+-- a number up to 255 is shown as decimal digits whose place sum it is
 decimal_text : (n : ℕ) → n ≤ 255 → IsNumeral 10 (decimal n) × (n ≡ place_sum (decimal n) 10)
 decimal_text n small =
     let fits : n < 2 ^ 64 = omega arith in
@@ -61,7 +59,7 @@ first_byte n small = told (n == 0) refl where
   told true e = inl ((Decides-eqb n 0).0 e)
   told false e = inr (first_decimal n (grind (arith, nat_tests)) (omega arith))
 
--- a number's digits begin with 1 to 9, but for `0`
+-- what a number up to 255 is shown as is a canonical name
 decimal-canonical : (n : ℕ) → n ≤ 255 → CanonicalName (decimal n)
 decimal-canonical n small = told (decimal n) refl (first_byte n small) where
   told : (ds : List ℕ) → decimal n ≡ ds → ((n ≡ 0) ⊎ (48 < get_or (decimal n) 0 0)) → CanonicalName ds
@@ -96,7 +94,7 @@ digits-of_nought = ((lit< tt, (lit< tt, tt)), refl, sym (decimal_digit 0 (lit< t
 lower_digit : (c : ℕ) → IsLowerHex c → (digit_value c < 16) × (digit_char (digit_value c) ≡ c)
 lower_digit c h = grind (arith, nat_tests)
 
--- a value below 16 is shown by the lower-case digit that has it
+-- a value below 16 is shown as a lower-case digit with this value
 shown_digit : (n : ℕ) → n < 16 → IsLowerHex (digit_char n) × (digit_value (digit_char n) ≡ n)
 shown_digit n h = grind (arith, nat_tests)
 
@@ -114,7 +112,7 @@ hex_pair-back a b h k =
 pair_of : (a b : ℕ) → IsLowerHex a → IsLowerHex b → HexPair a b (16 * digit_value a + digit_value b)
 pair_of a b h k = record { high_digit = (lower_digit a h).0; low_digit = (lower_digit b k).0; number = refl }
 
--- a byte is shown by two digits that write it
+-- a byte is shown as two digits that write it
 pair_shown : (n : ℕ) → n ≤ 255 → HexPair (digit_char (n / 16)) (digit_char (n % 16)) n
 pair_shown n small =
     let p = shown_digit (n / 16) (omega arith) in
@@ -127,7 +125,7 @@ pair_shown n small =
 
 -- ---- canonical texts
 
--- the words of the canonical texts are what the words are shown as
+-- the words that are canonical texts are what the names without numbers are shown as
 shown_words : map name_shown word_names ≡ lower_words
 unfolding word_names lower_words
 shown_words = refl
@@ -137,7 +135,7 @@ six : (a b c d e f : ℕ) (x y z : List ℕ) → x ≡ a ∷ b ∷ [] → y ≡ 
     → 35 ∷ a ∷ b ∷ c ∷ d ∷ e ∷ f ∷ [] ≡ 35 ∷ x ++ y ++ z
 six a b c d e f x y z p q r = rw (p, q, r) refl
 
--- six lower-case digits are what their color is shown as
+-- `#` and six lower-case digits are what their color is shown as
 rgb-shown : (ds : List ℕ) → length ds ≡ 6 → AllByRecursion IsLowerHex ds
     → IsShown NameText name_shown (codes "#" ++ ds)
 rgb-shown (a ∷ b ∷ c ∷ d ∷ e ∷ f ∷ []) l h = record {
@@ -173,11 +171,9 @@ canonical-shown s (CanonicalName.palette d ds e h all small) =
     }
 canonical-shown s (CanonicalName.rgb ds e l h) = rw e (rgb-shown ds l h)
 
--- a canonical text is that of a name
 pub name_canonical_reads : (t : List ℕ) → CanonicalName t → IsAccepted NameText t
 name_canonical_reads = canonical_reads_by canonical-shown
 
--- a name has one canonical text at most
 pub name_one_text : (s t : List ℕ) (v : Name) → CanonicalName s → CanonicalName t → NameText s v
     → NameText t v → s ≡ t
 name_one_text = one_text_by name_one_value canonical-shown
@@ -188,7 +184,7 @@ name_one_text = one_text_by name_one_value canonical-shown
 abbrev NameKind : Name → Type 0
 NameKind v = OneOf word_names v ⊎ (((n : ℕ) × (v ≡ names.Ansi n)) ⊎ ((r g b : ℕ) × (v ≡ names.Rgb r g b)))
 
--- what stands at a place of a list is one of the list
+-- what is at a place of a list is an element of the list
 one_at : (ns : List Name) (place : ℕ) (v : Name) → slice_get ns place ≡ Some v → OneOf ns v
 one_at [] place v h = cc
 one_at (n ∷ ns) zero v h = let same : n ≡ v = cc in inl (sym same)
@@ -212,17 +208,17 @@ words-are : list_all is_word word_names ≡ true
 unfolding word_names
 words-are = refl
 
--- no word is longer than the longest
+-- no word is longer than `LONGEST_NAME`
 words-short : list_all (λ v. nat_le (length (name_shown v)) LONGEST_NAME) word_names ≡ true
 unfolding word_names
 words-short = refl
 
--- what a name is shown as is a canonical text of it, no longer than the longest word
+-- the name is shown as a canonical text that reads back to it and is no longer than the longest word
 abbrev ShownWell : Name → Type 0
 ShownWell v =
     NameText (name_shown v) v × CanonicalName (name_shown v) × (length (name_shown v) ≤ LONGEST_NAME)
 
--- a palette number is shown well
+-- `ShownWell` for a palette number
 ansi-shown : (n : ℕ) → n ≤ 255 → ShownWell (names.Ansi n)
 ansi-shown n small =
     let r = decimal_text n small in
@@ -232,7 +228,7 @@ ansi-shown n small =
       omega (arith, size),
     )
 
--- red, green and blue are shown well
+-- `ShownWell` for red, green and blue
 rgb-shown_well : (r g b : ℕ) → r ≤ 255 → g ≤ 255 → b ≤ 255 → ShownWell (names.Rgb r g b)
 rgb-shown_well r g b p q u =
     let x = pair_shown r p in
@@ -256,7 +252,7 @@ rgb-shown_well r g b p q u =
       lit≤ tt,
     )
 
--- each name is shown well
+-- `ShownWell` for each name whose numbers are bytes
 shown-well : (v : Name) → NameFits v → ShownWell v
 shown-well v fits = told (name_told v) fits where
   told : NameKind v → NameFits v → ShownWell v
@@ -274,7 +270,7 @@ shown-well v fits = told (name_told v) fits where
 pub name_short : (v : Name) → NameFits v → length (name_shown v) ≤ LONGEST_NAME
 name_short v h = (shown-well v h).2
 
--- a word has no number that could be too large
+-- a name without numbers has no number that is too large
 word-fits : (v : Name) → is_word v ≡ true → NameFits v
 word-fits (names.Ansi n) h = cc
 word-fits (names.Rgb r g b) h = cc
@@ -284,7 +280,7 @@ word-fits _ h = tt
 pair-small : (a b n : ℕ) → HexPair a b n → n ≤ 255
 pair-small a b n h = omega (arith, h.high_digit, h.low_digit, h.number)
 
--- what a text reads to fits
+-- the numbers of a name that was read are bytes
 pub name_fits : (t : List ℕ) (v : Name) → NameText t v → NameFits v
 name_fits t v (NameText.word o s) = word-fits v (all-one is_word word_names v words-are o)
 name_fits t v (NameText.minus_one e f) = rw f tt
@@ -294,12 +290,11 @@ name_fits t v (NameText.pairs a b c d e f r g u is x y z w) =
 name_fits t v (NameText.doubled a c e r g u is x y z w) =
     rw w (pair-small a a r x, pair-small c c g y, pair-small e e u z)
 
--- what a name is shown as is its canonical text
+-- a name that has a text is shown as its canonical text
 pub name_shown_is_text : (v : Name) → HasText NameText v → IsTextOf NameText CanonicalName v (name_shown v)
 name_shown_is_text v h =
     let s = shown-well v (name_fits h.0 v h.1) in
     record { canonical_text = s.1; reads_to = s.0; short = omega (arith, s.2) }
 
--- each name has a text
 pub name_has_text : (v : Name) → NameFits v → HasText NameText v
 name_has_text v fits = (name_shown v, (shown-well v fits).0)

@@ -1,11 +1,11 @@
-//! What holds of sets of attributes.
+//! Laws of sets of attributes.
 ghost use Rattle.std.specs.Prelude.{◌≡◌, ◌≢◌, ◌^◌, ◌↔◌, ℕ};
 ghost use Rattle.std.specs.Int.{bit_at};
 ghost use Rattle.config_word.specs.declared.attribute.Attribute.{Attribute};
 ghost use Rattle.config_word.specs.Attribute.{AttributeText, IsKnownBit, attribute_shown};
 ghost use Rattle.config_text.specs.Value.{HasText, IsRefused};
 
-/// A set has a text exactly if one bit is set and that bit has a constant.
+/// A set has a text exactly if only one bit is set and that bit has a constant.
 pub fn one_known_bit()
     ensures { (a : Attribute)
         → (HasText AttributeText a) ↔ ((bit : ℕ) × IsKnownBit bit × (a.0 ≡ 2 ^ bit)) }

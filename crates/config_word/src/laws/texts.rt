@@ -15,8 +15,8 @@ pub fn name_text()
     ensures fits { (t : List ℕ) (n : Name) → NameText t n → NameFits n }
 {}
 
-/// Each number of a name is a byte. A proof knows this of a name that is passed by value. For a name inside
-/// another value it calls this function.
+/// Each number of a name is a byte. A proof knows this about a name that is passed by value. For a name
+/// inside another value, the code calls this function.
 pub fn numbers_fit(name: Name)
     ensures { NameFits name }
 {}

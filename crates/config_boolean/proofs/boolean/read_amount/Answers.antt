@@ -7,7 +7,7 @@ use Rattle.config_boolean.specs.Boolean.BooleanText.{counted}
 use Rattle.config_boolean.specs.Laws.Boolean.{boolean_refused}
 use Rattle.config_boolean.proofs.boolean.read_amount.Goals as goal
 
--- the bits of a number in range are zero where the number is
+-- the bits of a number in range are zero exactly if the number is zero
 truth_of : (z : ℤ) → IsInI64 z → IsTrue (not (nat_eq (of_z w64 z) 0)) ↔ (z ≢ pos 0)
 truth_of (pos zero) r = (λ h. absurd (cc (h)), λ h. absurd (h refl))
 truth_of (pos (suc n)) r = (λ h e. cc (e), λ h. grind (arith, nat_tests))

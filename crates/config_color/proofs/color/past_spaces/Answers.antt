@@ -3,7 +3,7 @@ use Rattle.std.proofs.lemmas.List.{take_rest}
 use Rattle.config_color.specs.Laws.Split.{words_past_run, words_past_space}
 use Rattle.config_color.proofs.color.past_spaces.Goals as goal
 
--- what follows n bytes is no longer than the text
+-- what follows the first `n` bytes is no longer than the text
 rest_shorter : (n : ℕ) (t : List ℕ) → length (take (length t - n) (drop n t)) ≤ length t
 rest_shorter n t = rw (take_rest t n) (omega (arith, length-drop n t))
 

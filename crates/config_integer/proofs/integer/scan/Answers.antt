@@ -9,14 +9,14 @@ use Rattle.config_integer.specs.Laws.Integer.{integer_of_is, in_range_of}
 use Rattle.config_text.specs.Laws.Value.{reads_by}
 use Rattle.config_integer.proofs.integer.scan.Goals as goal
 
--- a sign, and what is read after it
+-- the sign and what is read after it give the integer of the whole text
 after_sign : (t rest : List ℕ) (b : Bool) (limit : ℕ) (r : Option (ℕ × Option Suffix))
     → (b, rest) ≡ sign_and_rest t
     → limit ≡ largest b → r ≡ magnitude_of limit rest → option_map (signed_integer b) r ≡ integer_of t
 after_sign t rest b limit r split is read =
     ap (option_map (signed_integer b)) (read ∙ ap (λ n. magnitude_of n rest) is) ∙ ap integer_after split
 
--- the bits of a number in range stand for it
+-- the bits of a number in range represent the number
 same_number : (z : ℤ) (o : Option Suffix) (b : Bool) (n : ℕ) → n ≤ largest b → z ≡ with_sign b n
     → signed_integer b (n, o) ≡ record { value = to_z w64 (of_z w64 z); suffix = o }
 same_number z o b n small is =

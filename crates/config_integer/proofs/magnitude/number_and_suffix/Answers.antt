@@ -4,7 +4,7 @@ use Rattle.std.specs.List.{slice_index}
 use Rattle.config_integer.proofs.Counting.{one_digit, ended, first_digit}
 use Rattle.config_integer.proofs.magnitude.number_and_suffix.Goals as goal
 
--- what a byte is worth in the base, from what `digit_of` says of it
+-- the value of a byte in the base, from the result of `digit_of`
 is_digit : (base v d e : ℕ) → base ≤ 16 → (d < 16 → v ≡ d) → e ≡ d → e < base → v ≡ e
 is_digit base v d e h same is low = omega arith
 

@@ -12,7 +12,7 @@ is_true false h = sym h
 some_piece : (text : List ℕ) → 0 < length (pieces colon text)
 some_piece text = omega (arith, length-slice_split (λ b. b == colon) text)
 
--- the user, four other fields, and two more
+-- a line has the user, four other fields, the home and what follows it
 fields_are : (ps rest last shells ss : List (List ℕ)) (user home : List ℕ) → ps ≡ user ∷ rest
     → (f : FollowsFields 4 rest last)
     → last ≡ home ∷ shells → shells ≡ ss → ps ≡ user ∷ (f.others ++ home ∷ ss)

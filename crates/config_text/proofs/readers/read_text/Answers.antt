@@ -6,7 +6,7 @@ use Rattle.config_text.specs.declared.errors.Fault.{Fault}
 use Rattle.config_text.specs.Refusals.{ReadsBytes, ReadsText}
 use Rattle.config_text.proofs.readers.read_text.Goals as goal
 
--- what is read of a byte string is read of the text with these bytes
+-- what is read from a byte string is read from the text with the same bytes
 text_read : {V : Type 0} (grammar : List ℕ → V → Type 0) (refusal : List ℕ → Fault → Type 0) (s : BStr)
     (t : List ℕ) (r : Result V Error)
     → bstr_bytes s ≡ t → ReadsBytes grammar refusal s r → ReadsText grammar refusal t r

@@ -3,7 +3,7 @@ use Rattle.std.proofs.Common.{refl, replicate, slice_index, rules}
 use Rattle.std.proofs.lemmas.List.{length-append, length-replicate}
 use Rattle.config_text.proofs.words.begins_with_run.Goals as goal
 
--- a text whose first n bytes are this one
+-- a text whose first `n` bytes are all this byte begins with a run of them
 run_and_rest : (n byte : ℕ) (t : List ℕ) → n ≤ length t → ((k : ℕ) → k < n → slice_index t k ≡ byte)
     → t ≡ replicate n byte ++ drop n t
 run_and_rest zero byte t long same = refl

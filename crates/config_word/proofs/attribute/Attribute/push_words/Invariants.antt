@@ -3,7 +3,7 @@ use Rattle.config_text.specs.declared.value.TheConstants.{LONGEST_TEXT}
 use Rattle.config_word.specs.Reading.Attribute.{remaining, shown_row, words_in}
 use Rattle.config_word.proofs.attribute.Attribute.push_words.Given as goal
 
--- what is written and what is left make the whole, for which there is room
+-- what is written and what is left make up the whole text, and there is room for it
 abbrev pub invariant-loop-shown : goal.invariant-loop-shown
 invariant-loop-shown l =
     (length l.text.bytes + length
