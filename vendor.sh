@@ -2,8 +2,8 @@
 # Copies the library into another repository: sh vendor.sh DEST
 #
 # DEST is the top of that repository, or an empty folder. It gets the folders of the library's eight crates in
-# DEST/crates, their lines in DEST/crates.txt, each of them once, and the two licences. A crate of DEST then uses the
-# library by a line such as `NAME: gix_config_value config_file`, and a second run brings a newer version.
+# DEST/crates, their lines in DEST/crates.txt, each line once, and the two licenses. A crate of DEST then uses the
+# library by a line such as `NAME: gix_config_value config_file`. A second run replaces the library by a newer version.
 set -eu
 if [ $# -ne 1 ]; then
     echo "usage: sh $0 DEST" >&2
@@ -14,7 +14,7 @@ mkdir -p -- "$1/crates"
 dest=$(CDPATH='' cd -- "$1" && pwd)
 [ "$dest" != "$here" ] || { echo "$dest is this repository" >&2; exit 2; }
 touch "$dest/crates.txt"
-# its last line gets an end, if it has none
+# its last line gets an LF if it does not end in one
 sed -i '$a\' "$dest/crates.txt"
 for crate in config_text config_integer config_boolean config_word config_color config_path gix_config_value \
     config_file; do

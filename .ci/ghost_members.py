@@ -1,12 +1,12 @@
 """Each reader, conversion, default and shown text of the library states its promise in a ghost member, and each type
-its equality, order and clone in a law. The prover says nothing of one that is left out: so each `impl` and `derive` of
-these traits is looked at here, and fails without a promise of a known form. The last line is 'N passed, M failed'."""
+its equality, order and clone in a law. The prover does not report a missing one. So each `impl` and `derive` of these
+traits is checked here, and fails without a promise of a known form. The last line is 'N passed, M failed'."""
 import pathlib
 import re
 import sys
 
 CRATES = pathlib.Path(__file__).resolve().parent.parent / "crates"
-# the member of each trait, and the words of which it has to have one
+# the member of each trait, and the words, one of which it has to have
 MEMBERS = {
     "TryFrom": ("try_from_gives", r"\bReads(?:Bytes|Text|Owned|Or)\b"),
     "FromStr": ("from_str_gives", r"\b(?:ReadsFault|ReadsOr|NamesKind)\b"),
@@ -14,17 +14,17 @@ MEMBERS = {
     "Default": ("is_default", r"≡"),
     "Display": ("output", r"\b(?:Some|option_map)\b"),
 }
-# `impl`, type parameters, the path of the trait, its parameters, and the type; and the same by its first line alone
+# `impl`, type parameters, the path of the trait, its parameters, and the type; and the same by the first line only
 IMPL = re.compile(r"^impl(?:<[^>\n]*>)? (?:\w+::)*(\w+)(?:<[^\n]*>)? for ([^\n]*?)(?: \{|\nwhere\b)(.*?)^\}",
                   re.MULTILINE | re.DOTALL)
 FIRST_LINE = re.compile(r"^impl\b.*[ :](?:TryFrom|FromStr|From|Default|Display)\b.* for ", re.MULTILINE)
-# the traits that a public type derives, and its name; the words of a law, one of which names the trait of that type
+# the traits that a public type derives, and its name; and for each trait the words that its law may have
 DERIVED = re.compile(r"^#\[derive\((.*)\)\]\n(?:#\[.*\]\n)*pub (?:struct|enum) (\w+)", re.MULTILINE)
 LAWS = {"PartialEq": "(?:HasOrder|Equates)", "Ord": "HasOrder", "Clone": "IsCopied"}
 
 
 def members(file, text):
-    """What would be missing of each `impl` of MEMBERS, and whether it is there."""
+    """For each `impl` of MEMBERS: the message if its promise is missing, and whether the promise is there."""
     found = [(trait, of, body) for trait, of, body in IMPL.findall(text) if trait in MEMBERS]
     for trait, of, body in found:
         member, form = MEMBERS[trait]
@@ -35,7 +35,7 @@ def members(file, text):
 
 
 def laws(texts):
-    """What would be missing of each trait of LAWS that a type derives, if it can be compared."""
+    """For each trait of LAWS that a comparable type derives: the message if its law is missing, and if it is there."""
     for traits, of in [found for text in texts for found in DERIVED.findall(text)]:
         traits = set(traits.split(", "))
         for trait in sorted(LAWS.keys() & traits) if "PartialEq" in traits else ():

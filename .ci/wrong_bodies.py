@@ -1,8 +1,8 @@
 """Tries the wrong bodies: the prover has to refuse each, at the clauses that it names. wrong_bodies.py [CRATE..]
 
-CONTRIBUTING.md has the form of their files. Those of a crate are laid into one copy of it, and the functions that they
-name are checked once, over the libraries that `rt check` or `rt ci` left. If that opens other goals, or two are of one
-function, each is tried by itself, and the goals that it opens are printed. The last line is 'N passed, M failed'.
+CONTRIBUTING.md has the form of their files. Those of a crate are put into one copy of it, and the functions that they
+name are checked once, over the libraries that `rt check` or `rt ci` left. If that opens other goals, or two are for the
+same function, each is tried by itself, and the goals that it opens are printed. The last line is 'N passed, M failed'.
 """
 import collections
 import concurrent.futures
@@ -16,7 +16,7 @@ import tempfile
 
 ROOT = pathlib.Path(__file__).resolve().parent.parent
 KIT = pathlib.Path(os.path.realpath(shutil.which("rt") or "rt")).parent.parent
-# a function that is not proved; its open goals, or the answers that are refused; and a theorem that is refused
+# a function that is not proved, its open goals or refused answers, and a theorem that is refused
 OPEN = re.compile(r"^fn \w+::(\S+): (?!no holes|proved|it calls)(.*)$", re.MULTILINE)
 GOALS = re.compile(r"(?:did not prove|stands on) (`[^`]*`(?:, `[^`]*`)*)")
 REFUSED = re.compile(r"^(?:\./)?(?:proofs|specs)/(\S+)\.antt:\S+ error: `([^`]*)`", re.MULTILINE)
@@ -89,7 +89,7 @@ class Crate:
 
 
 def tried(name):
-    """What is wrong with each wrong body of a crate, by its name."""
+    """What is wrong with the result of each wrong body of a crate, by its name."""
     with tempfile.TemporaryDirectory() as room:
         crate = Crate(name, room)
         edits = [edit_of(file) for file in sorted((crate.folder / "wrong_bodies").glob("*.edit"))]
@@ -97,7 +97,7 @@ def tried(name):
 
 
 def main():
-    # the lowest first
+    # the crates that others use come first
     crates = sys.argv[1:] or [name for name in LISTED if any(ROOT.glob(f"crates/{name}/wrong_bodies/*.edit"))]
     with concurrent.futures.ThreadPoolExecutor(int(os.environ.get("RT_JOBS") or len(os.sched_getaffinity(0)))) as pool:
         faults = {name: why for found in pool.map(tried, crates) for name, why in found.items()}

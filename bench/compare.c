@@ -1,10 +1,10 @@
 /* compare ROUNDS MILLISECONDS: measures calls of three libraries in one process, for compare.py.
  *
  * Each line of standard input is the name of a call, the number of a kind, and two texts as hexadecimal digits, with
- * tabs between. First each library is asked once, and the answers must agree. Then each is called in batches of so many
- * milliseconds, in turn, for so many rounds. The answer to a line is the least nanoseconds of a call, for the Rust
- * crate, this library and plain C, and the middle of the rounds' ratios to the Rust crate, for this library and plain C.
- * What is not there is `-`. */
+ * tabs between. First each library is asked once, and the answers must agree. Then they are called in turn, in batches
+ * of MILLISECONDS, for ROUNDS rounds. The answer to a line is the least nanoseconds of a call, for the Rust crate, this
+ * library and plain C, and the median of the rounds' ratios to the Rust crate, for this library and plain C. A figure
+ * that does not exist is `-`. */
 #define _GNU_SOURCE
 #include "gix_config_value.h"
 #include "limit.h"
@@ -18,16 +18,16 @@
 enum { RUST, OURS, LIMIT, LIBRARIES, MOST_ROUNDS = 1000, ENTRIES = 100, LONGEST_ANSWER = 400, LONGEST_SHOWN = 60 };
 static const char *const LIBRARY[] = {"the Rust crate", "this library", "plain C"};
 
-/* What a row asks with. */
+/* The arguments of the calls of a row. */
 struct row {
     uint32_t kind;
     const char *text, *second;
     size_t length, second_length;
-    up_color up_color; /* the colors that the texts read to, where they do */
+    up_color up_color; /* the colors that the texts read to, if they read to colors */
     gcv_color color, second_color;
 };
 
-/* Where an answer is put. */
+/* The memory that the answers are written to. */
 struct room {
     union {
         int64_t amount;
@@ -46,7 +46,7 @@ struct room {
     size_t size;
 };
 
-/* The entries that are looked through: names and texts, each after the one before. */
+/* The entries for lookups: names and texts, one after the other. */
 static char entries[64 * ENTRIES];
 static size_t lengths[2 * ENTRIES], entries_length;
 
@@ -61,8 +61,8 @@ static double nanoseconds(void)
     return (double)now.tv_sec * 1e9 + (double)now.tv_nsec;
 }
 
-/* Calls so many times, and says how long that took; 0 times asks once, and says whether there is an answer. What is
- * asked and answered is hidden from the compiler, so that it leaves out no call and does none ahead of the loop. */
+/* Calls this many times, and returns the nanoseconds; for 0 times it calls once, and returns whether it is accepted.
+ * The arguments and answers are hidden from the compiler, so that it omits no call, and moves none out of the loop. */
 typedef double calls(const struct row *row, uint64_t times, struct room *room);
 #define CALLS(name, accepted)                                                           \
     static double name(const struct row *row, uint64_t times, struct room *room)        \
@@ -117,7 +117,7 @@ static int write_name(char *to, gcv_name name)
     return sprintf(to, "name %u %u %u %u %u, ", name.tag, name.palette, name.red, name.green, name.blue);
 }
 
-/* The same name as this library has it. */
+/* Returns the struct that this library has for the name. */
 static gcv_name of_up(up_name name)
 {
     switch (name.form) {
@@ -213,7 +213,7 @@ static unsigned value_of(char digit)
     return (unsigned)(digit <= '9' ? digit - '0' : digit - 'a' + 10);
 }
 
-/* The bytes of hexadecimal digits. */
+/* Returns the bytes that hexadecimal digits mean. */
 static char *bytes_of(const char *digits, size_t *length)
 {
     *length = strlen(digits) / 2;
@@ -235,7 +235,7 @@ static void make_entries(void)
     }
 }
 
-/* Asks each library once. Ends the process where two of them differ. */
+/* Asks each library once, and ends the process if two of them give different answers. */
 static void compare_answers(const struct call *call, const struct row *row)
 {
     char first[LONGEST_ANSWER] = "", answer[LONGEST_ANSWER];
@@ -260,7 +260,7 @@ static void compare_answers(const struct call *call, const struct row *row)
     }
 }
 
-/* How many calls take as long as a batch. */
+/* Returns how many calls take as long as a batch. */
 static uint64_t batch_of(calls *call, const struct row *row, struct room *room, double batch)
 {
     for (uint64_t times = 1;; times *= 2) {
@@ -276,7 +276,7 @@ static int rising(const void *first, const void *second)
     return (a > b) - (a < b);
 }
 
-/* Prints the least nanoseconds, and the middle of the ratios to the Rust crate. */
+/* Prints the least nanoseconds, and the median of the ratios to the Rust crate. */
 static void print_figures(const struct call *call, const double *least, double ratios[][MOST_ROUNDS], int rounds)
 {
     for (int library = 0; library < LIBRARIES; library++) {
@@ -321,7 +321,7 @@ static void measure(const struct call *call, const struct row *row, int rounds, 
     print_figures(call, least, ratios, rounds);
 }
 
-/* Asks, compares and measures what a line says. */
+/* Asks, compares and measures the call that a line names. */
 static void answer_line(char *line, int rounds, double batch)
 {
     char *rest = line;

@@ -2,17 +2,17 @@
 
 python3 compare.py [--rounds N] [--milliseconds N] [--prefix PREFIX] [--only WORD]
 
-A batch is so short that other programs interrupt few: beside them most ratios change by less than a tenth. PREFIX is
-where crates/gix_config_value_c/build.sh has put the library; without it, the library is proved and built into a folder
-of its own. --only takes the rows of rows.tsv with that word. upstream/build.py builds the Rust crate's side, and says
-how to name its sources; where the crate cannot be had it says `skipped` and why. Answers that differ end it with
+A batch is so short that other programs interrupt few batches: while they run, most ratios change by less than a tenth.
+PREFIX is where crates/gix_config_value_c/build.sh has put the library; without it, the library is proved and built into
+a folder of its own. --only takes the rows of rows.tsv with that word. upstream/build.py builds the Rust crate's side,
+and says how to name its sources; if the crate cannot be had it says `skipped` and why. Answers that differ end it with
 status 1.
 
 The three libraries are linked into one process and called in batches, in turn, for as many rounds as --rounds says, in
-four layouts: the code of each library at its place, or 16 bytes further on. The nanoseconds are the least of all rounds,
-the call and its loop among them. A ratio of a layout is the middle one of its rounds' ratios; `This to Rust` is the
-middle of the layouts, and `Over the layouts` has the least and the greatest. limit.c is plain C without proofs: about
-how low the ratio before it can get. `-` means that a library has no such call. For `normalize` the Rust crate's reader
+four layouts: the code of each library at its place, or moved by 16 bytes. The nanoseconds are the least of all rounds,
+and include the call and its loop. A ratio of a layout is the median of its rounds' ratios; `This to Rust` is the median
+of the layouts, and `Over the layouts` has the least and the greatest. limit.c is plain C without proofs: about how low
+the ratio of this library can get. `-` means that a library has no such call. For `normalize` the Rust crate's reader
 and its `Display` are measured, and a refusal costs the Rust crate an error with a copy of the text.
 """
 import argparse
@@ -33,9 +33,9 @@ sys.path.insert(0, str(HERE / "upstream"))
 import build  # noqa: E402
 
 KINDS = ["suffix", "integer", "amount", "boolean", "name", "attribute", "color"]
-# what a static library of Rust asks of the system
+# the libraries of the system that a static library of Rust needs
 SYSTEM = ["-lgcc_s", "-lutil", "-lrt", "-lpthread", "-lm", "-ldl"]
-# whether the code of this library is moved, and then that of the Rust crate once more
+# whether the code of this library, and of all that follows, is moved, and whether that of the Rust crate is moved again
 LAYOUTS = [(0, 0), (1, 0), (0, 1), (1, 1)]
 HEADINGS = ["Row", "Call", "Rust crate, ns", "This library, ns", "Plain C, ns"]
 HEADINGS += ["This to Rust", "Over the layouts", "Plain C to Rust"]
@@ -47,7 +47,7 @@ def bytes_of(text):
 
 
 def rows():
-    """The rows: what each is called, its call and kind, and the line that the driver reads."""
+    """The rows: the name of each, its call and kind, and the line that the driver reads."""
     for line in (HERE / "rows.tsv").read_text(encoding="utf-8").splitlines():
         if line.startswith("# "):
             continue
@@ -61,7 +61,7 @@ def rows():
 
 
 def run(*command):
-    """Runs a command. Ends with what it says where it fails."""
+    """Runs a command. If it fails, ends the program with what it says."""
     ran = subprocess.run([str(word) for word in command], stdout=subprocess.PIPE, stderr=subprocess.STDOUT, check=False)
     if ran.returncode != 0:
         sys.exit(ran.stdout.decode(errors="replace")[-4000:])
@@ -83,7 +83,7 @@ def drivers(folder, prefix, crate):
 
 
 def figures(program, arguments, asked):
-    """What the driver measures of each row: the figures, None where there are none."""
+    """The figures that the driver measures for each row; None for a figure that does not exist."""
     command = [program, str(arguments.rounds), str(arguments.milliseconds)]
     lines = "".join(line for _, _, line in asked)
     measured = subprocess.run(command, input=lines, stdout=subprocess.PIPE, text=True, check=False)
@@ -93,7 +93,7 @@ def figures(program, arguments, asked):
 
 
 def machine():
-    """The model of the processor, and how many there are."""
+    """The model of the processor, and the number of processors."""
     told = pathlib.Path("/proc/cpuinfo").read_text(encoding="utf-8")
     found = re.search(r"^model name\s*:\s*(.*)", told, re.MULTILINE)
     return f"{found[1] if found else 'unknown model'}, {os.cpu_count()} processors"
@@ -104,12 +104,12 @@ def load():
 
 
 def head(before):
-    """What precedes a table, once all is measured."""
+    """The line before a table, after all is measured."""
     return f"{machine()}; load {before} before and {load()} after; {datetime.date.today().isoformat()}.\n"
 
 
 def nanoseconds(of_layouts):
-    """The least, as the table has it."""
+    """The least nanoseconds, as the table shows them."""
     least = min(of_layouts) if None not in of_layouts else None
     return "-" if least is None else f"{least:.1f}" if least < 100 else f"{least:,.0f}"
 

@@ -1,9 +1,9 @@
-/* entries FILE: counts the entries of a configuration file, and makes none. It takes the file as valid: about how fast
-   reading one can get. */
+/* entries FILE: counts the entries of a configuration file without making them, and assumes that it is valid. This is
+   about as fast as reading a file can be. */
 #include <stdio.h>
 #include <stdlib.h>
 
-/* After the end of a value, which is that of its line if no backslash precedes it. */
+/* Returns the place after a value, which ends with its line, unless a backslash precedes the end of the line. */
 static const char *past_value(const char *at)
 {
     for (int quoted = 0; *at != '\n'; at++) {

@@ -1,8 +1,8 @@
 """Measures reading and checking files: python3 files.py CONFIG_VALUE CONFIG_CHECK [--runs N].
 
-The two programs are compared with `git config --list -z`, of the file alone and as the user's file, plain C that makes
-no entries (entries.c), and for the small file dulwich, if Python has it. The processor time is the least of the runs, which are taken in turn; the start of a
-program and the writing of what it lists are part of it. If the list of config_value is not Git's, the status is 1.
+The programs are compared with `git config --list -z`, of the file alone and as the user's file, plain C that makes no
+entries (entries.c), and for the small file dulwich, if Python has it. The processor time is the least of the runs, made
+in turn; it includes a program's start and its output. If the list of config_value is not Git's, the status is 1.
 """
 import argparse
 import importlib.util
@@ -49,7 +49,7 @@ def commands(arguments, loop, file):
 
 
 def rows(measuring, asked, file, arguments):
-    """For each size and program its least milliseconds and how many entries that is in a second."""
+    """For each size and program the least milliseconds, and how many entries that is in a second."""
     for size, asked in zip(SIZES, (asked, asked[:5])):
         text = "".join(SECTION % number for number in range(size // ENTRIES))
         pathlib.Path(file).write_text(text, encoding="utf-8")

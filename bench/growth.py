@@ -1,8 +1,8 @@
 """Measures how the program's time grows with its input: python3 growth.py PROGRAM [--runs N].
 
-Each input is measured at its size and at twice that size, side by side, and the smallest processor time of all runs is
-taken, less that of an empty input. A ratio near 2 says that the time grows as the input does. A long line takes less
-time than a process to start, so its input repeats it as often as the table says.
+Each input is measured in turn at its size and at twice that size. The result is the least processor time of all runs,
+minus that of an empty input. A ratio near 2 says that the time grows as the input does. A long line takes less time
+than the start of a process, so its input repeats it as often as the table says.
 """
 import argparse
 import os
@@ -12,16 +12,16 @@ import tempfile
 
 
 def often(times, front, repeated, back=b""):
-    """So many lines, in each of which a part is repeated."""
+    """Makes this many lines, in each of which a part is repeated."""
     return lambda size: (front + repeated * size + back + b"\n") * times
 
 
 def lines(*texts):
-    """So many lines, taken in turn."""
+    """Makes as many lines as the size says, from these texts in turn."""
     return lambda size: b"".join(text + b"\n" for text in texts) * (size // len(texts))
 
 
-# what it is, its size, and the input of a size
+# the name of an input, its size, and what makes the input of a size
 INPUTS = [
     ("digits `9`, refused (100 lines)", 100_000, often(100, b"integer ", b"9")),
     ("zeros, then `7` (100 lines)", 100_000, often(100, b"integer -0", b"0", b"7")),
@@ -48,7 +48,7 @@ def stored(data):
 
 
 def seconds(program, file):
-    """The processor time of one run, its own and the system's for it."""
+    """The processor time of one run, user and system."""
     file.seek(0)
     process = subprocess.Popen([program], stdin=file, stdout=subprocess.DEVNULL)
     _, status, usage = os.wait4(process.pid, 0)

@@ -9,13 +9,13 @@
 static const uint8_t DIGITS[256] = {
     ['0'] = 1, 2, 3, 4, 5, 6, 7, 8, 9, 10, ['A'] = 11, 12, 13, 14, 15, 16, ['a'] = 11, 12, 13, 14, 15, 16};
 
-/* At least 16 where the byte is no digit. */
+/* Returns the value of a digit, or at least 16 if the byte is not a digit. */
 static inline unsigned digit_of(char byte)
 {
     return DIGITS[(unsigned char)byte] - 1u;
 }
 
-/* The place after a run of one byte, which all eight of `run` are, but for at most seven of them. */
+/* Goes past a run of the byte that all eight bytes of `run` are; at most seven of them may be left. */
 static inline const char *skip(const char *at, const char *end, uint64_t run)
 {
     uint64_t eight;
@@ -24,7 +24,7 @@ static inline const char *skip(const char *at, const char *end, uint64_t run)
     return at;
 }
 
-/* Reads digits, and returns the place after them; null if there are none or the number is above `most`. */
+/* Reads digits, and returns the place after them, or null if there are no digits or the number is above `most`. */
 INLINE const char *digits(const char *at, const char *end, unsigned base, uint64_t most, uint64_t *number)
 {
     const char *first = at;
@@ -79,7 +79,7 @@ int limit_amount(const char *text, size_t length, int64_t *value)
            !__builtin_mul_overflow(integer.value, INT64_C(1) << 10 * integer.suffix, value);
 }
 
-/* Words. A text of at most 16 bytes is two numbers, which no other text of its length has. */
+/* Words. A text of at most 16 bytes is packed into two numbers, which no other text of its length has. */
 
 typedef struct {
     uint64_t front, back;
@@ -119,7 +119,7 @@ static const char *const ATTRIBUTES[] = {
 
 static word words[SLOTS];
 
-/* what a word is shown as, at full width so that its copy has a fixed size */
+/* the text that a word is shown as, with a fixed width so that copying it takes a fixed size */
 static struct {
     char text[16];
     size_t length;
@@ -204,7 +204,7 @@ int limit_boolean(const char *text, size_t length, uint32_t *value)
     return 1;
 }
 
-/* Whether a word that begins so is a number or none. */
+/* Whether a word that begins with this byte can only be a number. */
 static inline int is_palette(char first)
 {
     return first == '+' || (first >= '0' && first <= '9');
@@ -242,7 +242,7 @@ static int rgb(const char *text, size_t length, gcv_name *value)
     return 1;
 }
 
-/* Reads a word of a color: puts the name, or else adds the bit and leaves the tag as it is. */
+/* Reads a word of a color: writes the name, or otherwise adds the bit and leaves the tag unchanged. */
 INLINE int item(const char *text, size_t length, gcv_name *name, uint32_t *bits)
 {
     if (*text == '#')
@@ -280,7 +280,7 @@ int limit_attribute(const char *text, size_t length, uint32_t *bits)
 
 /* Colors. */
 
-/* How many bytes of white space are here, if the first one is no ASCII. */
+/* Returns the number of bytes of the white space here, which is not ASCII, or 0 if there is no such white space. */
 static size_t wide_space(const unsigned char *at, const unsigned char *end)
 {
     if (end - at < 2)
@@ -300,7 +300,7 @@ static size_t wide_space(const unsigned char *at, const unsigned char *end)
 static const uint8_t SPACES[256] = {['\t'] = 1, ['\n'] = 1, ['\v'] = 1, ['\f'] = 1, ['\r'] = 1, [' '] = 1,
                                     [0xc2] = 2, [0xe1] = 2, [0xe2] = 2, [0xe3] = 2};
 
-/* The place before `stop` at which white space begins, and its length; else `stop` and 0. */
+/* Returns the place before `stop` at which white space begins, and its length, or otherwise `stop` and 0. */
 INLINE const unsigned char *find_space(const unsigned char *at, const unsigned char *stop, const unsigned char *end,
                                        size_t *space)
 {

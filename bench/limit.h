@@ -1,5 +1,5 @@
-/* Readers of the same values in plain C, of which nothing is proved: the limit that the library is held against. They
-   keep no fault and check no buffer. A reader returns 1 and writes the value, or 0 if it refuses the text. */
+/* Readers of the same values in plain C, about which nothing is proved: the limit that the library is compared with.
+   They tell no fault and check no buffer. A reader returns 1 and writes the value, or 0 if it refuses the text. */
 #ifndef LIMIT_H
 #define LIMIT_H
 
@@ -8,7 +8,7 @@
 /* room for each text that is written, some of which is written past its end */
 #define LIMIT_ROOM 160
 
-/* Makes the table of the words. To be called once, before the others. */
+/* Makes the table of the words. It must be called once, before the others. */
 void limit_prepare(void);
 
 int limit_integer(const char *text, size_t length, gcv_integer *value);

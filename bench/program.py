@@ -1,8 +1,8 @@
 """Measures builds of config_value and the Rust crate's program: python3 program.py PROGRAM.. [--runs N].
 
 `rt ci` leaves the builds of both compilers, as out/config_value and out/config_value.by-rattle. The processor time is
-the least of the runs, which are taken in turn, and the ratio the middle one of the runs' ratios to the Rust crate's
-program. Where the Rust crate cannot be had it says `skipped` and why. Answers that differ end it with status 1.
+the least of the runs, which are taken in turn, and the ratio is the median of the runs' ratios to the Rust crate's
+program. If the Rust crate cannot be had it says `skipped` and why. If answers differ, the status is 1.
 """
 import argparse
 import os
@@ -24,7 +24,7 @@ KINDS = [
     b"suffix K", b"integer -010m", b"amount 7k", b"boolean Yes",
     b"name #F1b", b"attribute no-dim", b"color red ul blue", b"boolean maybe",
 ]
-# what it is, the input of a size, and the size
+# the name of an input, what makes the input of a size, and the size
 INPUTS = [
     ("1,000,000 short lines", lines(b"integer 0x10k"), 1_000_000),
     ("1,000,000 lines of every kind", lines(*KINDS), 1_000_000),
@@ -50,7 +50,7 @@ def usage(measuring, *command, file=os.devnull):
 
 
 def writes(program, file):
-    """How often a program writes, or `-` where strace is not there or may not trace."""
+    """How often a program writes, or `-` if strace is not there or may not trace."""
     if not shutil.which("strace"):
         return "-"
     with open(file, "rb") as given, tempfile.NamedTemporaryFile() as trace:
@@ -62,7 +62,7 @@ def writes(program, file):
 
 
 def rows(measuring, programs, file, runs):
-    """For each program its least milliseconds, the middle of its ratios to the first one, its writes and its peak."""
+    """For each program its least milliseconds, the median of its ratios to the first one, its writes and its peak."""
     measured = [[usage(measuring, program, file=file) for program in programs] for _ in range(runs)]
     for place, program in enumerate(programs):
         times = [runs_of[place][0] for runs_of in measured]

@@ -1,8 +1,8 @@
 """Measures the Python package and plain Python: python3 bench/python.py FOLDER..
 
-Each FOLDER holds a package, as pip's --target makes it; that of 0.1.0 (ctypes) is measured too, if it finds its library
-by GIX_CONFIG_VALUE_LIBRARY. A row has the least of seven turns, in microseconds of a processor, all in one run. The
-last row is what an import takes of a processor beyond a bare start, in milliseconds.
+Each FOLDER has a package, as pip's --target makes it; the package of 0.1.0 (ctypes) is measured too, if it finds its
+library by GIX_CONFIG_VALUE_LIBRARY. A row has the least processor time of seven turns in microseconds, all in one run.
+The last row is the processor time of an import in milliseconds, without that of a bare start.
 """
 import os
 import resource

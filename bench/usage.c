@@ -1,6 +1,6 @@
-/* usage PROGRAM WORD.. < INPUT > OUTPUT: runs a program, and writes to standard error its processor time in seconds,
-   its own and the system's for it, its peak memory in KiB, and its status. It is a small process, since one that Python
-   starts begins with the peak of Python. */
+/* usage PROGRAM WORD.. < INPUT > OUTPUT: runs a program, and writes to standard error its processor time in seconds
+   (user and system), its peak memory in KiB, and its status. It is a small process, since a process that Python starts
+   begins with the peak memory of Python. */
 #define _DEFAULT_SOURCE
 #include <stdio.h>
 #include <sys/resource.h>

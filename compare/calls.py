@@ -1,5 +1,5 @@
 """Calls of path interpolation, in the lines that the program path_answers reads: value, install directory, home
-directory and what the lookup knows, between tabs and in hexadecimal digits. `crates/path_answers` says more.
+directory and what the lookup knows, between tabs and in hexadecimal digits. `crates/path_answers` has the details.
 """
 PREFIX = b"%(prefix)/"
 MARK = b":(optional)"
@@ -16,13 +16,13 @@ def digits(text):
 
 
 def line(value, install, home, users):
-    """A call; `None` is a directory or a lookup that is missing."""
+    """The line of a call; `None` means a directory or a lookup that is missing."""
     known = None if users is None else b",".join(digits(name) + b"=" + digits(users[name]) for name in users)
     return b"\t".join([digits(value), digits(install), digits(home), b"-" if known is None else known])
 
 
 def drawn(draw):
-    """The parts of a call, by chance."""
+    """The parts of a random call."""
     value = b"".join(draw.choice(PIECES) for _ in range(draw.choice((0, 1, 1, 2, 2, 3, 4, 6))))
     return value, draw.choice(DIRECTORIES), draw.choice(DIRECTORIES), draw.choice(LOOKUPS)
 
@@ -36,7 +36,7 @@ def is_utf8(text):
 
 
 def place(value):
-    """Where a value, without its mark, has what is no UTF-8, and those bytes."""
+    """The place at which a value, without its mark, is not UTF-8, and the bytes there."""
     if value.startswith(PREFIX):
         return b"PastPrefix", value[len(PREFIX):]
     name, slash, rest = value.partition(b"/")
@@ -48,7 +48,7 @@ def place(value):
 
 
 def by_rule(answer):
-    """What the library answers where the Rust crate answers this: a path that is no UTF-8 is refused on each platform.
+    """The library's answer if this is the Rust crate's: it refuses a path that is not UTF-8 on each platform.
 
     The crate keeps such a path on Unix, and refuses it elsewhere.
     """

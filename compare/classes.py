@@ -3,8 +3,8 @@
 Run as a program, it compares the page: each class has one row, with its versions, a text in which it is shown and what
 was run. Its last line is 'N passed, M failed'.
 
-A rule over a question and its two answers decides a class, and no two rules hold for one. A class is expected in the
-versions that it names: there it has to be seen, and in other versions it must not be.
+A rule over a question and its two answers decides whether they are in a class; no two rules hold for the same case. A
+class is expected in the versions that it names: there it has to be seen, and in other versions it must not be seen.
 """
 import collections
 import pathlib
@@ -15,16 +15,16 @@ from calls import MARK, PREFIX, is_utf8
 
 # what is asked: the kind of the question, its text, and for a path the home directory, if there is one
 Question = collections.namedtuple("Question", "kind text home", defaults=[None])
-# a question and its answers, each None where the text is refused. user: the directory of the user that the text names,
+# a question and its answers, each None if the text is refused. user: the directory of the user that the text names,
 # if there is one. install: the directory where Git is installed
 Case = collections.namedtuple("Case", "question user install ours git")
-# when: the versions in which it is expected. shown: questions in which it is seen then.
-# plain: where a rule is wide, what is asked besides: a text that `reader` has to answer as the text itself
+# when: the versions in which the class is expected. shown: questions in which it is seen then.
+# plain: if a rule is wide, the text that is asked too, and to which `reader` has to give the same answer
 Class = collections.namedtuple("Class", "name kinds when rule shown plain reader", defaults=[None, None])
-# the versions of what, from which one on, and up to which one; None: without an end
+# the program whose versions are meant, the first version, and the first one after them; None: without an end
 When = collections.namedtuple("When", "of since before", defaults=["Git", None, None])
 
-# what Git answers if the value counts as not set
+# Git's answer if the value counts as not set
 NOT_SET = "not set"
 NUMBERS = ("int", "bool", "bool-or-int")
 SMALL_NUMBERS = ("bool", "bool-or-int")
@@ -42,7 +42,7 @@ MINUS_ZERO = re.compile(WORD % rb"-0+(1?)")
 # numbers
 
 def amount(text):
-    """The number that an integer text means, of any size, or None."""
+    """The number that an integer text means, which may have any size, or None if it is no integer text."""
     match = NUMBER.fullmatch(text)
     if match is None:
         return None
@@ -57,13 +57,13 @@ def number_shown(kind, number):
 
 
 def is_number_of_ours_alone(case):
-    """The library reads the number, and Git refuses it."""
+    """The library reads the text as its number, and Git refuses it."""
     number = amount(case.question.text)
     return number is not None and case.git is None and case.ours == number_shown(case.question.kind, number)
 
 
 def is_beyond(case):
-    """The number is outside of those that Git holds, which have no least one beyond the greatest."""
+    """The number is outside Git's range, which begins at the negative of its greatest number."""
     return abs(amount(case.question.text)) >= (2 ** 63 if case.question.kind == "int" else 2 ** 31)
 
 
@@ -118,7 +118,7 @@ def word_reset(case):
 
 
 def plain_color(text):
-    """The text without what the two read otherwise: who reads this text as a color has to read that one alike."""
+    """The text without what the two read differently. A reader that accepts the text has to read this one the same."""
     text = FOREIGN.sub(b" ", text)
     text = THREE_DIGITS.sub(rb"#\1\1\2\2\3\3", text)
     return MINUS_ZERO.sub(lambda match: b"-1" if match[1] else b"0", text)
@@ -127,14 +127,14 @@ def plain_color(text):
 # paths
 
 def directory_and_rest(case):
-    """The directory that a `~` or a `~user` means, and what follows its slash, or None."""
+    """The directory that a `~` or a `~user` means, and what follows its slash, or None without one of the two."""
     name, slash, rest = case.question.text.partition(b"/")
     directory = case.question.home if name == b"~" else case.user
     return (directory, rest) if slash and name.startswith(b"~") and directory is not None else None
 
 
 def is_expanded_by_git(case):
-    """Git put the rest after a directory and a slash; only after the prefix it keeps an absolute rest as it is."""
+    """Git put the rest after a directory and a slash; only after the prefix it keeps an absolute rest unchanged."""
     text = case.question.text
     if text.startswith(PREFIX):
         rest = text[len(PREFIX):]
@@ -169,7 +169,7 @@ def no_utf8(case):
 
 
 def is_marked(case):
-    """The text has the mark; the library takes a second one for a part of the path."""
+    """The text has the mark; the library takes a second mark for a part of the path."""
     text = case.question.text
     rest = text.removeprefix(MARK)
     is_kept = case.ours == (rest if is_utf8(rest) else None)
@@ -185,7 +185,7 @@ def file_is_missing(case):
 
 
 def without_mark(text):
-    """The path after the mark, or the text itself if that would have a mark again."""
+    """The path after the mark, or the text itself if that path begins with a mark again."""
     rest = text.removeprefix(MARK)
     return text if rest.startswith(MARK) else rest
 
@@ -241,7 +241,7 @@ def dotted(version):
 
 
 def versions(when):
-    """The versions, as the document says them."""
+    """The versions, as the page writes them."""
     words = [] if when.of == "Git" else [when.of]
     words += [f"since {dotted(when.since)}"] if when.since else []
     words += [f"before {dotted(when.before)}"] if when.before else []
@@ -262,13 +262,13 @@ def of(case):
 # the page
 
 PAGE = pathlib.Path(__file__).resolve().parent.parent / "docs/DIFFERENCES.md"
-# what a row may say was run, and the version of Git of which those that name one speak
+# what a row may say was run, and the versions of Git and glibc of the rows that name Git
 RUN = re.compile(r"crate 0\.21\.1(, Git 2\.39\.5)?")
 RUNNING = {"Git": (2, 39), "glibc": (2, 36)}
 
 
 def tables(page):
-    """The rows of each table, the first of them its head."""
+    """The rows of each table; the first row is its head."""
     for lines in re.findall(r"(?:^\|.*\n)+", page, re.MULTILINE):
         rows = [line.strip("|").split("|") for line in lines.splitlines() if not line.startswith("|---")]
         yield [[cell.strip() for cell in row] for row in rows]

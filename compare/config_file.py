@@ -4,16 +4,16 @@ python3 config_file.py PROGRAM [--seed N] [--files N] [--short] [--patterns N] [
 
 PROGRAM is config_value, which lists many files in one call; Git lists one in a call. Both have to give the same
 entries in the same order, and to refuse a file at the same line after the same entries. Git tells the line of an entry
-where its value is no color; the program has to give an entry this line.
+whose value is not a color; the program has to give this line to an entry.
 
-The files are those of config_files.txt, as many changed ones by chance as --files says, and as many of the short texts,
-which are all texts of up to 4 bytes of LETTERS; with --short it is all of these.
+The files are those of config_files.txt, as many random changes of them as --files says, and as many of the short texts,
+which are all texts of up to 4 bytes of LETTERS; with --short all of these are taken.
 
-Then both follow includes: in the folders of includes.txt, and as often as --patterns says in a folder whose file has
-PATTERNS conditions by chance on a git directory whose name is drawn, too.
+Then both follow includes: in the folders of includes.txt, and in as many folders as --patterns says, whose file has
+PATTERNS random conditions on a git directory with a random name.
 
-The classes of differences are a NUL outside a comment, where Git ends a value or a key, and the program refuses the
-file; and the condition hasconfig, which the program does not follow. The run is the same for the same seed and numbers.
+The classes of differences are a NUL outside a comment, where Git ends a value or a key but the program refuses the
+file, and the condition hasconfig, which the program does not follow. The run is the same for the same seed and numbers.
 The last line is 'N passed, M failed'. Without such a Git it says `skipped` and why, and nothing has passed.
 """
 import argparse
@@ -66,9 +66,9 @@ PARTS = [" ", *r"""a b A B 1 - ! ^ : , _ ? * / ] \ é ** /**/ **/ /** [ [] [! [^
              f"[{no}[:{name}:]]" for no in ("", "!") for name in
              "alnum alpha blank cntrl digit graph lower print punct space upper xdigit word ALPHA".split())]
 
-# what a reader gives: keys and values, the latter None for a key alone, and the line of the refusal, or None
+# what a reader gives: keys and values (None for a key alone), and the line of the refusal, or None
 Answer = collections.namedtuple("Answer", "entries refused")
-# what the program gives: besides, the lines of the entries, and the reason of the refusal
+# what the program gives: that answer, the lines of the entries, and the reason of the refusal
 Listed = collections.namedtuple("Listed", "answer lines reason")
 
 
@@ -137,7 +137,7 @@ class Git:
             return list(pool.map(self.answer, names))
 
     def line(self, name):
-        """The line of the first entry that is no color, if there is one."""
+        """The line of the first entry whose value is not a color, if there is one."""
         match = re.search(rb"fatal: bad config line (\d+)", self.run(name, "--type=color", "--get-regexp", ".").stderr)
         return int(match[1]) if match else None
 
@@ -147,19 +147,19 @@ class Git:
 
 
 def is_part(some, entries):
-    """Some of the entries, in their order."""
+    """Whether `some` are entries of these, in the same order."""
     left = iter(entries)
     return all(one in left for one in some)
 
 
 def is_cut(listed, git):
-    """The program refuses a NUL, and Git has the entries before it, or refuses the file at another line."""
+    """Whether the program refuses a NUL, and Git's entries begin with the entries before it."""
     entries = listed.answer.entries
     return listed.reason == "a NUL byte outside a comment" and git.entries[:len(entries)] == entries
 
 
 def rows():
-    """The files of config_files.txt, each a line with the escapes of Python."""
+    """The files of config_files.txt, which has each as a line with the escapes of Python."""
     lines = ROWS.read_text("ascii").split("\n")[:-1]
     return [line.encode().decode("unicode_escape").encode("latin-1") for line in lines]
 
@@ -169,7 +169,7 @@ def short_texts():
 
 
 def changed(draw, texts):
-    """A text made from one of these by a few changes."""
+    """A text made from one of these by a few random changes."""
     text = bytearray(draw.choice(texts))
     for _ in range(draw.choice((1, 1, 2, 3, 5))):
         at, way = draw.randrange(len(text) + 1), draw.randrange(6)
@@ -234,7 +234,7 @@ class Folder:
             (self.path / ".git/HEAD").write_text("0" * 39 + "1\n", "ascii")
 
     def git_dir(self, name):
-        """Makes a git directory in place of the one that is found from here."""
+        """Makes a git directory that Git uses instead of the one that it would find from here."""
         for part in ("objects", "refs"):
             (self.path / name / part).mkdir(parents=True)
         (self.path / name / "HEAD").write_text("ref: refs/heads/main\n", "ascii")
@@ -268,7 +268,7 @@ class Folder:
         return [(name.rsplit(b":", 1)[0], entry(data)) for name, data in zip(parts[::2], parts[1::2])], place
 
     def by_git(self, git):
-        """The same by Git."""
+        """The same for Git."""
         run = self.run(git, "config", "--file", self.main, "--includes", "--list", "--null", "--show-origin")
         parts = run.stdout.split(b"\0")
         stopped = re.search(rb"fatal: bad config line (\d+) in file (.+)\n", run.stderr)
@@ -279,7 +279,7 @@ class Folder:
         return [(name.removeprefix(b"file:"), entry(data)) for name, data in zip(parts[::2], parts[1::2])], place
 
     def values(self, program, git):
-        """The value of the last entry that has one, by its key: as the program gives it, and Git."""
+        """The value of the last entry that has a value, asked by its key: as the program and as Git give it."""
         keys = [key for _, (key, value) in self.by_git(git)[0] if value is not None and key.count(b".") == 1]
         ours = [self.run(program, "--file", self.main, key, "--includes").stdout for key in keys[-1:]]
         return ours, [self.run(git, "config", "--file", self.main, "--includes", key).stdout for key in keys[-1:]]
@@ -294,7 +294,7 @@ def drawn(draw, pieces, length):
 
 
 def conditions(draw):
-    """A name, and a line whose conditions ask for it by patterns."""
+    """A random name, and a line with conditions whose patterns may match it."""
     name = "/".join(part for part in drawn(draw, NAMES, 5).split("/") if part) or "a"
     quoted = [drawn(draw, PARTS, 4).replace("\\", "\\\\") for _ in range(PATTERNS)]
     fields = [f"?gitdir{'/i' * draw.randrange(2)}:./{pattern}" for pattern in quoted]
@@ -302,7 +302,7 @@ def conditions(draw):
 
 
 class Comparison:
-    """What was compared, and what came of it."""
+    """What was compared: counts, and the faults."""
 
     def __init__(self, program, git, folder):
         self.program, self.git, self.folder = program, git, folder
@@ -333,7 +333,7 @@ class Comparison:
                 self.faults.append((text, listed, line))
 
     def follow(self, name, tree, difference=None):
-        """Compares what includes give in a folder. In a class of differences Git may have more entries."""
+        """Compares the entries of a folder with includes. In a class of differences Git may have more entries."""
         program, git = self.program.path, self.git.command
         ours, other = tree.by_program(program), tree.by_git(git)
         if ours != other and difference and is_part(ours[0], other[0]):
@@ -349,7 +349,7 @@ class Comparison:
                     self.faults.append((tree.line[:200], ours, other))
 
     def follow_all(self, arguments, folder):
-        """Compares the folders of includes.txt, and folders whose git directory is asked for by patterns."""
+        """Compares the folders of includes.txt, and folders with random patterns for the git directory."""
         for number, line in enumerate(lines_of_trees()):
             difference = HASCONFIG if "hasconfig" in line else NUL if r"\x00" in line else None
             self.follow("folders", Folder(folder / f"f{number}" / "R", line), difference)

@@ -1,15 +1,15 @@
-"""Feeds texts made by mutation to the built program, and checks what needs no second reader of the texts.
+"""Feeds texts made by mutation to the built program, and checks what can be checked without a second reader.
 
 python3 fuzz.py PROGRAM [--seed N] [--lines N] [--seconds S]
 
-One process of the program answers everything, batch by batch. Each text is asked of every kind. It is checked that
+One process of the program answers everything, batch by batch. Each text is asked as every kind. It checks that
 
-- the process lives, gives one answer a line, and ends with the status of its answers;
+- the process lives, gives one answer for each line, and ends with the status of its answers;
 - an answer is `ok` and printable bytes, at most LONGEST, `refused`, or `unknown kind`, the last exactly if the line
   names no kind;
-- an `ok` text is answered by itself;
+- the text of an `ok` answer is answered by itself;
 - a color name and an attribute word are colors with the same text;
-- an amount is an integer, and is what decides a boolean; no suffix alone is an integer;
+- an amount is an integer, and decides the boolean; no suffix alone is an integer;
 - a text of two accepted color texts joined by white space is accepted exactly if they have at most two color
   words together, and its answer has the words of both; joined by a near miss of white space it is refused.
 
@@ -67,13 +67,13 @@ class Program:
             self.process.stdin.write(data)
             self.process.stdin.flush()
         except OSError:
-            pass  # the missing answers tell of it
+            pass  # the missing answers will show it
 
     def answers(self, lines):
         data = b"".join(line + b"\n" for line in lines)
         sender = threading.Thread(target=self.send, args=(data,))
         sender.start()
-        # a program that leaves a line unanswered would be waited for without end
+        # without a limit it would wait forever for a program that leaves a line unanswered
         watch = threading.Timer(SECONDS_FOR_A_BATCH, self.process.kill)
         watch.start()
         answers = []
@@ -93,7 +93,7 @@ class Program:
 
     def end(self):
         """What is wrong with how the process ends, if anything."""
-        # a program that goes on at the end of its input would be waited for without end
+        # without a limit it would wait forever for a program that does not end with its input
         watch = threading.Timer(SECONDS_FOR_A_BATCH, self.process.kill)
         watch.start()
         self.process.stdin.close()
@@ -109,7 +109,7 @@ class Program:
 
 
 def mutated(draw, texts):
-    """A text made from one that is kept."""
+    """A text made from one of these by random changes."""
     text = bytearray(draw.choice(texts))
     for _ in range(draw.choice((0, 1, 1, 1, 2, 3))):
         at = draw.randrange(len(text) + 1)
@@ -138,7 +138,7 @@ def mutated(draw, texts):
 
 
 def mutated_head(draw):
-    """A kind's name, spoiled or not."""
+    """A kind's name, changed at one place or unchanged."""
     head = bytearray(draw.choice(KINDS))
     at = draw.randrange(len(head) + 1)
     other_case = bytes(head[at:at + 1]).swapcase()
@@ -181,7 +181,7 @@ class Fuzzer:
         self.faults.append(f"{what}: {line!r} is answered {answer!r}")
 
     def ask(self, what, lines):
-        """The answers, each looked at by itself."""
+        """The answers to the lines, after each is checked by itself."""
         answers = self.program.answers(lines)
         self.tried[what] += len(lines)
         for line, answer in zip(lines, answers):
@@ -207,7 +207,7 @@ class Fuzzer:
             self.texts[self.draw.randrange(len(FIRST_TEXTS), KEPT)] = text
 
     def compare(self, text, by_kind):
-        """What the kinds say of one text, against each other."""
+        """Compares the answers of the kinds to one text with each other."""
         def agree(holds, what):
             if not holds:
                 self.faults.append(f"{what}: {text!r} is answered {by_kind}")
@@ -222,7 +222,7 @@ class Fuzzer:
             agree(integer == b"refused", "a suffix is no integer")
 
     def batch(self, count):
-        """Texts of every kind, their answers again, and joined colors."""
+        """Asks texts as every kind, their canonical texts again, misspelled kinds, and joined colors."""
         draw = self.draw
         texts = [mutated(draw, self.texts) for _ in range(count)]
         lines = [kind + b" " + text for text in texts for kind in KINDS]

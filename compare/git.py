@@ -6,8 +6,8 @@ PROGRAM is config_value and PATHS_PROGRAM is path_answers. Each text is the valu
 Git reads as `--type=bool`, `--type=int`, `--type=bool-or-int`, by `--get-color`, and as `--type=path` with a home
 directory and with users that the machine has. A color of the library is turned into the codes that Git prints.
 
-Left out by rule: texts with a NUL, where a value ends for Git; and texts with a LF but for paths, since they end a line
-of PROGRAM. That the files carry all others is tried first.
+Texts with a NUL are left out, since a value ends there for Git; and texts with an LF, except paths, since it ends a
+line of PROGRAM. First it is checked that the files carry all others.
 
 Each difference has to belong to exactly one class of classes.py, in a version in which it is expected; and each
 class that is expected has to be seen. The run is the same for the same seed and number of texts on the same machine. It
@@ -31,7 +31,7 @@ SHOWN = 20
 
 
 class Comparison:
-    """What was asked, and what came of it."""
+    """What was asked, what was seen, and the faults."""
 
     def __init__(self, library, git):
         self.library = library
@@ -46,7 +46,7 @@ class Comparison:
         return [Case(asked, user_of(asked.text)[1], self.library.install, ours, git) for asked, ours, git in given]
 
     def judge(self, case):
-        """The class of a difference, if it is in order."""
+        """The class of a difference, if it is in exactly one class that is expected; otherwise it is a fault."""
         found = classes.of(case)
         if len(found) == 1 and classes.is_expected(found[0].when, self.running):
             return found[0]
@@ -56,7 +56,7 @@ class Comparison:
         return None
 
     def ask(self, questions):
-        """Judges each difference, and asks what its class asks besides."""
+        """Judges each difference, and asks the plain text of its class too."""
         more = []
         for case in self.cases(questions):
             self.asked[case.question.kind] += 1
@@ -72,7 +72,7 @@ class Comparison:
                 self.faults.append((f"{one.name!r} is read otherwise than {plain.question.text!r}", case))
 
     def missing(self):
-        """The classes that are expected and were not seen."""
+        """The names of the classes that are expected but were not seen."""
         return [one.name for one in classes.CLASSES
                 if classes.is_expected(one.when, self.running) and not self.seen[one.name]]
 

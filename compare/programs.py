@@ -1,4 +1,4 @@
-"""Asks programs that answer a line for each line of their input; the Rust crate's, which bench/upstream builds, too."""
+"""Asks programs that answer each line of their input by a line, also the Rust crate's, which bench/upstream builds."""
 import pathlib
 import subprocess
 import sys
@@ -7,7 +7,7 @@ ROOT = pathlib.Path(__file__).resolve().parent.parent
 
 
 class Wrong(Exception):
-    """A program ended otherwise than it is to, or is not built."""
+    """A program did not end as it should, or it is not built."""
 
 
 class Missing(Exception):
@@ -29,7 +29,7 @@ def counted(compare):
 
 
 def answers(command, lines):
-    """One answer for each line. Neither has its LF."""
+    """Returns one answer for each line. Lines and answers are without their LF."""
     data = b"".join(line + b"\n" for line in lines)
     run = subprocess.run([str(word) for word in command], input=data, stdout=subprocess.PIPE, check=False)
     given = run.stdout.split(b"\n")
@@ -39,7 +39,7 @@ def answers(command, lines):
 
 
 def rust_crate():
-    """The program over the Rust crate."""
+    """Builds the program over the Rust crate, and returns its path."""
     build = [sys.executable, ROOT / "bench/upstream/build.py"]
     run = subprocess.run(build, stdout=subprocess.PIPE, text=True, check=False)
     said = run.stdout.strip()

@@ -1,4 +1,4 @@
-"""The two that read: the library's programs and the installed Git. Each answers questions; None says refused. A color
+"""The two readers: the library's programs and the installed Git. Each answers questions; None means refused. A color
 of the library is turned into the codes that Git prints."""
 import concurrent.futures
 import os
@@ -23,7 +23,7 @@ BACKGROUND = 10
 
 
 def of_palette(number, ground):
-    """The first sixteen have codes of their own."""
+    """The code of a palette number: the first sixteen have codes of their own."""
     if number < 8:
         return f"{30 + ground + number}"
     if number < 16:
@@ -32,7 +32,7 @@ def of_palette(number, ground):
 
 
 def of_name(name, ground):
-    """The code of a foreground, at 0, or of a background; None if the color stays the same."""
+    """The code of a foreground (ground 0) or of a background; None if the color stays the same."""
     if name == "normal":
         return None
     if name == "default":
@@ -58,12 +58,12 @@ def escape_code(text):
 
 
 def text_of(answer):
-    """The canonical text of an answer of the program, or None."""
+    """The canonical text in an answer of the program, or None if the text is refused."""
     return answer[len(b"ok "):] if answer.startswith(b"ok ") else None
 
 
 def value(question, given):
-    """What the answers to the lines of a question say, in the terms of Git."""
+    """What the answers to the lines of a question mean, in the terms of Git."""
     amount, boolean, color = (given[kind + b" " + question.text] for kind in (b"amount", b"boolean", b"color"))
     if question.kind == "color":
         return None if color is None else escape_code(color)
@@ -141,14 +141,14 @@ class Git:
             return list(pool.map(self.answer, map(str, range(len(questions))), questions))
 
     def lost(self, wanted):
-        """The texts that a file does not carry as they are."""
+        """The texts that a file does not carry unchanged."""
         *given, _ = self.config("all", wanted, ["--null", "--get-all"], None).stdout.split(b"\0")
         if len(given) != len(wanted):
             return wanted
         return [text for text, carried in zip(wanted, given) if text != carried]
 
     def install(self):
-        """The directory that the prefix means; any, if Git does not know the prefix."""
+        """The directory that the prefix means, or /usr if Git does not know the prefix."""
         given = self.answer("prefix", Question("path", calls.PREFIX))
         return b"/usr" if given in (None, calls.PREFIX) else given.removesuffix(b"/")
 
@@ -158,7 +158,7 @@ def escaped(text):
 
 
 def user_of(text):
-    """The user that a path names, and that user's home directory, or None."""
+    """The user that a path names, and that user's home directory, or None if the machine has no such user."""
     name = text.partition(b"/")[0].removeprefix(b"~") if text.startswith(b"~") else b""
     try:
         return name, os.fsencode(pwd.getpwnam(name.decode()).pw_dir)
@@ -167,12 +167,12 @@ def user_of(text):
 
 
 def users():
-    """A few users of the machine, of different homes."""
+    """A few users of the machine, with different homes."""
     by_home = {entry.pw_dir: entry.pw_name for entry in reversed(pwd.getpwall())}
     return [name.encode() for name in list(by_home.values())[::-1][:USERS]]
 
 
 def c_library():
-    """The version of glibc, or one below all if the machine has another C library."""
+    """The version of glibc, or a version below all others if the machine has another C library."""
     name, version = platform.libc_ver()
     return tuple(map(int, version.split("."))) if name == "glibc" else (0,)

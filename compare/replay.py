@@ -1,14 +1,14 @@
-"""Replays the Rust crate's answers: lines.txt has lines of the program's input, and answers.txt what the crate answers.
+"""Replays the Rust crate's answers: lines.txt has lines of the program's input, and answers.txt the crate's answers.
 
 python3 replay.py PROGRAM [FOLDER]     feeds the lines to the program, and compares every answer
-python3 replay.py --again              asks the crate again for them, and for the calls of crates/path_answers/stdin
+python3 replay.py --again              asks the crate again about them and the calls of crates/path_answers/stdin
 python3 replay.py --make FOLDER [--seed N] [--lines N] [--calls N]     draws others, and has the crate answer them
 
 The first two print the first differences, and last 'N passed, M failed'; if the crate cannot be had they say
 `skipped` and why. --make writes lines.txt and answers.txt, which PROGRAM FOLDER replays, and calls.txt and
-call_answers.txt for path_answers. The lines are mutated as in fuzz.py, short texts in full and long ones among them; of
-each kind as many are drawn as of another, half of them accepted if there are so many. The same seed and numbers give
-the same files. The rule of calls.py answers a path that is no UTF-8, if the crate keeps it.
+call_answers.txt for path_answers. The lines are mutated as in fuzz.py; short random texts and long ones are among them.
+Each kind has the same number of lines, half of them accepted if there are so many. The same seed and numbers give the
+same files. If the crate keeps a path that is not UTF-8, the answer is by the rule of calls.py.
 """
 import argparse
 import pathlib
@@ -23,13 +23,13 @@ from programs import ROOT, Missing, answers, counted, rust_crate
 HERE = pathlib.Path(__file__).resolve().parent
 SHOWN = 20
 BATCH = 2000
-# of some kinds there are few texts, so drawing has to end
+# some kinds have few texts, so drawing has to end
 ROUNDS = 40
 KEPT = 4096
 
 
 def drawn(draw, texts):
-    """A text by chance: a short one, a long one, or one made from one of these."""
+    """A random text: a short one, a long one, or one made from one of these."""
     way = draw.randrange(8)
     if way == 0:
         return bytes(draw.randrange(256) for _ in range(draw.choice((0, 1, 1, 2)))).replace(b"\n", b"\r")
@@ -39,7 +39,7 @@ def drawn(draw, texts):
 
 
 def answered_lines(draw, upstream, kind, count):
-    """Different lines of a kind with their answers, half of them accepted where there are so many."""
+    """Different lines of a kind with their answers, half of them accepted if there are so many."""
     texts = list(fuzz.FIRST_TEXTS)
     accepted, refused = {}, {}
     for _ in range(ROUNDS):
@@ -54,7 +54,7 @@ def answered_lines(draw, upstream, kind, count):
 
 
 def lines(draw, upstream, count):
-    """Lines of each kind, and some whose kind is spoilt, with their answers."""
+    """Lines of each kind, and some whose kind is misspelled, with their answers."""
     unknown = sorted({fuzz.mutated_head(draw) + b" 1" for _ in range(count // 100)})
     chosen = list(zip(unknown, answers([upstream], unknown)))
     for kind in fuzz.KINDS:
@@ -100,7 +100,7 @@ def rows(file):
 
 
 def replayed(program, folder):
-    """What was asked, the answers that are stored, those of the program, and what is wrong with its end."""
+    """The lines, the stored answers, the answers of the program, and what is wrong with its end."""
     run = subprocess.run([program], input=(folder / "lines.txt").read_bytes(), stdout=subprocess.PIPE, check=False)
     asked, wanted, (*given, rest) = rows(folder / "lines.txt"), rows(folder / "answers.txt"), run.stdout.split(b"\n")
     is_well = rest == b"" and len(given) == len(wanted) == len(asked) and run.returncode == 1
@@ -109,7 +109,7 @@ def replayed(program, folder):
 
 
 def asked_again():
-    """The same of the Rust crate, for the lines and the calls that are stored."""
+    """The same for the Rust crate, over the stored lines and calls."""
     upstream, asked, calls_asked = rust_crate(), rows(HERE / "lines.txt"), rows(ROOT / "crates/path_answers/stdin")
     given = answers([upstream], asked) + [calls.by_rule(it) for it in answers([upstream, "paths"], calls_asked)]
     stored = rows(HERE / "answers.txt") + rows(ROOT / "crates/path_answers/stdout")
@@ -117,7 +117,7 @@ def asked_again():
 
 
 def compared(asked, wanted, given, wrong):
-    """How many answers are as stored, and how many are not: one that is missing has failed, and so has a wrong end."""
+    """How many answers are as stored, and how many are not: a missing answer and a wrong end count as failed."""
     differences = [found for found in zip(asked, wanted, given) if found[1] != found[2]]
     for line, want, got in differences[:SHOWN]:
         print(f"{line!r}: {want!r} is stored, and the answer is {got!r}")

@@ -2,9 +2,9 @@
 """What Git does with values of the settings of git.rt: settings.py [PROGRAM | --ask [KEY..]]
 
 settings.tsv has a line for each question: the key of a row, the key that is asked, the name of a command, a value as
-Python writes it (None for a key alone), and what Git answered: `takes`, `warns: ..` or `dies: ..`, with its first line.
+Python writes it (None for a key alone), and Git's answer: `takes`, `warns: ..` or `dies: ..`, with its first line.
 A row that no command was seen to read has one line, whose command is `-` and whose answer is `unread`.
---ask asks the installed Git again, of all rows or of those with these keys, and writes the answers. PROGRAM is
+--ask asks the installed Git again, about all rows or those with these keys, and writes the answers. PROGRAM is
 config_check: its verdict on each question has to agree, or to differ in exactly one class of CLASSES.
 """
 import ast
@@ -37,7 +37,7 @@ git remote add origin ../origin.git; git push -q -u origin main side; git fetch 
 git format-patch -q -1 --stdout > ../p.patch; echo changed >> a.txt; seq 5 > new.txt
 git fast-export --all > ../s.fi 2> /dev/null
 """
-# what is done before, and the command that reads the setting
+# what is done before a command, and the command, which reads the setting
 COMMANDS = {
     "status": ("", "git status"),
     "log": ("", "git log -p -3 --decorate --graph --stat --grep=o --notes"),
@@ -171,7 +171,7 @@ COMMANDS = {
     "whitespace": ("printf 'x \\n' >> a.txt", "git diff --check"),
     "pager": ("", "git --paginate log -1"),
 }
-# settings that Git reads in the repository's own file alone, or that stop its making elsewhere
+# settings that Git reads only in the repository's own file, or with which elsewhere no repository can be made
 LOCAL = re.compile(r"(core\.(bare|worktree|repositoryformatversion)|extensions\..*)", re.IGNORECASE)
 COMPLAINT = re.compile(rb"error|fatal|warning|invalid|bad |unknown|unrecognized|unsupported|missing", re.IGNORECASE)
 
@@ -180,7 +180,7 @@ Question = collections.namedtuple("Question", "row key command value")
 
 
 def environment(folder):
-    """What Git sees of its surroundings: no other configuration, a name, and one time."""
+    """The environment of Git: no other configuration, a name, and a fixed time."""
     return {"PATH": os.environ["PATH"], "HOME": str(folder), "LC_ALL": "C", "GIT_CONFIG_NOSYSTEM": "1",
             "EDITOR": "true", "GIT_CONFIG_GLOBAL": str(folder / "config"), "GIT_AUTHOR_DATE": "1700000000 +0000", "PAGER": "cat",
             "GIT_COMMITTER_DATE": "1700000000 +0000", "TERM": "dumb", "GIT_TERMINAL_PROMPT": "0", "GIT_ASKPASS": "true",
@@ -199,13 +199,13 @@ def entry(key, value):
 
 
 def shell(script, folder, cwd):
-    """Runs a script, without input, and gives how it ended and its errors."""
+    """Runs a script without input, and returns how it ended and its errors."""
     return subprocess.run(["timeout", str(SECONDS), "sh", "-c", script], cwd=cwd, env=environment(folder), check=False,
                           stdin=subprocess.DEVNULL, stdout=subprocess.DEVNULL, stderr=subprocess.PIPE)
 
 
 def run(made, question):
-    """How a command ends in a fresh copy of the repository, with the setting of the question or, without one, alone."""
+    """How a command ends in a fresh copy of the repository, with the setting of the question if it has one."""
     with tempfile.TemporaryDirectory() as name:
         folder = pathlib.Path(name) / "home"
         shutil.copytree(made, folder, symlinks=True)
@@ -221,7 +221,7 @@ def run(made, question):
 
 
 def answer(made, plain, question):
-    """What Git does with the value, beside what it does without the setting."""
+    """What Git does with the value, compared with what it does without the setting."""
     status, said = run(made, question)
     usual, lines = plain[question.command]
     new = [line for line in said if line not in lines]
@@ -259,7 +259,7 @@ def ask(stored, keys):
     ANSWERS.write_text("".join(f"{line}\n" for line in lines), encoding="utf-8")
 
 
-# what a verdict of config_check says that Git does, by the severity of its line
+# what Git does by a verdict of config_check, by the severity of its line
 VERDICTS = {b"error": "dies", b"warning": "warns"}
 # a question whose answer differs from the verdict, and the kind of its row
 Case = collections.namedtuple("Case", "question kind ours git")
@@ -270,7 +270,7 @@ WIDER = set("""core.abbrev branch.sort tag.sort gc.logExpiry gc.pruneExpire gc.w
 diff.colorMovedWS push.recurseSubmodules repack.cruftWindow repack.cruftDepth repack.cruftThreads http.sslVersion
 http.*.sslVersion http.sslBackend http.*.sslBackend receive.maxInputSize diff.dirstat log.graphColors""".split())
 NEWER = set("help.autoCorrect merge.stat pack.allowPackReuse status.showUntrackedFiles".split())
-# by its name, whether a difference is of the class
+# the classes by their names: whether a difference is in the class
 CLASSES = {
     "Git ignores the value without a word": lambda case: (case.ours, case.git) == ("warns", "takes"),
     "a number of 2^63 and more": lambda case: case.question.value == str(2 ** 63) and case.git == "takes",
@@ -291,8 +291,8 @@ def kinds():
 
 
 def verdicts(program, questions):
-    """What Git does with each question by config_check, or None for a row that no command reads: a file cannot name
-    each of those."""
+    """What Git does with each question by config_check, or None for a row that no command reads, since a file cannot
+    name each of those."""
     asked = [question for question in questions if question.command != "-"]
     file = "".join(entry(question.key, question.value) for question in asked)
     run_of = subprocess.run([program, "-"], input=file.encode(errors="surrogateescape"), stdout=subprocess.PIPE,
@@ -300,13 +300,13 @@ def verdicts(program, questions):
     found = dict.fromkeys(questions) | dict.fromkeys(asked, "takes")
     for line in run_of.stdout.splitlines():
         _, number, severity, _ = line.split(b":", 3)
-        # each question takes two lines, of which the second has its key
+        # each question takes two lines, and the second has its key
         found[asked[int(number) // 2 - 1]] = VERDICTS[severity.strip()]
     return found
 
 
 def compare(program):
-    """Counts what agrees or differs in one class, and what does not; each row and each class has to be seen."""
+    """Counts the questions that agree or differ in one class, and the others; each row and class has to be seen."""
     stored, kind_of, seen = read(), kinds(), collections.Counter()
     failed = [f"no question of {key}" for key in sorted(set(kind_of) - {question.row for question in stored})]
     for question, ours in verdicts(program, stored).items():

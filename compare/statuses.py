@@ -8,7 +8,7 @@ import subprocess
 import sys
 
 FULL = pathlib.Path("/dev/full")
-# a line, or nothing, is answered if possible, and the status is that of the answers
+# the input, its answers, and the status that these give
 ANSWERED = [
     ("no line", b"", b"", 0),
     ("a line with a value", b"integer 0x10k\n", b"ok 16k\n", 0),
@@ -17,7 +17,7 @@ ANSWERED = [
     ("a line of no kind", b"number 1\n", b"unknown kind\n", 1),
     ("a value after a refusal", b"integer 08\ninteger 1\n", b"refused\nok 1\n", 1),
 ]
-# each line has a value, or has none: what is not written decides alone
+# a line with a value and one without: if the answer cannot be written, that alone decides the status
 UNWRITTEN = [b"integer 1\n", b"integer 08\n"]
 
 
@@ -26,14 +26,14 @@ def status(program, given, output):
 
 
 def closed_pipe():
-    """The end for writing of a pipe that nothing reads."""
+    """The writing end of a pipe that nothing reads."""
     reader, writer = os.pipe()
     os.close(reader)
     return writer
 
 
 def rows(program):
-    """What was tried, what it gave, and what it has to give."""
+    """What was tried, its result, and the wanted result."""
     for name, given, answers, wanted in ANSWERED:
         run = subprocess.run([program], input=given, stdout=subprocess.PIPE, check=False)
         yield name, (run.returncode, run.stdout), (wanted, answers)

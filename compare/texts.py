@@ -7,7 +7,7 @@ from classes import CLASSES, NUMBERS, Question
 
 SUFFIXES = ["", "k", "m", "g", "K", "M", "G"]
 SIGNS = ["", "-", "+"]
-# how a number is written, by what precedes its digits
+# the format of a number's digits, by the prefix before them
 FORMS = {"": "d", "0": "o", "0x": "x", "0X": "X", "0b": "b"}
 EDGES = sorted({(1 << bits) // unit + more for bits in (31, 32, 63, 64) for unit in (1, 1 << 10, 1 << 20, 1 << 30)
                 for more in (-1, 0, 1)})
@@ -32,17 +32,17 @@ LETTERS = {"number": [b"0", b"1", b"8", b"x", b"b", b"k", b"+", b"-", b" "],
 
 
 def is_carried(text):
-    """Whether the file can carry the text; only a NUL ends a value there, whatever is around it."""
+    """Whether the file can carry the text, which it cannot if the text has a NUL."""
     return b"\0" not in text
 
 
 def of_case(draw, text):
-    """The text with letters of either case."""
+    """The text with each letter in a random case."""
     return bytes(draw.choice((byte, ord(chr(byte).swapcase()))) if byte < 128 else byte for byte in text)
 
 
 def short(letters):
-    """All texts of these letters, the shortest first."""
+    """All texts of these letters, beginning with the shortest."""
     return (b"".join(chosen) for length in itertools.count() for chosen in itertools.product(letters, repeat=length))
 
 
@@ -51,12 +51,12 @@ def number(sign, form, magnitude, suffix):
 
 
 def edge(draw):
-    """A number at an edge of what some bits hold, in any base and with any suffix."""
+    """A number at an edge of the range of some number of bits, in any base and with any suffix."""
     return number(draw.choice(SIGNS), draw.choice(list(FORMS)), draw.choice(EDGES), draw.choice(SUFFIXES))
 
 
 def near(word):
-    """The word in capitals, and each of its bytes missing, twice, and replaced."""
+    """The word in capitals, and with each of its bytes missing, doubled, or replaced."""
     yield word.upper()
     for at in range(len(word)):
         yield word[:at] + word[at + 1:]
@@ -66,7 +66,7 @@ def near(word):
 
 
 def systematic():
-    """All words and what is near to them, two of them with each byte and each white space between, the numbers at all
+    """All words and texts near to them, two words with each byte and each white space between them, the numbers at all
     edges in all forms, and small numbers with zeros."""
     words = NUMBER_WORDS + NUMBER_TEXTS + COLOR_WORDS + COLOR_TEXTS + [suffix.encode() for suffix in SUFFIXES]
     found = words + [text for word in words for text in near(word)]
@@ -78,7 +78,7 @@ def systematic():
 
 
 def around(draw, words):
-    """A word with another case, a prefix, or white space around it or in it."""
+    """A word in another case, with a prefix, or with white space before, after or in it."""
     text = of_case(draw, draw.choice(words))
     other = draw.choice(ASCII_SPACES + fuzz.SPACES + fuzz.NEAR_MISSES + [b"no", b"no-", b"bright", b"x", text[:1]])
     at = draw.choice((0, 0, len(text), draw.randrange(len(text) + 1)))
@@ -119,8 +119,8 @@ MADE = {"number": number_text, "color": color_text, "path": path_text}
 
 
 def texts(draw, kind, first, count):
-    """So many different texts, or those that come first, if they are more: after them the short ones up to a third of
-    all, and others by chance."""
+    """This many different texts, or the first ones if these are more: the first ones, then a third of short texts, and
+    then random ones."""
     found = dict.fromkeys(first)
     for text in itertools.islice(short(LETTERS[kind]), count // 3):
         found[text] = None
@@ -137,7 +137,7 @@ def of_users(names):
 
 
 def questions(draw, count, users):
-    """So many of each kind, with those in which the classes are shown among them."""
+    """This many questions of each kind, among them those in which the classes are shown."""
     shown = [question for one in CLASSES for question in one.shown]
     known = [question.text for question in shown if question.kind in NUMBERS]
     numbers = texts(draw, "number", known + NUMBER_WORDS + NUMBER_TEXTS, count)

@@ -2,17 +2,17 @@
 
 python3 upstream.py PROGRAM PATHS_PROGRAM [--seed N] [--lines N] [--calls N]
 
-PROGRAM is config_value and PATHS_PROGRAM is path_answers; bench/upstream answers the same lines by the crate. The lines
-are those that fuzz.py makes, at least N, and before them some in order: the texts in which the classes of
-classes.py are shown, all words and what is near to them, and numbers at the edges. Every answer is compared: `ok`
-with its text, `refused`, `unknown kind`. The calls of interpolation are drawn by calls.py.
+PROGRAM is config_value and PATHS_PROGRAM is path_answers; bench/upstream answers the same lines by the crate. First
+come fixed lines: the texts in which the classes of classes.py are shown, all words and texts near to them, and numbers
+at the edges. Then come at least N lines that fuzz.py makes. Every answer is compared: `ok` with its text, `refused`,
+`unknown kind`. The calls of interpolation are drawn by calls.py.
 
-No line differs by rule. Of the calls, those with a path that is no UTF-8 do: it is refused here, and the crate keeps it
-on Unix. They are held to that rule, and counted.
+No line may differ. Calls with a path that is not UTF-8 differ by a rule: the library refuses it, and the crate keeps it
+on Unix. These are compared with that rule, and counted.
 
-The run is the same for the same seed and numbers. The first difference is shrunk: to the first text of at most two
-bytes that differs, or else until no part of it can be taken out or be one space or zero. The last line is 'N passed, M
-failed', counted in batches; if the crate cannot be had it says `skipped` and why, and nothing has passed.
+The run is the same for the same seed and numbers. The first difference is shrunk to the first text of at most two bytes
+that differs, or otherwise until no part of it can be removed or replaced by one space or zero. The last line is 'N
+passed, M failed', counted in batches; if the crate cannot be had it says `skipped` and why, and nothing has passed.
 """
 import argparse
 import itertools
@@ -45,7 +45,7 @@ class Tally:
         self.failed += bool(found)
 
     def show(self, shrunk):
-        """Prints the first differences, and the first one again as it is when shrunk."""
+        """Prints the first differences, and then the first one again, shrunk."""
         for found in self.differences[:SHOWN]:
             show(found)
         if self.differences:
@@ -54,7 +54,7 @@ class Tally:
 
 
 class Both:
-    """Two programs that the fuzzer asks as one: it is told what the first answers."""
+    """Two programs that the fuzzer asks as one: it gets the answers of the first."""
 
     def __init__(self, ours, theirs):
         self.programs = [fuzz.Program(ours), fuzz.Program(theirs)]
@@ -68,12 +68,12 @@ class Both:
         return given
 
     def found(self):
-        """The differences since it was asked last."""
+        """The differences since the last call."""
         found, self.differences = self.differences, []
         return found
 
     def end(self):
-        """What is wrong with how they end."""
+        """What is wrong with how the programs end."""
         return [said for program in self.programs if (said := program.end())]
 
 
@@ -86,7 +86,7 @@ def show(found):
 
 
 def shrunk(text, differs):
-    """A text that still differs, of at most two bytes if there is one, else one that is none of the shorter ones."""
+    """A text that still differs: one of at most two bytes, or otherwise one whose shorter versions do not differ."""
     found = differs(SHORT)
     if found:
         return min(found, key=len)
@@ -96,14 +96,14 @@ def shrunk(text, differs):
 
 
 def shorter(text):
-    """The text with any one part of it taken out, or replaced by one space or zero."""
+    """The text with any one part of it removed, or replaced by one space or zero, if that makes it shorter."""
     parts = [(text[:start], text[end:]) for start in range(len(text)) for end in range(start + 1, len(text) + 1)]
     made = [front + byte + back for front, back in parts for byte in (b"", b" ", b"0")]
     return [other for other in made if len(other) < len(text)]
 
 
 def compare_lines(ours, theirs, seed, least):
-    """What came of the lines in order and of at least so many of the fuzzer's, and how many there were."""
+    """Compares the fixed lines and at least this many of the fuzzer; returns the tally and the number of lines."""
     both, tally = Both(ours, theirs), Tally()
     fuzzer = fuzz.Fuzzer(both, seed)
     first = [question.text for question in QUESTIONS if question.kind != "path"] + texts.systematic()
@@ -121,7 +121,7 @@ def compare_lines(ours, theirs, seed, least):
 
 
 def shrunk_line(ours, theirs, line):
-    """The line made short, and its answers. Where its kind has a name, that stays."""
+    """The shrunk line and its answers. If the line begins with the name of a kind, the name stays."""
     kind = fuzz.head_of(line)
     front = kind + b" " if kind in fuzz.KINDS and line != kind else b""
 
@@ -142,7 +142,7 @@ def differing_calls(ours, theirs, asked):
 
 
 def compare_calls(ours, theirs, seed, count):
-    """What came of so many calls, and how many differ by the rule."""
+    """Compares this many calls; returns the tally, and how many calls differ by the rule."""
     draw, tally, by_rule = random.Random(seed), Tally(), 0
     asked = [(question.text, b"/usr", question.home, {}) for question in QUESTIONS if question.kind == "path"]
     asked += [calls.drawn(draw) for _ in range(count - len(asked))]
@@ -154,7 +154,7 @@ def compare_calls(ours, theirs, seed, count):
 
 
 def shrunk_call(ours, theirs, call):
-    """The call with a short value, and its answers."""
+    """The call with a shrunk value, and its answers."""
     def found(values):
         return differing_calls(ours, theirs, [(value, *call[1:]) for value in values])[0]
 

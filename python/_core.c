@@ -2,16 +2,16 @@
  *
  * Every object is a value that some text reads to, so each has a canonical text, and `str` cannot fail.
  *
- * What the headers of one Python make of a macro must be right on each other one. So no format has a `#`, whose
- * length is an int or not by the version, and no macro returns None, which 3.12 and later no longer count. */
+ * What a macro expands to with the headers of one Python must be right with every other Python. So no format has a `#`,
+ * whose length has a type that depends on the version, and no macro returns None, which 3.12 and later do not count. */
 #define Py_LIMITED_API 0x03090000
 #include <Python.h>
 #include <string.h>
 
 #include "gix_config_value.h"
 
-/* An immutable Name, Attribute or Color. A name is kept as the color of that foreground alone, and a set of
- * attributes as the color of these alone, so one order, one hash and one text serve all three. */
+/* An immutable Name, Attribute or Color. A name is kept as the color that has only this foreground, and a set of
+ * attributes as the color that has only these, so one order, one hash and one text serve all three. */
 typedef struct {
     PyObject_HEAD
     gcv_color color;
@@ -68,7 +68,7 @@ static uint32_t known_bits(void)
     return bits;
 }
 
-/* A new reference. */
+/* Returns a new reference to the object. */
 static PyObject *counted(PyObject *object)
 {
     Py_INCREF(object);
@@ -77,9 +77,9 @@ static PyObject *counted(PyObject *object)
 
 /* Texts */
 
-/* The bytes of a text, as a new object of the type `bytes` itself. A str is encoded as UTF-8, with the bytes
- * that os.fsdecode made surrogates of; anything else is read by the buffer protocol. No method of the text is
- * called, so a subclass cannot tell another length. */
+/* Returns the bytes of a text, as a new object of the type `bytes` itself. A str is encoded as UTF-8, with the bytes
+ * from which os.fsdecode made surrogates; anything else is read by the buffer protocol. No method of the text is
+ * called, so a subclass cannot report another length. */
 static PyObject *bytes_of(PyObject *text)
 {
     static const char *const handlers[] = {"surrogateescape", "surrogatepass"};
@@ -110,7 +110,7 @@ static PyObject *ascii(const char *text, size_t length)
     return PyUnicode_DecodeASCII(text, (Py_ssize_t)length, NULL);
 }
 
-/* Whether a kind has this name; otherwise with an exception. */
+/* Whether a kind has this name. If not, an exception is raised. */
 static int is_kind(PyObject *name, gcv_kind *kind)
 {
     if (!PyUnicode_Check(name)) {
@@ -127,7 +127,7 @@ static int is_kind(PyObject *name, gcv_kind *kind)
     return 0;
 }
 
-/* Raises an exception that has just been made, unless that failed. Always NULL. */
+/* Raises an exception that was just made, unless making it failed. Always returns NULL. */
 static PyObject *raised(PyObject *type, PyObject *error)
 {
     if (error)
@@ -136,7 +136,7 @@ static PyObject *raised(PyObject *type, PyObject *error)
     return NULL;
 }
 
-/* Raises Refused for a text, given as `bytes`. Always NULL. */
+/* Raises Refused for a text, given as `bytes`. Always returns NULL. */
 static PyObject *refuse(gcv_fault fault, PyObject *bytes)
 {
     char text[GCV_LONGEST_TEXT];
@@ -146,7 +146,7 @@ static PyObject *refuse(gcv_fault fault, PyObject *bytes)
                   PyObject_CallFunction(refused_type, "sNO", codes[fault], ascii(text, size), bytes));
 }
 
-/* Raises InvalidFile for a line of a file, or MemoryError. Always NULL. */
+/* Raises InvalidFile for a line of a file, or MemoryError. Always returns NULL. */
 static PyObject *reject(gcv_status status, PyObject *file, size_t line)
 {
     const char *code = status == GCV_BAD_LINE   ? "bad_line"
@@ -192,7 +192,7 @@ static PyObject *suffix_of(gcv_suffix suffix)
     return PyUnicode_FromString(suffixes[suffix]);
 }
 
-/* The value of a text of a kind. */
+/* Returns the value of a text of a kind, or raises Refused. */
 static PyObject *read_bytes(gcv_kind kind, PyObject *bytes)
 {
     const char *text = PyBytes_AsString(bytes);
@@ -260,7 +260,7 @@ READER(read_color, GCV_COLOR)
 
 /* What all values share */
 
-/* Numbers that order values as the library does, the first one first. */
+/* Writes numbers that order values as the library does; the first number counts most. */
 static void key_of(PyObject *self, uint64_t key[3])
 {
     const gcv_color *color = &((Value *)self)->color;
@@ -314,7 +314,7 @@ static PyObject *formatted(PyObject *self, PyObject *format)
     return result;
 }
 
-/* What builds an equal value, as the arguments of its type. */
+/* Returns the arguments with which the type builds an equal value. */
 static PyObject *parts_of(PyObject *self)
 {
     const gcv_color *color = &((Value *)self)->color;
@@ -352,7 +352,7 @@ static PyType_Slot shared_slots[] = {
 };
 enum { SHARED_SLOTS = sizeof shared_slots / sizeof shared_slots[0], MOST_SLOTS = 24 };
 
-/* Whether a value is of a type, or TypeError. */
+/* Whether a value is of a type. If not, TypeError is raised. */
 static int is_of(PyObject *value, PyTypeObject *type, const char *wanted)
 {
     if (Py_TYPE(value) == type)
@@ -674,7 +674,7 @@ static PyObject *encoded(PyObject *Py_UNUSED(module), PyObject *text)
 
 /* Paths */
 
-/* A callable that finds the homes of users, and the one that it found, as `bytes`. */
+/* A callable that finds the homes of users, and the home that it found, as `bytes`. */
 typedef struct {
     PyObject *callable, *home;
 } Users;
@@ -693,11 +693,11 @@ static const char *home_of_user(void *state, const char *name, size_t length)
         Py_XDECREF(found);
         Py_XDECREF(directory);
     }
-    /* with no place for a length it refuses a directory that holds NUL */
+    /* without a pointer for the length it refuses a directory that has a NUL */
     return users->home && PyBytes_AsStringAndSize(users->home, &text, NULL) == 0 ? text : NULL;
 }
 
-/* The path, the install directory and the home, as bytes or None, and what finds a user's home. */
+/* Interpolates a path. Takes it, the install directory and the home, as bytes or None, and what finds a user's home. */
 static PyObject *interpolated(PyObject *Py_UNUSED(module), PyObject *args)
 {
     PyObject *path, *prefix, *home, *whole = NULL;
@@ -752,13 +752,13 @@ static PyObject *mark_cut(PyObject *Py_UNUSED(module), PyObject *path)
 
 /* Files */
 
-/* A text of a file, which is any bytes but NUL. */
+/* Returns a text of a file, which may have any bytes except NUL, as a str. */
 static PyObject *text_of(const char *bytes)
 {
     return PyUnicode_DecodeUTF8(bytes, (Py_ssize_t)strlen(bytes), "surrogateescape");
 }
 
-/* The line, the key and the text of each setting; the text of a key without `=` is None. */
+/* Lists the line, the key and the text of each setting; the text of a key without `=` is None. */
 static PyObject *listed(const gcv_settings *settings)
 {
     PyObject *list = PyList_New((Py_ssize_t)settings->count);
@@ -773,7 +773,7 @@ static PyObject *listed(const gcv_settings *settings)
     return list;
 }
 
-/* The settings of a file with these bytes; the file is named in InvalidFile. */
+/* Lists the settings of a file with these bytes. InvalidFile names the file. */
 static PyObject *settings_of(PyObject *Py_UNUSED(module), PyObject *args)
 {
     PyObject *bytes, *file, *result = NULL;
@@ -795,7 +795,7 @@ static PyObject *settings_of(PyObject *Py_UNUSED(module), PyObject *args)
     return result;
 }
 
-/* The bytes of a text of C, and how many there are. Null for None, and with an exception for what is not `bytes`. */
+/* Returns the bytes for C, and their number; null for None, and, with an exception, for what is not `bytes`. */
 static const char *part_of(PyObject *bytes, size_t *length)
 {
     char *text = NULL;
@@ -820,8 +820,8 @@ static gcv_status make_name(PyObject *key, PyObject *value, const gcv_includer *
     return status;
 }
 
-/* The name of the file that an entry includes, or None. The arguments are an entry, and the parts of a gcv_includer,
- * each of them `bytes` or None. */
+/* Returns the name of the file that an entry includes, or None. The arguments are an entry, and the parts of a
+ * gcv_includer, each of them `bytes` or None. */
 static PyObject *included(PyObject *Py_UNUSED(module), PyObject *args)
 {
     PyObject *file, *key, *value, *parts[8], *name = NULL;
@@ -876,7 +876,7 @@ static PyMethodDef functions[] = {
 static PyModuleDef definition = {
     PyModuleDef_HEAD_INIT, "gix_config_value._core", NULL, -1, functions, NULL, NULL, NULL, NULL};
 
-/* Makes a type of values, and adds it to the module. Its instances are neither changed nor subclassed. */
+/* Makes a type of values, and adds it to the module. Its instances cannot be changed, and it cannot be subclassed. */
 static PyTypeObject *add_type(PyObject *module, const char *name, PyType_Slot *slots)
 {
     PyType_Slot all[MOST_SLOTS];

@@ -1,6 +1,6 @@
-"""Compiles the package's module over the C library that pkg-config finds, and makes a wheel of it, for pip.
+"""Compiles the package's module over the C library that pkg-config finds, and makes a wheel of it for pip.
 
-It needs a C compiler (CC, or cc), the headers of Python and `pkg-config`; CFLAGS and LDFLAGS are passed on. One wheel
+It needs a C compiler (CC, or cc), the headers of Python and `pkg-config`, and passes on CFLAGS and LDFLAGS. One wheel
 serves Python 3.9 and later. The same sources, compiler, zlib and SOURCE_DATE_EPOCH give the same bytes.
 """
 import base64
@@ -27,7 +27,7 @@ OLDEST_GLIBC = 17
 
 
 def _said(key):
-    """What pyproject.toml says of the project."""
+    """The value of a key of pyproject.toml."""
     text = (HERE / "pyproject.toml").read_text(encoding="utf-8")
     return re.search(rf'^{key} = "(.*)"$', text, re.MULTILINE).group(1)
 
@@ -42,7 +42,7 @@ def _words(variable, default=""):
 
 
 def _library(asked):
-    """What pkg-config says of the C library."""
+    """What pkg-config says about the C library."""
     command = [*_words("PKG_CONFIG", "pkg-config"), asked, PACKAGE]
     run = subprocess.run(command, stdout=subprocess.PIPE, text=True, check=False)
     if run.returncode != 0:
@@ -52,7 +52,7 @@ def _library(asked):
 
 
 def _compiled():
-    """The bytes of the module, which shows nothing but its entry."""
+    """The bytes of the module, which exports only its entry point."""
     found, wanted = _library("--modversion"), _said("version")
     if found != wanted:
         raise SystemExit(f"pkg-config finds {PACKAGE} {found}, and the package needs {wanted}")
@@ -67,7 +67,7 @@ def _compiled():
 
 
 def _tag(module):
-    """What the module needs: the stable ABI of 3.9, and a C library that its symbols name."""
+    """The tag of what the module needs: the stable ABI of 3.9, and the C library whose version its symbols name."""
     machine = platform.machine()
     if platform.libc_ver()[0] != "glibc":
         return f"cp39-abi3-{re.sub('[^A-Za-z0-9]', '_', sysconfig.get_platform())}"
@@ -77,7 +77,7 @@ def _tag(module):
 
 
 def _metadata():
-    # the head of the package is what its page says
+    # the docstring of the package is the description on its page
     description = re.match(r'"""(.*?)"""', (HERE / PACKAGE / "__init__.py").read_text("utf-8"), re.DOTALL)[1]
     classifiers = ("Development Status :: 4 - Beta", "Intended Audience :: Developers",
                    "License :: OSI Approved :: Apache Software License", "License :: OSI Approved :: MIT License",
@@ -94,7 +94,7 @@ def _metadata():
 
 
 def _package():
-    """The files of the package, by their names, without what Python or a compiler leaves there."""
+    """The files of the package, by their names, without files that Python or a compiler left there."""
     return {f"{PACKAGE}/{file.name}": file.read_bytes() for file in sorted((HERE / PACKAGE).iterdir())
             if file.suffix in (".py", ".pyi", ".typed")}
 
@@ -109,7 +109,7 @@ def _record(name, data):
 
 
 def build_wheel(wheel_directory, config_settings=None, metadata_directory=None):
-    """The wheel's file name, once it is written."""
+    """Writes the wheel, and returns its file name."""
     module = _compiled()
     name = f"{_said('name')}-{_said('version')}"
     info, tag = f"{name}.dist-info", _tag(module)
@@ -130,7 +130,7 @@ def build_wheel(wheel_directory, config_settings=None, metadata_directory=None):
 
 
 def build_sdist(sdist_directory, config_settings=None):
-    """The name of an archive of the sources, once it is written. A wheel is made of it if the C library is there."""
+    """Writes an archive of the sources, and returns its name. From it a wheel can be made if the C library is there."""
     name = f"{_said('name')}-{_said('version')}"
     files = {**_package(), **{source: (HERE / source).read_bytes() for source in SOURCES},
              **{license: _license(license) for license in LICENSES}, "PKG-INFO": _metadata()}

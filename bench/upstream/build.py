@@ -1,8 +1,8 @@
-"""Builds the Rust crate's side: python3 build.py. Prints the folder that holds the program `upstream` and the static
+"""Builds the Rust crate's side: python3 build.py. Prints the folder that has the program `upstream` and the static
 library `libupstream.a`, or `skipped: ` and why the crate is not there.
 
-Cargo takes the published crate. Where no network reaches it, the environment variable GIX_CONFIG_VALUE_SOURCE names a
-folder with its sources, or one whose folders hold them and what they depend on. CARGO_TARGET_DIR is kept to, if set.
+Cargo takes the published crate. If no network reaches it, the environment variable GIX_CONFIG_VALUE_SOURCE can name a
+folder with its sources, or one whose folders have them and their dependencies. CARGO_TARGET_DIR is used if it is set.
 """
 import os
 import pathlib
@@ -20,7 +20,7 @@ class Missing(Exception):
 
 
 class Broken(Exception):
-    """The crate is there, and what uses it is not built."""
+    """The crate is there, but what uses it cannot be built."""
 
 
 def is_the_crate(folder):
@@ -30,7 +30,7 @@ def is_the_crate(folder):
 
 
 def override():
-    """What tells Cargo of the sources that the environment names."""
+    """The arguments that tell Cargo about the sources that the environment names."""
     named = os.environ.get(SOURCE)
     if not named:
         return []
@@ -42,7 +42,7 @@ def override():
 
 
 def cargo(*arguments):
-    """Runs Cargo in this folder. None where it succeeds, else what it says."""
+    """Runs Cargo in this folder. Returns None if it succeeds, and otherwise what it says."""
     try:
         run = subprocess.run(["cargo", *arguments], cwd=HERE, capture_output=True, check=False)
     except OSError as error:
@@ -56,7 +56,7 @@ def last_line(said):
 
 
 def fetch(settings):
-    """Gets what the project depends on, from what is here already or else from the registry."""
+    """Gets the dependencies of the project: those that are here already, or otherwise from the registry."""
     if cargo("fetch", "--offline", *settings) is None:
         return
     said = cargo("fetch", "--config", "net.retry=0", *settings)
@@ -65,7 +65,7 @@ def fetch(settings):
 
 
 def build():
-    """The folder of what was built."""
+    """Builds the project, and returns the folder of what was built."""
     settings = override()
     fetch(settings)
     said = cargo("build", "--release", "--offline", *settings)
@@ -76,7 +76,7 @@ def build():
 
 
 def built():
-    """The same. Ends the program where the crate cannot be had, with status 0, and where it is not built."""
+    """The same. Ends the program with status 0 if the crate cannot be had, and with 1 if the build fails."""
     try:
         return build()
     except Missing as missing:

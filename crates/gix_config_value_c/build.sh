@@ -1,14 +1,14 @@
 #!/bin/sh
 # Builds and installs the library for C: sh crates/gix_config_value_c/build.sh PREFIX
-# Takes away what that has installed:    sh crates/gix_config_value_c/build.sh --uninstall PREFIX
+# Removes what it has installed:         sh crates/gix_config_value_c/build.sh --uninstall PREFIX
 #
-# It proves the crate and those below it, and then puts the header into PREFIX/include, a static archive and a shared
-# library into LIBDIR (PREFIX/lib), what pkg-config reads into LIBDIR/pkgconfig, and the licenses into
+# It proves the crate and those that it uses, and then puts the header into PREFIX/include, a static archive and a
+# shared library into LIBDIR (PREFIX/lib), a file for pkg-config into LIBDIR/pkgconfig, and the licenses into
 # PREFIX/share/doc/gix_config_value. It needs `rt`, a C compiler (CC, or cc) and binutils.
 #
-# CFLAGS and LDFLAGS are passed on to the compiler. With DESTDIR all files go below that folder, and say nothing of it.
+# CFLAGS and LDFLAGS are passed on to the compiler. With DESTDIR all files go below that folder, and none names it.
 # A PREFIX that has moved is found by `pkg-config --define-prefix`.
-# Where GCV_ARCHIVE names a static library that `rt` has built already, it takes that one and proves nothing.
+# If GCV_ARCHIVE names a static library that `rt` has built already, this script takes that one and proves nothing.
 set -eu
 action=install
 if [ "${1:-}" = --uninstall ]; then
@@ -32,7 +32,7 @@ libdir=$(absolute "${LIBDIR:-$prefix/lib}")
 include=${DESTDIR:-}$prefix/include
 lib=${DESTDIR:-}$libdir
 doc=${DESTDIR:-}$prefix/share/doc/gix_config_value
-# below 1.0 each minor number may break a program, and has a library of its own
+# below 1.0 each minor version may break a program, so each has a shared library of its own
 version=$(cat "$here/VERSION")
 case $version in
     0.*) soname=libgix_config_value.so.${version%.*} ;;
@@ -43,7 +43,7 @@ if [ $action = uninstall ]; then
     rm -f -- "$include/gix_config_value.h" "$lib/libgix_config_value.a" "$lib/libgix_config_value.so" "$lib/$soname" \
         "$lib/libgix_config_value.so.$version" "$lib/pkgconfig/gix_config_value.pc" \
         "$doc/LICENSE-APACHE" "$doc/LICENSE-MIT"
-    # the folders, as far as nothing else is in them
+    # the folders, unless something else is in them
     for folder in "$doc" "$lib/pkgconfig" "$lib" "$include"; do
         rmdir -- "$folder" 2> /dev/null || true
     done
@@ -55,7 +55,7 @@ if ! rt=$(command -v rt); then
     echo "rt, the command of the toolchain, is not in PATH" >&2
     exit 2
 fi
-# the toolchain's heap, by which the library calls malloc, realloc and free
+# the toolchain's heap, with which the library calls malloc, realloc and free
 heap=$(dirname -- "$(dirname -- "$(readlink -f -- "$rt")")")/c/liblibc_c.a
 if [ ! -f "$heap" ]; then
     echo "the toolchain has no $heap" >&2
@@ -67,14 +67,14 @@ trap 'rm -rf -- "$work"' EXIT
 trap 'exit 130' INT
 trap 'exit 143' TERM
 
-# for every processor of x86-64, as the toolchain does not do by itself
+# for every processor of x86-64, which is not the default of the toolchain
 archive=${GCV_ARCHIVE:-}
 if [ -z "$archive" ]; then
     (cd "$here" && rt lib --cpu=x86-64)
     archive=$here/out/libgix_config_value_c.a
 fi
 
-# one object, which shows nothing but what the header declares; CC and the flags may be several words
+# one object, which exports only what the header declares; CC and the flags may be several words
 cc=${CC:-cc}
 # shellcheck disable=SC2086
 $cc -std=c99 -O2 -fPIC ${CFLAGS:-} -I"$here/include" -c -o "$work/calls.o" "$here/calls.c"
@@ -92,7 +92,7 @@ escaped() {
 sed -e "s|@PREFIX@|$(escaped "$prefix")|" -e "s|@LIBDIR@|$(escaped "$libdir")|" -e "s|@VERSION@|$version|" \
     "$here/gix_config_value.pc.in" > "$work/gix_config_value.pc"
 
-# into place: folders and files that all can read, whatever the mask is
+# installs folders and files that all users can read, whatever the mask is
 umask 022
 mkdir -p -- "$include" "$lib/pkgconfig" "$doc"
 install -m 644 "$here/include/gix_config_value.h" "$include/"

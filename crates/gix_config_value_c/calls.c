@@ -55,7 +55,7 @@ const char *gcv_status_text(gcv_status status)
     return "unknown status";
 }
 
-/* Writes a text, as every call does that writes one. */
+/* Writes a text in the way that every call writes one. */
 static gcv_status write_text(const char *text, size_t length, char *buffer, size_t capacity, size_t *size)
 {
     *size = length;
@@ -70,7 +70,7 @@ static gcv_status write_text(const char *text, size_t length, char *buffer, size
 
 gcv_status gcv_fault_text(gcv_fault fault, char *GCV_RESTRICT buffer, size_t capacity, size_t *size)
 {
-    /* that of a refused suffix, whose fault has no text in the proved library */
+    /* the text for a refused suffix, whose fault has no text in the proved library */
     static const char suffix[] = "Suffixes need to be 'k', 'm' or 'g'";
     char none[1] = {0};
     if (fault == GCV_FAULT_NONE) {
@@ -79,7 +79,7 @@ gcv_status gcv_fault_text(gcv_fault fault, char *GCV_RESTRICT buffer, size_t cap
     return gcv_raw_fault_text(fault, capacity == 0 ? none : buffer, capacity, size);
 }
 
-/* As a key without `=` has no text, it has that of a true boolean. */
+/* Returns the text, or that of a true boolean for a key without `=`, which has no text. */
 static const char *or_true(const char *text)
 {
     return text ? text : "true";
@@ -121,7 +121,7 @@ gcv_status gcv_parse_color(const char *text, gcv_color *GCV_RESTRICT out, gcv_fa
     return gcv_read_color(or_true(text), strlen(or_true(text)), out, fault);
 }
 
-/* An escape sequence, as far as it is built. */
+/* The part of an escape sequence that is built so far. */
 typedef struct sequence {
     char text[GCV_LONGEST_TEXT];
     size_t length;
@@ -141,7 +141,7 @@ static void put_number(sequence *to, unsigned number)
     put_digits(to, number);
 }
 
-/* A code, after the beginning of the sequence or a separator. That of reset is empty. */
+/* Appends a code, after the beginning of the sequence or a separator. The code of reset is empty. */
 static void put_code(sequence *to, unsigned code)
 {
     if (to->length > 0) {
@@ -155,10 +155,10 @@ static void put_code(sequence *to, unsigned code)
     }
 }
 
-/* The codes of a name; `ground` is 0 for a foreground, and 10 for a background. */
+/* Appends the codes of a name; `ground` is 0 for a foreground, and 10 for a background. */
 static void put_name(sequence *to, const gcv_name *name, unsigned ground)
 {
-    /* for a word: the eight basic colors, each followed by its bright one */
+    /* the place of a word among the eight basic colors, each followed by its bright one */
     unsigned place = (unsigned)name->tag - GCV_BLACK;
     unsigned number = name->tag == GCV_ANSI ? name->palette : place / 2 + 8 * (place % 2);
     if (name->tag == GCV_DEFAULT) {
@@ -207,7 +207,7 @@ gcv_status gcv_escape_color(const gcv_color *value, char *GCV_RESTRICT buffer, s
     return write_text(to.text, to.length, buffer, capacity, size);
 }
 
-/* A path of a user: it means what `~` and the rest mean with the home of that user. */
+/* Interpolates a path of a user: it means what `~` and the rest mean with the home directory of that user. */
 static gcv_status interpolate_user(const char *text, size_t length, gcv_find_home *find, void *state, char *buffer,
                                    size_t capacity, size_t *size, gcv_fault *fault)
 {
@@ -245,7 +245,7 @@ gcv_status gcv_interpolate_with(const char *text, size_t length, const gcv_conte
 {
     gcv_context asked = *context;
     gcv_fault why = GCV_FAULT_NONE;
-    /* a passwd text without users tells which path has one */
+    /* with a passwd text that has no users, the fault tells whether the path has a user */
     asked.passwd = find ? "" : NULL;
     asked.passwd_length = 0;
     gcv_status status = gcv_interpolate(text, length, &asked, buffer, capacity, size, &why);

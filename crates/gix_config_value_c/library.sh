@@ -2,9 +2,9 @@
 # Builds the static library of the C interface over the libraries that the gate has just proved:
 # sh crates/gix_config_value_c/library.sh ARCHIVE, where ARCHIVE is an absolute path.
 #
-# `rt lib` takes nothing that `rt ci` makes, so it would prove those libraries once more. In its place this calls what
-# it calls, `rattle build`: that proves the crate itself and compiles it. Where `rt ci` has put back what earlier checks
-# had kept, `rt lib` takes that, and is called. The last line is 'N passed, M failed'.
+# `rt lib` uses nothing that `rt ci` makes, so it would prove those libraries once more. Instead this script calls what
+# `rt lib` calls, `rattle build`, which proves the crate itself and compiles it. If `rt ci` has restored what earlier
+# checks kept, `rt lib` uses that, so the script calls `rt lib`. The last line is 'N passed, M failed'.
 set -u
 cd -- "$(dirname -- "$0")/../.." || exit
 crate=gix_config_value_c

@@ -1,11 +1,11 @@
-/* A value checked: check KIND TEXT
+/* Checks a value: check KIND TEXT
  *
- * Prints the canonical text of a value of this kind, or why the text has none. */
+ * Prints the canonical text of a value of this kind, or why the text has no value. */
 #include <gix_config_value.h>
 #include <stdio.h>
 #include <string.h>
 
-/* Why the reader of the kind refuses a text. */
+/* Returns why the reader of the kind refuses a text. */
 static gcv_fault fault_of(gcv_kind kind, const char *text)
 {
     gcv_fault fault = GCV_FAULT_NONE;

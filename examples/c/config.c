@@ -1,12 +1,12 @@
-/* A color of configuration files: config KEY FILE...
+/* Reads a color from configuration files: config KEY FILE...
  *
  * Later files decide over earlier ones. Prints the entry's text in its color, or where and why it is refused. The key
- * is as Git lists it: color.diff.oldmoved, and not color.diff.oldMoved. */
+ * must be as Git lists it: color.diff.oldmoved, and not color.diff.oldMoved. */
 #include <gix_config_value.h>
 #include <stdio.h>
 #include <stdlib.h>
 
-/* Appends the settings of a file. A first call tells how much room they take. */
+/* Appends the settings of a file. A first call tells how much room they need. */
 static int add_file(gcv_settings *settings, const char *name)
 {
     static char text[1 << 20];

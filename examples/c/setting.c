@@ -1,6 +1,6 @@
-/* A setting resolved: setting NAME, over the entries below.
+/* Resolves a setting: setting NAME, over the entries below.
  *
- * Later entries decide over earlier ones, as those of a repository over those of the user. */
+ * Later entries decide over earlier ones, as those of a repository decide over those of the user. */
 #include <gix_config_value.h>
 #include <stdio.h>
 #include <string.h>

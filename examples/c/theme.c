@@ -1,7 +1,7 @@
-/* The canonical text of a theme's entry: theme STYLE [OVERRIDE]
+/* Prints the canonical text of a theme's entry: theme STYLE [OVERRIDE]
  *
- * Two spellings of one style have one canonical text. With an override the two styles are composed: its names come
- * after those of the style, and the attributes are united. */
+ * Two spellings of the same style have the same canonical text. With an override the two styles are composed: its names
+ * come after those of the style, and the attributes are united. */
 #include <gix_config_value.h>
 #include <stdio.h>
 #include <string.h>

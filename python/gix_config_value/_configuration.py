@@ -11,7 +11,7 @@ Entry.__doc__ = """An entry of a file: the file, the line from 1, the key as Git
 
 The text is `None` if the key has no `=`."""
 
-#: How deep Git follows includes.
+#: The greatest depth to which Git follows includes.
 MOST_INCLUDES = 10
 
 _MISSING = (FileNotFoundError, NotADirectoryError)
@@ -30,7 +30,7 @@ def _alone(read):
     """The value of a key without `=`."""
     if read is str:
         return None
-    # a boolean is true, and no other reader takes these
+    # a boolean is true; no other reader accepts these texts
     return read("" if read is _path else "true")
 
 
@@ -97,11 +97,11 @@ class Configuration(dict):
         return tuple(self._by_key.get(key) or self._by_key.get(_listed(key), ()))
 
     def get(self, key, kind="text", default=None):
-        """The value of the last entry with a key, or the default if there is none.
+        """The value of the last entry with a key, or the default if there is no such entry.
 
         The kinds are those of `lookup`, and `path` and `text`. A path is interpolated, with the home directory of
         HOME and the users of this system. A key without `=` is true as a boolean, has no text, and no other value.
-        If the text has no value of the kind, `Refused` names the entry.
+        If the text has no value of the kind, raises `Refused`, which names the entry.
         """
         read_text = _READERS[kind]
         text = dict.get(self, key, _ABSENT)
@@ -140,7 +140,7 @@ def _text_of(name):
 
 
 def _add(entries, name, text, known, depth=0):
-    """Appends the entries of a file, and after each one those of the file that it includes, if includes are known."""
+    """Appends the entries of a file, and if `known` is given, after each entry those of the file that it includes."""
     real_dir = os.path.dirname(os.path.realpath(name)).rstrip(b"/")
     file, includer = os.fsdecode(name), known and (name, real_dir, *known)
     for line, key, value in _core.settings(text, file):
@@ -180,7 +180,7 @@ def _add_included(entries, entry, name, known, depth):
 
 
 def _known(repository):
-    """What includes may ask for: no install directory, the home, and the repository if there is one."""
+    """What includes may refer to: no install directory, the home directory, and the repository if there is one."""
     home = os.environ.get("HOME")
     names = [None, home, home and os.path.realpath(home), None, None, None]
     if repository:
@@ -189,12 +189,12 @@ def _known(repository):
 
 
 def read(*paths, includes=False, repository=None):
-    """The configuration of files: later ones decide over earlier ones.
+    """The configuration of files: later files decide over earlier ones.
 
-    With `includes` the files that they include are read too, each one after the entry that includes it. Conditions ask
-    the repository of the folder `repository`; without it no `includeIf` holds. Those on remotes never hold.
+    With `includes` the files that they include are read too, each one after the entry that includes it. Conditions are
+    about the repository of the folder `repository`; without it no `includeIf` holds. Those on remotes never hold.
 
-    `OSError` if a file cannot be read, and `InvalidFile` if Git would not read one, with the place of the fault.
+    Raises `OSError` if a file cannot be read, and `InvalidFile`, with the place, if Git would refuse a file.
     """
     known = _known(repository and _repository.find(os.fsdecode(repository))) if includes else None
     entries = []
@@ -217,10 +217,10 @@ def _add_present(entries, file, known, skipped=()):
 def read_repository(path="."):
     """The configuration that `git -C path config --list` reads from files, with what they include.
 
-    These are the files of the system, of the user, of the repository and of its worktree; outside a repository only the
-    first two. Git's variables for them count, such as GIT_CONFIG_GLOBAL and GIT_DIR.
+    These are the files of the system, of the user, of the repository and of its worktree; outside a repository they are
+    only the first two. Git's variables for them count, such as GIT_CONFIG_GLOBAL and GIT_DIR.
 
-    Errors are those of `read`, but a file that does not exist is skipped.
+    Raises the errors of `read`, but skips a file that does not exist.
     """
     folder = os.fsdecode(path) if os.fsdecode(path) != os.curdir else ""
     repository = _repository.find(folder)

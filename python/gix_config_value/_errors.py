@@ -7,7 +7,7 @@ class Refused(ValueError):
     """A text that has no value, or that means no path.
 
     `code` is a word for the fault, `fault` says why in a sentence, and `input` is the whole text as bytes. The message
-    shows at most 64 bytes of it. If the text is that of an entry of a file, `file`, `line` and `key` tell which one,
+    shows at most 64 bytes of it. If the text is that of an entry of a file, `file`, `line` and `key` tell which entry,
     and the message begins with them; otherwise they are `None`.
     """
 
@@ -30,11 +30,11 @@ class Refused(ValueError):
         self.input = input
 
     def of(self, entry):
-        """The same refusal, of the text of this entry."""
+        """The same refusal, for the text of this entry."""
         return Refused(self.code, self.fault, b"" if entry.text is None else self.input, entry)
 
     def __reduce__(self):
-        """So that it passes between processes, as from the workers of a pool."""
+        """Lets it pass between processes, such as from the workers of a pool."""
         return Refused, (self.code, self.fault, self.input, self._entry)
 
 
@@ -55,5 +55,5 @@ class InvalidFile(ValueError):
         self.line = line
 
     def __reduce__(self):
-        """So that it passes between processes, as from the workers of a pool."""
+        """Lets it pass between processes, such as from the workers of a pool."""
         return InvalidFile, (self.code, self.fault, self.file, self.line)

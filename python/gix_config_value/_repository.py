@@ -1,4 +1,4 @@
-"""Where Git finds its configuration files: those of the system, of the user, and of a repository.
+"""The places where Git finds its configuration files: those of the system, of the user, and of a repository.
 
 A name is relative to the folder in which Git works, and the empty folder is the current one.
 """
@@ -66,7 +66,7 @@ class Repository:
 
 
 def _linked(folder, name):
-    """The name of a Git directory: the one given, or that of the line `gitdir: ..` in a file of this name."""
+    """The name of a Git directory: the given one, or the one that the line `gitdir: ..` in a file of this name has."""
     file = os.path.join(folder, name)
     line = _line(file) if os.path.isfile(file) else None
     if line is None or not line.startswith("gitdir: "):
@@ -75,7 +75,7 @@ def _linked(folder, name):
 
 
 def _candidates(folder):
-    """Where Git looks for a repository, in its order."""
+    """The repositories that Git looks for, in its order."""
     if "GIT_DIR" in os.environ:
         yield Repository(folder, _linked(folder, os.environ["GIT_DIR"]))
         return
@@ -95,7 +95,7 @@ def _candidates(folder):
 
 def find(folder):
     """The repository in which Git works in a folder, or `None`."""
-    os.stat(os.path.join(folder, os.curdir))  # Git works in no folder that is not there
+    os.stat(os.path.join(folder, os.curdir))  # Git does not work in a folder that does not exist
     return next((candidate for candidate in _candidates(folder) if candidate.is_there()), None)
 
 

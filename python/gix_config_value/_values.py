@@ -23,8 +23,8 @@ def lookup(kind, entries, name, default=None):
     """The value of a setting, or the default if no entry has this name.
 
     The kinds are `KINDS`; an integer and an amount are both the product. The entries are a mapping, or pairs of a name
-    and a text, of which the last one with the name decides. A text of `None` is that of a key without `=`: as a boolean
-    it is true, and no other kind has a value for it.
+    and a text, where the last pair with the name decides. A text of `None` means a key without `=`: it is true as a
+    boolean, and no other kind has a value for it.
 
     >>> lookup("boolean", {"core.bare": "yes"}, "core.bare")
     True
@@ -36,7 +36,7 @@ def lookup(kind, entries, name, default=None):
         text = entries[name]
     else:
         wanted = _core.encode(name)
-        text = entries  # which is no text
+        text = entries  # a mark that no pair has the name yet
         for key, value in entries:
             if _core.encode(key) == wanted:
                 text = value
@@ -57,10 +57,10 @@ def cut_mark(path):
 
 
 def interpolate(path, *, prefix=None, home=None, users=None):
-    """The path that a text means, as `str` or `bytes` as the text is.
+    """The path that a text means, as a `str` or `bytes`, whichever the text is.
 
-    One mark is cut off. `%(prefix)/` means `prefix`, `~` means `home`, and `~user` what `users("user")` returns,
-    which is called only for such a path, at most once. It returns `None` for an unknown user. `Refused` if the path
+    One mark is cut off. `%(prefix)/` means `prefix`, `~` means `home`, and `~user` what `users("user")` returns. It is
+    called only for such a path, at most once, and returns `None` for an unknown user. Raises `Refused` if the path
     needs a directory that is `None`: the default of `home` is not HOME.
 
     >>> interpolate("~/x", home="/home/me")
@@ -73,7 +73,7 @@ def interpolate(path, *, prefix=None, home=None, users=None):
 
 
 def home_of_user(name):
-    """The home of a user of this system, for `interpolate`, or `None`."""
+    """The home directory of a user of this system, or `None`; for `interpolate`."""
     import pwd  # pylint: disable=import-outside-toplevel
 
     try:

@@ -1,4 +1,4 @@
-"""Configurations from files, compared with Git where it is installed.
+"""Tests configurations from files, and compares them with Git if it is installed.
 
 Run: python -W error -bb -m unittest discover -s tests, where the package can be imported.
 """
@@ -157,7 +157,7 @@ class AsGit(Files):
                 self.repository(same_names=name not in ("r/deep", "r/.git/refs"), top="r")
                 self.enter(".")
                 self.repository(name, same_names=False, top=name.replace("/deep", ""))
-            # again, where each worktree has a file of its own
+            # the second time each worktree has a file of its own
             self.git("-C", "r", "config", "extensions.worktreeConfig", "true")
             self.git("-C", "r", "config", "--worktree", "own.r", "1")
             self.git("-C", "w", "config", "--worktree", "own.w", "2")
@@ -237,7 +237,7 @@ class Configurations(Files):
                                         "color.branch.current", "branch.Main.rebase"])
         self.assertEqual((len(config), config["core.editor"], config["BRANCH.Main.Rebase"]), (6, "vi", None))
         self.assertTrue("core.EDITOR" in config and "branch.Main.REBASE" in config)
-        # K is the sign of Kelvin, whose lower case is k
+        # \u212a is the sign of Kelvin, whose lower case is k
         for key in ("branch.main.rebase", "core", "", "core.bare.", "core.hoo\u212aspath"):
             self.assertNotIn(key, config)
             self.assertRaises(KeyError, config.__getitem__, key)

@@ -1,4 +1,4 @@
-"""The package over the stored answers of the Rust crate, and as a value of Python.
+"""Tests the package over the stored answers of the Rust crate, and its values as values of Python.
 
 Run: PYTHONPATH=SITE python -W error -bb -m unittest discover -s python/tests, where SITE has the installed package.
 """
@@ -269,7 +269,7 @@ class Values(unittest.TestCase):
 
     def test_references(self):
         objects = [Name, Attribute, Color, Refused, ATTRIBUTES[0]]
-        if sys.version_info < (3, 12):  # where these are not immortal
+        if sys.version_info < (3, 12):  # in later versions these are immortal
             objects += [None, True, False, NotImplemented]
         before = [sys.getrefcount(one) for one in objects]
         for _ in range(2000):
@@ -335,7 +335,7 @@ class Package(unittest.TestCase):
         for text, wanted in (("0x10k", (0, b"16k\n")), ("x", (1, b""))):
             done = run("-m", "gix_config_value", "integer", text)
             self.assertEqual((done.returncode, done.stdout), wanted)
-        # A0 alone is no white space: the byte of an argument is read as it is
+        # the byte A0 alone is not white space: the bytes of an argument are read as they are
         done = run("-m", "gix_config_value", "color", b"red\xa0blue")
         self.assertEqual((done.returncode, done.stdout), (1, b""))
         done = run("-m", "gix_config_value", "--version")

@@ -10,17 +10,17 @@ use std::hint::black_box;
 use std::os::unix::ffi::OsStrExt;
 use std::path::PathBuf;
 
-/// The bytes that a caller has room for where a text is written.
+/// The bytes of a caller's buffer for a text.
 const ROOM: usize = 128;
 
-/// As `up_integer` in the header.
+/// The struct `up_integer` of the header.
 #[repr(C)]
 pub struct CInteger {
     number: i64,
     suffix: u8,
 }
 
-/// As `up_name` in the header.
+/// The struct `up_name` of the header.
 #[derive(Clone, Copy)]
 #[repr(C)]
 pub struct CName {
@@ -28,7 +28,7 @@ pub struct CName {
     numbers: [u8; 3],
 }
 
-/// As `up_color` in the header.
+/// The struct `up_color` of the header.
 #[derive(Clone, Copy)]
 #[repr(C)]
 pub struct CColor {
@@ -110,7 +110,7 @@ impl From<CColor> for Color {
     }
 }
 
-/// The text that a caller hands in.
+/// The text that a caller passes.
 ///
 /// # Safety
 ///
@@ -120,7 +120,7 @@ unsafe fn handed<'a>(text: *const u8, length: usize) -> &'a Bytes {
     unsafe { std::slice::from_raw_parts(text, length) }.into()
 }
 
-/// Writes a value where the caller wants it, and answers 1; without a value, 0.
+/// Writes a value to the caller's place and returns 1, or returns 0 if there is no value.
 ///
 /// # Safety
 ///
@@ -132,7 +132,7 @@ unsafe fn handed_out<V, C: From<V>>(value: Option<V>, place: *mut C) -> u32 {
     1
 }
 
-/// Text in the room of a caller.
+/// A text in the buffer of a caller.
 struct Room<'a> {
     bytes: &'a mut [u8],
     length: usize,
@@ -154,7 +154,7 @@ pub unsafe extern "C" fn up_integer_read(
     length: usize,
     value: *mut CInteger,
 ) -> u32 {
-    // SAFETY: what the header asks of the caller; so below
+    // SAFETY: the header asks the caller for this, here and below
     unsafe { handed_out(Integer::try_from(handed(text, length)).ok(), value) }
 }
 
@@ -185,7 +185,7 @@ pub unsafe extern "C" fn up_color_read(text: *const u8, length: usize, value: *m
     unsafe { handed_out(Color::try_from(handed(text, length)).ok(), value) }
 }
 
-/// Writes what is shown of a value, and answers its length.
+/// Writes the text that a value is shown as, and returns its length.
 ///
 /// # Safety
 ///
@@ -202,7 +202,7 @@ unsafe fn shown(value: impl Display, text: *mut u8) -> usize {
     }
 }
 
-/// Writes what is shown of a value that was read, and answers its length, or `usize::MAX` where it was refused.
+/// Writes the text that a value is shown as, and returns its length, or `usize::MAX` if the text was refused.
 ///
 /// # Safety
 ///
@@ -245,7 +245,7 @@ pub unsafe extern "C" fn up_normalize(
 /// The passwd text that `up_interpolate` looks users up in.
 static PASSWD: &str = "alice:x:1000:1000::/home/alice:/bin/sh\n";
 
-/// The lookup of `up_interpolate`: the home of the user's line in the passwd text, which is read anew each time.
+/// The lookup of `up_interpolate`: the home in the user's line of the passwd text, which is read anew each time.
 fn home_in_passwd(name: &str) -> Option<PathBuf> {
     black_box(PASSWD).lines().find_map(|line| {
         let mut fields = line.split(':');

@@ -1,4 +1,4 @@
-//! What the crate answers to a line of `config_value`: a kind, a space, and a text.
+//! The crate's answers to lines of `config_value`: a kind, a space, and a text.
 
 use crate::Bytes;
 use gix_config_value::color::{Attribute, Name};
@@ -32,7 +32,7 @@ impl<V: Display + 'static> From<Option<V>> for Answer {
     }
 }
 
-/// The answer to a line, given without its LF.
+/// Returns the answer to a line, which is given without its LF.
 pub fn answer(line: &[u8]) -> Answer {
     let end = line.iter().position(|byte| *byte == b' ');
     let (kind, text) = match end {
@@ -52,7 +52,7 @@ pub fn answer(line: &[u8]) -> Answer {
     }
 }
 
-/// The number that an integer text means. The crate has no type for it.
+/// Returns the number that an integer text means. The crate has no type for it.
 fn amount(text: &Bytes) -> Option<i64> {
     Integer::try_from(text).ok()?.to_decimal()
 }

@@ -1,6 +1,6 @@
-//! Answers each line of standard input by the Rust crate, as `config_value` does; with the argument `paths`, each call
-//! of `interpolate`, as `path_answers` does. Ends with 0 where every line is `ok`, with 1 where some line is not, and
-//! with 2 after an error; calls end with 0.
+//! Answers each line of standard input by the Rust crate, as `config_value` does. With the argument `paths` it answers
+//! each call of `interpolate`, as `path_answers` does. The status is 0 if every line is `ok`, 1 if some line is not,
+//! and 2 after an error; for calls it is 0.
 
 use std::io::{self, BufRead, BufReader, BufWriter, Write};
 use std::process::ExitCode;
@@ -25,7 +25,7 @@ fn main() -> ExitCode {
     }
 }
 
-/// Answers every line, and says whether each was accepted. What was answered is sent before more input is waited for.
+/// Answers every line, and returns whether each was accepted. Answers are flushed before it waits for more input.
 fn each_line(answer: fn(&[u8], &mut dyn Write) -> io::Result<bool>) -> io::Result<bool> {
     let mut input = BufReader::with_capacity(BUFFER, io::stdin().lock());
     let mut output = BufWriter::with_capacity(BUFFER, io::stdout().lock());

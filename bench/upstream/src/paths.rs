@@ -1,7 +1,7 @@
-//! What the crate answers to a call of `interpolate`, in the lines of `path_answers`.
+//! The crate's answers to calls of `interpolate`, in the lines of `path_answers`.
 //!
 //! A call is four fields between tabs, texts in hexadecimal digits: the value, the install directory or `-`, the home
-//! directory or `-`, and what the lookup knows, as `user=directory` between commas, or `-` where there is no lookup.
+//! directory or `-`, and what the lookup knows, as `user=directory` between commas, or `-` if there is no lookup.
 //! The answer is the flag, the value after the mark, how often the lookup was called, and the text or the error.
 
 use gix_config_value::Path;
@@ -12,7 +12,7 @@ use std::fmt::Display;
 use std::os::unix::ffi::{OsStrExt, OsStringExt};
 use std::path::PathBuf;
 
-/// How the text of each error of the crate begins, and what an answer calls it. What begins another comes after it.
+/// The beginning of the text of each error of the crate, and its name in an answer. A beginning of another is after it.
 const ERRORS: [(&str, &str); 10] = [
     ("path is missing", "PathMissing"),
     ("git install dir is missing", "InstallDirMissing"),
@@ -38,7 +38,7 @@ struct User {
     home: PathBuf,
 }
 
-// the crate takes a plain function as its lookup, so what this one knows is outside of it
+// the crate takes a plain function as its lookup, so the users that this one knows are outside of it
 thread_local! {
     static USERS: RefCell<Vec<User>> = const { RefCell::new(Vec::new()) };
     static CALLS: Cell<u32> = const { Cell::new(0) };
@@ -52,7 +52,7 @@ fn home_of(name: &str) -> Option<PathBuf> {
     })
 }
 
-/// The answer to a call, or `None` where the line is none.
+/// Returns the answer to a call, or `None` if the line is not a call.
 pub fn answer(line: &str) -> Option<String> {
     let mut fields = line.splitn(5, '\t');
     let value = bytes(fields.next()?)?;
@@ -83,7 +83,7 @@ pub fn answer(line: &str) -> Option<String> {
     ))
 }
 
-/// What an answer calls an error. The crate keeps the ill-formed bytes with it; here they are cut from the value.
+/// Returns the name of an error in an answer, with the ill-formed bytes, which are cut from the value here.
 fn refusal(error: &dyn Display, value: &[u8]) -> String {
     let text = error.to_string();
     let Some((_, name)) = ERRORS
@@ -128,7 +128,7 @@ fn path(bytes: Vec<u8>) -> PathBuf {
     OsString::from_vec(bytes).into()
 }
 
-/// The bytes of these hexadecimal digits.
+/// Returns the bytes that these hexadecimal digits mean, or `None` if they are not such digits.
 fn bytes(field: &str) -> Option<Vec<u8>> {
     let (pairs, rest) = field.as_bytes().as_chunks::<2>();
     let of_pair = |pair: &[u8; 2]| u8::from_str_radix(str::from_utf8(pair).ok()?, 16).ok();

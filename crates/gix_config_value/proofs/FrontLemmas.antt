@@ -8,7 +8,7 @@ use Rattle.gix_config_value.proofs.StepLemmas.{CompletesLines-nil, CompletesLine
 use Rattle.gix_config_value.proofs.StepLemmas.{CompletesLines-trans, takes_any, Answers-last, all_but}
 use Rattle.gix_config_value.proofs.RunLemmas.{AnswersLast-of}
 
--- the answers appended, and those of which this holds
+-- `holds` is `held` with an output appended for which P holds
 abbrev pub Appends : List ℕ → List ℕ → (List ℕ → Type 0) → Type 0
 Appends held holds P = (output : List ℕ) × (holds ≡ held ++ output) × P output
 

@@ -1,4 +1,4 @@
--- What holds of every kind: its name tells it apart, and each text is refused or has a canonical text.
+-- What holds for every kind: whether a text is its name is decided, and each text is normalized or refused.
 use Rattle.std.proofs.Common.{◌≡◌, ◌≢◌, ℕ, ◌⊎◌, inl, inr, List, [], ◌∷◌, Option, Some, None}
 use Rattle.std.specs.List.{AllByRecursion}
 use Rattle.gix_config_value.specs.declared.kind.Kind.{Kind}
@@ -14,7 +14,7 @@ use Rattle.config_word.specs.contracts.name.NameValue.TheImpl.Laws as name
 use Rattle.config_word.specs.contracts.attribute.AttributeValue.TheImpl.Laws as attribute
 use Rattle.config_color.specs.contracts.color.ColorValue.TheImpl.Laws as color
 
--- a text is the name of one of these kinds, or of none of them
+-- whether a text is the name of one of these kinds
 named_among : (kinds : List Kind) (head : List ℕ)
     → ((kind : Kind) × (kind_name kind ≡ head)) ⊎ AllByRecursion (λ kind. kind_name kind ≢ head) kinds
 named_among [] head = inr tt
@@ -23,7 +23,7 @@ named_among (kind ∷ kinds) head = elim (text_told (kind_name kind) head) [
   | inr other ↦ elim (named_among kinds head) [ inl found ↦ inl found | inr none ↦ inr (other, none) ]
 ]
 
--- a text is the name of a kind, or of none
+-- whether a text is the name of a kind
 pub kind_told : (head : List ℕ)
     → ((kind : Kind) × (kind_name kind ≡ head)) ⊎ ((kind : Kind) → kind_name kind ≢ head)
 kind_told head =
@@ -42,7 +42,7 @@ kind_told head =
       ])
     ]
 
--- from the laws of `Value`: a text is refused, or a normalizer gives it a text
+-- from the laws of `Value`: each text is normalized to a text, or refused
 normalized : {V : Type 0} {grammar : List ℕ → V → Type 0} {canonical : List ℕ → Type 0}
     {displayed : V → List ℕ}
     → ((t : List ℕ) (v w : V) → grammar t v → grammar t w → v ≡ w)
@@ -55,7 +55,7 @@ normalized {displayed = displayed} one_value one_text shown decided t = elim (de
   | inr refused ↦ (None, refused)
 ]
 
--- a normalizer gives each text of each kind a text, or none
+-- for each kind, each text is normalized to a text, or refused
 pub kind_normalizes : (kind : Kind) (t : List ℕ)
     → (r : Option (List ℕ)) × Normalizes (KindGrammar kind) (KindCanonical kind) t r
 kind_normalizes kinds.Suffix t =

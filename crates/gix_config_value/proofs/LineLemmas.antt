@@ -1,4 +1,4 @@
--- Lines: where the first LF or the first space of a list of bytes stands.
+-- Lines: the index of the first LF or of the first space in a list of bytes.
 use Rattle.std.proofs.Common.{◌-◌, suc, eq-eqb, eqb-true, ◌≡◌, ◌≢◌, ℕ, ◌+◌, ◌<◌, ◌==◌, List, [], ◌∷◌, ◌++◌}
 use Rattle.std.proofs.Common.{Bool, true, false, length, take, drop, get_or, refl, sym, ap, ◌∙◌, arith}
 use Rattle.std.proofs.Common.{append_assoc, add-one, drop-cons, length-take, take-append-drop}
@@ -16,7 +16,7 @@ false_from : (b : Bool) → ¬ (b ≡ true) → b ≡ false
 false_from true n = absurd (n refl)
 false_from false n = refl
 
--- the byte stands nowhere
+-- the position of a byte that does not occur is the length
 pub position_nowhere : (byte : ℕ) (bytes : List ℕ) → Nowhere (Passes (is_byte byte) bytes) 0 (length bytes)
     → position_or_len (λ b. b == byte) bytes ≡ length bytes
 position_nowhere byte bytes none =
@@ -24,7 +24,7 @@ position_nowhere byte bytes none =
     (λ k below. false_from _ (none k (omega arith) below))
     (λ below. absurd (omega arith))
 
--- the byte stands first at place i
+-- the position of a byte that occurs first at index `i` is `i`
 pub position_first : (byte : ℕ) (bytes : List ℕ) (i : ℕ)
     → NoneBefore (Passes (is_byte byte) bytes) 0 (length bytes) i
     → Passes (is_byte byte) bytes i → position_or_len (λ b. b == byte) bytes ≡ i
@@ -33,7 +33,7 @@ position_first byte bytes i first passes =
     (λ k below. false_from _ (first.before k (omega arith) below))
     (λ _. passes)
 
--- what holds at each place holds of each element
+-- what holds at each index holds for each element
 pub AllByRecursion-from_places : (P : ℕ → Type 0) (xs : List ℕ)
     → ((k : ℕ) → k < length xs → P (get_or xs k 0)) → AllByRecursion P xs
 AllByRecursion-from_places P [] each = tt

@@ -1,7 +1,7 @@
--- What a caller's proof cites for a text that is written out. Where the word of a kind is unfolded, as
--- `integer_on_literals`, its function computes, as `amount_of`. By that the text has its value
--- (`amount_text`), or is refused (`amount_refused`). Then `read_ok` and the others beside it say what a
--- reader answered.
+-- What a caller's proof cites for a literal text. A proof that unfolds a name such as `integer_on_literals`
+-- can compute the function of the kind, such as `amount_of`. The result shows that the text has its value
+-- (`amount_text`), or is refused (`amount_refused`). Then `read_ok`, `read_err`, `read_some` and `read_none`
+-- say what a reader returned.
 pub use Rattle.config_text.proofs.OnLiterals.{OneValue, read_some, read_none, read_ok, read_err}
 unfoldable pub use Rattle.config_integer.proofs.OnLiterals.{integer_on_literals}
 pub use Rattle.config_integer.proofs.OnLiterals.{integer_text, integer_refused, amount_of, amount_text}

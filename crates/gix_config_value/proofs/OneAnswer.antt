@@ -1,4 +1,4 @@
--- A line has one outcome, and an input one output.
+-- Each line has one outcome, and each input one output.
 use Rattle.std.proofs.Common.{◌≡◌, ◌≢◌, ℕ, inl, inr, List, [], ◌∷◌, ◌++◌, Bool, true, Some, refl, sym, ap}
 use Rattle.std.proofs.Common.{subst, ◌∙◌, flat_map, append_assoc, append-nil}
 use Rattle.std.specs.List.{AllByRecursion, AllZip, list_all}
@@ -17,7 +17,7 @@ use Rattle.config_text.specs.Value.{IsRefused, Normalizes}
 
 -- ---- the outcome of a line
 
--- a text is normalized to one text
+-- no text is normalized to two texts
 pub text_once : {V : Type 0} (grammar : List ℕ → V → Type 0) (canonical : List ℕ → Type 0) (t r s : List ℕ)
     → Normalizes grammar canonical t (Some r) → Normalizes grammar canonical t (Some s) → r ≡ s
 text_once grammar canonical t r s a b =
@@ -45,12 +45,12 @@ line_outcome one_name line unknown_kind unknown_kind a b = refl
 
 -- ---- the lines of an input
 
--- the byte does not stand in a text without it
+-- a text that has the byte is not a text without it
 pub not_within : (byte : ℕ) (a b : List ℕ) → ¬ (AllByRecursion (λ c. c ≢ byte) (a ++ byte ∷ b))
 not_within byte [] b without = without.0 refl
 not_within byte (c ∷ a) b without = not_within byte a b without.1
 
--- what stands before the first of these bytes, and what follows it
+-- a text has only one part before the first such byte, and only one part after it
 pub first_cut : (byte : ℕ) (a b x y : List ℕ) → AllByRecursion (λ c. c ≢ byte) a
     → AllByRecursion (λ c. c ≢ byte) b → a ++ byte ∷ x ≡ b ++ byte ∷ y → (a ≡ b) × (x ≡ y)
 first_cut byte [] [] x y u w e = (refl, cc)
@@ -86,7 +86,7 @@ any_output input =
     let taken = takes_any [] true input in let last = last_any taken.0 taken.1 in
     (taken.2 ++ last.1, last.0, Answers-last input taken.0 taken.2 last.1 taken.1 last.0 taken.3 last.2)
 
--- of two beginnings of one text, one begins the other
+-- of two beginnings of a text, one begins with the other
 pub begin_each_other : (a b m n : List ℕ) → a ++ m ≡ b ++ n → OneBegins a b
 begin_each_other [] b m n e = inl (b, refl)
 begin_each_other (c ∷ a) [] m n e = inr (c ∷ a, refl)

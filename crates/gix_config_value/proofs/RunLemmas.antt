@@ -1,4 +1,4 @@
--- A run as a whole: how it goes on after a read, how it ends, and what holds where it stops with an error.
+-- A run as a whole: how it goes on after a read, how it ends, and what holds if it stops with an error.
 use Rattle.std.proofs.Common.{◌≡◌, ◌≢◌, ◌==◌, ℕ, ◌<◌, List, [], ◌∷◌, ◌++◌, ◌&&◌, length, take, Bool, true}
 use Rattle.std.proofs.Common.{false, Option, Result, Ok, Err, IfOk, IfErr, refl, sym, ap, ◌∙◌, append_assoc}
 use Rattle.std.proofs.Common.{append-nil, subst}
@@ -26,12 +26,12 @@ pub AnswersLast-of : (line : List ℕ) (ok accepts : Bool) (outcome : Outcome) �
 AnswersLast-of [] ok accepts outcome some is accepted = absurd (some refl)
 AnswersLast-of (b ∷ bs) ok accepts outcome some is accepted = (outcome, is, refl, ap (λ x. ok && x) accepted)
 
--- a line of some bytes
+-- a line whose length is not 0 is not empty
 pub some_line : (line : List ℕ) (n : ℕ) → length line ≡ n → (n == 0) ≡ false → line ≢ []
 some_line line n counted some none =
     let e : (n == 0) ≡ true = ap (λ k. k == 0) (sym counted ∙ ap length none) in cc
 
--- an error before the last line's answer
+-- an error before the last line is answered
 pub EndsEarly-first : (a : RunState) (b : OutputState) (e : RunError) → FailsSending a.to b [] e → e ≡ Write
     → EndsEarly a b e
 EndsEarly-first a b e k is_write = let last = last_any a.line a.accepted in record {
@@ -75,7 +75,7 @@ module _ (a : RunState) (b : OutputState) (accepts : Bool) (some : a.line ≢ []
     is_write = is_write;
   }
 
--- a read that gives nothing is at the end of the input
+-- a read that returns no byte into a buffer with room is at the end of the input
 pub at_the_end : (left left' : Option (List ℕ)) (buf : List ℕ) (n : ℕ) → n ≡ 0 → 0 < length buf
     → Consumes left left' (take n buf) × (n ≡ 0 → 0 < length buf → IsAtEnd left')
     → Consumes left left' [] × IsAtEnd left'
@@ -90,7 +90,7 @@ lines_of Read missing input output may some_lines = absurd may
 lines_of Write missing input output may some_lines = tt
 lines_of (Memory e) missing input output may some_lines = some_lines may
 
--- ---- a run in its middle
+-- ---- the steps of a run
 
 module _ (unread held : Option (List ℕ)) (writer : GName) where
   pub HasAnswered-start : (line waiting : List ℕ) → line ≡ [] → waiting ≡ []
@@ -153,7 +153,7 @@ module _ (unread held : Option (List ℕ)) (writer : GName) where
     written_all : Appends held now.to.held g.advances.output
     written_all = SendsBytes-all (start writer held).to now.to g.advances.output refl g.empty g.advances.sends
 
-    -- a read, its lines answered, and all that waited written
+    -- the run goes on after a read whose lines are answered, and whose answers are written
     pub HasAnswered-on : (left' : Option (List ℕ)) (between : RunState) (after : OutputState) (bytes : List ℕ)
         → Consumes left left' bytes → Advances now between bytes
         → SendsBytes between.to after [] → after.waiting ≡ []
@@ -215,7 +215,7 @@ module _ (unread held : Option (List ℕ)) (writer : GName) where
           e.answered;
     }
 
-    -- the end of the input is not answered whole
+    -- an error at the end of the input
     pub Fails-end : (left' : Option (List ℕ)) (after : OutputState) (e : RunError)
         → Consumes left left' [] × IsAtEnd left' → EndsEarly now after e
         → Fails unread left' held after.held e
@@ -246,7 +246,7 @@ module _ (unread held : Option (List ℕ)) (writer : GName) where
         (Consumes-trans unread left left' g.input bytes g.consumed read)
         (FailsWithin-after (start writer held) now after g.input bytes e g.advances s)
 
-    -- what `finish` ends with is what the run ends with
+    -- if `finish` returns `Ok`, the run completes with the same truth value
     pub Completes-at_end : (r : Result Bool RunError) (left' : Option (List ℕ)) (after : OutputState)
         → Consumes left left' [] × IsAtEnd left'
         → IfOk r (EndsAnswered now after) → IfOk r (Completes unread left' held after.held)
@@ -259,7 +259,7 @@ module _ (unread held : Option (List ℕ)) (writer : GName) where
     Fails-at_end (Ok ok) left' after read p = tt
     Fails-at_end (Err e) left' after read early = Fails-end left' after e read early
 
-    -- a read of which not all answers could be sent
+    -- an error while the answers to the lines of a read were written
     pub Fails-unsent : (left' : Option (List ℕ)) (between : RunState) (after : OutputState) (bytes : List ℕ)
         (e : RunError) → Consumes left left' bytes
         → Advances now between bytes → FailsSending between.to after [] e

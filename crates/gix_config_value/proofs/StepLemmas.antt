@@ -1,4 +1,4 @@
--- How the steps of a run compose, and that every line and every input has answers.
+-- How the steps of a run compose; and every line has an outcome, and every input an output.
 use Rattle.std.proofs.Common.{length, Result, Ok, Err, OnOk, IfErr, ◌+◌, take, drop, take-append-drop, ◌≡◌, ℕ}
 use Rattle.std.proofs.Common.{inl, inr, Some, None, List, [], ◌∷◌, ◌++◌, ◌&&◌, flat_map, Bool, true, Option}
 use Rattle.std.proofs.Common.{refl, sym, ap, ◌∙◌, append_assoc, append-nil, subst}
@@ -54,7 +54,7 @@ CompletesLines-nil line ok = record {
   all_accepted = sym (and-true ok);
 }
 
--- bytes without LF go on with the line begun
+-- bytes without LF are appended to the line begun
 pub CompletesLines-begun : (line front : List ℕ) (ok : Bool) → IsUnbroken front
     → CompletesLines line ok front (line ++ front) ok []
 CompletesLines-begun line front ok unbroken = record {
@@ -104,7 +104,7 @@ CompletesLines-trans line p line' q line'' ok ok' ok'' first second t u = record
       ∙ ap (λ b. ok && b) (sym (list_all-append is_accepted t.outcomes u.outcomes));
 }
 
--- ---- every line has an outcome, and every input answers
+-- ---- every line has an outcome, and any bytes complete some lines
 
 pub line_decided : (line : List ℕ) → (outcome : Outcome) × LineOutcome line outcome
 line_decided line = elim (kind_told (line_head line)) [
@@ -153,7 +153,7 @@ last_any (b ∷ bs) ok =
 
 -- ---- the answers to an input
 
--- all lines that the bytes of an input complete, and then the last one
+-- the answers to the lines that an input completes, and then the answer to the last line
 pub Answers-last : (input line output last : List ℕ) (ok ok' : Bool)
     → CompletesLines [] true input line ok output → AnswersLast line ok ok' last
     → Answers input (output ++ last) ok'
@@ -184,7 +184,7 @@ Answers-last input (b ∷ bs) output last ok ok' t l = record {
   };
 }
 
--- what was written of the answers to the completed lines begins the answers to the input, whatever follows
+-- a beginning of the answers to the completed lines is a beginning of the answers to the input
 pub begins : (input line output written missing : List ℕ) (ok : Bool)
     → CompletesLines [] true input line ok output → output ≡ written ++ missing
     → IsBeginningOfAnswers input written
@@ -195,7 +195,7 @@ begins input line output written missing ok t same = let last = last_any line ok
   (missing ++ last.1, ap (λ x. x ++ last.1) same ∙ append_assoc written missing last.1),
 )
 
--- the lines that a beginning of the input completes are all but some last ones
+-- the lines that a beginning of the input completes are all lines of the input except the last ones
 pub all_but : (input left line line' output output' : List ℕ) (ok ok' : Bool)
     → CompletesLines [] true input line ok output → CompletesLines line ok left line' ok' output'
     → (more : List (List ℕ)) × AnswersAllBut more (input ++ left) output
@@ -242,7 +242,7 @@ SendsBytes-trans a b c o o' s t = record {
       ∙ ap (λ x. s.written ++ x) t.in_order ∙ sym (append_assoc s.written t.written c.waiting);
 }
 
--- some first bytes of what waits are written
+-- a beginning of what waits is written
 pub SendsBytes-write : (a b : OutputState) (held : Option (List ℕ)) (n : ℕ) → SendsBytes a b []
     → Appends b.held held (take n b.waiting)
     → SendsBytes a (record { writer = b.writer; held = held; waiting = drop n b.waiting }) []
@@ -254,7 +254,7 @@ SendsBytes-write a b held n s h = SendsBytes-trans a b _ [] [] s
       in_order = append-nil b.waiting ∙ sym (take-append-drop n b.waiting);
     })
 
--- all is written
+-- if nothing waits before and after, all bytes sent are written
 pub SendsBytes-all : (a b : OutputState) (bytes : List ℕ) → a.waiting ≡ [] → b.waiting ≡ []
     → SendsBytes a b bytes → Appends a.held b.held bytes
 SendsBytes-all a b bytes first last s = subst (Appends a.held b.held)
@@ -291,7 +291,7 @@ pub SendsBytes-cleared : (a b : OutputState) (waiting : List ℕ) → SendsBytes
 SendsBytes-cleared a b waiting s none cleared =
     subst (λ w. SendsBytes a (record b { waiting = w }) []) (nil_from_length b.waiting none ∙ sym cleared) s
 
--- a failed write, while these bytes are left
+-- a write fails, and what waits is missing
 pub FailsSending-write : (a b after : OutputState) (bytes : List ℕ) → SendsBytes a b bytes
     → Appends b.held after.held [] → after.writer ≡ b.writer → FailsSending a after bytes Write
 FailsSending-write a b after bytes s h same = record {
@@ -323,7 +323,7 @@ Advances-trans a b c p q t u = record {
   sends = SendsBytes-trans a.to b.to c.to t.output u.output t.sends u.sends;
 }
 
--- what waited is written once the bytes are taken
+-- after the bytes were taken, a beginning of what waits is written
 pub Advances-sent : (a b : RunState) (to : OutputState) (bytes : List ℕ) → Advances a b bytes
     → SendsBytes b.to to [] → Advances a (record b {
       to =
@@ -336,7 +336,7 @@ Advances-sent a b to bytes t s = record {
       (SendsBytes-trans a.to b.to to t.output [] t.sends s);
 }
 
--- bytes without LF go on with the line begun, and no answer comes
+-- bytes without LF are appended to the line begun, and nothing is answered
 pub Advances-begun : (a b : RunState) (bytes : List ℕ) → IsUnbroken bytes → b ≡ with_more a bytes
     → Advances a b bytes
 Advances-begun a b bytes unbroken gathered = subst (λ x. Advances a x bytes) (sym gathered)
@@ -387,7 +387,7 @@ FailsWithin-after a b after p q e t s = record {
   breaks = FailsSending-after a.to b.to after t.output s.output e t.sends s.breaks;
 }
 
--- an error once all of the bytes are taken
+-- an error after all of the bytes were taken
 pub FailsWithin-whole : (a b : RunState) (after : OutputState) (bytes : List ℕ) (e : RunError)
     → Advances a b bytes → FailsSending b.to after [] e → FailsWithin a after bytes e
 FailsWithin-whole a b after bytes e t k =
@@ -416,7 +416,7 @@ AnswersUpTo-more a b bytes rest place to accepts t cut e = record {
   none = t.none;
 }
 
--- an error at the answer to a line, or once the lines that end within the bytes are answered
+-- an error after the bytes before the rest were taken
 pub FailsWithin-in_lines : (a b : RunState) (bytes rest : List ℕ) (after : OutputState) (e : RunError)
     → AnswersUpTo a b bytes rest → FailsSending b.to after [] e
     → FailsWithin a after bytes e
@@ -424,7 +424,7 @@ FailsWithin-in_lines a b bytes rest after e t k =
     subst (λ x. FailsWithin a after x e) (sym t.split)
     (FailsWithin-after a b after t.done rest e t.advances (FailsWithin-first b after rest e k))
 
--- the lines that end within the bytes are answered, and the rest is gathered
+-- the bytes before the rest were taken, and the rest is gathered
 pub Advances-lines : (a b c : RunState) (bytes rest : List ℕ) → AnswersUpTo a b bytes rest → IsUnbroken rest
     → c ≡ with_more b rest → Advances a c bytes
 Advances-lines a b c bytes rest t unbroken gathered = subst (λ x. Advances a c x) (sym t.split)
@@ -444,13 +444,13 @@ Advances-completed a b front line to accepts unbroken gathered e none =
 
 -- ---- a call that may fail
 
--- what holds of an error holds where `?` passes it on
+-- what holds for an error holds for the result in which `?` passes it on
 pub passed_on : {T : Type 0} (r : Result T RunError) (e : RunError) (P : RunError → Type 0)
     → IsErrAnd r (λ x. x ≡ e) → P e → IfErr r P
 passed_on (Ok x) e P is p = tt
 passed_on (Err x) e P is p = subst P (sym is) p
 
--- the bytes are gathered
+-- if the call succeeds, bytes without LF are gathered
 pub begun_on : (r : Result (Unit {0}) RunError) (a b : RunState) (bytes : List ℕ) → IsUnbroken bytes
     → OnOk r (b ≡ with_more a bytes)
     → OnOk r (Advances a b bytes)
@@ -465,7 +465,7 @@ stopped_first (Err e) a after bytes k = FailsWithin-first a after bytes e k
 
 module _ (r : Result (Unit {0}) RunError) (a b : RunState) (bytes rest : List ℕ)
     (t : AnswersUpTo a b bytes rest) where
-  -- the rest is gathered behind the lines that end within the bytes
+  -- if the call succeeds, the rest is gathered after the bytes before it
   pub lines_on : (c : RunState) → IsUnbroken rest → OnOk r (c ≡ with_more b rest)
       → OnOk r (Advances a c bytes)
   lines_on c unbroken = on r where
@@ -484,7 +484,7 @@ module _ (r : Result (Unit {0}) RunError) (a b : RunState) (bytes rest : List �
 module _ (r : Result (Unit {0}) RunError) (a b : RunState) (bytes : List ℕ) (place : ℕ)
     (cut : CutsLine bytes place)
     (t : Advances a b (ended (take place bytes))) where
-  -- the line begun ends at the first LF, and then the rest is taken
+  -- the line begun ends at the first LF, and if the call succeeds, the bytes after it are taken
   pub taken_after : (c : RunState) → OnOk r (Advances b c (drop (place + 1) bytes))
       → OnOk r (Advances a c bytes)
   taken_after c = on r where

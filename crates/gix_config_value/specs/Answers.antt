@@ -23,13 +23,13 @@ ended line = line ++ line_feed ∷ []
 abbrev pub IsUnbroken : List ℕ → Type 0
 IsUnbroken line = AllByRecursion (λ b. b ≢ line_feed) line
 
--- the input is these lines, each ended by LF, and then a rest without LF
+-- the input consists of these lines, each ended by LF, and of a rest; neither a line nor the rest has an LF
 pub record IsCut (input : List ℕ) (lines : List (List ℕ)) (rest : List ℕ) : Type 0 where
   pub joined : input ≡ flat_map ended lines ++ rest
   pub unbroken : AllByRecursion IsUnbroken lines
   pub rest_unbroken : IsUnbroken rest
 
--- the lines that count: a rest without LF is the last line if it is not empty
+-- the lines that are answered: the rest after the last LF is one of them if it is not empty
 abbrev pub counted_lines : List (List ℕ) → List ℕ → List (List ℕ)
 counted_lines lines [] = lines
 counted_lines lines (b ∷ bs) = lines ++ (b ∷ bs) ∷ []
@@ -44,25 +44,25 @@ line_value line = after_first (λ b. b == space) line
 
 -- ---- the outcome of a line
 
--- what a line gets: a canonical text, a refusal of its text, or that its kind is unknown
+-- the outcome of a line: accepted with a canonical text, refused, or of an unknown kind
 pub data Outcome : Type 0 where
   accepted : (s : List ℕ) → Outcome
   refused : Outcome
   unknown_kind : Outcome
 
--- the head of the line names this kind, whose normalizer gives this text for the line's text, or no text
+-- the head of the line names a kind, whose normalizer returns `text` for the line's text (`None`: refused)
 abbrev pub NormalizesLine : List ℕ → Option (List ℕ) → Type 0
 NormalizesLine line text = (kind : Kind) × (kind_name kind ≡ line_head line)
     × Normalizes (KindGrammar kind) (KindCanonical kind) (line_value line) text
 
 -- accepted with the canonical text of the line's text, refused if the kind's grammar gives the text no value,
--- and unknown if the head of the line is not the name of a kind
+-- and of an unknown kind if the head of the line is not the name of a kind
 abbrev pub LineOutcome : List ℕ → Outcome → Type 0
 LineOutcome line (accepted s) = NormalizesLine line (Some s)
 LineOutcome line refused = NormalizesLine line None
 LineOutcome line unknown_kind = (kind : Kind) → kind_name kind ≢ line_head line
 
--- the line that tells an outcome
+-- the line that the program writes for an outcome
 abbrev pub outcome_text : Outcome → List ℕ
 outcome_text (accepted s) = ended (codes "ok " ++ s)
 outcome_text refused = ended (codes "refused")
@@ -76,15 +76,15 @@ is_accepted unknown_kind = false
 
 -- ---- the answers to an input
 
--- each line has its outcome, the output is the answers in order, and `ok` is true exactly if each line is
--- accepted
+-- each line has an outcome, the output is the texts of the outcomes in order, and `ok` is true exactly if
+-- each line is accepted
 pub record LinesAnswered (lines : List (List ℕ)) (output : List ℕ) (ok : Bool) : Type 0 where
   pub outcomes : List Outcome
   pub each : AllZip LineOutcome lines outcomes
   pub written : output ≡ flat_map outcome_text outcomes
   pub all_accepted : ok ≡ list_all is_accepted outcomes
 
--- the output is the answers to all lines of the input
+-- the output is the answers to all lines of the input, and `ok` is true exactly if each line is accepted
 pub record Answers (input output : List ℕ) (ok : Bool) : Type 0 where
   pub lines : List (List ℕ)
   pub rest : List ℕ
@@ -93,8 +93,8 @@ pub record Answers (input output : List ℕ) (ok : Bool) : Type 0 where
 
 -- ---- what a run did to its reader and its writer
 
--- the reader had `unread` and then `left`, and the writer held `held` and then `holds`: the reader was read
--- to its end, and what was written is the answers to what was read
+-- a run without an error: it read its reader, which had `unread` and then `left`, to the end, and it wrote
+-- the answers to its writer, which held `held` and then `holds`
 pub record Completes (unread left held holds : Option (List ℕ)) (ok : Bool) : Type 0 where
   pub input : List ℕ
   pub output : List ℕ
@@ -108,7 +108,7 @@ abbrev pub IsBeginningOfAnswers : List ℕ → List ℕ → Type 0
 IsBeginningOfAnswers input output = (whole : List ℕ) × (ok : Bool) × Answers input whole ok
     × ((missing : List ℕ) × (whole ≡ output ++ missing))
 
--- of the lines that the input has with their LF, the output is the answers to all but these last ones
+-- the output is the answers to the lines of the input that end in LF, except the last ones, which are `more`
 pub record AnswersAllBut (more : List (List ℕ)) (input output : List ℕ) : Type 0 where
   pub lines : List (List ℕ)
   pub rest : List ℕ
@@ -117,13 +117,13 @@ pub record AnswersAllBut (more : List (List ℕ)) (input output : List ℕ) : Ty
   pub answered : LinesAnswered lines output ok
 
 -- which lines are answered after an error: after `Read` exactly those that were read with their LF, after
--- `Memory` some first ones of those
+-- `Memory` a beginning of those, and after `Write` this says nothing
 abbrev pub AnswersLines : RunError → List ℕ → List ℕ → Type 0
 AnswersLines Read input output = AnswersAllBut [] input output
 AnswersLines Write input output = Unit {0}
 AnswersLines (Memory e) input output = (more : List (List ℕ)) × AnswersAllBut more input output
 
--- some input was read, and what was written begins the answers to it
+-- a run that ended with an error: what it wrote is a beginning of the answers to what it read
 pub record Fails (unread left held holds : Option (List ℕ)) (e : RunError) : Type 0 where
   pub input : List ℕ
   pub output : List ℕ

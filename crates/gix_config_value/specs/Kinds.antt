@@ -1,4 +1,4 @@
--- The kinds of value: for each its name, its values, its grammar, its canonical grammar, and why a text is
+-- The kinds of value: each has a name, values, a grammar, a canonical grammar, and reasons why a text is
 -- refused.
 use Rattle.std.specs.Prelude.{◌≡◌, ◌≢◌, ℕ, List, codes, Option, None, Some, Result, Ok, Err}
 use Rattle.gix_config_value.specs.declared.kind.Kind.{Kind}
@@ -25,7 +25,7 @@ use Rattle.config_word.specs.Name.{NameText, CanonicalName}
 use Rattle.config_word.specs.Attribute.{AttributeText, CanonicalAttribute}
 use Rattle.config_color.specs.Color.{ColorText, CanonicalColor}
 
--- the name that a line begins with
+-- the name of a kind, with which a line begins
 abbrev pub kind_name : Kind → List ℕ
 kind_name kinds.Suffix = codes "suffix"
 kind_name kinds.Integer = codes "integer"
@@ -35,7 +35,7 @@ kind_name kinds.Name = codes "name"
 kind_name kinds.Attribute = codes "attribute"
 kind_name kinds.Color = codes "color"
 
--- the kind of that name, or a refusal if no kind has it
+-- the result is the kind with this name, or an error if no kind has it
 abbrev pub NamesKind : {E : Type 0} → List ℕ → Result Kind E → Type 0
 NamesKind t (Ok kind) = kind_name kind ≡ t
 NamesKind t (Err e) = (kind : Kind) → kind_name kind ≢ t
@@ -60,7 +60,7 @@ KindGrammar kinds.Name = NameText
 KindGrammar kinds.Attribute = AttributeText
 KindGrammar kinds.Color = ColorText
 
--- the canonical texts
+-- the canonical texts of a kind
 abbrev pub KindCanonical : Kind → List ℕ → Type 0
 KindCanonical kinds.Suffix = CanonicalSuffix
 KindCanonical kinds.Integer = CanonicalInteger
@@ -70,12 +70,12 @@ KindCanonical kinds.Name = CanonicalName
 KindCanonical kinds.Attribute = CanonicalAttribute
 KindCanonical kinds.Color = CanonicalColor
 
--- a fault, of those with which a reader refuses a text
+-- the reason is a fault, and one with which the reader may refuse the text
 abbrev pub IsFaultOf : (Fault → Type 0) → Refusal → Type 0
 IsFaultOf refusal refusals.Suffix = ⊥
 IsFaultOf refusal (refusals.Fault fault) = refusal fault
 
--- why a text has no value of a kind: the fault of the kind's reader; the reader of suffixes has no fault
+-- the reason for which a kind refuses a text: a fault of its reader, or `Suffix` if the kind is suffixes
 abbrev pub KindRefusal : Kind → List ℕ → Refusal → Type 0
 KindRefusal kinds.Suffix t = λ r. r ≡ refusals.Suffix
 KindRefusal kinds.Integer t = IsFaultOf (OnlyFault faults.Integer t)
@@ -85,13 +85,13 @@ KindRefusal kinds.Name t = IsFaultOf (OnlyFault faults.Color t)
 KindRefusal kinds.Attribute t = IsFaultOf (OnlyFault faults.Color t)
 KindRefusal kinds.Color t = IsFaultOf (OnlyFault faults.Color t)
 
--- why a text is refused: nothing if it has a value, and otherwise one of these reasons
+-- the result is `None` only for an accepted text, and one of these reasons only for a refused text
 abbrev pub WhyRefused : {V : Type 0} → (List ℕ → V → Type 0) → (Refusal → Type 0) → List ℕ → Option Refusal
     → Type 0
 WhyRefused grammar reason t None = IsAccepted grammar t
 WhyRefused grammar reason t (Some r) = reason r × IsRefused grammar t
 
--- what a refusal is printed as: a fault as its own text
+-- the text that a refusal is printed as: for a fault, the text of the fault
 abbrev pub refusal_text : Refusal → List ℕ
 refusal_text refusals.Suffix = codes "Suffixes are k, m and g, in either case"
 refusal_text (refusals.Fault fault) = fault_text fault

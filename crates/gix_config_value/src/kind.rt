@@ -63,7 +63,7 @@ impl Kind {
         Kind::Color,
     ];
 
-    /// The name of the kind, as a line of the program begins with it.
+    /// Returns the name of the kind. A line of the program begins with this name.
     pub fn name(self) -> &'static str
         ensures { result.now ≡ kind_name self }
     {
@@ -106,7 +106,7 @@ impl FromStr for Kind {
 
     ghost from_str_gives = { NamesKind };
 
-    /// The kind of exactly this name, in lower case, or `UnknownKind` if no kind has it.
+    /// Returns the kind with exactly this name, in lower case, or `UnknownKind` if no kind has it.
     ///
     /// ```rust
     /// use gix_config_value::canonical::{Kind, UnknownKind};
@@ -120,7 +120,7 @@ impl FromStr for Kind {
     }
 }
 
-/// The kind of exactly this name.
+/// Returns the kind with exactly this name, or `None` if no kind has it.
 pub(crate) fn kind_by_name(name: &[u8]) -> Option<Kind>
     ensures { MatchOption result ((k : kind.Kind) → kind_name k ≢ name.now)
         (λ k. kind_name k ≡ name.now) }
@@ -144,9 +144,9 @@ pub(crate) fn kind_by_name(name: &[u8]) -> Option<Kind>
     }
 }
 
-/// The canonical text of this kind that reads to the value of the input. `None` exactly if the kind's grammar
-/// gives the input no value. A canonical input is returned byte for byte. For color texts joined by white
-/// space it is the text of their composition: [`laws::headline`](crate::laws::headline).
+/// Returns the canonical text of this kind that reads to the value of the input, or `None` exactly if the
+/// kind's grammar gives the input no value. A canonical input is returned byte for byte. For color texts that
+/// white space joins it is the text of their composition: [`laws::headline`](crate::laws::headline).
 ///
 /// [`refusal`] says why an input is refused. docs/GRAMMAR.md has a section for each kind.
 ///
@@ -174,8 +174,8 @@ pub fn normalize(kind: Kind, input: BStr<'_>) -> Option<CanonicalText>
 }
 
 /// Replaces the text by the canonical text of this kind that reads to the value of the input. Returns whether
-/// the kind's grammar gives the input a value; if it gives none, the text is left empty. It is `normalize`
-/// without a copy of the text.
+/// the kind's grammar gives the input a value; if it gives no value, the text is left empty. It does what
+/// `normalize` does, but does not copy the text.
 #[inline(always)]
 pub fn normalize_into(kind: Kind, input: BStr<'_>, text: &mut CanonicalText) -> bool
     ensures text { Normalizes (KindGrammar kind) (KindCanonical kind) (bstr_bytes input.entry)
@@ -193,7 +193,7 @@ pub fn normalize_into(kind: Kind, input: BStr<'_>, text: &mut CanonicalText) -> 
     }
 }
 
-/// Why the reader of a type refuses a text, or `None` if the text has a value.
+/// Returns why the reader of a type refuses a text, or `None` if the text has a value.
 fn refusal_as<V: TryRead>(input: BStr<'_>) -> Option<Refusal>
     ensures { WhyRefused V.grammar (IsFaultOf (V.refusal (bstr_bytes input.entry)))
         (bstr_bytes input.entry) result }
@@ -204,7 +204,7 @@ fn refusal_as<V: TryRead>(input: BStr<'_>) -> Option<Refusal>
     }
 }
 
-/// Why a text has no value of this kind, or `None` exactly if it has one.
+/// Returns why a text has no value of this kind, or `None` exactly if it has a value.
 ///
 /// ```rust
 /// use bstr::BStr;
@@ -234,9 +234,9 @@ pub fn refusal(kind: Kind, input: BStr<'_>) -> Option<Refusal>
     }
 }
 
-/// Whether two texts of this kind mean the same, or `None` exactly if the kind's grammar gives one of them no
-/// value. Color texts mean the same if their words have the same names in the same order, and attributes of
-/// the same bits.
+/// Returns whether two texts of this kind mean the same, or `None` exactly if the kind's grammar gives one of
+/// them no value. Two color texts mean the same exactly if their words have the same names in the same order,
+/// and attributes of the same bits.
 ///
 /// ```rust
 /// use bstr::BStr;

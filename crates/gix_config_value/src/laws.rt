@@ -1,5 +1,5 @@
-//! Laws over the definitions. Each is the contract of a function that does nothing. Laws of other crates that
-//! callers cite are here too.
+//! Laws about the definitions. Each law is the contract of a function that does nothing when it runs. Laws of
+//! other crates that callers cite are here too.
 
 pub mod answers;
 pub mod equality;

@@ -27,7 +27,7 @@
 //! [`canonical::same`] and [`canonical::refusal`]; and [`program`], which answers lines.
 //!
 //! Each public type, and each call that a user meets first, has an example in its comment. The grammar of a
-//! kind is at the top of its crate's `specs/`, and docs/GRAMMAR.md says it in words.
+//! kind is at the top of its crate's `specs/`, and docs/GRAMMAR.md describes it in words.
 #![tactic(auto)]
 
 mod kind;

@@ -1,4 +1,4 @@
-//! The program. It answers each line of its input with the canonical text of the line's value.
+//! The program, which answers each line of its input with the canonical text of the line's value.
 //!
 //! Answers wait in a buffer. They are written out when it is full, before the next read and at the end. Lines
 //! within one read are answered from its slice; only a line that crosses the end of a read is copied.
@@ -17,7 +17,7 @@ use std::alloc::{AllocError, Global};
 use std::io::{Read, Write};
 use thiserror::Error;
 
-/// Why a run ended before the end of its input. Its exit status is 2: docs/GRAMMAR.md, Lines and answers.
+/// The reason why a run failed. Its exit status is 2: docs/GRAMMAR.md, Lines and answers.
 ///
 /// ```rust
 /// use gix_config_value::program::{RunError, status};
@@ -38,10 +38,10 @@ pub enum RunError {
     Memory(AllocError),
 }
 
-/// The longest answer: `ok `, the longest canonical text, and LF.
+/// The length of the longest answer in bytes: `ok `, the longest canonical text, and LF.
 const LONGEST_ANSWER: usize = LONGEST_TEXT + 4;
 
-/// The room for answers that wait.
+/// The size of the buffer for answers that wait, in bytes.
 const ROOM: usize = 8192;
 
 /// The most bytes that one read takes.
@@ -81,7 +81,7 @@ fn push_answer(line: &[u8], waiting: &mut ArrayString<ROOM>) -> bool
     true
 }
 
-/// The answers that wait, and the writer that takes them.
+/// The answers that wait, and the writer that they are written to.
 #[derive(Drop)]
 struct Output<'w, W: Write> {
     waiting: ArrayString<ROOM>,

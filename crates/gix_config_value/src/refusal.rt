@@ -1,11 +1,11 @@
-//! Why a text has no value of a kind that is chosen at run time.
+//! The reason why a text has no value of a kind that is chosen at run time.
 ghost use Rattle.std.specs.Prelude.{◌≡◌};
 ghost use Rattle.gix_config_value.specs.Kinds.{refusal_text};
 
 use config_text::errors::Fault;
 use thiserror::Error;
 
-/// Why a text has no value of a kind.
+/// The reason why a text has no value of a kind, with a text that says so to a user.
 ///
 /// ```rust
 /// use gix_config_value::Fault;
@@ -24,7 +24,7 @@ pub enum Refusal {
 }
 
 impl Refusal {
-    /// What `Display` prints.
+    /// Returns the text that `Display` prints.
     pub fn text(self) -> &'static str
         ensures { result.now ≡ refusal_text self }
     {

@@ -17,9 +17,9 @@
  * GCV_SHORT_BUFFER, the buffer is unchanged, and `*size` is the capacity that the text needs. After any other status
  * the buffer and `*size` are unchanged.
  *
- * Most calls are inline, and the library exports all of them. For a generator of bindings, but in no program, define
- * GCV_CALL as `extern`: then it sees all. Most call one with `gcv_raw_` in its name, which takes no null pointer, even
- * if the length is 0, and is proved to keep its contract. */
+ * Most calls are inline, and the library exports all of them. A generator of bindings sees all of them if GCV_CALL is
+ * defined as `extern`; do not define it in a program. Most calls use one with `gcv_raw_` in its name, which takes no
+ * null pointer, even if the length is 0, and is proved to keep its contract. */
 #ifndef GIX_CONFIG_VALUE_H
 #define GIX_CONFIG_VALUE_H
 
@@ -27,8 +27,8 @@
 #include <stdint.h>
 
 /* The version of this header; gcv_version returns that of the library. Below 1.0 a new minor number may change any
- * call, so the name of the shared library has both numbers. From 1.0 only a new major number may, and the name has that
- * one. */
+ * call, so the name of the shared library has both numbers. From 1.0 on only a new major number may change a call, and
+ * the name has only that number. */
 #define GCV_VERSION "0.1.0"
 #define GCV_VERSION_MAJOR 0
 #define GCV_VERSION_MINOR 1
@@ -47,7 +47,7 @@ extern "C" {
 #define GCV_CALL GCV_INLINE
 #endif
 
-/* What lets a compiler warn of a wrong call: a null pointer, a status that is ignored, pointers that overlap. */
+/* With these a compiler can warn of wrong calls: a null pointer, a status that is ignored, pointers that overlap. */
 #ifdef __GNUC__
 #define GCV_NONNULL(positions) __attribute__((nonnull positions))
 #define GCV_CHECKED __attribute__((warn_unused_result))
@@ -66,7 +66,7 @@ extern "C" {
 #define GCV_ENUM(name) enum name
 #endif
 
-/* What a call returns. */
+/* The statuses that calls return. */
 typedef GCV_ENUM(gcv_status) {
     GCV_OK = 0,
     GCV_REFUSED = 1,        /* the text has no value of its kind, or means no path; see the fault */
@@ -86,7 +86,7 @@ typedef GCV_ENUM(gcv_status) {
     GCV_BAD_LINE = 15,      /* a line of a file is invalid */
     GCV_NUL = 16,           /* a file has a NUL outside a comment */
     GCV_NO_INCLUDE = 17,    /* the entry includes no file */
-    GCV_NO_VALUE = 18,      /* the entry includes a file, and has no value */
+    GCV_NO_VALUE = 18,      /* the entry includes a file, but has no value */
     GCV_NO_DIRECTORY = 19   /* the path of an include begins with a user's name, or a directory that is null */
 } gcv_status;
 
@@ -101,9 +101,9 @@ typedef GCV_ENUM(gcv_kind) {
     GCV_COLOR = 7      /* names of a foreground and a background, and attributes */
 } gcv_kind;
 
-/* Why a text or a path is refused. */
+/* The reasons why a text or a path is refused. */
 typedef GCV_ENUM(gcv_fault) {
-    GCV_FAULT_NONE = 0, /* of a refused suffix, which has no fault of its own */
+    GCV_FAULT_NONE = 0, /* for a refused suffix, which has no fault of its own */
     GCV_FAULT_BOOLEAN = 1,
     GCV_FAULT_INTEGER = 2,
     GCV_FAULT_OVERFLOW = 3,
@@ -174,13 +174,13 @@ typedef GCV_ENUM(gcv_tag) {
 /* The longest text of a value, canonical or shown: a buffer of this capacity is never too short for one. */
 enum { GCV_LONGEST_TEXT = 127 };
 
-/* A number and its suffix, which are not multiplied. All 0 is the number 0. */
+/* A number and its suffix, which are not multiplied. A struct of zeros is the number 0. */
 typedef struct gcv_integer {
     int64_t value;
     gcv_suffix suffix;
 } gcv_integer;
 
-/* The name of a color. What the tag does not use is 0. */
+/* The name of a color. The members that the tag does not use are 0. */
 typedef struct gcv_name {
     gcv_tag tag;
     uint8_t palette;
@@ -189,21 +189,21 @@ typedef struct gcv_name {
     uint8_t blue;
 } gcv_name;
 
-/* A color, each of whose names may be GCV_NO_NAME. All 0 is the color of the empty text. */
+/* A color, each of whose names may be GCV_NO_NAME. A struct of zeros is the color of the empty text. */
 typedef struct gcv_color {
     gcv_name foreground;
     gcv_name background;
     uint32_t attributes;
 } gcv_color;
 
-/* An entry of a list of settings, and where its text is among the bytes. */
+/* An entry of a list of settings, and the place of its text in the bytes. */
 typedef struct gcv_entry {
     size_t index; /* from 0 */
     size_t start;
     size_t length;
 } gcv_entry;
 
-/* Where a setting of a file is among the bytes of all its settings, in which NUL ends each text. */
+/* The place of a setting of a file in the bytes of all settings, in which NUL ends each text. */
 typedef struct gcv_place {
     size_t key;         /* where its key begins */
     size_t value;       /* where its value begins, after the key's NUL */
@@ -211,14 +211,14 @@ typedef struct gcv_place {
     uint32_t has_value; /* 1 if it has a value, and 0 for a key without `=` */
 } gcv_place;
 
-/* How much room the settings of a file take, or the line on which the file is refused. */
+/* The room that the settings of a file need, or the line at which the file is refused. */
 typedef struct gcv_file {
     size_t size;  /* how many bytes the keys and the values take */
     size_t count; /* how many settings there are */
-    size_t line;  /* the line of a refusal, from 1, and otherwise 0 */
+    size_t line;  /* the line that was refused, from 1, or 0 if no line was */
 } gcv_file;
 
-/* The library expects this layout, so a compiler that lays the structs out otherwise reports an error. */
+/* The library expects this layout. A compiler that lays the structs out in another way reports an error. */
 #if defined(__cplusplus) && __cplusplus >= 201103L
 #define GCV_ASSERT(fact) static_assert(fact, #fact)
 #elif defined(__STDC_VERSION__) && __STDC_VERSION__ >= 201112L
@@ -255,7 +255,7 @@ GCV_ASSERT(offsetof(gcv_file, line) == 16);
 GCV_ASSERT(sizeof(gcv_file) == 24);
 #undef GCV_ASSERT
 
-/* The settings of files in order, in two arrays of the caller. Begin with all members 0: no settings, and no room. */
+/* The settings of files in order, in two arrays of the caller. Start with all members 0: no settings and no room. */
 typedef struct gcv_settings {
     char *bytes;
     size_t capacity; /* of `bytes` */
@@ -273,7 +273,7 @@ typedef struct gcv_setting {
     size_t line; /* the line of its entry, from 1 */
 } gcv_setting;
 
-/* What a path may refer to, as any bytes. A null pointer means that there is none, whatever its length. */
+/* What a path may refer to, as any bytes. A null pointer means that it is not given, whatever its length. */
 typedef struct gcv_context {
     const char *install_dir; /* for %(prefix)/ */
     size_t install_dir_length;
@@ -283,7 +283,7 @@ typedef struct gcv_context {
     size_t passwd_length;
 } gcv_context;
 
-/* The file that an entry is in, and what its include may refer to. A null pointer means that there is none, whatever
+/* The file that an entry is in, and what its include may refer to. A null pointer means that it is not given, whatever
  * its length. */
 typedef struct gcv_includer {
     const char *file; /* the name of the file: a relative path is below its directory */
@@ -304,17 +304,17 @@ typedef struct gcv_includer {
     size_t branch_length;
 } gcv_includer;
 
-/* The version of the library, as a text that ends with NUL. */
+/* Returns the version of the library, as a text that ends with NUL. */
 const char *gcv_version(void);
 
-/* What a status says, as a text that ends with NUL: "unknown status" if no status has the number. */
+/* Returns the text of a status, which ends with NUL: "unknown status" if no status has the number. */
 const char *gcv_status_text(gcv_status status);
 
-/* Writes the text of a fault, of at most GCV_LONGEST_TEXT bytes. GCV_UNKNOWN_FAULT if no fault has the number. */
+/* Writes the text of a fault, at most GCV_LONGEST_TEXT bytes. Returns GCV_UNKNOWN_FAULT if no fault has the number. */
 gcv_status gcv_fault_text(gcv_fault fault, char *GCV_RESTRICT buffer, size_t capacity, size_t *size) GCV_NONNULL((4));
 
-/* Readers of texts that end with NUL, as a callback over a configuration gets them. A null text is that of a key
- * without `=`: true as a boolean, and refused as anything else. Values and faults are those of gcv_read_boolean,
+/* Readers of texts that end with NUL, as a callback over a configuration gets them. A null text means a key without
+ * `=`: it is true as a boolean, and refused as anything else. Values and faults are those of gcv_read_boolean,
  * gcv_read_amount and gcv_read_color; the fault is GCV_FAULT_OUT_OF_RANGE if an amount does not fit int32_t. */
 GCV_CHECKED gcv_status gcv_parse_bool(const char *text, int *GCV_RESTRICT out, gcv_fault *fault)
     GCV_NONNULL((2));
@@ -325,9 +325,9 @@ GCV_CHECKED gcv_status gcv_parse_int64(const char *text, int64_t *GCV_RESTRICT o
 GCV_CHECKED gcv_status gcv_parse_color(const char *text, gcv_color *GCV_RESTRICT out, gcv_fault *fault)
     GCV_NONNULL((2));
 
-/* Writes the escape sequence that Git sends to a terminal for this color, of at most GCV_LONGEST_TEXT bytes: its
- * attributes, reset first, its foreground, its background. It is empty for a color that changes nothing. GCV_BAD_NAME
- * as in gcv_show_color. */
+/* Writes the escape sequence that Git sends to a terminal for this color, at most GCV_LONGEST_TEXT bytes: its
+ * attributes, reset first, then its foreground and its background. It is empty for a color that changes nothing.
+ * Returns GCV_BAD_NAME as gcv_show_color does. */
 GCV_CHECKED gcv_status gcv_escape_color(const gcv_color *value, char *GCV_RESTRICT buffer, size_t capacity,
                                         size_t *size) GCV_NONNULL((1, 4));
 
@@ -335,9 +335,9 @@ GCV_CHECKED gcv_status gcv_escape_color(const gcv_color *value, char *GCV_RESTRI
  * stay valid until the path call returns, or null if there is no such user. */
 typedef const char *gcv_find_home(void *state, const char *name, size_t length);
 
-/* As gcv_interpolate, but `find(state, ..)` finds users, and the passwd text is not read. It is called once for ~user,
- * and for no other path; a null `find` is like a null passwd text. For a path of a user the call allocates and frees
- * memory: GCV_NO_MEMORY if malloc fails. */
+/* Does what gcv_interpolate does, but `find(state, ..)` finds users, and the passwd text is not read. It is called once
+ * for ~user, and for no other path; a null `find` is like a null passwd text. For a path of a user the call allocates
+ * and frees memory, and returns GCV_NO_MEMORY if malloc fails. */
 GCV_CHECKED gcv_status gcv_interpolate_with(const char *text, size_t length, const gcv_context *context,
                                             gcv_find_home *find, void *state, char *GCV_RESTRICT buffer,
                                             size_t capacity, size_t *size, gcv_fault *fault) GCV_NONNULL((3, 8));
@@ -387,7 +387,7 @@ gcv_status gcv_raw_interpolate(const char *text, size_t length, uint32_t has_ins
                                size_t capacity, size_t *size, gcv_fault *fault);
 gcv_status gcv_raw_fault_text(gcv_fault fault, char *buffer, size_t capacity, size_t *size);
 
-/* The address of a text, which is not null even if the text is empty. */
+/* Returns the address of a text, which is not null even if the text is empty. */
 GCV_INLINE const char *gcv_bytes(const char *text, size_t length)
 {
     return length == 0 ? "" : text;
@@ -446,23 +446,23 @@ GCV_RETURNS((3)) gcv_read_color(const char *text, size_t length, gcv_color *GCV_
     return gcv_raw_read_color(gcv_bytes(text, length), length, out, fault ? fault : &unused);
 }
 
-/* Writes the number times the factor of its suffix to `*out`. GCV_OVERFLOW if that does not fit int64_t, and
- * GCV_BAD_SUFFIX if no suffix has the number. */
+/* Writes the number times the factor of its suffix to `*out`. Returns GCV_OVERFLOW if the product does not fit int64_t,
+ * and GCV_BAD_SUFFIX if no suffix has the number. */
 GCV_RETURNS((1, 2)) gcv_product(const gcv_integer *value, int64_t *GCV_RESTRICT out)
 {
     return gcv_raw_product(value, out);
 }
 
-/* Values as texts. If some text reads to the value, the canonical one is written. */
+/* Values as texts. If some text reads to the value, the canonical text is written. */
 
-/* Writes k, m or g. GCV_BAD_SUFFIX if no suffix has the number. */
+/* Writes k, m or g. Returns GCV_BAD_SUFFIX if no suffix has the number. */
 GCV_RETURNS((4)) gcv_show_suffix(gcv_suffix suffix, char *GCV_RESTRICT buffer, size_t capacity, size_t *size)
 {
     char none[1] = {0};
     return gcv_raw_show_suffix(suffix, capacity == 0 ? none : buffer, capacity, size);
 }
 
-/* Writes the number in decimal and the letter of its suffix. GCV_BAD_SUFFIX if no suffix has the number. */
+/* Writes the number in decimal and the letter of its suffix. Returns GCV_BAD_SUFFIX if no suffix has the number. */
 GCV_RETURNS((1, 4)) gcv_show_integer(const gcv_integer *value, char *GCV_RESTRICT buffer, size_t capacity, size_t *size)
 {
     char none[1] = {0};
@@ -476,14 +476,14 @@ GCV_RETURNS((4)) gcv_show_amount(int64_t value, char *GCV_RESTRICT buffer, size_
     return gcv_raw_show_amount(value, capacity == 0 ? none : buffer, capacity, size);
 }
 
-/* Writes true for 1 and false for 0. GCV_BAD_FLAG if the value is neither. */
+/* Writes true for 1 and false for 0. Returns GCV_BAD_FLAG if the value is neither. */
 GCV_RETURNS((4)) gcv_show_boolean(uint32_t value, char *GCV_RESTRICT buffer, size_t capacity, size_t *size)
 {
     char none[1] = {0};
     return gcv_raw_show_boolean(value, capacity == 0 ? none : buffer, capacity, size);
 }
 
-/* Writes the word of the name, its number, or # and six digits. GCV_BAD_NAME if no name has the struct. */
+/* Writes the word of the name, its number, or # and six digits. Returns GCV_BAD_NAME if no name has the struct. */
 GCV_RETURNS((1, 4)) gcv_show_name(const gcv_name *value, char *GCV_RESTRICT buffer, size_t capacity, size_t *size)
 {
     char none[1] = {0};
@@ -497,9 +497,9 @@ GCV_RETURNS((4)) gcv_show_attribute(uint32_t bits, char *GCV_RESTRICT buffer, si
     return gcv_raw_show_attribute(bits, capacity == 0 ? none : buffer, capacity, size);
 }
 
-/* Writes the foreground, the background and the attributes, if the color has them, with one space between. GCV_BAD_NAME
- * if the struct of one of its names is neither all 0 nor that of a name. Two sorts of colors have no text, as
- * gcv_compose tells by GCV_NO_TEXT: a background alone is shown as a foreground, and unknown bits are left out. */
+/* Writes the foreground, the background and the attributes, if the color has them, with one space between. Returns
+ * GCV_BAD_NAME if the struct of one of its names is neither all 0 nor of a name. Two sorts of colors have no text, and
+ * gcv_compose returns GCV_NO_TEXT for them: a background alone is shown as a foreground, unknown bits are left out. */
 GCV_RETURNS((1, 4)) gcv_show_color(const gcv_color *value, char *GCV_RESTRICT buffer, size_t capacity, size_t *size)
 {
     char none[1] = {0};
@@ -507,30 +507,30 @@ GCV_RETURNS((1, 4)) gcv_show_color(const gcv_color *value, char *GCV_RESTRICT bu
 }
 
 /* Values as JSON, without white space: a number, true or false, or the shown text as a string. These calls allocate
- * memory for the text, and free it. GCV_NO_MEMORY if malloc fails. */
+ * memory for the text, and free it. They return GCV_NO_MEMORY if malloc fails. */
 
-/* GCV_BAD_SUFFIX if no suffix has the number. */
+/* Writes the letter of a suffix as a string. Returns GCV_BAD_SUFFIX if no suffix has the number. */
 GCV_RETURNS((4)) gcv_json_suffix(gcv_suffix suffix, char *GCV_RESTRICT buffer, size_t capacity, size_t *size)
 {
     char none[1] = {0};
     return gcv_raw_json_suffix(suffix, capacity == 0 ? none : buffer, capacity, size);
 }
 
-/* Writes the product. GCV_OVERFLOW if it does not fit int64_t, and GCV_BAD_SUFFIX if no suffix has the number. */
+/* Writes the product. Returns GCV_OVERFLOW if it does not fit int64_t, GCV_BAD_SUFFIX if no suffix has the number. */
 GCV_RETURNS((1, 4)) gcv_json_integer(const gcv_integer *value, char *GCV_RESTRICT buffer, size_t capacity, size_t *size)
 {
     char none[1] = {0};
     return gcv_raw_json_integer(value, capacity == 0 ? none : buffer, capacity, size);
 }
 
-/* GCV_BAD_FLAG if the value is neither 0 nor 1. */
+/* Writes true for 1 and false for 0. Returns GCV_BAD_FLAG if the value is neither. */
 GCV_RETURNS((4)) gcv_json_boolean(uint32_t value, char *GCV_RESTRICT buffer, size_t capacity, size_t *size)
 {
     char none[1] = {0};
     return gcv_raw_json_boolean(value, capacity == 0 ? none : buffer, capacity, size);
 }
 
-/* GCV_BAD_NAME if no name has the struct. */
+/* Writes the shown text of a name as a string. Returns GCV_BAD_NAME if no name has the struct. */
 GCV_RETURNS((1, 4)) gcv_json_name(const gcv_name *value, char *GCV_RESTRICT buffer, size_t capacity, size_t *size)
 {
     char none[1] = {0};
@@ -546,8 +546,8 @@ GCV_RETURNS((4)) gcv_json_attribute(uint32_t bits, char *GCV_RESTRICT buffer, si
 
 /* Texts of a kind. */
 
-/* Writes the canonical text of the value of a text, of at most GCV_LONGEST_TEXT bytes. GCV_REFUSED if the text has no
- * value of the kind (its reader tells the fault), and GCV_UNKNOWN_KIND if no kind has the number. */
+/* Writes the canonical text of the value of a text, at most GCV_LONGEST_TEXT bytes. Returns GCV_REFUSED if the text has
+ * no value of the kind (its reader tells the fault), and GCV_UNKNOWN_KIND if no kind has the number. */
 GCV_RETURNS((6)) gcv_normalize(gcv_kind kind, const char *text, size_t length, char *GCV_RESTRICT buffer,
                                size_t capacity, size_t *size)
 {
@@ -555,8 +555,8 @@ GCV_RETURNS((6)) gcv_normalize(gcv_kind kind, const char *text, size_t length, c
     return gcv_raw_normalize(kind, gcv_bytes(text, length), length, capacity == 0 ? none : buffer, capacity, size);
 }
 
-/* Writes 1 to `*out` if both texts mean the same, and otherwise 0. GCV_REFUSED if one of them has no value of the kind,
- * and GCV_UNKNOWN_KIND if no kind has the number. */
+/* Writes 1 to `*out` if both texts mean the same, and otherwise 0. Returns GCV_REFUSED if one of them has no value of
+ * the kind, and GCV_UNKNOWN_KIND if no kind has the number. */
 GCV_RETURNS((6)) gcv_same(gcv_kind kind, const char *first, size_t first_length, const char *second,
                           size_t second_length, uint32_t *GCV_RESTRICT out)
 {
@@ -564,9 +564,9 @@ GCV_RETURNS((6)) gcv_same(gcv_kind kind, const char *first, size_t first_length,
                         second_length, out);
 }
 
-/* Writes to `*out` the color of the text of the first one, white space, and the text of the second one. GCV_BAD_NAME
- * as in gcv_show_color, GCV_NO_TEXT if one of them has no text (it has an unknown bit, or a background alone), and
- * GCV_TOO_MANY_NAMES if they have more than two names together. */
+/* Writes to `*out` the color of the text of the first color, white space, and the text of the second. Returns
+ * GCV_BAD_NAME as gcv_show_color does, GCV_NO_TEXT if one of the colors has no text (it has an unknown bit, or a
+ * background alone), and GCV_TOO_MANY_NAMES if they have more than two names together. */
 GCV_RETURNS((1, 2, 3)) gcv_compose(const gcv_color *first, const gcv_color *second, gcv_color *GCV_RESTRICT out)
 {
     return gcv_raw_compose(first, second, out);
@@ -575,10 +575,10 @@ GCV_RETURNS((1, 2, 3)) gcv_compose(const gcv_color *first, const gcv_color *seco
 /* Looks for the last entry of exactly this name, which decides. `bytes` are the names and texts of all entries, each
  * directly after the one before, and `lengths` the lengths of name, text, name, text and so on.
  *
- * After GCV_OK the text of that entry has a value of the kind, and after GCV_REFUSED it has no value: `*out` is the
- * entry, and the kind's reader at `bytes + out->start` tells the value or the fault. GCV_ABSENT if no entry has the
- * name, GCV_BAD_LENGTHS if the lengths are odd in number or do not sum to `bytes_length`, and GCV_UNKNOWN_KIND if no
- * kind has the number. */
+ * After GCV_OK the text of that entry has a value of the kind, and after GCV_REFUSED it has no value. In both cases
+ * `*out` is the entry, and the kind's reader at `bytes + out->start` tells the value or the fault. The call returns
+ * GCV_ABSENT if no entry has the name, GCV_BAD_LENGTHS if the lengths are odd in number or do not sum to
+ * `bytes_length`, and GCV_UNKNOWN_KIND if no kind has the number. */
 GCV_RETURNS((8)) gcv_lookup(gcv_kind kind, const char *bytes, size_t bytes_length, const size_t *lengths,
                             size_t lengths_count, const char *name, size_t name_length, gcv_entry *GCV_RESTRICT out)
 {
@@ -592,10 +592,10 @@ GCV_RETURNS((8)) gcv_lookup(gcv_kind kind, const char *bytes, size_t bytes_lengt
 /* Appends the settings of a configuration file with this text, which decide over those before, and writes to `*out` how
  * many bytes and places they take.
  *
- * GCV_SHORT_BUFFER if an array has less room left than they take: let `capacity` be at least `size + out->size`, and
- * `room` at least `count + out->count`, and call again. GCV_BAD_LINE or GCV_NUL if Git would refuse the file: then
- * `*out` has the line, and 0 for the rest. Unless the call returns GCV_OK, the settings are unchanged. It allocates
- * memory, and frees it; GCV_NO_MEMORY if malloc fails, and then `*out` is unchanged. */
+ * If an array has less room left than they take, the call returns GCV_SHORT_BUFFER: let `capacity` be at least `size +
+ * out->size`, and `room` at least `count + out->count`, and call again. If Git would refuse the file, it returns
+ * GCV_BAD_LINE or GCV_NUL, and `*out` has the line, and 0 for the rest. Unless it returns GCV_OK, the settings are
+ * unchanged. It allocates and frees memory. If malloc fails, it returns GCV_NO_MEMORY, and `*out` is unchanged. */
 GCV_RETURNS((1, 4)) gcv_add_file(gcv_settings *GCV_RESTRICT settings, const char *text, size_t length,
                                  gcv_file *GCV_RESTRICT out)
 {
@@ -617,7 +617,7 @@ GCV_RETURNS((1, 4)) gcv_add_file(gcv_settings *GCV_RESTRICT settings, const char
     return status;
 }
 
-/* Writes the setting at `*index`, from 0, to `*out`, and adds 1 to `*index`. GCV_ABSENT after the last setting. */
+/* Writes the setting at `*index`, from 0, to `*out`, and adds 1 to `*index`. Returns GCV_ABSENT after the last one. */
 GCV_RETURNS((1, 2, 3)) gcv_next_setting(const gcv_settings *settings, size_t *GCV_RESTRICT index,
                                         gcv_setting *GCV_RESTRICT out)
 {
@@ -632,9 +632,9 @@ GCV_RETURNS((1, 2, 3)) gcv_next_setting(const gcv_settings *settings, size_t *GC
     return GCV_OK;
 }
 
-/* Writes to `*out` the last setting of this key, which decides. The key ends with NUL, and must be as Git lists it:
+/* Writes to `*out` the last setting with this key, which decides. The key ends with NUL, and must be as Git lists it:
  * "core.autocrlf", not "core.autoCRLF". gcv_parse_bool and its like read the value. The setting is of the first file
- * after which `size` was more than `out->key - bytes`. GCV_ABSENT if no setting has the key. */
+ * after which `size` was more than `out->key - bytes`. Returns GCV_ABSENT if no setting has the key. */
 GCV_RETURNS((1, 2, 3)) gcv_lookup_setting(const gcv_settings *settings, const char *key,
                                           gcv_setting *GCV_RESTRICT out)
 {
@@ -656,10 +656,10 @@ GCV_RETURNS((1, 2, 3)) gcv_lookup_setting(const gcv_settings *settings, const ch
  * `key` is the key as gcv_next_setting writes it, and `value` the value, or null for a key without `=`.
  * The key, the value and the directories may be any bytes.
  *
- * GCV_NO_INCLUDE if the entry includes no file, or if its condition does not hold: without a repository only
- * include.path includes, and hasconfig: never does. Otherwise GCV_NO_VALUE if there is no value, and GCV_NO_DIRECTORY
- * if the value begins with `~` and a user's name, or with a directory that is null. Git stops at these two.
- * The call allocates memory, and frees it; GCV_NO_MEMORY if malloc fails. */
+ * Returns GCV_NO_INCLUDE if the entry includes no file, or if its condition does not hold: without a repository only
+ * include.path includes, and hasconfig: never does. Otherwise returns GCV_NO_VALUE if there is no value, and
+ * GCV_NO_DIRECTORY if the value begins with `~` and a user's name, or with a directory that is null. Git stops at these
+ * two. The call allocates and frees memory, and returns GCV_NO_MEMORY if malloc fails. */
 GCV_RETURNS((5, 8)) gcv_include(const char *key, size_t key_length, const char *value, size_t value_length,
                                 const gcv_includer *includer, char *GCV_RESTRICT buffer, size_t capacity, size_t *size)
 {
@@ -689,8 +689,8 @@ GCV_RETURNS((5, 8)) gcv_include(const char *key, size_t key_length, const char *
 
 /* Paths. */
 
-/* Writes 1 to `*optional` if the path begins with the mark `:(optional)`, and otherwise 0, and to `*start` where the
- * path begins after that one mark. */
+/* Writes 1 to `*optional` if the path begins with the mark `:(optional)`, and otherwise 0. Writes to `*start` the index
+ * at which the path begins after that one mark. */
 GCV_CALL GCV_NONNULL((3, 4)) void gcv_cut_mark(const char *text, size_t length, uint32_t *optional, size_t *start)
 {
     gcv_raw_cut_mark(gcv_bytes(text, length), length, optional, start);
@@ -699,10 +699,10 @@ GCV_CALL GCV_NONNULL((3, 4)) void gcv_cut_mark(const char *text, size_t length, 
 /* Writes the path that a text means. One mark is cut off first. %(prefix)/ means the install directory, ~ the home
  * directory, and ~user the home directory of that user in the passwd text.
  *
- * GCV_REFUSED if it means no path: then `*fault` is one of the faults of paths, and after any other status it is
- * unchanged. What follows the directory must be UTF-8, and so must a user's name. The directories and the passwd text
- * may be any bytes, and so what is written may be too. The call allocates nothing; GCV_NO_MEMORY if the path would be
- * longer than PTRDIFF_MAX. */
+ * Returns GCV_REFUSED if the text means no path, and then `*fault` is one of the faults of paths; after any other
+ * status it is unchanged. What follows the directory must be UTF-8, and so must a user's name. The directories and the
+ * passwd text may be any bytes, and so the written path may be any bytes too. The call allocates nothing, and returns
+ * GCV_NO_MEMORY if the path would be longer than PTRDIFF_MAX. */
 GCV_RETURNS((3, 6)) gcv_interpolate(const char *text, size_t length, const gcv_context *context,
                                     char *GCV_RESTRICT buffer, size_t capacity, size_t *size, gcv_fault *fault)
 {
@@ -727,7 +727,7 @@ GCV_RETURNS((3, 6)) gcv_interpolate(const char *text, size_t length, const gcv_c
 #include <pwd.h>
 #include <string.h>
 
-/* Room for a user. Each thread needs its own. */
+/* The memory for one user that is looked up. Each thread needs its own. */
 typedef struct gcv_user {
     struct passwd entry;
     char name[256];

@@ -6,7 +6,7 @@ use Rattle.std.specs.List.{IsSplitAt}
 use Rattle.gix_config_value_c.specs.declared.settings.GcvEntry.{GcvEntry}
 use Rattle.gix_config_value_c.specs.Reading.Settings.{last_from, found_at}
 
--- an entry whose lengths fit is passed by
+-- the result stays the same if the loop goes past an entry whose lengths fit
 pub one_more : (name : List ℕ) (found after : Option GcvEntry) (index start : ℕ) (bytes entry text body rest lengths behind : List ℕ)
     → 2 ≤ length lengths → IsSplitAt bytes (get_or lengths 0 0) entry text
     → IsSplitAt text (get_or lengths 1 0) body rest

@@ -1,4 +1,4 @@
--- The repository that is given to an include in C.
+-- The repository that an include call in C is given.
 use Rattle.std.proofs.Common.{◌≡◌, ℕ, List, Option, None, Some, MatchOption, option_copied, sym, subst}
 use Rattle.config_file.specs.declared.include.Repository.{Repository}
 use Rattle.gix_config_value_c.specs.Includes.{IsRepository}

@@ -1,4 +1,4 @@
--- What the loop over the entries finds is the deciding entry.
+-- The loop over the entries finds the entry that decides.
 use Rattle.std.proofs.Common.{◌≡◌, ℕ, zero, suc, ◌+◌, ◌-◌, ◌<◌, ◌≤◌, ◌⊎◌, inl, inr, List, [], ◌∷◌, ◌++◌}
 use Rattle.std.proofs.Common.{length, take, drop, Option, None, Some, Bool, true, false, refl, sym, ap, arith}
 use Rattle.std.proofs.Common.{nat_le, add-zero, length-append, length-drop}
@@ -14,7 +14,7 @@ use Rattle.gix_config_value_c.specs.declared.settings.GcvEntry.{GcvEntry}
 use Rattle.gix_config_value_c.specs.Settings.{entry_bytes, entry_lengths, AreEntries, IsDeciding}
 use Rattle.gix_config_value_c.specs.Reading.Settings.{last_from, found_at}
 
--- what is found among these entries, where something was found before them
+-- `f` is the entry that decides among these entries, or otherwise `found`, which was found before them
 pub data Since (name : List ℕ) (found : Option GcvEntry) (index start : ℕ) (bytes : List ℕ) (es : List (List ℕ × List ℕ)) (f : Option GcvEntry) : Type 0 where
   kept : IsAbsent es name → f ≡ found → Since name found index start bytes es f
   here : (j k : ℕ) (t : List ℕ) → Decides es name j t
@@ -29,7 +29,7 @@ Answers name found index start bytes lengths None =
 Answers name found index start bytes lengths (Some f) =
     (es : List (List ℕ × List ℕ)) × AreEntries bytes lengths es × Since name found index start bytes es f
 
--- ---- the first entry, and those behind it
+-- ---- the first entry, and those after it
 
 behind_all : (bytes : List ℕ) (n m : ℕ) (lengths : List ℕ) (es : List (List ℕ × List ℕ))
     → AreEntries bytes (n ∷ m ∷ lengths) es
@@ -93,7 +93,7 @@ later_decides e es name j t decides = record { named = decides.named; last = lat
   later zero u above named = absurd (omega arith)
   later (suc i) u above named = decides.last i u (omega arith) named
 
--- ---- one entry more
+-- ---- one more entry
 
 one_longer : (first second : List ℕ) (es : List (List ℕ × List ℕ)) (name : List ℕ) (n m k : ℕ)
     → length first ≡ n → length second ≡ m
@@ -166,7 +166,7 @@ last_answers name bytes (n ∷ m ∷ lengths) found index start = elim (cases_lt
 
 -- ---- from the first entry on
 
--- the last entry of the name, or none, or no entries
+-- the entry that decides; or no entry has the name; or the bytes and lengths represent no entries
 abbrev pub IsLast : List ℕ → List ℕ → List ℕ → Option (Option GcvEntry) → Type 0
 IsLast name bytes lengths None = (es : List (List ℕ × List ℕ)) → ¬ (AreEntries bytes lengths es)
 IsLast name bytes lengths (Some None) =

@@ -1,4 +1,4 @@
--- A name's struct says that name.
+-- The name is found again from its struct.
 use Rattle.std.proofs.Common.{◌≡◌, refl, ap, ◌∙◌, Option, Some}
 use Rattle.config_word.specs.declared.name.Name.{Name}
 use Rattle.config_word.specs.declared.name.Name.TheVariants.{Ansi, Rgb}

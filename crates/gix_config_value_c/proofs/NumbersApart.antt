@@ -1,4 +1,4 @@
--- The value of a number, which tells values apart.
+-- No two values have the same number, since each value is found again from its number.
 use Rattle.std.proofs.Common.{◌≡◌, ◌≢◌, ◌≤◌, ◌<◌, ◌⊎◌, inl, inr, ℕ, ◌-◌, List, [], ◌∷◌, Option, None, Some, Bool, true, false, codes, refl, sym, ap, ◌∙◌, arith}
 use Rattle.std.specs.List.{slice_get}
 use Rattle.std.proofs.lemmas.Option.{same_Some}
@@ -24,11 +24,11 @@ use Rattle.gix_config_value_c.specs.Answers.{TellsApart}
 use Rattle.gix_config_value_c.specs.Numbers.{status_number, kind_number, suffix_number, flag_number, fault_number}
 use Rattle.gix_config_value_c.specs.Faults.{place_number, path_fault_number, numbered_text}
 
--- what is found again from what stands for it is told apart by that
+-- if each value is found again from what `f` makes of it, then `f` tells values apart
 pub told_apart : {V C : Type 0} (f : V → C) (found : C → Option V) → ((v : V) → found (f v) ≡ Some v) → TellsApart f
 told_apart f found again v w same = same_Some v w (sym (again v) ∙ (ap found same ∙ again w))
 
--- by their numbers; no status has the number 11
+-- the statuses in the order of their numbers; no status has the number 11, so `Ok` fills its place
 abbrev all_statuses : List Status
 all_statuses =
     statuses.Ok ∷ statuses.Refused ∷ statuses.Overflow ∷ statuses.NoText ∷ statuses.TooManyNames ∷ statuses.Absent
@@ -68,7 +68,7 @@ flags_apart = told_apart flag_number (λ n. slice_get (false ∷ true ∷ []) n)
   again false = refl
   again b = refl
 
--- a suffix, where there is one; a boolean, whose flag is all of it
+-- the numbers of suffixes, without that for no suffix; then the numbers of booleans
 pub units_apart : TellsApart {V = Suffix} (λ s. suffix_number (Some s))
 units_apart v w same = same_Some v w (suffixes_apart (Some v) (Some w) same)
 

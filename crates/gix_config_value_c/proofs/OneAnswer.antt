@@ -1,4 +1,4 @@
--- From the same input a call leaves the same behind.
+-- From the same input a call writes and returns the same.
 use Rattle.std.proofs.Common.{◌≡◌, ◌≢◌, ℕ, List, None, Some, refl, sym, ap, subst, ◌∙◌, arith}
 use Rattle.std.proofs.lemmas.Option.{same_Some, none-some}
 use Rattle.serde_json.specs.Data.{Data}
@@ -39,7 +39,7 @@ reads_once struct grammar faults one why t out a b f m n s r (refused never told
 reads_once struct grammar faults one why t out a b f m n s r (refused never told same bad) (refused neither also kept worse) =
     (same ∙ sym kept, why t m n told also, bad ∙ sym worse)
 
--- the number of a fault, where there is just one
+-- if a text has only one fault, it has only one number of a fault
 pub one_fault : (refusal : List ℕ → Fault → Type 0)
     → ((t : List ℕ) (f g : Fault) → refusal t f → refusal t g → f ≡ g)
     → (t : List ℕ) (m n : ℕ) → Faults refusal t m → Faults refusal t n → m ≡ n

@@ -1,4 +1,4 @@
--- Two colors that stand in C have one composition at most.
+-- The structs of two colors have at most one composition.
 use Rattle.std.proofs.Common.{◌≡◌, ◌⊎◌, inl, inr, Option, None, Some, sym, ap, subst, ◌∙◌}
 use Rattle.std.proofs.lemmas.Option.{same_Some, none-some}
 use Rattle.config_color.specs.declared.color.Color.{Color}
@@ -19,7 +19,7 @@ same_first a b v w x y p q = colors_apart x v (sym q.0 ∙ p.0)
 same_second : (a b : GcvColor) (v w x y : Color) → AreColors a b v w → AreColors a b x y → y ≡ w
 same_second a b v w x y p q = colors_apart y w (sym q.1 ∙ p.1)
 
--- what is said of the colors of both structs, of whichever colors with these structs it is said
+-- a composition of any two colors with these structs is the composition of `v` and `w`
 as_first : (a b : GcvColor) (v w x y : Color) (result : Option Color) → AreColors a b v w → AreColors a b x y
     → Composes x y result → Composes v w result
 as_first a b v w x y result p q composes =

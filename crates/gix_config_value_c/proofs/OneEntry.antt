@@ -1,4 +1,4 @@
--- Bytes and lengths stand for one list of entries, of which one decides at most.
+-- Bytes and lengths represent at most one list of entries, and at most one of these entries decides.
 use Rattle.std.proofs.Common.{◌≡◌, ℕ, ◌+◌, inl, inr, List, [], ◌∷◌, ◌++◌, length, take, refl, sym, ap, subst, ◌∙◌}
 use Rattle.config_text.proofs.OneAnswer.{decides_once}
 use Rattle.gix_config_value.specs.declared.kind.Kind.{Kind}
@@ -9,7 +9,7 @@ use Rattle.gix_config_value_c.specs.Settings.{entry_bytes, entry_lengths, AreEnt
 use Rattle.gix_config_value_c.specs.Settings.LooksUpInto.{decided, absent, bad_lengths, unknown}
 use Rattle.gix_config_value_c.proofs.NumbersApart.{kinds_apart}
 
--- texts of one length at the front of equal texts
+-- two texts of the same length that begin equal texts are equal, and so are the texts after them
 same_fronts : (xs ys us vs : List ℕ) → length xs ≡ length ys → xs ++ us ≡ ys ++ vs → (xs ≡ ys) × (us ≡ vs)
 same_fronts [] [] us vs long same = (refl, same)
 same_fronts [] (y ∷ ys) us vs long same = absurd (let e = long in cc)
@@ -38,7 +38,7 @@ are_once : (bytes lengths : List ℕ) (es fs : List (List ℕ × List ℕ)) → 
 are_once bytes lengths es fs p q =
     same_entries es fs (sym p.bytes_are ∙ q.bytes_are) (sym p.lengths_are ∙ q.lengths_are)
 
--- the entry that is found, and its text
+-- only one entry decides, and it has only one text
 found_once : (bytes : List ℕ) (es : List (List ℕ × List ℕ)) (name : List ℕ) (f g : GcvEntry) (t u : List ℕ)
     → IsDeciding bytes es name f t → IsDeciding bytes es name g u → (f ≡ g) × (t ≡ u)
 found_once bytes es name f g t u p q =
@@ -53,7 +53,7 @@ judged_once kind t s r (inl p) (inr q) = absurd (q.0 p.0.0 p.0.1)
 judged_once kind t s r (inr p) (inl q) = absurd (p.0 q.0.0 q.0.1)
 judged_once kind t s r (inr p) (inr q) = p.1 ∙ sym q.1
 
--- an entry of the name, and none of it
+-- a name for which an entry decides is not absent
 not_absent : (bytes : List ℕ) (es fs : List (List ℕ × List ℕ)) (name t : List ℕ) (f : GcvEntry) → es ≡ fs
     → IsDeciding bytes es name f t → ¬ (IsAbsent fs name)
 not_absent bytes es fs name t f same p nowhere =

@@ -1,4 +1,4 @@
--- The path call leaves the same behind from the same input.
+-- From the same input the path call writes and returns the same.
 use Rattle.std.proofs.Common.{◌≡◌, inl, inr, ℕ, List, [], ◌∷◌, length, Bool, true, false, Option, None, Some}
 use Rattle.std.proofs.Common.{refl, sym, ap, subst, ◌∙◌, arith}
 use Rattle.config_path.specs.Laws.Interpolation.{one_result_of}

@@ -1,4 +1,4 @@
--- A text of a kind is normalized in one way, and two are compared in one way.
+-- A text of a kind is normalized in one way, and two texts are compared in one way.
 use Rattle.std.proofs.Common.{◌≡◌, ℕ, List, None, Some, Bool, true, false, IsTrue, ◌⊎◌, inl, inr, refl, sym, ap, subst, ◌∙◌, ◌↔◌}
 use Rattle.config_integer.specs.contracts.suffix.SuffixValue.TheImpl.Laws as suffix
 use Rattle.config_integer.specs.contracts.integer.IntegerValue.TheImpl.Laws as integer
@@ -19,7 +19,7 @@ use Rattle.gix_config_value_c.specs.Texts.ComparesInto.{compared, refused, unkno
 use Rattle.gix_config_value_c.proofs.NumbersApart.{kinds_apart}
 use Rattle.gix_config_value_c.proofs.OneAnswer.{answers_once}
 
--- one text, of the one kind that has the number
+-- the same kind does not normalize a text to two texts
 text_once : (k l : Kind) (t s u : List ℕ) → l ≡ k → Normalizes (KindGrammar k) (KindCanonical k) t (Some s)
     → Normalizes (KindGrammar l) (KindCanonical l) t (Some u) → s ≡ u
 text_once k l t s u kind found other =

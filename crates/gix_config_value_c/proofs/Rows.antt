@@ -1,4 +1,4 @@
--- Settings in a row, one more at a time.
+-- The bytes and the places of settings, with one more setting at a time.
 use Rattle.std.proofs.Common.{◌≡◌, ◌∙◌, ◌<◌, ◌≤◌, ◌+◌, ◌⊎◌, inl, inr, ◌++◌, ℕ, suc, List, [], ◌∷◌}
 use Rattle.std.proofs.Common.{length, take, drop, get_or, refl, sym, ap, arith}
 use Rattle.std.proofs.Math.Seq.{take-suc}

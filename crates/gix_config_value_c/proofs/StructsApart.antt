@@ -1,4 +1,4 @@
--- The structs of values tell these apart.
+-- No two values have the same struct.
 use Rattle.std.proofs.Common.{◌≡◌, Option, None, Some, refl, ap}
 use Rattle.config_color.specs.Laws.Color.{same_color}
 use Rattle.config_word.specs.declared.name.Name.{Name}

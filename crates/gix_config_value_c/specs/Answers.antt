@@ -3,7 +3,7 @@ use Rattle.std.specs.Prelude.{◌≡◌, ◌↔◌, ℕ}
 use Rattle.gix_config_value_c.specs.declared.status.Status.TheVariants as statuses
 use Rattle.gix_config_value_c.specs.Numbers.{status_number}
 
--- no two values stand in C as the same
+-- no two values have the same number or struct in C
 abbrev pub TellsApart : {V C : Type 0} → (V → C) → Type 0
 TellsApart {V} f = (v w : V) → f v ≡ f w → v ≡ w
 
@@ -12,13 +12,13 @@ abbrev pub HasOneResult : {C : Type 0} → (C → C → ℕ → Type 0) → Type
 HasOneResult {C} call = (out first second : C) (status other : ℕ)
     → call out first status → call out second other → (first ≡ second) × (status ≡ other)
 
--- the same of a call that writes into `out` and `fault`, or into a buffer and its length
+-- the same for a call that writes into `out` and `fault`, or into a buffer and its length
 abbrev pub HasOneAnswer : {C : Type 0} → (C → C → ℕ → ℕ → ℕ → Type 0) → Type 0
 HasOneAnswer {C} call = (out first second : C) (number one two status other : ℕ)
     → call out first number one status → call out second number two other
     → (first ≡ second) × (one ≡ two) × (status ≡ other)
 
--- the same of a call that takes memory, if memory is refused to both or to neither
+-- the same for a call that takes memory, if memory is refused to both calls or to neither
 abbrev pub HasOneAnswerByMemory : {C : Type 0} → (C → C → ℕ → ℕ → ℕ → Type 0) → Type 0
 HasOneAnswerByMemory {C} call = (out first second : C) (number one two status other : ℕ)
     → call out first number one status → call out second number two other

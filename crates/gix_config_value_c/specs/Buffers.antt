@@ -4,8 +4,8 @@ use Rattle.gix_config_value_c.specs.declared.status.Status.{Status}
 use Rattle.gix_config_value_c.specs.declared.status.Status.TheVariants as statuses
 use Rattle.gix_config_value_c.specs.Numbers.{status_number}
 
--- the text stands at the front of the buffer, and what is behind it is left alone; or the buffer is too short and left
--- alone. Either way the length is that of the text.
+-- the text is written to the front of the buffer, and the bytes after it are left alone; or the buffer is too
+-- short and left alone. In both cases the length of the text is written.
 pub data PutsText (text buffer buffer' : List ℕ) (length' status : ℕ) : Type 0 where
   whole : length text ≤ length buffer → buffer' ≡ text ++ drop (length text) buffer → length' ≡ length text
       → status ≡ status_number statuses.Ok
@@ -18,7 +18,7 @@ abbrev pub LeavesBuffer : Status → List ℕ → List ℕ → ℕ → ℕ → �
 LeavesBuffer said buffer buffer' size size' status =
     (buffer' ≡ buffer) × (size' ≡ size) × (status ≡ status_number said)
 
--- a text of which this is true is put into the buffer; or the status says why there is none, and all is left alone
+-- a text with this property is put into the buffer; or the status is a reason, and all is left alone
 pub data AnswersText (is_text : List ℕ → Type 0) (is_reason : ℕ → Type 0) (buffer buffer' : List ℕ) (size size' status : ℕ) : Type 0 where
   put : (text : List ℕ) → is_text text → PutsText text buffer buffer' size' status
       → AnswersText is_text is_reason buffer buffer' size size' status

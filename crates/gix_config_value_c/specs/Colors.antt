@@ -10,18 +10,18 @@ use Rattle.gix_config_value_c.specs.declared.structs.GcvColor.{GcvColor}
 use Rattle.gix_config_value_c.specs.Structs.{color_struct}
 use Rattle.gix_config_value_c.specs.Values.{IsNoValue, LeavesAlone}
 
--- the two colors that stand in C as these
+-- the two structs represent these colors
 abbrev pub AreColors : GcvColor → GcvColor → Color → Color → Type 0
 AreColors a b first second = (a ≡ color_struct first) × (b ≡ color_struct second)
 
--- the same, where some text reads to each of both
+-- the same, and each of the two colors has a text that reads to it
 pub record AreReadable (a b : GcvColor) (first second : Color) : Type 0 where
   pub colors : AreColors a b first second
   pub first_text : HasText ColorText first
   pub second_text : HasText ColorText second
 
--- the composition is put into `out`; or there is none, or one of both has no text, or is no color, and `out` is left
--- alone
+-- the composition is put into `out`; or the colors have no composition, or one of them has no text, or a
+-- struct represents no color, and `out` is left alone
 pub data ComposesInto (a b out out' : GcvColor) (status : ℕ) : Type 0 where
   composed : (first second both : Color) → AreReadable a b first second → Composes first second (Some both)
       → out' ≡ color_struct both → status ≡ status_number statuses.Ok → ComposesInto a b out out' status

@@ -16,7 +16,7 @@ use Rattle.gix_config_value_c.specs.declared.status.Status.TheVariants as status
 use Rattle.gix_config_value_c.specs.Numbers.{status_number}
 use Rattle.gix_config_value_c.specs.Buffers.{AnswersText}
 
--- a place that is no UTF-8
+-- the number of a place in a path that is not UTF-8
 abbrev pub place_number : Place → ℕ
 place_number PastPrefix = 11
 place_number PastHome = 12
@@ -24,7 +24,7 @@ place_number Username = 13
 place_number PastUser = 14
 place_number Whole = 15
 
--- a fault of a path; out of memory is a status, and no fault
+-- the number of a fault of a path; out of memory is a status and not a fault, and gets the number 0
 abbrev pub path_fault_number : Error → ℕ
 path_fault_number PathMissing = 6
 path_fault_number InstallDirMissing = 7
@@ -34,11 +34,11 @@ path_fault_number UserNotFound = 10
 path_fault_number (IllFormed place input) = place_number place
 path_fault_number (Memory e) = 0
 
--- what an error says of bytes that are not UTF-8
+-- the text of an error about bytes that are not UTF-8
 abbrev pub ill_formed : Place → List ℕ
 ill_formed place = codes "Ill-formed UTF-8 in " ++ place_shown place
 
--- the texts of the faults, by their numbers from 1 on
+-- the texts of the faults, in the order of their numbers, which begin with 1
 abbrev pub fault_texts : List (List ℕ)
 fault_texts =
     fault_text faults.Boolean ∷ fault_text faults.Integer ∷ fault_text faults.Overflow ∷ fault_text faults.OutOfRange
@@ -47,11 +47,11 @@ fault_texts =
     ∷ ill_formed PastPrefix ∷ ill_formed PastHome ∷ ill_formed Username ∷ ill_formed PastUser ∷ ill_formed Whole
     ∷ []
 
--- the text of the fault of this number
+-- the text of the fault with this number, or `None` if no fault has it
 abbrev pub numbered_text : ℕ → Option (List ℕ)
 numbered_text number = if number == 0 then None else slice_get fault_texts (number - 1)
 
--- the text of the fault is put into the buffer, or no fault has the number
+-- the text of the fault with the number is put into the buffer, or the status says that no fault has it
 abbrev pub TellsFault : ℕ → List ℕ → List ℕ → ℕ → ℕ → ℕ → Type 0
 TellsFault number buffer buffer' size size' status = AnswersText (λ text. numbered_text number ≡ Some text)
     (λ reason. (reason ≡ status_number statuses.UnknownFault) × (numbered_text number ≡ None)) buffer buffer' size size' status

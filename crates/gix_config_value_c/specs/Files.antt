@@ -1,4 +1,4 @@
--- Configuration files in C: keys and values in a row, each with NUL after it, and where they are.
+-- Configuration files in C: the keys and values, each followed by NUL, and the places where they begin.
 use Rattle.std.specs.Prelude.{◌≡◌, ◌≤◌, ◌+◌, ℕ, List, [], ◌∷◌, ◌++◌, length, drop, Option, None, Some}
 use Rattle.std.specs.List.{AllZip}
 use Rattle.std.specs.Option.{option_map_or}
@@ -14,20 +14,20 @@ use Rattle.gix_config_value_c.specs.declared.status.Status.{Status}
 use Rattle.gix_config_value_c.specs.declared.status.Status.TheVariants as statuses
 use Rattle.gix_config_value_c.specs.Numbers.{status_number}
 
--- a text with NUL after it
+-- a text followed by NUL
 abbrev pub ended : List ℕ → List ℕ
 ended text = text ++ 0 ∷ []
 
--- the key as Git lists it, and the value if there is one
+-- the bytes of a setting: the key as Git lists it, and the value if there is one, each followed by NUL
 abbrev pub setting_bytes : Setting → List ℕ
 setting_bytes s = ended s.key.items ++ option_map_or (λ v. ended v.items) s.value []
 
--- the settings in a row
+-- the bytes of the settings, one after the other
 abbrev pub row_bytes : List Setting → List ℕ
 row_bytes [] = []
 row_bytes (s ∷ more) = setting_bytes s ++ row_bytes more
 
--- where a setting is whose key begins here
+-- the place of a setting whose key begins at `start`
 abbrev pub place_at : ℕ → Setting → GcvPlace
 place_at start s = record {
   key = start;
@@ -36,12 +36,12 @@ place_at start s = record {
   has_value = option_map_or (λ v. 1) s.value 0;
 }
 
--- where settings are in a row that begins here
+-- the places of settings whose bytes begin at `start` and follow each other
 abbrev pub places_from : ℕ → List Setting → List GcvPlace
 places_from start [] = []
 places_from start (s ∷ more) = place_at start s ∷ places_from (start + length (setting_bytes s)) more
 
--- how many bytes and places the settings take, or the line of a refusal
+-- the number of bytes, the number of settings, and the line of a refusal
 abbrev pub file_struct : ℕ → ℕ → ℕ → GcvFile
 file_struct size count line = record { size = size; count = count; line = line }
 
@@ -53,8 +53,8 @@ abbrev pub HasRoom : List Setting → List ℕ → List GcvPlace → Type 0
 HasRoom settings bytes places =
     (length (row_bytes settings) ≤ length bytes) × (length settings ≤ length places)
 
--- the settings are at the front of both arrays; or one of these is too short and both are left alone, or
--- memory is refused and all is left alone
+-- the settings are put at the front of both arrays; or one array is too short and both are left alone, but
+-- the sizes are put into `out`; or memory is refused and all is left alone
 pub data PutsSettings (settings : List Setting) (bytes bytes' : List ℕ) (places places' : List GcvPlace)
     (out out' : GcvFile) (status : ℕ) : Type 0 where
   put : HasRoom settings bytes places
@@ -68,17 +68,17 @@ pub data PutsSettings (settings : List Setting) (bytes bytes' : List ℕ) (place
   no_memory : bytes' ≡ bytes → places' ≡ places → out' ≡ out → status ≡ status_number statuses.NoMemory
       → PutsSettings settings bytes bytes' places places' out out' status
 
--- the text has these settings up to its end, or up to this error
+-- the text has these settings, up to its end or up to the line with this error
 abbrev pub HasSettings : List ℕ → Option Error → List Setting → Type 0
 HasSettings text error settings =
     (entries : List Entry) × IsFile text entries error × AllZip (IsSettingOf []) entries settings
 
--- the status of a line that is refused
+-- the status for the fault of a refused line
 abbrev pub fault_status : Fault → Status
 fault_status BadLine = statuses.BadLine
 fault_status Nul = statuses.Nul
 
--- the settings of the text are put; or it is no configuration file, and the line is put
+-- the settings of the text are put; or a line is refused, and its number is put; or memory is refused
 pub data ReadsFile (text bytes bytes' : List ℕ) (places places' : List GcvPlace) (out out' : GcvFile)
     (status : ℕ) : Type 0 where
   read : (settings : List Setting) → HasSettings text None settings

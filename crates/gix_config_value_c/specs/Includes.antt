@@ -1,4 +1,4 @@
--- Entries that include a file, in C: the name of that file.
+-- The name of the file that an entry includes, in C.
 use Rattle.std.specs.Prelude.{◌≡◌, ⊤, ℕ, List, ◌∷◌, [], true, false, Option, None, Some, option_copied}
 use Rattle.config_file.specs.Path.{Expands, BeginsUnknown, IsIncludedName}
 use Rattle.config_file.specs.Walk.{Follows}
@@ -10,7 +10,7 @@ use Rattle.gix_config_value_c.specs.Buffers.{LeavesBuffer, AnswersText}
 use Rattle.gix_config_value_c.specs.Numbers.{status_number}
 use Rattle.gix_config_value_c.specs.Paths.{IsGiven, HasBadFlag}
 
--- the name of the file that a value stands for in this file
+-- `name` is the name of the file that this value includes if it is in the file `file`
 abbrev pub IsNameIn : Directories → List ℕ → List ℕ → List ℕ → Type 0
 IsNameIn directories file value name =
     (path : List ℕ) × Expands (option_copied directories.home) (option_copied directories.install_dir) value path
@@ -21,12 +21,12 @@ abbrev pub AsksUnknown : Directories → List ℕ → Type 0
 AsksUnknown directories value =
     BeginsUnknown (option_copied directories.home) (option_copied directories.install_dir) value
 
--- the entry of this key, in a file of this name and this real directory, includes the file that its value stands for
+-- an entry with this key and value, in a file with this name and real directory, includes the file `name`
 abbrev pub IsIncluded : Option Repository → Directories → (file dir key : List ℕ) → Option (List ℕ) → List ℕ → Type 0
 IsIncluded repository directories file dir key value name = Follows repository dir key true
     × ((text : List ℕ) × (value ≡ Some text) × IsNameIn directories file text name)
 
--- why the entry of this key includes no file; any entry may need memory
+-- the status says why an entry with this key and value includes no file; `NoMemory` may come for every entry
 abbrev pub IsNotIncluded : Option Repository → Directories → (dir key : List ℕ) → Option (List ℕ) → Status → Type 0
 IsNotIncluded repository directories dir key value statuses.NoInclude = Follows repository dir key false
 IsNotIncluded repository directories dir key value statuses.NoValue = Follows repository dir key true × (value ≡ None)
@@ -35,18 +35,18 @@ IsNotIncluded repository directories dir key value statuses.NoDirectory = Follow
 IsNotIncluded repository directories dir key value statuses.NoMemory = ⊤
 IsNotIncluded repository directories dir key value _ = ⊥
 
--- this number is that of a status that says why
+-- the number is that of a status that says why the entry includes no file
 abbrev pub TellsWhyNot : Option Repository → Directories → (dir key : List ℕ) → Option (List ℕ) → ℕ → Type 0
 TellsWhyNot repository directories dir key value number =
     (said : Status) × IsNotIncluded repository directories dir key value said × (number ≡ status_number said)
 
--- the directories that are given
+-- the directories are those that the flags and bytes give
 abbrev pub AreGiven : (install_dir home : ℕ × List ℕ) → Directories → Type 0
 AreGiven install_dir home directories =
     IsGiven install_dir (option_copied directories.install_dir) × IsGiven home (option_copied directories.home)
 
--- the repository that is given: a flag with the git directory, that with links resolved, the branch, and the home
--- directory with links resolved
+-- the repository is the given one: the git directory with its flag (0: no repository), the git directory with
+-- links resolved, the branch, and the home directory with links resolved
 abbrev pub IsRepository : (git_dir : ℕ × List ℕ) (real_git_dir : List ℕ) (branch real_home : ℕ × List ℕ)
     → Option Repository → Type 0
 IsRepository git_dir real_git_dir branch real_home None = git_dir.0 ≡ 0
@@ -54,7 +54,7 @@ IsRepository git_dir real_git_dir branch real_home (Some r) = IsGiven git_dir (S
     × (r.real_git_dir.now ≡ real_git_dir) × IsGiven branch (option_copied r.branch)
     × IsGiven real_home (option_copied r.real_home)
 
--- the name of the included file is put, or the status says why there is none; or a flag is bad, and all is left alone
+-- the name of the included file is put, or the status says why there is none; or a flag is bad
 pub data IncludesInto (key : List ℕ) (value : ℕ × List ℕ) (file real_dir : List ℕ) (install_dir home git_dir : ℕ × List ℕ)
     (real_git_dir : List ℕ) (branch real_home : ℕ × List ℕ) (buffer buffer' : List ℕ) (size size' status : ℕ) : Type 0 where
   told : (text : Option (List ℕ)) (directories : Directories) (repository : Option Repository)

@@ -19,8 +19,8 @@ abbrev pub PutsJson : Data → List ℕ → List ℕ → ℕ → ℕ → ℕ →
 PutsJson json buffer buffer' size size' status =
     AnswersText (λ text. text ≡ compact_text json) (λ reason. reason ≡ status_number statuses.NoMemory) buffer buffer' size size' status
 
--- the JSON text of the value that stands as `c` is put into the buffer, or memory is refused; or no value stands as `c`,
--- which the status `bad` says, and all is left alone
+-- the JSON text of the value that `c` represents is put into the buffer, or memory is refused; or `c`
+-- represents no value, the status is `bad`, and all is left alone
 pub data WritesJson {V C : Type 0} (struct : V → C) (json : V → Data) (bad : Status) (c : C) (buffer buffer' : List ℕ)
     (size size' status : ℕ) : Type 0 where
   written : (v : V) → c ≡ struct v → PutsJson (json v) buffer buffer' size size' status
@@ -32,8 +32,8 @@ pub data WritesJson {V C : Type 0} (struct : V → C) (json : V → Data) (bad :
 abbrev pub product_json : Integer → Data
 product_json v = number (of_integer (product v))
 
--- the product is put into the buffer as a JSON number, or memory is refused; or it is out of range, or no integer stands
--- as `c`, and all is left alone
+-- the product is put into the buffer as a JSON number, or memory is refused; or it is out of range, or `c`
+-- represents no integer, and all is left alone
 pub data WritesProduct (c : GcvInteger) (buffer buffer' : List ℕ) (size size' status : ℕ) : Type 0 where
   written : (v : Integer) → c ≡ integer_struct v → IsInI64 (product v)
       → PutsJson (product_json v) buffer buffer' size size' status

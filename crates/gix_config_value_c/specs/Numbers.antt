@@ -1,4 +1,4 @@
--- The numbers that stand in C for statuses, kinds, suffixes, truth values and faults.
+-- The numbers that represent statuses, kinds, suffixes, truth values and faults in C.
 use Rattle.std.specs.Prelude.{◌≡◌, ◌≢◌, ℕ, Bool, true, false, Option, None, Some}
 use Rattle.config_integer.specs.declared.suffix.Suffix.{Suffix}
 use Rattle.config_integer.specs.declared.suffix.Suffix.TheVariants.{Kibi, Mebi, Gibi}
@@ -9,12 +9,12 @@ use Rattle.gix_config_value.specs.declared.kind.Kind.TheVariants as kinds
 use Rattle.gix_config_value_c.specs.declared.status.Status.{Status}
 use Rattle.gix_config_value_c.specs.declared.status.Status.TheVariants as statuses
 
--- the value that stands in C as this, and none only where no value stands as it
+-- the value that `c` represents in C, and `None` only if `c` represents no value
 abbrev pub StandsFor : {V C : Type 0} → (V → C) → C → Option V → Type 0
 StandsFor {V} struct c None = (v : V) → c ≢ struct v
 StandsFor struct c (Some v) = c ≡ struct v
 
--- what a call returns
+-- the number of a status, which a call returns
 abbrev pub status_number : Status → ℕ
 status_number statuses.Ok = 0
 status_number statuses.Refused = 1
@@ -36,7 +36,7 @@ status_number statuses.NoInclude = 17
 status_number statuses.NoValue = 18
 status_number statuses.NoDirectory = 19
 
--- a kind
+-- the number of a kind
 abbrev pub kind_number : Kind → ℕ
 kind_number kinds.Suffix = 1
 kind_number kinds.Integer = 2
@@ -46,19 +46,19 @@ kind_number kinds.Name = 5
 kind_number kinds.Attribute = 6
 kind_number kinds.Color = 7
 
--- a suffix, or none
+-- the number of a suffix, and 0 for no suffix
 abbrev pub suffix_number : Option Suffix → ℕ
 suffix_number None = 0
 suffix_number (Some Kibi) = 1
 suffix_number (Some Mebi) = 2
 suffix_number (Some Gibi) = 3
 
--- a truth value
+-- the number of a truth value
 abbrev pub flag_number : Bool → ℕ
 flag_number false = 0
 flag_number true = 1
 
--- a fault of a text
+-- the number of a fault of a text
 abbrev pub fault_number : Fault → ℕ
 fault_number faults.Boolean = 1
 fault_number faults.Integer = 2

@@ -1,4 +1,4 @@
--- Paths in C: the mark, and what stands in a path value for its directories.
+-- Paths in C: the mark of an optional path, and the text that a path value is interpolated to.
 use Rattle.std.specs.Prelude.{◌≡◌, ◌≤◌, ◌<◌, ◌-◌, ◌^◌, ◌⊎◌, ℕ, List, [], ◌∷◌, length, Bool, Option, None, Some}
 use Rattle.std.specs.Prelude.{◌++◌, codes, if◌then◌else◌, Result, Ok, Err, drop}
 use Rattle.config_path.specs.declared.interpolate.Error.{Error}
@@ -15,13 +15,13 @@ use Rattle.gix_config_value_c.specs.Faults.{path_fault_number, place_number}
 use Rattle.gix_config_value_c.specs.Numbers.{flag_number}
 use Rattle.gix_config_value_c.specs.Values.{IsNoValue}
 
--- whether the mark stands at the front, and where the path begins behind it
+-- `optional` says whether the mark is at the front, and `start` is the index where the path after it begins
 abbrev pub CutsMark : List ℕ → ℕ → ℕ → Type 0
 CutsMark t optional start =
     (is_optional : Bool) × (optional ≡ flag_number is_optional) × Marked t is_optional (drop start t)
     × (start ≤ length t)
 
--- ---- what is given: a flag, and the bytes that are there if it is 1
+-- ---- what is given: a flag, and bytes that count if it is 1
 
 abbrev pub IsGiven : ℕ × List ℕ → Option (List ℕ) → Type 0
 IsGiven given None = given.0 ≡ 0
@@ -37,7 +37,7 @@ abbrev pub users_in : Option (List ℕ) → Users
 users_in None = no_lookup
 users_in (Some passwd) = looked_up (IsHomeIn passwd)
 
--- what is known of the directories
+-- what is known about the directories
 abbrev pub known_of : (install_dir home passwd : Option (List ℕ)) → Known
 known_of install_dir home passwd =
     record { install_dir = install_dir; home_dir = home; users = users_in passwd }
@@ -48,7 +48,7 @@ known_of install_dir home passwd =
 abbrev pub slash_bytes : Bool → List ℕ
 slash_bytes has_slash = if has_slash then codes "/" else []
 
--- the bytes of the parts
+-- the bytes of the parts, one after the other
 abbrev pub parts_bytes : Parts → List ℕ
 parts_bytes p = p.dir.now ++ slash_bytes p.has_slash ++ p.rest.now
 
@@ -57,20 +57,20 @@ abbrev pub parts_result : Result Parts Error → PathResult
 parts_result (Ok p) = text (parts_bytes p)
 parts_result (Err e) = refusal e
 
--- ---- the answer
+-- ---- the result
 
--- the bytes of the longest block of memory, and so of the longest text: PTRDIFF_MAX
+-- the length of the longest block of memory in bytes, and so of the longest text: PTRDIFF_MAX
 abbrev pub longest_block : ℕ
 longest_block = 2 ^ 63 - 1
 
--- the number of the fault that a path gives
+-- the result is a fault, and it has this number
 abbrev pub IsPathFault : PathResult → ℕ → Type 0
 IsPathFault (text t) number = ⊥
 IsPathFault (path_fault e) number = number ≡ path_fault_number e
 IsPathFault (ill_formed place bytes) number = number ≡ place_number place
 
--- a text of at most `longest` bytes is put into the buffer, and a longer one wants memory; or the number of the
--- fault is put into `fault`. The rest is left alone.
+-- a text of at most `longest` bytes is put into the buffer; or the text is longer, and the status `NoMemory`;
+-- or the path is refused, and the number of the fault is put into `fault`. The rest is left alone.
 pub data PutsPath (longest : ℕ) (result : PathResult) (buffer buffer' : List ℕ)
     (size size' fault fault' status : ℕ) : Type 0 where
   put : (t : List ℕ) → result ≡ text t → length t ≤ longest → PutsText t buffer buffer' size' status
@@ -82,7 +82,7 @@ pub data PutsPath (longest : ℕ) (result : PathResult) (buffer buffer' : List �
   refused : IsPathFault result fault' → LeavesBuffer statuses.Refused buffer buffer' size size' status
       → PutsPath longest result buffer buffer' size size' fault fault' status
 
--- what the path without its mark is interpolated to is put; or a flag is bad, and all is left alone
+-- the path without its mark is interpolated, and the result put; or a flag is bad, and all is left alone
 pub data InterpolatesInto (t : List ℕ) (install_dir home passwd : ℕ × List ℕ) (buffer buffer' : List ℕ)
     (size size' fault fault' status : ℕ) : Type 0 where
   interpolated : (i h p : Option (List ℕ)) (is_optional : Bool) (value : List ℕ) (result : PathResult)

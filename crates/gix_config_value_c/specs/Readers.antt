@@ -1,4 +1,4 @@
--- What a reader answers in C.
+-- What a reader returns and writes in C.
 use Rattle.std.specs.Prelude.{◌≡◌, ℕ, List}
 use Rattle.config_text.specs.declared.errors.Fault.{Fault}
 use Rattle.gix_config_value.specs.Value.{IsRefused}
@@ -13,8 +13,8 @@ Faults refusal t number = (f : Fault) × refusal t f × (number ≡ fault_number
 abbrev pub NoFault : List ℕ → ℕ → Type 0
 NoFault t number = number ≡ 0
 
--- the struct of the value that the grammar gives the text is put into `out`; or the grammar gives it none, and the
--- number of its fault is put into `fault`. The other one is left alone.
+-- the struct of the value that the grammar gives the text is put into `out`; or the grammar gives the text no
+-- value, and the number of a fault is put into `fault`. The other one is left alone.
 pub data ReadsInto {V C : Type 0} (struct : V → C) (grammar : List ℕ → V → Type 0) (faults : List ℕ → ℕ → Type 0) (t : List ℕ)
     (out out' : C) (fault fault' status : ℕ) : Type 0 where
   read : (v : V) → grammar t v → out' ≡ struct v → fault' ≡ fault → status ≡ status_number statuses.Ok

@@ -17,8 +17,8 @@ pub(crate) fn put(text: &[u8], buffer: &mut [u8], length: &mut usize) -> u32
     Status::Ok as u32
 }
 
-/// Writes a text into the buffer at a place after which there must be room for it. Returns where the text
-/// ends.
+/// Writes a text into the buffer at index `at`, after which there must be room for it. Returns the index at
+/// which the text ends.
 #[inline(always)]
 pub(crate) fn push(text: &[u8], buffer: &mut [u8], at: usize) -> usize
     requires { at + list_length text.now ≤ list_length buffer.old }

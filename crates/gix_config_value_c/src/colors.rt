@@ -1,13 +1,13 @@
-//! Two colors as one.
+//! The composition of two colors.
 ghost use Rattle.gix_config_value_c.specs.Colors.{ComposesInto};
 
 use crate::status::Status;
 use crate::structs::{GcvColor, color_of, color_struct};
 use gix_config_value::canonical::{Value, compose};
 
-/// Puts into `out` the color that a text of the first one, white space and a text of the second one reads to.
-/// First `BadName` if a name of one of them is none, then `NoText` if no text reads to one of them,
-/// then `TooManyNames` if they have more than two names together: then `out` is left alone.
+/// Puts into `out` the color that a text of the first, white space and a text of the second read to together.
+/// Returns `BadName` if a struct has an invalid name, otherwise `NoText` if one of the colors has no text, or
+/// otherwise `TooManyNames` if they have more than two names together. After these `out` is left alone.
 #[unsafe(no_mangle)]
 pub extern "C" fn gcv_raw_compose(first: &GcvColor, second: &GcvColor, out: &mut GcvColor) -> u32
     ensures { ComposesInto first.now second.now out.old out.new result }

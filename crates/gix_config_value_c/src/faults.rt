@@ -1,4 +1,4 @@
-//! Why a text or a path is refused, as a number and as a text.
+//! The reasons why a text or a path is refused, as numbers and as texts.
 ghost use Rattle.std.specs.Prelude.{◌≡◌, ◌++◌, codes, option_copied};
 ghost use Rattle.config_path.specs.Interpolation.{place_shown};
 ghost use Rattle.gix_config_value_c.specs.Numbers.{fault_number};
@@ -9,7 +9,7 @@ use crate::status::Status;
 use gix_config_value::Fault;
 use gix_config_value::path::interpolate::{Error, Place};
 
-/// The number of a fault of a text.
+/// Returns the number of a fault of a text.
 pub(crate) fn fault_number(fault: Fault) -> u32
     ensures { result ≡ fault_number fault }
 {
@@ -22,7 +22,7 @@ pub(crate) fn fault_number(fault: Fault) -> u32
     }
 }
 
-/// The number of a place that is not UTF-8.
+/// Returns the number of a place in a path that is not UTF-8.
 fn place_number(place: Place) -> u32
     ensures { result ≡ place_number place }
 {
@@ -35,7 +35,7 @@ fn place_number(place: Place) -> u32
     }
 }
 
-/// The number of a fault of a path, 0 for out of memory.
+/// Returns the number of a fault of a path, or 0 for out of memory.
 pub(crate) fn path_fault_number(error: Error<'_>) -> u32
     ensures { result ≡ path_fault_number error.entry }
 {
@@ -50,14 +50,14 @@ pub(crate) fn path_fault_number(error: Error<'_>) -> u32
     }
 }
 
-/// What an error says of bytes that are not UTF-8.
+/// Returns the text of an error about bytes that are not UTF-8.
 fn ill_formed_text(place: Place) -> &'static str
     ensures { result.now ≡ codes "Ill-formed UTF-8 in " ++ place_shown place }
 {
     Error::IllFormed { place, input: b"" }.text()
 }
 
-/// The text of the fault of this number.
+/// Returns the text of the fault with this number, or `None` if no fault has it.
 fn numbered_text(number: u32) -> Option<&'static str>
     ensures { option_copied result ≡ numbered_text number }
 {
@@ -81,9 +81,9 @@ fn numbered_text(number: u32) -> Option<&'static str>
     }
 }
 
-/// Puts the text of a fault into the buffer, and its length into `length`. `UnknownFault` if no fault has
-/// the number, and `ShortBuffer` if the buffer is shorter than the text: then nothing is written but its
-/// length.
+/// Puts the text of a fault into the buffer, and its length into `length`. Returns `UnknownFault` if no fault
+/// has the number, and then writes nothing. Returns `ShortBuffer` if the buffer is shorter than the text, and
+/// then writes only the length.
 #[unsafe(no_mangle)]
 pub extern "C" fn gcv_raw_fault_text(fault: u32, buffer: &mut [u8], length: &mut usize) -> u32
     ensures { TellsFault fault buffer.old buffer.new length.old length.new result }

@@ -1,4 +1,4 @@
-//! Configuration files: the keys and the values of a text in a row, and where they are.
+//! Configuration files: the keys and the values of a text, one after the other, and their places.
 ghost use Rattle.std.specs.Prelude.{◌≡◌, ◌++◌, ◌∷◌, [], length, IfOk, OnOk};
 ghost use Rattle.std.specs.Option.{option_map_or};
 ghost use Rattle.gix_config_value_c.specs.Files.{ended, setting_bytes, row_bytes, place_at, places_from};
@@ -11,40 +11,40 @@ use config_file::errors::{Error, Fault};
 use config_file::settings::{AddError, Setting, Settings};
 use std::alloc::{AllocError, Global};
 
-/// Where a setting is among the bytes, in which NUL ends each text.
+/// The place of a setting in the bytes, in which NUL ends each text.
 #[repr(C)]
 #[derive(Clone, Copy)]
 pub struct GcvPlace {
-    /// Where its key begins.
+    /// The index of the first byte of its key.
     pub key: usize,
-    /// Where its value begins, after the key's NUL.
+    /// The index of the first byte of its value, which follows the key's NUL.
     pub value: usize,
     /// The line of its entry, from 1.
     pub line: usize,
-    /// 1 if it has a value, and 0 if its key stands alone.
+    /// 1 if the setting has a value, and 0 if its key is alone on its line.
     pub has_value: u32,
 }
 
-/// What the settings of a file take, or the line on which it is refused.
+/// The sizes that the settings of a file need, or the line at which the file is refused.
 #[repr(C)]
 #[derive(Clone, Copy)]
 pub struct GcvFile {
-    /// How many bytes the keys and the values take.
+    /// The number of bytes that the keys and the values take, with their NULs.
     pub size: usize,
-    /// How many settings there are.
+    /// The number of settings.
     pub count: usize,
-    /// The line of a refusal, from 1, and otherwise 0.
+    /// The line that was refused, from 1, or 0 if no line was refused.
     pub line: usize,
 }
 
-/// Settings in a row, and their places.
+/// The bytes of settings, one after the other, and their places.
 #[derive(Drop)]
 struct Row {
     bytes: Vec<u8>,
     places: Vec<GcvPlace>,
 }
 
-/// The settings of a text, up to the line that is refused if there is one, and why.
+/// Returns the settings of a text, up to the line that is refused, and the error if there is such a line.
 fn settings_of(alloc: Global, text: &[u8]) -> Result<(Settings<'static>, Option<Error>), AllocError>
     ensures { IfOk result (λ read. HasSettings text.now read.1 read.0.entries.items) }
 {
@@ -65,7 +65,7 @@ fn push_text(bytes: &mut Vec<u8>, text: &[u8]) -> Result<(), AllocError>
     Ok(())
 }
 
-/// Appends the value of a setting, and returns 1, or 0 if its key stands alone.
+/// Appends the value of a setting and returns 1, or returns 0 if the setting has no value.
 fn push_value(bytes: &mut Vec<u8>, value: &Option<Vec<u8>>) -> Result<u32, AllocError>
     ensures bytes { OnOk result (bytes.new.items
         ≡ bytes.old.items ++ option_map_or (λ v. ended v.items) value.now []) }
@@ -102,7 +102,7 @@ impl Row {
     }
 }
 
-/// All settings in a row.
+/// Returns the bytes and the places of all settings.
 fn row_of(alloc: Global, settings: &[Setting<'_>]) -> Result<Row, AllocError>
     ensures bytes { IfOk result (λ row. row.bytes.items ≡ row_bytes settings.now) }
     ensures places { IfOk result (λ row. row.places.items ≡ places_from 0 settings.now) }
@@ -117,8 +117,8 @@ fn row_of(alloc: Global, settings: &[Setting<'_>]) -> Result<Row, AllocError>
     Ok(row)
 }
 
-/// Puts settings at the front of both arrays. `ShortBuffer` if one of them is too short, and `NoMemory` if
-/// memory is refused.
+/// Puts settings at the front of both arrays. Returns `ShortBuffer` if one of the arrays is too short, and
+/// `NoMemory` if memory is refused.
 fn put_settings(
     alloc: Global,
     settings: &[Setting<'_>],
@@ -146,7 +146,7 @@ fn put_settings(
     Status::Ok as u32
 }
 
-/// The status of a line that is refused.
+/// Returns the status for the fault of a refused line.
 fn fault_status(fault: Fault) -> u32
     ensures { result ≡ status_number (status_of fault) }
 {
@@ -156,12 +156,12 @@ fn fault_status(fault: Fault) -> u32
     }
 }
 
-/// Puts the keys and the values of a configuration file into `bytes`, where each of them is into `places`,
-/// and how many bytes and settings there are into `out`. A key is as Git lists it, and NUL ends each text.
+/// Puts the keys and the values of a configuration file into `bytes`, their places into `places`, and the
+/// numbers of bytes and of settings into `out`. A key is written as Git lists it, and NUL ends each text.
 ///
-/// `ShortBuffer` if one of the two arrays is too short: then nothing is written but `out`. `BadLine` or `Nul`
-/// if the text is no configuration file: then nothing is written but the line into `out`, and 0 for the rest.
-/// `NoMemory` if memory is refused: then nothing is written.
+/// Returns `ShortBuffer` if one of the two arrays is too short, and then writes only `out`. Returns `BadLine`
+/// or `Nul` if a line is refused, and then only puts the line into `out`, with 0 for the two numbers. Returns
+/// `NoMemory` if memory is refused, and then writes nothing.
 #[unsafe(no_mangle)]
 pub extern "C" fn gcv_raw_read_file(
     alloc: Global,

@@ -1,4 +1,4 @@
-//! Entries that include a file: the name of that file.
+//! The name of the file that an entry includes.
 ghost use Rattle.std.specs.Prelude.{◌≡◌, None, Some, IfOk, MatchOption, MatchResult, option_copied};
 ghost use Rattle.gix_config_value_c.specs.Includes.{IsNameIn, AsksUnknown, IsIncluded, TellsWhyNot};
 ghost use Rattle.gix_config_value_c.specs.Includes.{IncludesInto};
@@ -11,8 +11,8 @@ use config_file::path::{Directories, expand, included_name};
 use config_file::walk::is_followed;
 use std::alloc::{AllocError, Global};
 
-/// The name of the file that a value stands for in this file, or `None` if the value begins with a directory
-/// that is not known.
+/// Returns the name of the file that a value of this file includes, or `None` if the value begins with a
+/// directory that is not known.
 fn name_in(
     alloc: Global,
     directories: Directories<'_>,
@@ -32,7 +32,7 @@ fn name_in(
     Ok(Some(included_name(alloc, file, &path)?))
 }
 
-/// The name of the file that an entry includes, or the number of the status that says why there is none.
+/// Returns the name of the file that an entry includes, or the number of the status that says why not.
 fn included(
     alloc: Global,
     repository: Option<Repository<'_>>,
@@ -62,7 +62,7 @@ fn included(
     }
 }
 
-/// The repository with these directories and this branch, if there is a git directory.
+/// Returns the repository with these directories and this branch, or `None` without a git directory.
 fn repository_of<'r>(
     git_dir: Option<&'r [u8]>,
     real_git_dir: &'r [u8],
@@ -86,13 +86,13 @@ fn repository_of<'r>(
 }
 
 /// Puts the name of the file that an entry includes into the buffer, and its length into `length`. The value,
-/// the directories, the git directory, the branch and the home directory with its links resolved are there if
+/// the directories, the git directory, the branch and the home directory with its links resolved are given if
 /// their flag is 1. `real_dir` is the directory of the file, with its links resolved and no `/` at its end.
 ///
-/// `BadFlag` if a flag is neither 0 nor 1. `NoInclude` if the entry includes no file, or its condition does
-/// not hold. Otherwise `NoValue` if there is no value, and `NoDirectory` if the value begins with a user's
-/// name or with a directory that is not there. `NoMemory` if memory is refused. `ShortBuffer` if the buffer
-/// is shorter than the name.
+/// Returns `BadFlag` if a flag is neither 0 nor 1, and `NoInclude` if the entry includes no file or its
+/// condition does not hold. Otherwise returns `NoValue` if there is no value, and `NoDirectory` if the value
+/// begins with a user's name or with a directory that is not given. Returns `NoMemory` if memory is refused,
+/// and `ShortBuffer` if the buffer is shorter than the name.
 #[unsafe(no_mangle)]
 pub extern "C" fn gcv_raw_include(
     alloc: Global,

@@ -1,8 +1,8 @@
 //! Values as JSON texts, without white space.
 //!
-//! Each call takes memory for the text and gives it back. A text goes to the front of the buffer, and its
-//! length into `length`. If the buffer is shorter, the call returns `ShortBuffer`, and nothing is written
-//! but the length; where memory is refused, it is `NoMemory`, and nothing is written.
+//! Each call takes memory for the text and frees it. It writes the text to the front of the buffer, and its
+//! length into `length`. If the buffer is shorter, the call returns `ShortBuffer` and writes only the length.
+//! If memory is refused, it returns `NoMemory` and writes nothing.
 ghost use Rattle.std.specs.Prelude.{◌≡◌, Some, false};
 ghost use Rattle.serde_json.specs.Data.{string, boolean as truth};
 ghost use Rattle.config_boolean.specs.declared.boolean.Boolean as boolean;
@@ -26,7 +26,7 @@ use gix_config_value::color::Attribute;
 use serde_json::Value;
 use std::alloc::Global;
 
-/// Puts the text of a JSON value into the buffer.
+/// Puts the text of a JSON value into the buffer, and its length into `length`.
 fn put_json(alloc: Global, json: &Value, buffer: &mut [u8], length: &mut usize) -> u32
     requires { has_float (view json.now) ≡ false }
     ensures { PutsJson (view json.now) buffer.old buffer.new length.old length.new result }
@@ -37,7 +37,7 @@ fn put_json(alloc: Global, json: &Value, buffer: &mut [u8], length: &mut usize) 
     }
 }
 
-/// The letter of a suffix as a JSON text. `BadSuffix` if no suffix has the number.
+/// Writes the letter of a suffix as a JSON text. Returns `BadSuffix` if no suffix has the number.
 #[unsafe(no_mangle)]
 pub extern "C" fn gcv_raw_json_suffix(
     alloc: Global,
@@ -57,8 +57,8 @@ pub extern "C" fn gcv_raw_json_suffix(
     }
 }
 
-/// The product of an integer as a JSON number. `BadSuffix` if its suffix has no such number, and
-/// `Overflow` if the product leaves `i64`.
+/// Writes the product of an integer as a JSON number. Returns `BadSuffix` if no suffix has the number in the
+/// struct, and `Overflow` if the product does not fit `i64`.
 #[unsafe(no_mangle)]
 pub extern "C" fn gcv_raw_json_integer(
     alloc: Global,
@@ -77,7 +77,7 @@ pub extern "C" fn gcv_raw_json_integer(
     }
 }
 
-/// A boolean as `true` or `false`. `BadFlag` if the value is neither 0 nor 1.
+/// Writes a boolean as `true` or `false`. Returns `BadFlag` if the value is neither 0 nor 1.
 #[unsafe(no_mangle)]
 pub extern "C" fn gcv_raw_json_boolean(
     alloc: Global,
@@ -97,7 +97,7 @@ pub extern "C" fn gcv_raw_json_boolean(
     }
 }
 
-/// A name as a JSON text. `BadName` if the struct is that of none.
+/// Writes a name as a JSON text. Returns `BadName` if the struct represents no name.
 #[unsafe(no_mangle)]
 pub extern "C" fn gcv_raw_json_name(
     alloc: Global,
@@ -117,7 +117,7 @@ pub extern "C" fn gcv_raw_json_name(
     }
 }
 
-/// A set of attributes as a JSON text: the words of its known bits.
+/// Writes a set of attributes as a JSON text: the words of its known bits.
 #[unsafe(no_mangle)]
 pub extern "C" fn gcv_raw_json_attribute(
     alloc: Global,

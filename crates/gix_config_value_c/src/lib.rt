@@ -1,8 +1,7 @@
 //! A C interface to the readers of Git configuration values.
 //!
-//! `include/gix_config_value.h` declares it. A slice is a pointer and a length in C, which is never null
-//! here: the header puts an address in its place where the length is 0. Nothing keeps a pointer past its
-//! call.
+//! `include/gix_config_value.h` declares it. A slice is a pointer and a length in C. The pointer is not null
+//! here, since the header passes some address if the length is 0. No call keeps a pointer after it returns.
 #![tactic(auto)]
 
 mod buffer;

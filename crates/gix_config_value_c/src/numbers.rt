@@ -1,11 +1,11 @@
-//! The numbers that stand in C for kinds, suffixes and truth values.
+//! The numbers that represent kinds, suffixes and truth values in C.
 ghost use Rattle.std.specs.Prelude.{◌≡◌, Some};
 ghost use Rattle.gix_config_value_c.specs.Numbers.{kind_number, suffix_number, flag_number, StandsFor};
 
 use gix_config_value::canonical::Kind;
 use gix_config_value::integer::Suffix;
 
-/// The kind of this number, or `None` if no kind has it.
+/// Returns the kind with this number, or `None` if no kind has it.
 pub(crate) fn kind_of(number: u32) -> Option<Kind>
     ensures { StandsFor kind_number number result }
 {
@@ -21,7 +21,7 @@ pub(crate) fn kind_of(number: u32) -> Option<Kind>
     }
 }
 
-/// The number of a suffix, 0 for none.
+/// Returns the number of a suffix, or 0 for no suffix.
 pub(crate) fn suffix_number(suffix: Option<Suffix>) -> u32
     ensures { result ≡ suffix_number suffix }
 {
@@ -33,7 +33,7 @@ pub(crate) fn suffix_number(suffix: Option<Suffix>) -> u32
     }
 }
 
-/// The suffix of this number, or `None` if no suffix has it.
+/// Returns the suffix with this number, or `None` if no suffix has it.
 pub(crate) fn unit_of(number: u32) -> Option<Suffix>
     ensures { StandsFor (λ s. suffix_number (Some s)) number result }
 {
@@ -45,7 +45,7 @@ pub(crate) fn unit_of(number: u32) -> Option<Suffix>
     }
 }
 
-/// The suffix of this number, or none; and `None` where the number is that of neither.
+/// Returns the suffix with this number, `Some(None)` for 0, or `None` for any other number.
 pub(crate) fn suffix_of(number: u32) -> Option<Option<Suffix>>
     ensures { StandsFor suffix_number number result }
 {
@@ -56,14 +56,14 @@ pub(crate) fn suffix_of(number: u32) -> Option<Option<Suffix>>
     Some(Some(suffix))
 }
 
-/// The number of a truth value.
+/// Returns the number of a truth value.
 pub(crate) fn flag_number(flag: bool) -> u32
     ensures { result ≡ flag_number flag }
 {
     if flag { 1 } else { 0 }
 }
 
-/// The truth value of this number, or `None` if it is neither 0 nor 1.
+/// Returns the truth value with this number, or `None` if the number is neither 0 nor 1.
 pub(crate) fn flag_of(number: u32) -> Option<bool>
     ensures { StandsFor flag_number number result }
 {

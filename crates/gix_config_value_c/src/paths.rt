@@ -18,11 +18,11 @@ use gix_config_value::path::cut_mark;
 use gix_config_value::path::interpolate::{Error, Place, home_in_passwd};
 use gix_config_value::path::parts::{Form, Joint, form_of, joint_of, text_at};
 
-/// The bytes of the longest block of memory, and so of the longest text.
+/// The length of the longest block of memory in bytes, and so of the longest text.
 const LONGEST_BLOCK: usize = usize::MAX / 2;
 
-/// Puts into `optional` whether a path is marked as optional, 1 or 0, and into `start` where the path begins
-/// behind the mark. Only one mark is cut off.
+/// Puts into `optional` whether a path is marked as optional, 1 or 0, and into `start` the index at which the
+/// path begins after the mark. Only one mark is cut off.
 #[unsafe(no_mangle)]
 pub extern "C" fn gcv_raw_cut_mark(text: &[u8], optional: &mut u32, start: &mut usize)
     ensures { CutsMark text.now optional.new start.new }
@@ -32,7 +32,7 @@ pub extern "C" fn gcv_raw_cut_mark(text: &[u8], optional: &mut u32, start: &mut 
     *start = text.len() - path.len();
 }
 
-/// The bytes if the flag is 1, and nothing if it is 0. `None` if it is neither.
+/// Returns the bytes if the flag is 1, `Some(None)` if it is 0, and `None` if it is neither.
 pub(crate) fn given<'a>(flag: u32, bytes: &'a [u8]) -> Option<Option<&'a [u8]>>
     ensures { MatchOption result
         (IsNoValue flag_number flag)
@@ -44,18 +44,18 @@ pub(crate) fn given<'a>(flag: u32, bytes: &'a [u8]) -> Option<Option<&'a [u8]>>
     Some(None)
 }
 
-/// What a path stands for, in three parts, one after the other.
+/// The text that a path is interpolated to, in three parts that follow each other.
 #[derive(Clone, Copy)]
 struct Parts<'a, 'p> {
-    /// The directory, or nothing.
+    /// The directory, or the empty text.
     dir: &'a [u8],
     /// Whether a `/` follows the directory.
     has_slash: bool,
-    /// What follows.
+    /// The rest of the path.
     rest: &'p str,
 }
 
-/// The parts of a directory and what follows it.
+/// Returns the parts of a directory and what is joined to it.
 fn parts_with<'a, 'p>(dir: &'a [u8], joint: Joint<'p>) -> Parts<'a, 'p>
     ensures { parts_bytes result ≡ joint_text dir.now joint.entry }
 {
@@ -66,8 +66,8 @@ fn parts_with<'a, 'p>(dir: &'a [u8], joint: Joint<'p>) -> Parts<'a, 'p>
     }
 }
 
-/// The directory, or the directory and the rest joined. Fails with `missing` if there is no directory, and
-/// with `IllFormed` at the place if the rest is not UTF-8.
+/// Returns the directory, joined with the rest if there is a rest. Fails with `missing` if there is no
+/// directory, and with `IllFormed` at the place if the rest is not UTF-8.
 fn below_dir<'a, 'p>(
     dir: Option<&'a [u8]>,
     missing: Error<'p>,
@@ -90,7 +90,7 @@ fn below_dir<'a, 'p>(
     }
 }
 
-/// The same below the home directory of the user of this name in the passwd text, if there is one.
+/// Does the same for the home directory of the user with this name in the passwd text, if that text is given.
 fn below_user<'a, 'p>(
     passwd: Option<&'a [u8]>,
     name: &'p [u8],
@@ -107,7 +107,7 @@ fn below_user<'a, 'p>(
     below_dir(home, Error::UserNotFound, rest, Place::PastUser)
 }
 
-/// The value itself. Fails with `IllFormed` if it is not UTF-8.
+/// Returns the value itself. Fails with `IllFormed` if it is not UTF-8.
 fn unchanged<'a, 'p>(value: &'p [u8]) -> Result<Parts<'a, 'p>, Error<'p>>
     ensures { WhereUtf8 Whole value.now (parts_result result ≡ whole_text value.now) (parts_result result) }
 {
@@ -118,7 +118,7 @@ fn unchanged<'a, 'p>(value: &'p [u8]) -> Result<Parts<'a, 'p>, Error<'p>>
     })
 }
 
-/// The parts of what a path stands for. Users are looked up in the passwd text, if there is one.
+/// Returns the parts that a path is interpolated to. Users are looked up in the passwd text, if it is given.
 fn interpolated<'a, 'p>(
     path: &'p [u8],
     install_dir: Option<&'a [u8]>,
@@ -140,7 +140,7 @@ fn interpolated<'a, 'p>(
     }
 }
 
-/// What follows the directory: a `/` or nothing.
+/// Returns the text between the directory and the rest: a `/` or nothing.
 #[inline(always)]
 fn slash_of(has_slash: bool) -> &'static str
     ensures { result.now ≡ slash_bytes has_slash }
@@ -148,7 +148,7 @@ fn slash_of(has_slash: bool) -> &'static str
     if has_slash { "/" } else { "" }
 }
 
-/// Puts the text of the parts into the buffer. `NoMemory` if no block of memory could hold the text.
+/// Puts the text of the parts into the buffer. Returns `NoMemory` if no block of memory could hold the text.
 fn put_parts(dir: &[u8], has_slash: bool, rest: &str, buffer: &mut [u8], length: &mut usize) -> u32
     ensures { (fault : ℕ) → PutsPath LONGEST_BLOCK (whole_text (dir.now ++ slash_bytes has_slash ++ rest.now))
         buffer.old buffer.new length.old length.new fault fault result }
@@ -187,13 +187,13 @@ fn put_path(
     }
 }
 
-/// Puts what a path value stands for into the buffer, and its length into `length`. One mark of an optional
-/// path is cut off first. Each of the install directory, the home directory and the passwd text is there
-/// if its flag is 1, and may hold any bytes.
+/// Interpolates a path value, and puts the text into the buffer and its length into `length`. One mark of an
+/// optional path is cut off first. The install directory, the home directory and the passwd text are given if
+/// their flags are 1, and may hold any bytes.
 ///
-/// `BadFlag` if a flag is neither 0 nor 1. `Refused` if the path stands for nothing: the number of the fault
-/// is put into `fault`. `NoMemory` if the text is longer than a block of memory can be; the call takes none.
-/// `ShortBuffer` if the buffer is shorter than the text.
+/// Returns `BadFlag` if a flag is neither 0 nor 1. Returns `Refused` if the path is refused, and then puts
+/// the number of the fault into `fault`. Returns `NoMemory` if the text is longer than a block of memory can
+/// be; the call itself takes no memory. Returns `ShortBuffer` if the buffer is shorter than the text.
 #[unsafe(no_mangle)]
 pub extern "C" fn gcv_raw_interpolate(
     text: &[u8],

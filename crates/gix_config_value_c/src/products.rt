@@ -4,8 +4,8 @@ ghost use Rattle.gix_config_value_c.specs.Values.{Multiplies};
 use crate::status::Status;
 use crate::structs::{GcvInteger, integer_of};
 
-/// Puts the number times the factor of its suffix into `out`. `Overflow` if it leaves `i64`, and
-/// `BadSuffix` if the suffix has no such number: then `out` is left alone.
+/// Puts the number times the factor of its suffix into `out`. Returns `Overflow` if the product does not fit
+/// `i64`, and `BadSuffix` if no suffix has the number in the struct. After these `out` is left alone.
 #[unsafe(no_mangle)]
 pub extern "C" fn gcv_raw_product(value: &GcvInteger, out: &mut i64) -> u32
     ensures { Multiplies value.now out.old out.new result }

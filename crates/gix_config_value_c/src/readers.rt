@@ -1,7 +1,7 @@
 //! The readers of the seven kinds.
 //!
-//! A reader returns `Ok` and puts the value into `out`, or returns `Refused` and puts the number of the fault
-//! into `fault`. It leaves the other one alone.
+//! A reader returns `Ok` and puts the value into `out`, or it returns `Refused` and puts the number of the
+//! fault into `fault`. It leaves the other one alone.
 ghost use Rattle.config_text.specs.declared.errors.Fault.TheVariants as faults;
 ghost use Rattle.std.specs.Prelude.{Some};
 ghost use Rattle.gix_config_value.specs.Refusals.{OnlyFault};

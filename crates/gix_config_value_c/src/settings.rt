@@ -1,4 +1,4 @@
-//! Settings by name, among entries that stand as one byte string and the lengths of names and texts.
+//! Settings by name, among entries that are passed as one byte string and the lengths of names and texts.
 ghost use Rattle.std.specs.Prelude.{◌≡◌, Some, None};
 ghost use Rattle.gix_config_value_c.specs.Reading.Settings.{last_from, found_at};
 ghost use Rattle.gix_config_value_c.specs.Settings.{LooksUpInto};
@@ -8,19 +8,19 @@ use crate::status::Status;
 use bstr::BStr;
 use gix_config_value::canonical::normalize;
 
-/// An entry, and where its text stands among the bytes.
+/// An entry, and the place of its text in the bytes.
 #[repr(C)]
 #[derive(Clone, Copy)]
 pub struct GcvEntry {
-    /// The place of the entry, from 0.
+    /// The index of the entry, from 0.
     pub index: usize,
-    /// Where the first byte of its text stands.
+    /// The index of the first byte of its text.
     pub start: usize,
-    /// The length of its text.
+    /// The length of its text in bytes.
     pub length: usize,
 }
 
-/// This entry where it has the name, and else the one that was found before.
+/// Returns this entry if it has the name, and otherwise the one that was found before.
 fn found_at(
     name: &[u8],
     entry: &[u8],
@@ -41,7 +41,7 @@ fn found_at(
     found
 }
 
-/// The last entry of the name, if there is one; and `None` where the lengths do not fit the bytes.
+/// Returns the last entry with the name, if there is one, or `None` if the lengths do not fit the bytes.
 fn last_entry(bytes: &[u8], lengths: &[usize], name: &[u8]) -> Option<Option<GcvEntry>>
     ensures { result ≡ last_from name.now None 0 0 bytes.now lengths.now }
 {
@@ -73,12 +73,12 @@ fn last_entry(bytes: &[u8], lengths: &[usize], name: &[u8]) -> Option<Option<Gcv
     }
 }
 
-/// Looks for the last entry of the name, which decides. The bytes are the names and texts of all entries, one
-/// behind the other, and the lengths are those of name, text, name, text and so on.
+/// Looks for the last entry with the name, which decides. The bytes are the names and texts of all entries,
+/// one after the other, and the lengths are those of name, text, name, text and so on.
 ///
-/// `Ok` if its text has a value of the kind, and `Refused` if it has none: the entry is put into `out`.
-/// First `UnknownKind` if no kind has the number, then `BadLengths` if the lengths do not fit the
-/// bytes, then `Absent` if no entry has the name: then `out` is left alone.
+/// Puts the entry into `out`, and returns `Ok` if its text has a value of the kind, or `Refused` if it has no
+/// value. Returns `UnknownKind` if no kind has the number, otherwise `BadLengths` if the lengths do not fit
+/// the bytes, and otherwise `Absent` if no entry has the name. After these three `out` is left alone.
 #[unsafe(no_mangle)]
 pub extern "C" fn gcv_raw_lookup(
     kind: u32,

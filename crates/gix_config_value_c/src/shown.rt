@@ -1,7 +1,7 @@
-//! Values as they are shown.
+//! The texts that values are shown as.
 //!
-//! A text goes to the front of the buffer, and its length into `length`. Where the buffer is shorter, the
-//! answer is `ShortBuffer`, and nothing is written but the length.
+//! A call writes the text to the front of the buffer, and its length into `length`. If the buffer is shorter
+//! than the text, the call returns `ShortBuffer` and writes only the length.
 ghost use Rattle.std.specs.Prelude.{Some};
 ghost use Rattle.gix_config_value.specs.Suffix.{suffix_shown};
 ghost use Rattle.gix_config_value.specs.Integer.{integer_shown};
@@ -26,7 +26,7 @@ use gix_config_value::canonical::Value;
 use gix_config_value::color::Attribute;
 use itoa::Buffer;
 
-/// Shows the suffix of a number. `BadSuffix` if no suffix has it.
+/// Shows the suffix with a number. Returns `BadSuffix` if no suffix has the number.
 #[tactic(auto, using(config_integer::specs::Laws::Suffix::suffix_has_text))]
 #[unsafe(no_mangle)]
 pub extern "C" fn gcv_raw_show_suffix(suffix: u32, buffer: &mut [u8], length: &mut usize) -> u32
@@ -39,7 +39,7 @@ pub extern "C" fn gcv_raw_show_suffix(suffix: u32, buffer: &mut [u8], length: &m
     put(suffix.text().as_str().as_bytes(), buffer, length)
 }
 
-/// Shows an integer. `BadSuffix` if its suffix has no such number.
+/// Shows an integer. Returns `BadSuffix` if no suffix has the number in the struct.
 #[tactic(auto, using(config_integer::specs::Laws::IntegerShown::integer_has_text))]
 #[unsafe(no_mangle)]
 pub extern "C" fn gcv_raw_show_integer(
@@ -64,7 +64,7 @@ pub extern "C" fn gcv_raw_show_amount(value: i64, buffer: &mut [u8], length: &mu
     put(Buffer::new().format(value).as_bytes(), buffer, length)
 }
 
-/// Shows a boolean. `BadFlag` if the value is neither 0 nor 1.
+/// Shows a boolean. Returns `BadFlag` if the value is neither 0 nor 1.
 #[tactic(auto, using(config_boolean::specs::Laws::Boolean::boolean_has_text))]
 #[unsafe(no_mangle)]
 pub extern "C" fn gcv_raw_show_boolean(value: u32, buffer: &mut [u8], length: &mut usize) -> u32
@@ -77,7 +77,7 @@ pub extern "C" fn gcv_raw_show_boolean(value: u32, buffer: &mut [u8], length: &m
     put(Boolean(flag).text().as_str().as_bytes(), buffer, length)
 }
 
-/// Shows a name. `BadName` if the struct is that of none.
+/// Shows a name. Returns `BadName` if the struct represents no name.
 #[unsafe(no_mangle)]
 pub extern "C" fn gcv_raw_show_name(value: &GcvName, buffer: &mut [u8], length: &mut usize) -> u32
     ensures { Shows name_struct name_shown statuses.BadName
@@ -98,7 +98,7 @@ pub extern "C" fn gcv_raw_show_attribute(bits: u32, buffer: &mut [u8], length: &
     put(set.shown().as_str().as_bytes(), buffer, length)
 }
 
-/// Shows a color. `BadName` if the struct of one of its names is that of none.
+/// Shows a color. Returns `BadName` if the struct has an invalid name.
 #[unsafe(no_mangle)]
 pub extern "C" fn gcv_raw_show_color(value: &GcvColor, buffer: &mut [u8], length: &mut usize) -> u32
     ensures { Shows color_struct color_shown statuses.BadName

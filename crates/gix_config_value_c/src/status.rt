@@ -1,13 +1,13 @@
-//! What a call returns.
+//! The statuses that calls return.
 
-/// The outcome of a call: its result was put, or why it was not. In C it is the number that stands here.
+/// The outcome of a call: `Ok`, or the reason why it is not. A call returns it to C as the number given here.
 #[derive(Clone, Copy)]
 pub enum Status {
     /// The call has put its result.
     Ok = 0,
-    /// The text has no value, or the path stands for none.
+    /// The text has no value, or the path cannot be interpolated.
     Refused = 1,
-    /// The product of an integer leaves `i64`.
+    /// The product of an integer does not fit `i64`.
     Overflow = 2,
     /// No text reads to a color.
     NoText = 3,
@@ -21,7 +21,7 @@ pub enum Status {
     UnknownFault = 7,
     /// No suffix has this number.
     BadSuffix = 8,
-    /// The struct is that of no name.
+    /// The struct represents no name.
     BadName = 9,
     /// A flag is neither 0 nor 1.
     BadFlag = 10,
@@ -29,7 +29,7 @@ pub enum Status {
     BadLengths = 12,
     /// The buffer is shorter than the text.
     ShortBuffer = 13,
-    /// Memory was refused, or a path stands for more than there can be.
+    /// Memory was refused, or the text of a path is longer than a block of memory can be.
     NoMemory = 14,
     /// A line of a file is invalid.
     BadLine = 15,
@@ -37,8 +37,8 @@ pub enum Status {
     Nul = 16,
     /// The entry includes no file.
     NoInclude = 17,
-    /// The entry includes a file, and has no value.
+    /// The entry includes a file, but has no value.
     NoValue = 18,
-    /// The path of an include begins with a user's name, or with a directory that is not there.
+    /// The path of an include begins with a user's name, or with a directory that is not given.
     NoDirectory = 19,
 }

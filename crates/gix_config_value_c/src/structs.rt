@@ -1,4 +1,4 @@
-//! The plain structs that stand for values in C.
+//! The plain structs that represent values in C.
 ghost use Rattle.std.specs.Prelude.{◌≡◌};
 ghost use Rattle.gix_config_value_c.specs.Numbers.{StandsFor};
 ghost use Rattle.gix_config_value_c.specs.Reading.Structs.{tagged_name};
@@ -10,17 +10,17 @@ use bitflags::Flags;
 use gix_config_value::color::{Attribute, Name};
 use gix_config_value::{Color, Integer};
 
-/// An integer: the number before the suffix, and the number of its suffix, 0 for none.
+/// An integer: the number before the suffix, and the number of the suffix.
 #[repr(C)]
 #[derive(Clone, Copy, PartialEq, Eq)]
 pub struct GcvInteger {
     /// The number before the suffix.
     pub value: i64,
-    /// 0 for none, 1 for `k`, 2 for `m`, 3 for `g`.
+    /// The number of the suffix: 0 for no suffix, 1 for `k`, 2 for `m`, 3 for `g`.
     pub suffix: u32,
 }
 
-/// A color's name. What its tag does not use is 0.
+/// The name of a color. The fields that its tag does not use are 0.
 #[repr(C)]
 #[derive(Clone, Copy, PartialEq, Eq)]
 pub struct GcvName {
@@ -37,7 +37,7 @@ pub struct GcvName {
     pub blue: u8,
 }
 
-/// A color: its names, of which each may be none, and the bits of its attributes.
+/// A color: its two names, each of which may be absent, and the bits of its attributes.
 #[repr(C)]
 #[derive(Clone, Copy, PartialEq, Eq)]
 pub struct GcvColor {
@@ -49,7 +49,7 @@ pub struct GcvColor {
     pub attributes: u32,
 }
 
-/// The struct of an integer.
+/// Returns the struct of an integer.
 pub(crate) fn integer_struct(integer: Integer) -> GcvInteger
     ensures { result ≡ integer_struct integer }
 {
@@ -59,7 +59,7 @@ pub(crate) fn integer_struct(integer: Integer) -> GcvInteger
     }
 }
 
-/// The integer of this struct, or `None` if its suffix has no such number.
+/// Returns the integer that the struct represents, or `None` if no suffix has the number in the struct.
 pub(crate) fn integer_of(integer: GcvInteger) -> Option<Integer>
     ensures { StandsFor integer_struct integer result }
 {
@@ -70,7 +70,7 @@ pub(crate) fn integer_of(integer: GcvInteger) -> Option<Integer>
     })
 }
 
-/// The struct that has this tag alone.
+/// Returns the struct with this tag, in which all else is 0.
 const fn tagged(tag: u32) -> GcvName
     ensures { result ≡ tagged tag }
 {
@@ -83,7 +83,7 @@ const fn tagged(tag: u32) -> GcvName
     }
 }
 
-/// The struct of a name. Its tag is one more than its place.
+/// Returns the struct of a name. Its tag is one more than the place of the name.
 #[inline(always)]
 pub(crate) fn name_struct(name: Name) -> GcvName
     ensures { result ≡ name_struct name }
@@ -103,7 +103,7 @@ pub(crate) fn name_struct(name: Name) -> GcvName
     }
 }
 
-/// The struct of a name, or of none.
+/// Returns the struct of a name, or of no name.
 #[inline(always)]
 fn part_struct(part: Option<Name>) -> GcvName
     ensures { result ≡ part_struct part }
@@ -114,7 +114,7 @@ fn part_struct(part: Option<Name>) -> GcvName
     }
 }
 
-/// The name that the tag says, with the numbers that it uses, or `None` if it says none.
+/// Returns the name with this tag and the numbers that the tag uses, or `None` if no name has the tag.
 #[inline(always)]
 fn tagged_name(name: GcvName) -> Option<Name>
     ensures { result ≡ tagged_name name }
@@ -127,7 +127,7 @@ fn tagged_name(name: GcvName) -> Option<Name>
     }
 }
 
-/// The name of this struct, or `None` if it is that of no name.
+/// Returns the name that the struct represents, or `None` if it represents no name.
 #[inline(always)]
 pub(crate) fn name_of(name: GcvName) -> Option<Name>
     ensures { StandsFor name_struct name result }
@@ -140,7 +140,7 @@ pub(crate) fn name_of(name: GcvName) -> Option<Name>
     }
 }
 
-/// The name of this struct, or none; and `None` where it is that of neither.
+/// Returns the name that the struct represents, `Some(None)` if the struct is 0, or `None` if it is invalid.
 #[inline(always)]
 fn part_of(part: GcvName) -> Option<Option<Name>>
     ensures { StandsFor part_struct part result }
@@ -152,7 +152,7 @@ fn part_of(part: GcvName) -> Option<Option<Name>>
     Some(Some(name))
 }
 
-/// The color of this struct, or `None` if one of its names is none.
+/// Returns the color that the struct represents, or `None` if one of its names is invalid.
 #[inline(always)]
 pub(crate) fn color_of(color: GcvColor) -> Option<Color>
     ensures { StandsFor color_struct color result }
@@ -166,7 +166,7 @@ pub(crate) fn color_of(color: GcvColor) -> Option<Color>
     })
 }
 
-/// The struct of a color.
+/// Returns the struct of a color.
 #[inline(always)]
 pub(crate) fn color_struct(color: Color) -> GcvColor
     ensures { result ≡ color_struct color }

@@ -10,7 +10,7 @@ use bstr::BStr;
 use gix_config_value::canonical::{CanonicalText, Kind, Value, normalize_into, same};
 use gix_config_value::integer::Suffix;
 
-/// Puts the letter of the suffix that a text names. `Refused` if it names none.
+/// Puts the letter of the suffix that a text names. Returns `Refused` if the text names no suffix.
 #[inline(never)]
 #[tactic(auto, using(config_integer::specs::Laws::Suffix::suffix_has_text))]
 fn put_suffix(text: &[u8], buffer: &mut [u8], length: &mut usize) -> u32
@@ -23,9 +23,9 @@ fn put_suffix(text: &[u8], buffer: &mut [u8], length: &mut usize) -> u32
     }
 }
 
-/// Puts the canonical text of the value of a text into the buffer, and its length into `length`. `Refused`
-/// where the text has no value of the kind, `UnknownKind` if no kind has the number, and `ShortBuffer`
-/// where the buffer is shorter than the canonical text: then nothing is written but that text's length.
+/// Puts the canonical text of the value of a text into the buffer, and its length into `length`. Returns
+/// `UnknownKind` if no kind has the number, `Refused` if the text has no value of the kind, and `ShortBuffer`
+/// if the buffer is shorter than the canonical text. After the last one only that text's length is written.
 #[unsafe(no_mangle)]
 pub extern "C" fn gcv_raw_normalize(
     kind: u32,
@@ -48,8 +48,8 @@ pub extern "C" fn gcv_raw_normalize(
     put(canonical.as_str().as_bytes(), buffer, length)
 }
 
-/// Puts into `out` whether two texts mean the same, 1 or 0. `Refused` if one of them has no value of the
-/// kind, and `UnknownKind` if no kind has the number: then `out` is left alone.
+/// Puts into `out` whether two texts mean the same, 1 or 0. Returns `UnknownKind` if no kind has the number,
+/// and `Refused` if one of the texts has no value of the kind. After these `out` is left alone.
 #[unsafe(no_mangle)]
 pub extern "C" fn gcv_raw_same(kind: u32, first: &[u8], second: &[u8], out: &mut u32) -> u32
     ensures { ComparesInto kind first.now second.now out.old out.new result }

@@ -1,4 +1,4 @@
-/* Each status of each call on bad input, with what is left alone; lookups, compositions, files and the texts of faults. */
+/* Tests each status of each call on bad input, and what it leaves alone; lookups, compositions, files, fault texts. */
 #include "guarded.h"
 
 static area buffer_area, text_area;
@@ -32,7 +32,7 @@ WRITER(fault_text, uint32_t, gcv_fault_text(*value, buffer, capacity, size))
 WRITER(normalize_canonical, word, gcv_normalize(value->number, value->text, strlen(value->text), buffer, capacity, size))
 WRITER(normalize_empty, uint32_t, gcv_normalize(*value, NULL, 0, buffer, capacity, size))
 
-/* What an interpolation is given, with the flags of the exported call. */
+/* The arguments of an interpolation, with the flags of the exported call. */
 typedef struct given {
     const char *path;
     uint32_t flags[3];
@@ -84,7 +84,7 @@ static void bad_numbers(void)
     count(writes_nothing(buffer_area, json_suffix, &zero, GCV_BAD_SUFFIX), "json_suffix of none");
 }
 
-/* A struct with bytes that its tag does not use, and that of no name. */
+/* Structs with bytes that their tags do not use, and structs that represent no name. */
 static void bad_names(void)
 {
     static const gcv_name names[] = {{0, 0, 0, 0, 0},  {GCV_RED, 1, 0, 0, 0},  {GCV_RED, 0, 1, 0, 0},  {GCV_WHITE, 0, 0, 0, 255},
@@ -175,7 +175,7 @@ static void comparisons(void)
     count(compares(GCV_COLOR, "bold red", "red bold", 1), "one color");
 }
 
-/* Entries, a name, and where the deciding text is, or a status. */
+/* Whether a lookup of the name in the entries returns this status, and finds the entry and its text at this place. */
 static int looks_up(uint32_t kind, const char *bytes, const size_t *lengths, size_t lengths_count, const char *name, gcv_status status,
                     size_t index, size_t start, size_t length)
 {
@@ -230,7 +230,7 @@ static void contexts(void)
         {{"x", {2, 0, 0}, {"", "", ""}}, GCV_BAD_FLAG, NULL},
         {{"x", {0, UINT32_MAX, 0}, {"", "", ""}}, GCV_BAD_FLAG, NULL},
         {{"x", {0, 0, 7}, {"", "", ""}}, GCV_BAD_FLAG, NULL},
-        /* directories and users of any bytes, as in Latin-1, and a path whose own bytes are no UTF-8 */
+        /* directories and users of any bytes, as in Latin-1, and a path whose own bytes are not UTF-8 */
         {{"/etc/x", {1, 1, 1}, {"\xff", "/J\xf6rg", "bob:x:1:1:J\xf6rg:/b:/sh\n"}}, GCV_OK, "/etc/x"},
         {{"~/x", {1, 1, 1}, {"\xff", "/home", "bob:x:1:1:J\xf6rg:/b:/sh\n"}}, GCV_OK, "/home/x"},
         {{"~/x", {0, 1, 0}, {"", "/J\xf6rg", ""}}, GCV_OK, "/J\xf6rg/x"},
@@ -250,7 +250,7 @@ static void contexts(void)
     }
 }
 
-/* The texts of the Rust crate gix-config-value 0.21.1, but for suffixes, the ill-formed places and the conversion. */
+/* The texts of the Rust crate gix-config-value 0.21.1, except for suffixes, ill-formed places and the conversion. */
 static void fault_texts(void)
 {
     static const char *const texts[] = {
@@ -277,7 +277,7 @@ static void fault_texts(void)
     }
 }
 
-/* The users of this system: the one who runs this, as getpwuid tells. */
+/* The users of this system: the user who runs this, whom getpwuid tells. */
 static void users(void)
 {
     static gcv_user room;
@@ -302,7 +302,7 @@ static void users(void)
     }
 }
 
-/* What git 2.39.5 prints by `git -c a.b=TEXT config --get-color a.b`. */
+/* What git 2.39.5 prints for `git -c a.b=TEXT config --get-color a.b`. */
 static void escape_sequences(void)
 {
     static const char *const rows[][2] = {
@@ -335,7 +335,7 @@ static void escape_sequences(void)
     }
 }
 
-/* Texts that end with NUL, and that of a key without `=`, which Git takes for true; the rest by docs/GRAMMAR.md. */
+/* Texts that end with NUL, and null for a key without `=`, which Git takes for true; the rest is in docs/GRAMMAR.md. */
 static void parsed(void)
 {
     static const struct {
@@ -384,7 +384,7 @@ static void parsed(void)
     count(gcv_parse_color(NULL, &color, &fault) == GCV_REFUSED && fault == GCV_FAULT_COLOR, "a color of a key alone");
 }
 
-/* Each status has a text of its own, and other numbers have one together. */
+/* Each status has a text of its own, and all other numbers share one text. */
 static void status_texts(void)
 {
     const char *unknown = gcv_status_text((gcv_status)11);
@@ -400,7 +400,7 @@ static void status_texts(void)
     count(strcmp(gcv_version(), GCV_VERSION) == 0, "gcv_version");
 }
 
-/* The structs are read and written field by field, and what is not used is 0. */
+/* The fields of the structs have the values that were read, and fields that are not used are 0. */
 static void fields(void)
 {
     gcv_name name;
@@ -421,7 +421,7 @@ static void fields(void)
     count(gcv_read_integer("-0x10G", 6, &integer, NULL) == GCV_OK && integer.value == -16 && integer.suffix == GCV_GIBI, "an integer");
 }
 
-/* Each enumerator has the value of its word. */
+/* Each enumerator has the number of its word. */
 static void words(void)
 {
     static const word names[] = {
@@ -478,7 +478,7 @@ static const gcv_setting listed[] = {{"core.bare", NULL, 2},
                                      {"color.a\"b.bare", "no", 5},
                                      {"core.bare", NULL, 7}};
 
-/* Adds a file whose text ends at the page: this status, this many bytes and settings, and this line. */
+/* Adds a file whose text ends at the page, and checks the status, how many bytes and settings it has, and the line. */
 static int adds(gcv_settings *settings, const char *text, size_t length, gcv_status status, size_t size, size_t count_of, size_t line)
 {
     gcv_settings before = *settings;
@@ -490,7 +490,7 @@ static int adds(gcv_settings *settings, const char *text, size_t length, gcv_sta
     return is_untouched(buffer_area, settings->capacity, settings->size);
 }
 
-/* Both files, in arrays with just the room that they take. */
+/* Adds both files, in arrays with exactly the room that they need. */
 static int adds_both(gcv_settings *settings)
 {
     size_t sizes[2] = {0, 0}, index = 0;
@@ -561,7 +561,7 @@ static void files(void)
           "a color of a subsection");
 }
 
-/* An entry, the file that it is in, and what that may ask for. */
+/* An entry, the file that it is in, and what its include may refer to. */
 typedef struct entry {
     const char *key;
     const char *value;
@@ -574,7 +574,7 @@ static gcv_status include(const void *state, char *buffer, size_t capacity, size
     return gcv_include(of->key, strlen(of->key), of->value, of->value ? strlen(of->value) : 0, of->from, buffer, capacity, size);
 }
 
-/* By the section "Includes" of git-config(1). */
+/* Includes as the section "Includes" of git-config(1) describes them. */
 static void includes(void)
 {
     static const gcv_includer nothing = {NULL, 0, NULL, 0, NULL, 0, NULL, 0, NULL, 0, NULL, 0, NULL, 0, NULL, 0};

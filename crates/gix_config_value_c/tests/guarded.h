@@ -12,12 +12,12 @@
 #include <unistd.h>
 
 enum { PATTERN = 0xa5, MARGIN = 64 };
-/* no number of anything */
+/* a number that has no meaning in any call */
 #define UNTOUCHED 0x5a5a
 
 static unsigned long passed, failed;
 
-/* Says what is wrong, the first times. */
+/* Prints what is wrong, for the first 20 rows that fail. */
 static inline int wrong(const char *what)
 {
     if (failed < 20) {
@@ -51,7 +51,7 @@ static inline int finish(void)
     return failed > 0 || passed == 0;
 }
 
-/* Some pages, between two pages that cannot be touched. */
+/* Some pages of memory between two pages that cannot be touched. */
 typedef struct area {
     unsigned char *end;
     size_t size;
@@ -70,7 +70,7 @@ static inline area new_area(size_t size)
     return made;
 }
 
-/* A copy of the text that ends at the page, or null if the text is empty. */
+/* Returns a copy of the text that ends at the page, or null if the text is empty. */
 static inline const char *lent(area place, const char *text, size_t length)
 {
     if (length == 0) {
@@ -95,7 +95,7 @@ static inline gcv_status call_at(area place, writer call, const void *state, siz
     return call(state, capacity == 0 ? NULL : (char *)(place.end - capacity), capacity, size);
 }
 
-/* Whether all bytes of the buffer from here on, and those before it, are as they were. */
+/* Whether all bytes of the buffer from index `from` on, and the bytes before the buffer, are unchanged. */
 static inline int is_untouched(area place, size_t capacity, size_t from)
 {
     const unsigned char *buffer = place.end - capacity;
@@ -108,7 +108,7 @@ static inline int is_untouched(area place, size_t capacity, size_t from)
     return 1;
 }
 
-/* The call writes this text, into a buffer of its length, into a longer one, and into no shorter one. */
+/* The call writes this text into a buffer of its length and into a longer one, but not into a shorter one. */
 static inline int writes(area place, writer call, const void *state, const char *text, size_t length)
 {
     size_t size;
@@ -136,7 +136,7 @@ static inline int writes_nothing(area place, writer call, const void *state, gcv
     return 1;
 }
 
-/* A whole file. */
+/* Returns the bytes of a whole file. */
 static inline char *read_file(const char *path, size_t *length)
 {
     FILE *file = fopen(path, "rb");

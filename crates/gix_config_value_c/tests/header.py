@@ -1,14 +1,14 @@
 #!/usr/bin/env python3
-"""The header and what it repeats: header.py [PREFIX]. The last line is 'N passed, M failed'.
+"""Checks the header and what it repeats: header.py [PREFIX]. The last line is 'N passed, M failed'.
 
-Nothing proves a header that is written by hand. So this compares it with the Rattle sources and the definitions: the
-names, order, types and offsets of the fields of each struct, the parameters of each exported call, and the number of
-each constant. The Python module includes the header, and has names of its own for the faults and the attributes.
+The header is written by hand, and nothing proves it. So this compares it with the Rattle sources and the definitions:
+the names, order, types and offsets of the fields of each struct, the parameters of each exported call, and the number
+of each constant. The Python module includes the header, and has its own names for the faults and the attributes.
 
-crates/gix_config_value_c/VERSION is the one version. The header says the same, and so do CHANGELOG.md, the program
-config_check, the Python package, and the library that was built into PREFIX. The name of the shared library has the
-first number of it, and below 1.0 the second one too. The longest canonical text is one number as well: LONGEST_TEXT of
-config_text."""
+crates/gix_config_value_c/VERSION has the version. The header has to have the same, and so have CHANGELOG.md, the
+program config_check, the Python package, and the library that was built into PREFIX. The name of the shared library has
+the first number of the version, and below 1.0 the second one too. The length of the longest canonical text is also
+compared: it is LONGEST_TEXT of config_text."""
 import pathlib
 import re
 import subprocess
@@ -20,7 +20,7 @@ HEADER, CALLS = CRATE / "include/gix_config_value.h", CRATE / "calls.c"
 NUMBERS, FAULTS = CRATE / "specs/Numbers.antt", CRATE / "specs/Faults.antt"
 WORDS = ROOT / "crates/config_word"
 MODULE = ROOT / "python/_core.c"
-# a file, and how it says the version
+# a file, and the pattern of the version in it
 PLACES = [
     (HEADER, r'^#define GCV_VERSION "(.*)"$'),
     (ROOT / "CHANGELOG.md", r"^## \[?([0-9][^\s\]]*)"),
@@ -28,11 +28,11 @@ PLACES = [
     (ROOT / "python/pyproject.toml", r'^version = "(.*)"$'),
 ]
 PARTS = [(HEADER, rf"^#define GCV_VERSION_{part} (\d+)$") for part in ("MAJOR", "MINOR", "PATCH")]
-# the longest canonical text, and what has to say the same
+# the length of the longest canonical text, and what has to have the same number
 LONGEST = (ROOT / "crates/config_text/src/value.rt", r"^pub const LONGEST_TEXT: usize = (\d+);$")
 LENGTHS = [(HEADER, r"^enum \{ GCV_LONGEST_TEXT = (\d+) \};$")]
-# the first constant of an enum of the header; then where else its numbers are: the beginning of the constants' names,
-# a file, how it says a name and a number, and what makes the constant's value of that number
+# by the first constant of an enum of the header, where else its numbers are: the beginning of the constants' names, a
+# file, the pattern of a name and a number in it, and the function from that number to the constant's value
 ENUMS = {
     "GCV_OK": [
         ("GCV_", CRATE / "src/status.rt", r"^    (\w+) = (\d+),$", int),
@@ -62,7 +62,7 @@ ENUMS = {
     ],
 }
 BITS = re.compile(r"^#define (GCV_\w+) (0x[0-9a-f]{8})u$", re.MULTILINE)
-# of what has no value: a text that a suffix's reader refuses, an integer without a suffix, a color without a name
+# the constants that are 0: the fault of a refused suffix, an integer without a suffix, a color without a name
 ZEROS = ("GCV_FAULT_NONE", "GCV_NO_SUFFIX", "GCV_NO_NAME")
 OTHER_NAMES = {"GCV_FAULT_ILL_FORMED_WHOLE": "GCV_FAULT_ILL_FORMED_PATH"}
 # the types of C for those of Rattle, and their sizes
@@ -78,19 +78,19 @@ def text_of(path):
 
 
 def said(path, pattern):
-    """What a file says, first of all."""
+    """What the pattern finds first in a file, or None."""
     found = re.search(pattern, text_of(path), re.MULTILINE)
     return found.group(1) if found else None
 
 
 def constant(beginning, name):
-    """The constant of the header for a name in Rattle."""
+    """The name of the header's constant for a name in Rattle."""
     whole = beginning + (name if name.isupper() else re.sub("(?<!^)(?=[A-Z])", "_", name).upper())
     return OTHER_NAMES.get(whole, whole)
 
 
 def numbers():
-    """Each number of an enum of the header, in the header and in each sort of file that has it."""
+    """Each number of an enum of the header: in the header, and in each sort of file that has it."""
     for first, places in ENUMS.items():
         body = re.search(rf"^typedef GCV_ENUM\(\w+\) \{{\n(    {first} = .*?)^\}}", text_of(HEADER), re.MULTILINE | re.DOTALL)
         listed = re.findall(r"^    (GCV_\w+) = (\d+)", body[1], re.MULTILINE) if body else BITS.findall(text_of(HEADER))
@@ -135,7 +135,7 @@ def structs():
 
 
 def parameters(words):
-    """What C passes for the parameters of an exported function."""
+    """The types in C of the parameters of an exported function."""
     for kind in re.findall(r"\w+: ([^,]+?)(?:,|$)", words):
         is_slice, name = "[" in kind, kind.removeprefix("&").removeprefix("mut ").strip("[]")
         if kind != "Global":
@@ -170,7 +170,7 @@ def names():
 
 
 def built(prefix, version):
-    """What pkg-config and the shared library in the prefix say, and what they should."""
+    """What pkg-config and the shared library in the prefix say, and what they have to say."""
     module = pathlib.Path(prefix) / "lib/pkgconfig/gix_config_value.pc"
     yield str(module), said(module, r"^Version: (.*)$"), version
     soname = "libgix_config_value.so." + (version.rpartition(".")[0] if version[:2] == "0." else version.split(".")[0])

@@ -1,4 +1,4 @@
-/* Every call that takes a text of a kind, over lines `kind text` and their answers: lines LINES ANSWERS.
+/* Tests every call that takes a text of a kind, over lines `kind text` and their answers: lines LINES ANSWERS.
  *
  * An answer is `ok` and the canonical text, `refused`, or `unknown kind`. */
 #include "guarded.h"
@@ -113,7 +113,7 @@ static writer shower(uint32_t kind)
     return showers[kind - 1];
 }
 
-/* The JSON text of an integer is its product, as the compiler multiplies. */
+/* The JSON text of an integer is its product, which the compiler multiplies here. */
 static int has_product(const gcv_integer *integer)
 {
     static const int64_t factors[] = {1, 1024, 1048576, 1073741824};
@@ -129,7 +129,7 @@ static int has_product(const gcv_integer *integer)
     return writes(buffer_area, json_integer, integer, text, (size_t)length);
 }
 
-/* The JSON text of a value, if its kind has one. */
+/* The JSON text of a value is right, if its kind has one. */
 static int has_json(uint32_t kind, const value *read, const char *canonical, size_t length)
 {
     char quoted[GCV_LONGEST_TEXT + 2];
@@ -152,7 +152,7 @@ static int has_json(uint32_t kind, const value *read, const char *canonical, siz
     }
 }
 
-/* The deciding entry among three, the second of which has the text. */
+/* A lookup among three entries finds the second one, which has the text, and returns this status. */
 static int is_looked_up(const input *in, gcv_status wanted)
 {
     static const char front[] = "ktextkey";
@@ -187,7 +187,7 @@ static int is_accepted(const input *in, const char *canonical, size_t length)
     return is_looked_up(in, GCV_OK);
 }
 
-/* The fault of a refused text. */
+/* Returns the fault of a refused text. */
 static uint32_t wanted_fault(const input *in)
 {
     static const uint32_t faults[] = {GCV_FAULT_NONE,  GCV_FAULT_INTEGER, GCV_FAULT_INTEGER, GCV_FAULT_BOOLEAN,
@@ -227,7 +227,7 @@ static int is_unknown(const input *in)
     return 1;
 }
 
-/* The number of a kind, or 99 if no kind has the name. */
+/* Returns the number of a kind, or 99 if no kind has the name. */
 static uint32_t kind_of(const char *name, size_t length)
 {
     static const char *const names[] = {"suffix", "integer", "amount", "boolean", "name", "attribute", "color"};

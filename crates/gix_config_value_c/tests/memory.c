@@ -1,4 +1,4 @@
-/* Memory that is refused: each request of each call that takes some, in turn. Linked with malloc, realloc and free
+/* Refuses memory to each call that takes some: one request after the other. It is linked with malloc, realloc and free
  * wrapped. */
 #include "guarded.h"
 
@@ -104,7 +104,7 @@ static gcv_status normalize(const void *state, char *buffer, size_t capacity, si
     return gcv_normalize(GCV_INTEGER, "0x10k", 5, buffer, capacity, size);
 }
 
-/* A file of one key, which is the text. */
+/* Adds a file that has one key. The text is this key. */
 static gcv_status add_file(const void *state, char *buffer, size_t capacity, size_t *size)
 {
     char bytes[] = "?.?";
@@ -128,8 +128,8 @@ static gcv_status include(const void *state, char *buffer, size_t capacity, size
     return gcv_include("includeif.onbranch:ma*.path", 27, "~/x", 3, &from, buffer, capacity, size);
 }
 
-/* How often the call asks for memory; with each request refused in turn it writes nothing, and gives back what it took.
- * */
+/* The call asks for memory this many times. If one of these requests is refused, the call writes nothing, and frees
+ * what it took. */
 static int asks(writer call, const char *text, unsigned long wanted)
 {
     size_t size;

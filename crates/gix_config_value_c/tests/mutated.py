@@ -11,7 +11,7 @@ import fuzz  # noqa: E402
 
 
 class Recorder(fuzz.Program):
-    """A program whose lines and answers are kept."""
+    """A program that keeps its lines and answers."""
 
     def __init__(self, path):
         super().__init__(path)

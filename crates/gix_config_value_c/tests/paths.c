@@ -1,8 +1,8 @@
-/* The calls of paths, over stored calls with known answers: paths FILE.
+/* Tests the calls for paths, over stored calls with known answers: paths FILE.
  *
  * Each line has, between tabs, the value, the install directory, the home directory, what a lookup knows, the flag, the
  * value after the mark, how often the lookup was called, and the text or the error. Every text is written as
- * hexadecimal digits. A lookup is said by a passwd text with a line for each user, and by a call that finds them. */
+ * hexadecimal digits. A lookup becomes a passwd text with a line for each user, and also a call that finds them. */
 #include "guarded.h"
 
 enum { LONGEST = 1 << 16 };
@@ -50,7 +50,7 @@ static void add(text *to, const char *more)
     to->length += strlen(more);
 }
 
-/* A field of a line; an empty one is "". */
+/* Returns the next field of a line, which may be empty. */
 static const char *field(const char **rest, const char *end, char stop, size_t *length)
 {
     const char *start = *rest;
@@ -60,7 +60,7 @@ static const char *field(const char **rest, const char *end, char stop, size_t *
     return start;
 }
 
-/* The passwd text of a lookup, or 0 if no passwd text says it. */
+/* Appends the passwd text of a lookup and returns 1, or returns 0 if no passwd text can have these users. */
 static int add_users(text *to, const char *users, size_t length)
 {
     const char *end = users + length;
@@ -85,7 +85,7 @@ static int add_users(text *to, const char *users, size_t length)
     return 1;
 }
 
-/* The home of a user among those of a call. */
+/* Returns the home of a user among the users of a call, or null. */
 static const char *find(void *state, const char *name, size_t length)
 {
     static text user, home;
@@ -115,7 +115,7 @@ static gcv_status interpolate_with(const void *state, char *buffer, size_t capac
                                 capacity, size, call.fault);
 }
 
-/* The call once more, with one that finds users as often as the stored call did. */
+/* Makes the call once more, with a function that finds users, and that is called as often as in the stored call. */
 static int is_found(path_call *call, const text *wanted, uint32_t fault, unsigned long count)
 {
     size_t size = UNTOUCHED;
@@ -130,7 +130,7 @@ static int is_found(path_call *call, const text *wanted, uint32_t fault, unsigne
     return 1;
 }
 
-/* A text that is there, at a page's end, though it may be empty, or null. */
+/* Returns the text at the end of a page, even if it is empty, or null if it is not there. */
 static const char *given(area place, const text *of, int is_there)
 {
     return !is_there ? NULL : of->length == 0 ? (const char *)place.end : lent(place, of->bytes, of->length);
@@ -161,7 +161,7 @@ static int has_mark(const text *value, const char *lent_value, int is_optional, 
     return 1;
 }
 
-/* 1 or 0 for a call, and 2 if no passwd text says its lookup. */
+/* Returns whether a call is right, 1 or 0, or 2 if no passwd text can have the users of its lookup. */
 static int answers(line asked)
 {
     static text value, install_dir, home, passwd, kept, wanted;

@@ -1,9 +1,9 @@
 #!/bin/sh
 # The tests of the C interface: sh crates/gix_config_value_c/tests/run.sh PROGRAM [PREFIX]
 #
-# PROGRAM is the built crates/config_value, whose answers the fuzzer's lines are compared with. Without PREFIX, where
-# build.sh has put the library, it is built into a folder of its own. The last line is 'N passed, M failed'. Where a
-# tool is not there that build.sh does not need, what needs it says so, and counts nothing.
+# PROGRAM is the built crates/config_value, whose answers the fuzzer's lines are compared with. PREFIX is where build.sh
+# has put the library; without it, the library is built into a folder of its own. The last line is 'N passed, M failed'.
+# If a tool is missing that build.sh does not need, the tests that need it say so, and count nothing.
 set -u
 tests=$(CDPATH='' cd -- "$(dirname -- "$0")" && pwd)
 root=$(CDPATH='' cd -- "$tests/../../.." && pwd)
@@ -17,7 +17,7 @@ trap 'exit 143' TERM
 passed=0
 failed=0
 
-# one thing that holds or does not: holds NAME COMMAND..
+# counts a command as passed if it succeeds, and otherwise as failed: holds NAME COMMAND..
 holds() {
     name=$1
     shift
@@ -30,7 +30,7 @@ holds() {
     fi
 }
 
-# a program whose last line is 'N passed, M failed': counted NAME COMMAND..
+# runs a program whose last line is 'N passed, M failed', and adds these numbers: counted NAME COMMAND..
 counted() {
     name=$1
     shift
@@ -76,7 +76,7 @@ archive=$prefix/lib/libgix_config_value.a
 
 holds "the header" python3 "$tests/header.py" "$prefix"
 
-# the calls that the header declares are the symbols that the library shows, and it needs none but those of docs/C.md
+# the library exports exactly the calls that the header declares, and needs only the symbols of docs/C.md
 sed -nE 's/^(GCV_RETURNS|GCV_CALL|GCV_CHECKED|gcv_status|void|const char).*[ *](gcv_[a-z0-9_]+)\(.*/\2/p' \
     "$prefix/include/gix_config_value.h" | sort > "$work/declared"
 nm -g --defined-only "$archive" | sed -n 's/.* [A-Z] //p' | sort > "$work/shown"
@@ -86,13 +86,13 @@ holds "the shared library shows the calls of the header" diff "$work/declared" "
 printf '%s\n' free malloc memcpy memmove memset realloc strlen > "$work/known"
 nm -u "$archive" | sed -n 's/^ *U //p' | sort -u > "$work/needed"
 holds "the archive needs memory, copies of it and strlen alone" diff "$work/known" "$work/needed"
-# what processors of x86-64 before 2008 lack
+# instructions that processors of x86-64 before 2008 do not have
 objdump -d --no-show-raw-insn "$archive" | cut -f 2 | cut -d ' ' -f 1 | sort -u | grep -E \
     '^(v|pabs|palign|pshufb|phadd|psign|pinsr[bdq]|pextr[bdq]|pmov[sz]x|ptest|pmulld|pcmp(eq|gt)q|pblend|popcnt|crc32|round)' \
     > "$work/newer"
 holds "the archive runs on every x86-64" test ! -s "$work/newer"
 
-# what DESTDIR, LIBDIR, LDFLAGS and a mask of the caller do, and that nothing is left
+# tests the effects of DESTDIR, LIBDIR, LDFLAGS and the caller's mask, and that --uninstall leaves nothing
 built=${GCV_ARCHIVE:-$tests/../out/libgix_config_value_c.a}
 # shellcheck disable=SC2317
 installed() {
@@ -112,7 +112,7 @@ else
     holds "nothing is left" sh -c "[ -z \"\$(find '$work/dest' ! -type d)\" ]"
 fi
 
-# what pkg-config says is enough to build and run an example
+# tests that what pkg-config says is enough to build and run an example
 if ! command -v pkg-config > /dev/null; then
     echo "skipped: the flags of pkg-config, which is not there"
 else
@@ -124,7 +124,7 @@ fi
 
 # the examples, by each compiler as C99 and as C++, over the shared library and over the archive
 warnings="-Wall -Wextra -Wconversion -Wsign-conversion -Wcast-qual -Wpedantic -Werror"
-# a program that ends with this status, and whose output begins with this text: answers STATUS TEXT PROGRAM ARGUMENT..
+# a program ends with this status, and its output begins with this text: answers STATUS TEXT PROGRAM ARGUMENT..
 # shellcheck disable=SC2317
 answers() {
     wanted=$1
@@ -135,7 +135,7 @@ answers() {
     cat "$work/answer"
     [ "$status" -eq "$wanted" ] && grep -q "^$text" "$work/answer"
 }
-# what a compiler refuses: refuses NAME CODE
+# a compiler refuses this code: refuses NAME CODE
 body() {
     printf '#define _DEFAULT_SOURCE\n#define GCV_WITH_USERS\n'
     printf '#include <gix_config_value.h>\n#include <string.h>\nint main(void)\n{\n    char t[64] = "1";\n'
@@ -200,7 +200,7 @@ for compiler in gcc clang g++ clang++; do
     done
 done
 
-# the Python package: wheels by the headers of each Python of 3.9 and later that is here, each on all of them
+# the Python package: a wheel by the headers of each Python from 3.9 on that is installed, tested on all of them
 # shellcheck disable=SC2317
 wheel() {
     mkdir "$1"

@@ -1,7 +1,7 @@
 -- What the parts of a run do, for the contracts of its private functions.
 --
--- A run has read a beginning of its next line, the line begun; the answers to earlier lines wait in a buffer
--- until they are written.
+-- The line begun is the beginning of a line whose LF is not yet read. The answers to the lines before it wait
+-- in a buffer until they are written.
 use Rattle.std.specs.Prelude.{◌≡◌, ℕ, ◌+◌, List, [], ◌∷◌, ◌++◌, take, drop, flat_map, Bool, true, ◌&&◌}
 use Rattle.std.specs.Prelude.{Option}
 use Rattle.std.specs.List.{AllByRecursion, AllZip, list_all}
@@ -13,13 +13,13 @@ use Rattle.gix_config_value.specs.declared.program.Output.{Output}
 use Rattle.gix_config_value.specs.declared.program.Progress.{Progress}
 use Rattle.gix_config_value.specs.Answers.{Outcome, ended, IsUnbroken, LineOutcome, outcome_text, is_accepted}
 
--- the bytes at place i are an LF, and none stands before it
+-- the first LF of the bytes is at index `i`
 pub record CutsLine (bytes : List ℕ) (i : ℕ) : Type 0 where
   pub parts : bytes ≡ ended (take i bytes) ++ drop (i + 1) bytes
   pub unbroken : IsUnbroken (take i bytes)
 
--- after the line begun, and with this truth for the lines before it, the bytes complete lines whose answers
--- are the output, and begin another line
+-- after the line begun `line`, the bytes complete lines whose answers are the output, and then `line'` is
+-- begun; `ok` and `ok'` say whether each line was accepted, before and after the bytes
 pub record CompletesLines (line : List ℕ) (ok : Bool) (bytes line' : List ℕ) (ok' : Bool)
     (output : List ℕ) : Type 0 where
   pub lines : List (List ℕ)
@@ -31,7 +31,7 @@ pub record CompletesLines (line : List ℕ) (ok : Bool) (bytes line' : List ℕ)
   pub written : output ≡ flat_map outcome_text outcomes
   pub all_accepted : ok' ≡ (ok && list_all is_accepted outcomes)
 
--- the line begun, if it is not empty, is answered as the last one
+-- the line begun is answered as the last line, unless it is empty
 abbrev pub AnswersLast : List ℕ → Bool → Bool → List ℕ → Type 0
 AnswersLast [] ok ok' output = (output ≡ []) × (ok' ≡ ok)
 AnswersLast (b ∷ bs) ok ok' output = (outcome : Outcome) × LineOutcome (b ∷ bs) outcome
@@ -40,13 +40,13 @@ AnswersLast (b ∷ bs) ok ok' output = (outcome : Outcome) × LineOutcome (b ∷
 
 -- ---- what is sent
 
--- where an output is: its writer, what that holds, where it is known, and the answers that wait to be written
+-- the state of an output: its writer, the contents of that if they are known, and the answers that wait
 pub record OutputState : Type 0 where
   pub writer : GName
   pub held : Option (List ℕ)
   pub waiting : List ℕ
 
--- where this output is
+-- the state of this output
 abbrev pub output_state : {W : Type 0} → (W → Option (List ℕ)) → Output W → OutputState
 output_state contents o = record {
   writer = o.writer.ghost_name;
@@ -54,50 +54,50 @@ output_state contents o = record {
   waiting = o.waiting.bytes;
 }
 
--- the bytes were sent to one writer: some first bytes of what waited and of them are written, and the others
--- wait
+-- the bytes were appended to what waits, and a beginning of the whole was written to the same writer; the
+-- others still wait
 pub record SendsBytes (before after : OutputState) (bytes : List ℕ) : Type 0 where
   pub same_writer : after.writer ≡ before.writer
   pub written : List ℕ
   pub appended : Appends before.held after.held written
   pub in_order : before.waiting ++ bytes ≡ written ++ after.waiting
 
--- the answer to a line was appended to what waits
+-- the answer to a line was appended, and `ok` says whether the line is accepted
 pub record AppendsAnswer (line before after : List ℕ) (ok : Bool) : Type 0 where
   pub outcome : Outcome
   pub is : LineOutcome line outcome
   pub puts : after ≡ before ++ outcome_text outcome
   pub accepts : ok ≡ is_accepted outcome
 
--- the answer to a line was sent
+-- the answer to a line was sent, and `ok` says whether the line is accepted
 pub record SendsAnswer (line : List ℕ) (before after : OutputState) (ok : Bool) : Type 0 where
   pub outcome : Outcome
   pub is : LineOutcome line outcome
   pub sends : SendsBytes before after (outcome_text outcome)
   pub accepts : ok ≡ is_accepted outcome
 
--- how much may be missing after an error: nothing where there was no memory. Only the reading function
--- answers `Read`.
+-- what may be missing after an error in sending: any bytes after `Write`, and nothing after `Memory`; `Read`
+-- is not such an error
 abbrev pub MayMiss : RunError → List ℕ → Type 0
 MayMiss Read missing = ⊥
 MayMiss Write missing = Unit {0}
 MayMiss (Memory e) missing = missing ≡ []
 
--- an error while bytes were sent: all but the missing last ones are written
+-- an error while bytes were sent: what waited and the bytes are written, except the missing last ones
 pub record FailsSending (before after : OutputState) (bytes : List ℕ) (e : RunError) : Type 0 where
   pub missing : List ℕ
   pub sends : SendsBytes before (record after { waiting = missing }) bytes
   pub allowed : MayMiss e missing
 
--- ---- a run in its middle
+-- ---- the state of a run
 
--- where a run is: the line begun, whether each line before it was accepted, and its output
+-- the state of a run: the line begun, whether each line before it was accepted, and the state of its output
 pub record RunState : Type 0 where
   pub line : List ℕ
   pub accepted : Bool
   pub to : OutputState
 
--- where this run is
+-- the state of this run
 abbrev pub run_state : {W : Type 0} → (W → Option (List ℕ)) → Progress → Output W → RunState
 run_state contents p o = record {
   line = p.line.items;
@@ -105,18 +105,18 @@ run_state contents p o = record {
   to = output_state contents o;
 }
 
--- with these bytes appended to the line begun
+-- the state of a run after these bytes were appended to the line begun
 abbrev pub with_more : RunState → List ℕ → RunState
 with_more g bytes = record g { line = g.line ++ bytes }
 
--- the bytes were taken, and the answers to the lines that they complete sent
+-- the bytes were taken, and the answers to the lines that they complete were sent
 pub record Advances (before after : RunState) (bytes : List ℕ) : Type 0 where
   pub output : List ℕ
   pub taken : CompletesLines before.line before.accepted bytes after.line after.accepted output
   pub sends : SendsBytes before.to after.to output
 
--- an error in the middle of the bytes: the lines that the first ones complete are answered, and of the
--- answers a part is written
+-- an error after the first bytes, `done`, were taken: a beginning of the answers to the lines that these
+-- bytes complete is written
 pub record FailsWithin (before : RunState) (after : OutputState) (bytes : List ℕ)
     (e : RunError) : Type 0 where
   pub done : List ℕ
@@ -128,15 +128,15 @@ pub record FailsWithin (before : RunState) (after : OutputState) (bytes : List �
   pub taken : CompletesLines before.line before.accepted done line accepted output
   pub breaks : FailsSending before.to after output e
 
--- the lines that end within the bytes are answered, no line is begun, and the rest follows them
+-- the bytes before the rest were taken, and no line is begun after them
 pub record AnswersUpTo (before after : RunState) (bytes rest : List ℕ) : Type 0 where
   pub done : List ℕ
   pub split : bytes ≡ done ++ rest
   pub advances : Advances before after done
   pub none : after.line ≡ []
 
--- the lines that end within the front of the input are answered, after what was held, and the rest follows
--- them
+-- the input before the rest consists of whole lines, whose answers were appended to what was held; `ok` says
+-- whether each of them is accepted
 pub record AnswersFront (input rest held holds : List ℕ) (ok : Bool) : Type 0 where
   pub done : List ℕ
   pub output : List ℕ
@@ -144,14 +144,14 @@ pub record AnswersFront (input rest held holds : List ℕ) (ok : Bool) : Type 0 
   pub taken : CompletesLines [] true done [] ok output
   pub appended : holds ≡ held ++ output
 
--- the end of the input: the last line is answered, and all is written
+-- the end of the input: the line begun is answered, unless it is empty, and all answers are written
 pub record EndsAnswered (before : RunState) (after : OutputState) (ok : Bool) : Type 0 where
   pub last : List ℕ
   pub answered : AnswersLast before.line before.accepted ok last
   pub sends : SendsBytes before.to after last
   pub empty : after.waiting ≡ []
 
--- an error at the end of the input: of the answer to the last line a part is written
+-- a write error at the end of the input: a beginning of the answers that were left is written
 pub record EndsEarly (before : RunState) (after : OutputState) (e : RunError) : Type 0 where
   pub last : List ℕ
   pub ok : Bool
@@ -167,7 +167,7 @@ start writer held = record {
   to = record { writer = writer; held = held; waiting = [] };
 }
 
--- a run since its start: some input was read, the lines that it completes are answered, and nothing waits
+-- a run since its start: some input was read, and the answers to the lines that it completes are written
 pub record HasAnswered (unread left : Option (List ℕ)) (before after : RunState) : Type 0 where
   pub input : List ℕ
   pub consumed : Consumes unread left input

@@ -14,9 +14,9 @@ pub fn one_outcome()
     every_kind();
 }
 
-/// Each input has one output, and either every line of it is accepted or not. Two runs that read the same
-/// input and ended with the same error wrote the same after `Read`; after another error one of them may have
-/// written more.
+/// Each input has exactly one output, and fixes whether every line of it is accepted. Two runs that read the
+/// same input and ended with the same error wrote the same if the error is `Read`; after another error one of
+/// them may have written more.
 pub fn one_output()
     ensures some { (input : List ℕ) → (output : List ℕ) × (ok : Bool) × Answers input output ok }
     ensures one { (input a b : List ℕ) (x y : Bool) → Answers input a x → Answers input b y

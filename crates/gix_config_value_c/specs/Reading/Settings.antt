@@ -4,12 +4,12 @@ use Rattle.std.specs.Prelude.{if◌then◌else◌}
 use Rattle.std.specs.Str.{bytes_eq}
 use Rattle.gix_config_value_c.specs.declared.settings.GcvEntry.{GcvEntry}
 
--- the entry of the name, or the one that was found before
+-- this entry if it has the name, and otherwise the one that was found before
 abbrev pub found_at : List ℕ → List ℕ → ℕ → ℕ → ℕ → Option GcvEntry → Option GcvEntry
 found_at name entry index start size found =
     if bytes_eq entry name then Some (record { index = index; start = start; length = size }) else found
 
--- the last entry of the name from this place on, or the one that was found before; none where the lengths do not fit
+-- the last entry with the name from here on, or the one found before; `None` if the lengths do not fit
 abbrev pub last_from : List ℕ → Option GcvEntry → ℕ → ℕ → List ℕ → List ℕ → Option (Option GcvEntry)
 last_from name found index start [] [] = Some found
 last_from name found index start (b ∷ bytes) [] = None

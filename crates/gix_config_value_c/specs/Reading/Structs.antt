@@ -1,4 +1,4 @@
--- The name that a tag and its numbers say.
+-- The name that a struct's tag says, with the numbers that it uses.
 use Rattle.std.specs.Prelude.{◌==◌, ◌-◌, Option, None, Some, if◌then◌else◌}
 use Rattle.std.specs.List.{slice_get}
 use Rattle.config_word.specs.declared.name.Name.{Name}

@@ -1,8 +1,8 @@
-//! Laws about what the calls answer: the same input has one answer.
+//! Laws about what the calls return and write: from the same input a call has one answer.
 //!
-//! A call has one answer if two of its results from the same input are the same. These are the status and
-//! whatever the call writes, over what stood there before. Only the JSON calls take memory: two of their
-//! results are the same if memory was refused to both or to neither.
+//! An answer is the status and whatever the call writes over the same old contents. Two answers from the same
+//! input are the same. Of these calls only the JSON calls take memory. Two of their answers are the same if
+//! memory was refused to both or to neither.
 ghost use Rattle.std.specs.Prelude.{ℕ, List, Some};
 ghost use Rattle.serde_json.specs.Data.{Data, string, boolean as truth};
 ghost use Rattle.config_text.specs.declared.errors.Fault.TheVariants as faults;
@@ -52,7 +52,7 @@ pub fn readers()
         → HasOneAnswer (ReadsInto color_struct ColorText (Faults (OnlyFault faults.Color)) t) }
 {}
 
-/// Each value is shown in one way. A text, as that of an amount or of attributes, is put in one way.
+/// Each value is shown in one way. A text, such as that of an amount or of attributes, is put in one way.
 pub fn shown()
     ensures texts { (text : List ℕ) → HasOneAnswer
         (λ buffer buffer' size size' status. PutsText text buffer buffer' size' status) }
@@ -66,7 +66,7 @@ pub fn shown()
     ensures colors { (c : GcvColor) → HasOneAnswer (Shows color_struct color_shown statuses.BadName c) }
 {}
 
-/// Each value has one JSON text, unless memory is refused.
+/// Each value has one JSON text, unless memory is refused to one of two calls only.
 pub fn json()
     ensures data { (json : Data) → HasOneAnswerByMemory (PutsJson json) }
     ensures suffixes { (n : ℕ) → HasOneAnswerByMemory (WritesJson (λ s. suffix_number (Some s))
@@ -78,8 +78,8 @@ pub fn json()
         (WritesJson name_struct (λ n. string (name_shown n)) statuses.BadName c) }
 {}
 
-/// Each of the other calls has one answer: normal forms, comparisons, compositions, lookups, products, the
-/// texts of faults, and paths. That of a path is a buffer and the number of a fault.
+/// Each of these calls has one answer: normal forms, comparisons, compositions, lookups, products, the texts
+/// of faults, and paths. The answer to a path includes the buffer and the number of a fault.
 pub fn calls()
     ensures normalizes { (number : ℕ) (t : List ℕ) → HasOneAnswer (NormalizesInto number t) }
     ensures compares { (number : ℕ) (a b : List ℕ) → HasOneResult (ComparesInto number a b) }

@@ -1,4 +1,4 @@
-//! Laws about the numbers that stand in C.
+//! Laws about the numbers that represent values in C.
 ghost use Rattle.std.specs.Prelude.{◌≡◌, ◌≢◌, Some};
 ghost use Rattle.config_text.specs.Faults.{fault_text};
 ghost use Rattle.config_text.specs.declared.errors.Fault.{Fault};
@@ -9,7 +9,7 @@ ghost use Rattle.gix_config_value_c.specs.Numbers.{status_number, kind_number, s
 ghost use Rattle.gix_config_value_c.specs.Numbers.{fault_number};
 ghost use Rattle.gix_config_value_c.specs.Faults.{place_number, path_fault_number, numbered_text};
 
-/// No two statuses, kinds, suffixes or truth values have one number.
+/// No two statuses, kinds, suffixes or truth values have the same number.
 pub fn numbers()
     ensures statuses { TellsApart status_number }
     ensures kinds { TellsApart kind_number }
@@ -17,8 +17,8 @@ pub fn numbers()
     ensures flags { TellsApart flag_number }
 {}
 
-/// No two faults of texts have one number, and no two places in a path. Faults of paths with one number have
-/// one text, and none has the number of a fault of a text.
+/// No two faults of texts have the same number, and no two places in a path have. Faults of paths with one
+/// number have the same text, and no fault of a path has the number of a fault of a text.
 pub fn fault_numbers()
     ensures faults { TellsApart fault_number }
     ensures places { TellsApart place_number }
@@ -27,7 +27,7 @@ pub fn fault_numbers()
     ensures apart { (f : Fault) (e : Error) → fault_number f ≢ path_fault_number e }
 {}
 
-/// The text of a fault's number is the text of that fault. Out of memory has the number 0, which has no text.
+/// The text with a fault's number is the text of that fault. Out of memory has the number 0, and so no text.
 pub fn fault_texts()
     ensures texts { (f : Fault) → numbered_text (fault_number f) ≡ Some (fault_text f) }
     ensures paths { (e : Error) → path_fault_number e ≢ 0

@@ -1,4 +1,4 @@
-//! Laws about the structs that stand in C for values.
+//! Laws about the structs that represent values in C.
 ghost use Rattle.std.specs.Prelude.{◌≡◌};
 ghost use Rattle.config_text.specs.Orders.{Equates, IsCopied};
 ghost use Rattle.gix_config_value_c.specs.Answers.{TellsApart};
@@ -6,7 +6,7 @@ ghost use Rattle.gix_config_value_c.specs.Structs.{integer_struct, name_struct, 
 
 use crate::structs::{GcvColor, GcvInteger, GcvName};
 
-/// No two values have the same struct: two structs of values are equal exactly where the values are.
+/// No two values have the same struct: two structs of values are equal exactly if the values are equal.
 pub fn structs()
     ensures integers { TellsApart integer_struct }
     ensures names { TellsApart name_struct }
