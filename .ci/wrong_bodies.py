@@ -34,6 +34,11 @@ def edit_of(file):
     return Edit(f"{file.parts[-3]}/{file.stem}", pairs, expected)
 
 
+def is_own(function, goal, why):
+    """Whether an open goal is that of the function, or of its cycle. A caller names refused answers of what it calls."""
+    return "." not in goal or f".{function.replace('::', '.')}.Answers." in goal or "it calls" not in why
+
+
 class Crate:
     """A crate, and a copy of it in a room."""
 
@@ -67,7 +72,8 @@ class Crate:
         if not re.search(r"^(only=\d+ )?holes=\d+\n\Z", said, re.MULTILINE):
             raise ValueError("it does not reach the prover: " + (re.findall(".*error.*", said) or [said])[0][-300:])
         goals = {(function, goal.rpartition(".")[2]) for function, why in OPEN.findall(said)
-                 for found in GOALS.findall(why) for goal in re.findall("`([^`]*)`", found)}
+                 for found in GOALS.findall(why) for goal in re.findall("`([^`]*)`", found)
+                 if is_own(function, goal, why)}
         return goals | {one for one in REFUSED.findall(said) if one[1] not in {goal for _, goal in goals}}
 
     def faults(self, edits):

@@ -220,6 +220,16 @@ fn text_reason<'r, 't>(
     }
 }
 
+/// Why a key alone is wrong by its row, or `None` if the row allows it.
+fn no_value_reason<'r, 't>(row: &Row<'t>) -> Option<Reason<'r, 't>>
+    ensures { HasReason row.now None result }
+{
+    if row.takes_no_value {
+        return None;
+    }
+    Some(Reason::NoValue)
+}
+
 /// Returns why the value of a setting is wrong by its row, or `None` if it is valid. `value` is `None` for a
 /// key alone. Returns an error if there is no memory to find the nearest word.
 pub fn judge<'r, 't>(
@@ -231,8 +241,7 @@ pub fn judge<'r, 't>(
 {
     match value {
         Some(text) => text_reason(alloc, &row.kind, text),
-        None if row.takes_no_value => Ok(None),
-        None => Ok(Some(Reason::NoValue)),
+        None => Ok(no_value_reason(row)),
     }
 }
 
