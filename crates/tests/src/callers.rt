@@ -1,23 +1,17 @@
 //! Runs each caller of `crates/uses` on texts as a user writes them.
 
+use crate::support::equal;
 use bstr::BStr;
 use config_file::settings::Settings;
 use gix_config_value::canonical::normalize_as;
 use gix_config_value::integer::Amount;
 use gix_config_value::path::interpolate::{Context, absent};
 use gix_config_value::{Boolean, Fault, Path};
-use std::fmt::Debug;
-use std::process::Abort;
 use std::test::Fail;
 use uses::literals::{default_limit, default_warning};
 use uses::paths::{path_at_home, path_of_user};
 use uses::push_default::{PushDefault, push_default};
 use uses::repository::{File, is_bare, read};
-
-/// Asserts that both values are equal. It is written once, since each use of `assert_eq!` has its own proof.
-fn equal<T: PartialEq + Debug>(rt: &impl Abort, given: &T, wanted: &T) {
-    assert!(rt; given == wanted, "{given:?} in place of {wanted:?}");
-}
 
 /// The files of the system, the user and the repository. The expected results are those of Git 2.39.5.
 const FILES: [File<'static>; 3] = [
@@ -39,19 +33,19 @@ const FILES: [File<'static>; 3] = [
 fn reads_settings_of_three_files(rt: HostRuntime) -> Result<(), Fail> {
     let alloc = rt.alloc();
     let settings = read(alloc, &FILES)?;
-    equal(&rt, &is_bare(&settings)?, &true);
+    equal(&rt, is_bare(&settings)?, true, "core.bare");
     let memory = settings.get::<Amount>(b"PACK", None, b"windowmemory")?;
-    equal(&rt, &memory, &Some(Amount(536_870_912)));
+    equal(&rt, memory, Some(Amount(536_870_912)), "pack.windowMemory");
     let rebase = settings.get::<Boolean>(b"branch", Some(b"Main"), b"rebase")?;
-    equal(&rt, &rebase, &Some(Boolean(false)));
+    equal(&rt, rebase, Some(Boolean(false)), "branch.Main.rebase");
     let rebase = settings.get::<Boolean>(b"branch", Some(b"main"), b"rebase")?;
-    equal(&rt, &rebase, &None);
+    equal(&rt, rebase, None, "branch.main.rebase");
     let merges = settings.all(alloc, b"branch", Some(b"Main"), b"merge")?;
-    equal(&rt, &merges.len(), &2);
+    equal(&rt, merges.len(), 2, "branch.Main.merge");
     let last = settings
         .last(b"branch", Some(b"Main"), b"merge")
         .ok_or("no entry")?;
-    equal(&rt, &last.text(), &b"b".as_slice());
+    equal(&rt, last.text(), b"b".as_slice(), "branch.Main.merge");
     Ok(())
 }
 
@@ -63,11 +57,11 @@ fn a_refusal_names_its_place(rt: HostRuntime) -> Result<(), Fail> {
         .get::<Amount>(b"core", None, b"abbrev")
         .err()
         .ok_or("a number")?;
-    equal(&rt, &refused.line, &2);
-    equal(&rt, &refused.value, &Some(b"08".as_slice()));
+    equal(&rt, refused.line, 2, "core.abbrev");
+    equal(&rt, refused.value, Some(b"08".as_slice()), "core.abbrev");
     let told = format!(in alloc; "{refused}")?;
     let wanted = format!(in alloc; "user:2: core.abbrev: {}", Fault::Integer.text())?;
-    equal(&rt, &told.as_str(), &wanted.as_str());
+    equal(&rt, told.as_str(), wanted.as_str(), "core.abbrev");
     let ignore = settings
         .last(b"core", None, b"excludesfile")
         .ok_or("no path")?;
@@ -77,7 +71,12 @@ fn a_refusal_names_its_place(rt: HostRuntime) -> Result<(), Fail> {
         ..Context::default()
     };
     let (_, parts) = ignore.path(context)?;
-    equal(&rt, &parts.to_text(alloc)?.as_str(), &"/home/ann/ignore");
+    equal(
+        &rt,
+        parts.to_text(alloc)?.as_str(),
+        "/home/ann/ignore",
+        "core.excludesFile",
+    );
     Ok(())
 }
 
@@ -94,23 +93,34 @@ fn an_invalid_line_is_told(rt: HostRuntime) -> Result<(), Fail> {
         .err()
         .ok_or("no error")?;
     let told = format!(in alloc; "{refused}")?;
-    equal(&rt, &told.as_str(), &"broken:4: bad config line");
-    equal(&rt, &settings.entries.len(), &1);
+    equal(
+        &rt,
+        told.as_str(),
+        "broken:4: bad config line",
+        "an open bracket",
+    );
+    equal(&rt, settings.entries.len(), 1, "an open bracket");
     Ok(())
 }
 
 #[test]
 fn reads_a_kind_of_its_own(rt: HostRuntime) -> Result<(), Fail> {
     let text = normalize_as::<PushDefault>(BStr::from("tracking")).ok_or("refused")?;
-    equal(&rt, &text.as_str(), &"upstream");
+    equal(&rt, text.as_str(), "upstream", "tracking");
     equal(
         &rt,
-        &normalize_as::<PushDefault>(BStr::from("Simple")),
-        &None,
+        normalize_as::<PushDefault>(BStr::from("Simple")),
+        None,
+        "Simple",
     );
     let entries: [(&[u8], &[u8]); 1] = [(b"push.default", b"matching")];
-    equal(&rt, &push_default(&entries), &Ok(PushDefault::Matching));
-    equal(&rt, &push_default(&[]), &Ok(PushDefault::Simple));
+    equal(
+        &rt,
+        push_default(&entries),
+        Ok(PushDefault::Matching),
+        "matching",
+    );
+    equal(&rt, push_default(&[]), Ok(PushDefault::Simple), "no entry");
     Ok(())
 }
 
@@ -121,16 +131,27 @@ fn interpolates_paths(rt: HostRuntime) -> Result<(), Fail> {
     let path = Path::from_text(alloc, "~a/x")?;
     equal(
         &rt,
-        &path_of_user(alloc, &path, passwd)?.as_str(),
-        &"/h/b/x",
+        path_of_user(alloc, &path, passwd)?.as_str(),
+        "/h/b/x",
+        "~a/x",
     );
     let path = Path::from_text(alloc, "~/x")?;
-    equal(&rt, &path_at_home(alloc, &path, "/h")?.as_str(), &"/h/x");
+    equal(
+        &rt,
+        path_at_home(alloc, &path, "/h")?.as_str(),
+        "/h/x",
+        "~/x",
+    );
     Ok(())
 }
 
 #[test]
 fn has_defaults(rt: HostRuntime) {
-    equal(&rt, &default_limit(), &10_485_760);
-    equal(&rt, &default_warning().shown().as_str(), &"brightred bold");
+    equal(&rt, default_limit(), 10_485_760, "10m");
+    equal(
+        &rt,
+        default_warning().shown().as_str(),
+        "brightred bold",
+        "bold brightred",
+    );
 }
