@@ -1,7 +1,6 @@
 /* Reads a color from configuration files: config KEY FILE...
  *
- * Later files decide over earlier ones. Prints the entry's text in its color, or where and why it is refused. The key
- * must be as Git lists it: color.diff.oldmoved, and not color.diff.oldMoved. */
+ * Later files decide over earlier ones. Prints the entry's text in its color, or where and why it is refused. */
 #include <gix_config_value.h>
 #include <stdio.h>
 #include <stdlib.h>

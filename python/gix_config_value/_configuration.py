@@ -97,7 +97,7 @@ class Configuration(dict):
         return tuple(self._by_key.get(key) or self._by_key.get(_listed(key), ()))
 
     def get(self, key, kind="text", default=None):
-        """The value of the last entry with a key, or the default if there is no such entry.
+        """The value of the last entry with a key, or the default if there is no such entry: `get(key, default=0)`.
 
         The kinds are those of `lookup`, and `path` and `text`. A path is interpolated, with the home directory of
         HOME and the users of this system. A key without `=` is true as a boolean, has no text, and no other value.
@@ -194,7 +194,8 @@ def read(*paths, includes=False, repository=None):
     With `includes` the files that they include are read too, each one after the entry that includes it. Conditions are
     about the repository of the folder `repository`; without it no `includeIf` holds. Those on remotes never hold.
 
-    Raises `OSError` if a file cannot be read, and `InvalidFile`, with the place, if Git would refuse a file.
+    Raises `OSError` if a file cannot be read, and `InvalidFile`, with the place, for an invalid line or a NUL outside a
+    comment.
     """
     known = _known(repository and _repository.find(os.fsdecode(repository))) if includes else None
     entries = []

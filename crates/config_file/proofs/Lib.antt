@@ -26,6 +26,7 @@ pub mod EachReading
 pub mod Adding
 pub mod Fronts
 pub mod Last
+pub mod Found
 pub mod Paths
 pub mod Sets
 pub mod Patterns

@@ -1,5 +1,5 @@
 -- The entries of a file and of the files that it includes, in Git's order.
-use Rattle.std.specs.Prelude.{◌≡◌, ℕ, ◌+◌, Bool, true, false, List, [], ◌∷◌, ◌++◌, Option, None, Some, Result, Ok, Err, ◌⊎◌, ⊤, option_copied, option_map, map}
+use Rattle.std.specs.Prelude.{◌≡◌, ◌≢◌, ◌<◌, ℕ, ◌+◌, Bool, true, false, List, [], ◌∷◌, ◌++◌, Option, None, Some, Result, Ok, Err, ◌⊎◌, ⊤, option_copied, option_map, map}
 use denote.Ref.{Bor}
 use Rattle.std.specs.List.{slice_get}
 use Rattle.config_file.specs.File.{Entry, IsFile}
@@ -47,9 +47,11 @@ abbrev pub Follows : Option Repository → List ℕ → List ℕ → Bool → Ty
 Follows repository dir key true = IsFollowed repository dir key
 Follows repository dir key false = IsPlain repository dir key
 
--- this is one of the files, and it has this name
+-- this is the last of the files that have this name
 abbrev pub HasFile : List File → List ℕ → File → Type 0
-HasFile files name file = (file.place.name.now ≡ name) × ((i : ℕ) × (slice_get files i ≡ Some file))
+HasFile files name file =
+    (file.place.name.now ≡ name) × (i : ℕ) × (slice_get files i ≡ Some file)
+    × ((j : ℕ) (other : File) → i < j → slice_get files j ≡ Some other → other.place.name.now ≢ name)
 
 -- one of the files has this name and this content
 abbrev pub HasContent : List File → List ℕ → Content → Type 0

@@ -50,7 +50,7 @@ pub struct File<'a> {
 /// What a walk over files knows.
 #[derive(Clone, Copy)]
 pub struct Known<'a> {
-    /// The files that may be included.
+    /// The files that may be included. If some have the same name, the last of them is included.
     pub files: &'a [File<'a>],
     /// The directories that a path may begin with.
     pub directories: Directories<'a>,
@@ -117,7 +117,7 @@ fn is_named(file: &File<'_>, name: &[u8]) -> bool
     file.place.name == name
 }
 
-/// The file of this name, or `None` if no such file is known.
+/// The last file of this name, or `None` if no such file is known.
 fn find<'a>(files: &'a [File<'a>], name: &[u8]) -> Option<&'a File<'a>>
     ensures { MatchOption result ((file : _) → ¬ (HasFile files.now name.now file))
         (λ file. HasFile files.now name.now file.now) }

@@ -593,9 +593,10 @@ GCV_RETURNS((8)) gcv_lookup(gcv_kind kind, const char *bytes, size_t bytes_lengt
  * many bytes and places they take.
  *
  * If an array has less room left than they take, the call returns GCV_SHORT_BUFFER: let `capacity` be at least `size +
- * out->size`, and `room` at least `count + out->count`, and call again. If Git would refuse the file, it returns
- * GCV_BAD_LINE or GCV_NUL, and `*out` has the line, and 0 for the rest. Unless it returns GCV_OK, the settings are
- * unchanged. It allocates and frees memory. If malloc fails, it returns GCV_NO_MEMORY, and `*out` is unchanged. */
+ * out->size`, and `room` at least `count + out->count`, and call again. It returns GCV_BAD_LINE if Git would refuse the
+ * file, and GCV_NUL at a NUL outside a comment, where Git would cut the text; then `*out` has the line, and 0 for the
+ * rest. Unless it returns GCV_OK, the settings are unchanged. It allocates and frees memory. If malloc fails, it returns
+ * GCV_NO_MEMORY, and `*out` is unchanged. */
 GCV_RETURNS((1, 4)) gcv_add_file(gcv_settings *GCV_RESTRICT settings, const char *text, size_t length,
                                  gcv_file *GCV_RESTRICT out)
 {
@@ -632,20 +633,38 @@ GCV_RETURNS((1, 2, 3)) gcv_next_setting(const gcv_settings *settings, size_t *GC
     return GCV_OK;
 }
 
-/* Writes to `*out` the last setting with this key, which decides. The key ends with NUL, and must be as Git lists it:
- * "core.autocrlf", not "core.autoCRLF". gcv_parse_bool and its like read the value. The setting is of the first file
- * after which `size` was more than `out->key - bytes`. Returns GCV_ABSENT if no setting has the key. */
+/* Whether this is the key that Git lists so. Case counts only between the first dot and the last one. */
+GCV_INLINE int gcv_is_key(const char *listed, const char *key)
+{
+    size_t first = 0, last = 0, at;
+    for (at = 0; key[at] != '\0'; at++) {
+        if (key[at] == '.') {
+            first = first == 0 ? at : first;
+            last = at;
+        }
+    }
+    for (at = 0; listed[at] != '\0'; at++) {
+        char byte = key[at];
+        if ((at <= first || at >= last) && byte >= 'A' && byte <= 'Z') {
+            byte = "abcdefghijklmnopqrstuvwxyz"[byte - 'A'];
+        }
+        if (byte != listed[at]) {
+            return 0;
+        }
+    }
+    return key[at] == '\0';
+}
+
+/* Writes to `*out` the last setting with this key, which decides. The key ends with NUL: "core.autoCRLF", or
+ * "branch.Main.rebase", in which only the case of "Main" counts. gcv_parse_bool and similar calls read the value. To
+ * know the file, keep `size` after each gcv_add_file: it is the first one whose kept size is more than
+ * `out->key - bytes`. Returns GCV_ABSENT if no setting has the key. */
 GCV_RETURNS((1, 2, 3)) gcv_lookup_setting(const gcv_settings *settings, const char *key,
                                           gcv_setting *GCV_RESTRICT out)
 {
     size_t index = settings->count;
     while (index > 0) {
-        const char *listed = settings->bytes + settings->places[--index].key;
-        size_t same = 0;
-        while (listed[same] != '\0' && listed[same] == key[same]) {
-            same++;
-        }
-        if (listed[same] == key[same]) {
+        if (gcv_is_key(settings->bytes + settings->places[--index].key, key)) {
             return gcv_next_setting(settings, &index, out);
         }
     }

@@ -543,17 +543,17 @@ static void files(void)
     for (size_t at = 0; at < sizeof rows / sizeof rows[0]; at++) {
         count(adds(&settings, rows[at].text, rows[at].length, rows[at].status, 0, 0, rows[at].line), "a file without settings");
     }
-    static const char *const absent[] = {"core.bar", "core.bares", "Core.bare", ""};
+    static const char *const absent[] = {"core.bar", "core.bares", "remote.up.Stream.empty", ""};
     for (size_t at = 0; at < 4; at++) {
         count(gcv_lookup_setting(&settings, absent[at], &setting) == GCV_ABSENT && setting.line == UNTOUCHED, absent[at]);
     }
-    count(gcv_lookup_setting(&settings, "core.limit", &setting) == GCV_OK && gcv_parse_int64(setting.value, &limit, NULL) == GCV_OK &&
+    count(gcv_lookup_setting(&settings, "CORE.Limit", &setting) == GCV_OK && gcv_parse_int64(setting.value, &limit, NULL) == GCV_OK &&
               limit == 16384 && setting.line == 1,
           "the later file decides");
     count(gcv_lookup_setting(&settings, "core.bare", &setting) == GCV_OK && gcv_parse_bool(setting.value, &is_bare, NULL) == GCV_OK &&
               is_bare == 1 && gcv_parse_int64(setting.value, &limit, NULL) == GCV_REFUSED,
           "a key alone is true, and no number");
-    count(gcv_lookup_setting(&settings, "remote.Up.Stream.empty", &setting) == GCV_OK &&
+    count(gcv_lookup_setting(&settings, "Remote.Up.Stream.Empty", &setting) == GCV_OK &&
               gcv_parse_bool(setting.value, &is_bare, NULL) == GCV_OK && is_bare == 0,
           "an empty value is false");
     count(gcv_lookup_setting(&settings, "color.a\"b.ui", &setting) == GCV_OK && gcv_parse_color(setting.value, &color, NULL) == GCV_OK &&
