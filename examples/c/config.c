@@ -63,7 +63,7 @@ int main(int argc, char **argv)
         for (at = 2; (size_t)(setting.key - settings.bytes) >= ends[at]; at++) {
         }
         if (gcv_fault_text(fault, text, sizeof text, &size) == GCV_OK) {
-            printf("%s:%zu: %.*s\n", argv[at], setting.line, (int)size, text);
+            fprintf(stderr, "%s:%zu: %s: %.*s\n", argv[at], setting.line, setting.key, (int)size, text);
         }
     } else if (at == argc && gcv_escape_color(&color, text, sizeof text, &size) == GCV_OK) {
         printf("%.*s%s\033[m\n", (int)size, text, setting.value);

@@ -1,5 +1,5 @@
--- What the readers and normalizers promise of one text: the headline, with no words of the library except
--- grammars.
+-- The headline: what the readers and normalizers promise of one text. `Headline` names no definition of the
+-- library, since the grammars are its parameters.
 use Rattle.std.specs.Prelude.{◌≡◌, ◌≤◌, ◌↔◌, ◌⊎◌, ℕ, List, length, Option, None, Some}
 use Rattle.config_text.specs.declared.value.TheConstants.{LONGEST_TEXT}
 use Rattle.config_color.specs.declared.color.Color.{Color}
