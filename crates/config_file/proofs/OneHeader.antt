@@ -9,7 +9,7 @@ use Rattle.config_file.specs.declared.errors.Fault.TheVariants.{BadLine}
 use Rattle.config_file.specs.Bytes.{is_name_byte, is_blank, IsAtLineEnd}
 use Rattle.config_file.specs.Runs.{Run, StopsRun}
 use Rattle.config_file.specs.Header as header
-use Rattle.config_file.specs.Header.{Section, Header, HeaderStops, NameStops, ClosesSubsection, SubsectionStops, BeginsWithout, fault_at}
+use Rattle.config_file.specs.Header.{Section, Header, OpensSubsection, HeaderStops, NameStops, ClosesSubsection, SubsectionStops, BeginsWithout, fault_at}
 
 abbrev ends_line : List ℕ → Bool
 ends_line [] = true
@@ -144,35 +144,31 @@ named_ends : (name : List ℕ) (b : ℕ) (rest : List ℕ) → name ≢ [] → b
 named_ends [] b rest some is = absurd (some refl)
 named_ends (n ∷ name) b rest some is = rw is
 
+opened_found : {text name inner : List ℕ} (opens : OpensSubsection text name inner)
+    (o : Result (List ℕ × List ℕ) (ℕ × Fault)) → ClosingHas inner o → Found text (with_name name o)
+opened_found {text} {name} {inner} opens o has = record {
+  name = name;
+  after = opens.blanked;
+  blanks = opens.blanks;
+  more = opens.quote ∷ inner;
+  name_run = opens.name_run;
+  blank_run = opens.blank_run;
+  ends = opened_ends name opens.blanks opens.quote inner o opens.some_blank opens.is_quote has;
+}
+
 taken_found : {text rest : List ℕ} {section : Section} → Header text section rest → Found text (Ok (section, rest))
 taken_found (header.plain {b = b} {text = text} {name = n} {rest = rest} run some is) =
     record { name = n; after = b ∷ rest; blanks = []; more = b ∷ rest; name_run = run; blank_run = no_run (b ∷ rest) (rw is refl); ends = named_ends n b rest some is }
-taken_found (header.quoted {name = n} {inner = inner} {raw = raw} {rest = rest} opens closed) =
-    record {
-      name = n;
-      after = opens.blanked;
-      blanks = opens.blanks;
-      more = opens.quote ∷ inner;
-      name_run = opens.name_run;
-      blank_run = opens.blank_run;
-      ends = opened_ends n opens.blanks opens.quote inner (Ok (raw, rest)) opens.some_blank opens.is_quote (closes_has closed);
-    }
+taken_found (header.quoted {raw = raw} {rest = rest} opens closed) =
+    opened_found opens (Ok (raw, rest)) (closes_has closed)
 
 stopped_found : {text : List ℕ} {lines : ℕ} {fault : Fault} → HeaderStops text lines fault → Found text (Err (lines, fault))
 stopped_found (header.name {name = n} {rest = rest} run none stops) =
     record { name = n; after = rest; blanks = []; more = rest; name_run = run; blank_run = no_run rest none; ends = name_stops stops }
 stopped_found (header.blanks {name = n} {blanked = blanked} {blanks = blanks} {rest = rest} run more some other) =
     record { name = n; after = blanked; blanks = blanks; more = rest; name_run = run; blank_run = more; ends = unopened_ends n blanks rest some other }
-stopped_found (header.subsection {lines = lines} {fault = fault} {name = n} {inner = inner} opens stops) =
-    record {
-      name = n;
-      after = opens.blanked;
-      blanks = opens.blanks;
-      more = opens.quote ∷ inner;
-      name_run = opens.name_run;
-      blank_run = opens.blank_run;
-      ends = opened_ends n opens.blanks opens.quote inner (Err (lines, fault)) opens.some_blank opens.is_quote (stops_has stops);
-    }
+stopped_found (header.subsection {lines = lines} {fault = fault} opens stops) =
+    opened_found opens (Err (lines, fault)) (stops_has stops)
 
 abbrev pub HeaderHas : List ℕ → Outcome → Type 0
 HeaderHas text (Ok p) = Header text p.0 p.1

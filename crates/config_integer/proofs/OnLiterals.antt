@@ -11,7 +11,7 @@ use Rattle.config_integer.specs.declared.amount.Amount.{Amount}
 use Rattle.config_integer.specs.Integer.{IntegerText, ProductInRange, IntegerFault, product}
 use Rattle.config_integer.specs.Amount.{AmountText}
 use Rattle.config_integer.specs.Reading.Integer.{suffix_of, integer_of}
-use Rattle.config_integer.specs.Laws.Integer.{integer_of_is, product_one_value}
+use Rattle.config_integer.specs.Laws.Integer.{integer_of_is, product_of, product_one_value}
 use Rattle.config_text.specs.declared.errors.Error.{Error}
 use Rattle.config_text.specs.declared.errors.Fault.{Fault}
 use Rattle.config_text.specs.declared.errors.Fault.TheVariants as faults
@@ -60,7 +60,7 @@ out_of_range_told (negsuc n) e r = grind (arith, nat_tests, ints, r.low)
 in_range_product : (t : List ℕ) (v : Integer) → IntegerText t v → is_in_range (product v) ≡ true
     → ProductInRange t (product v)
 in_range_product t v text r = record {
-  product_text = record { integer = v; text = text; number = refl };
+  product_text = product_of t v text;
   in_range = in_range_told (product v) r;
 }
 
@@ -90,12 +90,7 @@ pub product_overflows : (refuses : ℤ → Type 0) (t : List ℕ) (v : Integer) 
     → is_in_range (product v) ≡ false → IntegerFault refuses t faults.Overflow
 product_overflows refuses t v e out = (
   product v,
-  record {
-    integer =
-        v;
-    text = integer_text t v e;
-    number = refl;
-  },
+  product_of t v (integer_text t v e),
   out_of_range_told (product v) out,
 )
 

@@ -114,7 +114,8 @@ pub product_one_value : (t : List ℕ) (y z : ℤ) → ProductText t y → Produ
 product_one_value t y z p q =
     p.number ∙ ap product (integer_one_value t p.integer q.integer p.text q.text) ∙ sym q.number
 
-product_of : (t : List ℕ) (v : Integer) → IntegerText t v → ProductText t (product v)
+-- an integer text has its product
+pub product_of : (t : List ℕ) (v : Integer) → IntegerText t v → ProductText t (product v)
 product_of t v text = record { integer = v; text = text; number = refl }
 
 pub product_told : (t : List ℕ) → ((z : ℤ) × ProductInRange t z) ⊎ ((z : ℤ) → ¬ (ProductInRange t z))
