@@ -83,7 +83,7 @@ fn command<'a>(alloc: Global) -> Result<Command<'a>, AllocError> {
 }
 
 /// Why a run ends with status 2.
-// Some are made by `match`, since `map_err` has no proof there: the error names a lifetime.
+// A `match` makes some of them, since the prover forgets the result of a `map_err` there.
 #[derive(Debug, Drop, Error)]
 enum Failure<'m> {
     #[error("cannot read the arguments: {0}")]
