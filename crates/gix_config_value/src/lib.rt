@@ -8,7 +8,7 @@
 //!
 //! let bare = Boolean::try_from("yes"); // also on, true, 1, 0x10; no, off, false, 0 and "" are false
 //! let limit = Integer::from_bytes::<usize>(b"10m"); // Ok(10 * 1024 * 1024)
-//! let style = Color::try_from("bold brightred"); // a foreground, a background, attributes
+//! let style = Color::try_from("bold brightred"); // a foreground and an attribute
 //! let text = normalize(Kind::Integer, "0x10k".into()); // Some("16k"), the one canonical text of that value
 //! ```
 //!
@@ -25,6 +25,10 @@
 //!
 //! This crate itself has [`canonical::Kind`], a kind chosen at run time, with [`canonical::normalize`],
 //! [`canonical::same`] and [`canonical::refusal`]; and [`program`], which answers lines.
+//!
+//! `config_file` reads configuration files, over `config_text` and `config_path`. The program `config_value`,
+//! the checker (`config_checks`, and its program `config_check`) and the C interface (`gix_config_value_c`) are
+//! over both. crates.txt lists who uses whom.
 //!
 //! Each public type, and each call that a user meets first, has an example in its comment. The grammar of a
 //! kind is at the top of its crate's `specs/`, and docs/GRAMMAR.md describes it in words.
