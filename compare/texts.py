@@ -16,8 +16,10 @@ NUMBER_WORDS = [b"true", b"yes", b"on", b"false", b"no", b"off"]
 NUMBER_TEXTS = [b"", b"00", b"010", b"08", b"0x", b"0X1f", b"0b", b"0b2", b"1_0", b"1.5", b"1e3", b"10kb", b"1 k",
                 b"1kk", b"+-1", b"--1", b"0x-1", b"0k", b"-0", b"+0x0m", b"1 ", b"\xd9\xa1", b"kilo",
                 b"99999999999999999999"]
-ATTRIBUTES = [b"bold", b"dim", b"italic", b"ul", b"blink", b"reverse", b"strike"]
-COLOR_WORDS = [*fuzz.COLORS, *(b"bright" + color for color in fuzz.COLORS), b"normal", b"default", b"-1", b"reset",
+# the attributes that a word beginning with `no` switches off, and the others
+ATTRIBUTES = [word for word in fuzz.RISING if b"no" + word in fuzz.RISING]
+OTHERS = [word for word in fuzz.RISING if word not in ATTRIBUTES and not word.startswith(b"no")]
+COLOR_WORDS = [*fuzz.COLORS, *(b"bright" + color for color in fuzz.COLORS), b"normal", b"default", b"-1", *OTHERS,
                *(no + word for no in (b"", b"no", b"no-") for word in ATTRIBUTES)]
 COLOR_TEXTS = [b"#0a1B2c", b"#f1B", b"#12", b"-0", b"-001", b"00255", b"+7", b"+007", b"-1 red", b"256", b"15",
                b"red blue green", b"RESET red", b"no-reset", b"bold bold nobold no-bold ul", b"normal normal", b"Bold"]

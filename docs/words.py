@@ -277,9 +277,9 @@ def counts(word):
 
 
 def table():
-    """The rows of docs/READING.md's table."""
+    """The rows of docs/READING.md's table, with counts to the nearest ten."""
     rows = ["| Claim | Lines here | Lines of the toolchain |", "|---|---|---|"]
-    return rows + ["| `{}` | {} | {} |".format(claim, *counts(claim)) for claim in (*SENTENCE, *KINDS)]
+    return rows + ["| `{}` | {} | {} |".format(claim, *(round(count, -1) for count in counts(claim))) for claim in (*SENTENCE, *KINDS)]
 
 
 def main():

@@ -100,6 +100,9 @@ def attributes():
     table = [[*spans(name), bit, *spans(texts)] for name, bit, texts in rows("Attributes")]
     yield "attributes", known, table
     yield "canonical attributes", literals(spec("config_word", "Attribute", "rising_words")), [row[2] for row in table]
+    facts = (words.CRATES / "config_word/proofs/StandardFacts.antt").read_text("utf-8")
+    examples_of = [[name, word] for name, word in re.findall(r'\((\w+), 0x\w+, codes "(\w+)"\)', facts)]
+    yield "attributes in examples", examples_of, [[name, *texts[:1]] for name, _, *texts in table]
 
 
 def spaces():

@@ -123,7 +123,7 @@ macro_rules! shown {
 }
 
 /// The constants and the words that they are shown as, by rising bit.
-const SHOWN: [Shown; 15] = [
+const SHOWN: &[Shown] = &[
     shown!(BOLD, "bold"),
     shown!(DIM, "dim"),
     shown!(ITALIC, "italic"),
@@ -145,7 +145,7 @@ const SHOWN: [Shown; 15] = [
 fn shown_words() -> &'static [Shown]
     ensures { map shown_row result.now ≡ shown_rows }
 {
-    &SHOWN
+    SHOWN
 }
 
 /// How many rows one loop shows. The compiler unrolls a loop over eight rows, and knows the length of each

@@ -30,7 +30,7 @@ fn operators(a: Attribute, b: Attribute) -> [Operator; 8] {
 
 #[test]
 fn operators_are_the_calls(rt: HostRuntime) {
-    let sets = [0, 1 << 1, 6, 3, 266_338_814].map(Attribute::from_bits_retain);
+    let sets = [0, 1 << 1, 6, 3, Attribute::all().bits()].map(Attribute::from_bits_retain);
     for a in sets {
         equal(&rt, !a, a.complement(), ("!", a, a));
         for b in sets {

@@ -1,5 +1,6 @@
 use Rattle.std.proofs.Common.{◌++◌, [], length, map, true, sym, ap, ◌∙◌, arith}
 use Rattle.std.proofs.lemmas.List.{append-nil, length-append, length-map}
+use Rattle.config_word.specs.declared.attribute.TheConstants.{HALF}
 use Rattle.config_word.specs.Attribute.{attributes}
 use Rattle.config_word.specs.Laws.Attribute.{attribute_short, both_parts, remaining-none, remaining-prefix}
 use Rattle.config_word.specs.Reading.Attribute.{remaining, shown_row, words_in}
@@ -14,7 +15,7 @@ split_at-requires c =
 pub push_words-is_first-requires : goal.push_words-is_first-requires
 push_words-is_first-requires c =
     let short = attribute_short c.args.self.0 in
-    let whole = ap length (both_parts c.args.self.0 8 c.shown_words.result.now _ _
+    let whole = ap length (both_parts c.args.self.0 HALF c.shown_words.result.now _ _
     c.shown_words.ensures c.split_at.ensures.front c.split_at.ensures.back) in
     let part = remaining-prefix true (words_in c.args.self.0 (map shown_row c.split_at.result.0.now))
     (words_in c.args.self.0 (map shown_row c.split_at.result.1.now)) in
@@ -23,7 +24,7 @@ push_words-is_first-requires c =
 pub push_words-requires : goal.push_words-requires
 push_words-requires c =
     let short = attribute_short c.args.self.0 in
-    let whole = ap length (both_parts c.args.self.0 8 c.shown_words.result.now _ _
+    let whole = ap length (both_parts c.args.self.0 HALF c.shown_words.result.now _ _
     c.shown_words.ensures c.split_at.ensures.front c.split_at.ensures.back) in
     let written = sym (length-append c.push_words-is_first.new.text.bytes _)
     ∙ ap length (c.push_words-is_first.ensures (words_in c.args.self.0 (map shown_row c.split_at.result.1.now)))
@@ -40,5 +41,5 @@ returns c =
     (append-nil later)
     ∙ c.push_words-is_first.ensures later
     ∙ ap (λ rest. c.args.text.now.bytes ++ rest)
-    (both_parts c.args.self.0 8 c.shown_words.result.now _ _
+    (both_parts c.args.self.0 HALF c.shown_words.result.now _ _
     c.shown_words.ensures c.split_at.ensures.front c.split_at.ensures.back)
