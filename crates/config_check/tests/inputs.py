@@ -10,7 +10,7 @@ from checking import arguments, by_plain_reader, expect_json
 
 ENTRIES_OF_A_FILE = 1000
 TINY_FILES = 300
-SECONDS_FOR_A_LARGE_FILE = 5
+SECONDS_FOR_A_LARGE_FILE = 10
 SECONDS_BETWEEN_PIECES = 0.0005
 LARGE_VALUE = 3_000_000
 SHORT = (b"\xef\xbb\xbfint\n[test]\r\n\tbool = maybe # yes\n\tint;\n int = 2g\n"
