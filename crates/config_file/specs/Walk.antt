@@ -53,7 +53,7 @@ HasFile files name file =
     (file.place.name.now ≡ name) × (i : ℕ) × (slice_get files i ≡ Some file)
     × ((j : ℕ) (other : File) → i < j → slice_get files j ≡ Some other → other.place.name.now ≢ name)
 
--- one of the files has this name and this content
+-- the last of the files that have this name has this content
 abbrev pub HasContent : List File → List ℕ → Content → Type 0
 HasContent files name content = (file : File) × HasFile files name file × (file.content ≡ content)
 
