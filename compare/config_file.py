@@ -72,10 +72,11 @@ PARTS = [" ", *r"""a b A B 1 - ! ^ : , _ ? * / ] \ é ** /**/ **/ /** [ [] [! [^
              "alnum alpha blank cntrl digit graph lower print punct space upper xdigit word ALPHA".split())]
 
 STARRED = ["*a", "*a", "*b", "a*", "?*", "**", "*/", "**/", "/**/", "*[ab]", "*ab", "a"]
-LONGEST_RUN = 60
+LONGEST_RUN = 20
 # a work tree, its branch, a condition that is slow if each star is tried again at all its places, whether it holds, and
 # the first Git that says so at once. Git knows no branch of 60,000 bytes, so it was asked about an URL of these bytes
-STARS = [
+Star = collections.namedtuple("Star", "tree branch condition holds since")
+STARS = [Star(*row) for row in [
     ("R", "a" * 100, "onbranch:" + "*a" * 5 + "*ab", False, (2, 30)),
     ("R", "a" * 200, "onbranch:" + "*a" * 4 + "*ab", False, (2, 30)),
     ("R", "a" * 200, "onbranch:" + "*a" * 50, True, (2, 30)),
@@ -83,7 +84,7 @@ STARS = [
     ("R", "a" * 100, "onbranch:*[" + "[:" * 2000, False, (2, 30)),
     ("a" * 100, "main", "gitdir:" + "*a" * 6 + "b/.git", False, (2, 41)),
     ("R", "a" * 60_000, "onbranch:" + "*a" * 60_000, True, None),
-]
+]]
 
 # what a reader gives: keys and values (None for a key alone), and the line of the refusal, or None
 Answer = collections.namedtuple("Answer", "entries refused")
@@ -413,20 +414,27 @@ class Comparison:
             if difference is None or difference in self.expected:
                 self.follow("folders", Folder(folder / f"f{number}" / "R", line, self.git), difference)
 
+    def has_answer(self, star, tree, seconds):
+        """Whether the program answers in time as Git did, and as this Git does where it answers at once."""
+        began = processor_seconds()
+        ours = tree.by_program(self.program.path)
+        taken = processor_seconds() - began
+        other = tree.by_git() if star.since and self.git.version >= star.since else ours
+        holds = [entry for _, entry in ours[0]].count((b"hit.k", b"1")) == 1
+        return ours == other and holds == star.holds and taken < seconds
+
     def follow_stars(self, seconds, folder):
-        """Compares the repositories of STARS with what Git said, and with this Git where it answers at once."""
-        for number, (name, branch, condition, holds, since) in enumerate(STARS):
-            tree = Folder(folder / f"s{number}" / name, f"?{condition}", self.git)
-            tree.head("ref:", f"refs/heads/{branch}")
-            began = processor_seconds()
-            ours = tree.by_program(self.program.path)
-            taken = processor_seconds() - began
-            other = tree.by_git() if since and self.git.version >= since else ours
-            is_right = ours == other and [it for name, it in ours[0][1:]] == [(b"hit.k", b"1")] * holds
-            if is_right and taken < seconds:
-                self.counts["repositories with many stars"] += 1
-            else:
-                self.faults.append((f"{condition[:60]} in {taken:.2f} s", ours[0][1:], other[0][1:]))
+        """Compares the repositories of STARS."""
+        for number, star in enumerate(STARS):
+            tree = Folder(folder / f"s{number}" / star.tree, f"?{star.condition}", self.git)
+            tree.head("ref:", f"refs/heads/{star.branch}")
+            try:
+                is_right = self.has_answer(star, tree, seconds)
+            except Wrong:
+                is_right = False
+            self.counts["conditions with many stars"] += is_right
+            if not is_right:
+                self.faults.append((star.condition[:60], f"not in {seconds} s", star.holds))
 
     def follow_drawn(self, arguments, folder):
         """Compares folders with random patterns for the git directory and the branch."""
