@@ -117,7 +117,8 @@ def all_by_git(git, asked, ours):
 
 def classes_of(kind, case, running):
     one = classes.of(case, running)
-    return [one.name] * (one is not None) + [own.name for own in OWN_CLASSES if own.kind == kind and own.rule(case)]
+    found = [] if one is None else [one.name]
+    return found + [own.name for own in OWN_CLASSES if own.kind == kind and own.rule(case)]
 
 
 def compare(group, program, draw, git):
