@@ -70,11 +70,10 @@ PARTS = [" ", *r"""a b A B 1 - ! ^ : , _ ? * / ] \ é ** /**/ **/ /** [ [] [! [^
          [a-\c] [/] \* \A \[ [:alpha:] [[: :] :]] [[:upper:]a]""".split(), *(
              f"[{no}[:{name}:]]" for no in ("", "!") for name in
              "alnum alpha blank cntrl digit graph lower print punct space upper xdigit word ALPHA".split())]
-
 STARRED = ["*a", "*a", "*b", "a*", "?*", "**", "*/", "**/", "/**/", "*[ab]", "*ab", "a"]
 LONGEST_RUN = 20
 # a work tree, its branch, a condition that is slow if each star is tried again at all its places, whether it holds, and
-# the first Git that says so at once. Git knows no branch of 60,000 bytes, so it was asked about an URL of these bytes
+# the first Git that says so at once. Git knows no branch of 60,000 bytes, so it was asked about a URL of these bytes
 Star = collections.namedtuple("Star", "tree branch condition holds since")
 STARS = [Star(*row) for row in [
     ("R", "a" * 100, "onbranch:" + "*a" * 5 + "*ab", False, (2, 30)),
@@ -169,6 +168,11 @@ def is_part(some, entries):
     """Whether `some` are entries of these, in the same order."""
     left = iter(entries)
     return all(one in left for one in some)
+
+
+def has_hit(answer):
+    """Whether the entries of a folder have the one that is included on a condition."""
+    return (b"hit.k", b"1") in [one for _, one in answer[0]]
 
 
 def with_spaces(ours, git):
@@ -292,7 +296,7 @@ class Folder:
         try:
             return subprocess.run(words, cwd=self.path, env=self.known, capture_output=True, timeout=LONGEST_RUN)
         except subprocess.TimeoutExpired:
-            raise Wrong(f"{self.line[:200]}: {words[0]} does not end") from None
+            raise Wrong(f"{self.line[:80]}: {words[0]} does not end") from None
 
     def by_program(self, program):
         """The entries with their files, and where the program stops: a file and a line, or None."""
@@ -300,7 +304,7 @@ class Folder:
         parts = run.stdout.split(b"\0")
         stopped = re.fullmatch(rb"(.+):(\d+): (.*)\n", run.stderr, re.DOTALL)
         if run.returncode != bool(stopped) or bool(run.stderr) != bool(stopped):
-            raise Wrong(f"{self.line[:200]}: {program} ended with status {run.returncode} and {run.stderr!r}")
+            raise Wrong(f"{self.line[:80]}: {program} ended with status {run.returncode} and {run.stderr!r}")
         place = stopped and (TOO_DEEP if b"too deep" in stopped[3] else (stopped[1], int(stopped[2])))
         return [(name.rsplit(b":", 1)[0], entry(data)) for name, data in zip(parts[::2], parts[1::2])], place
 
@@ -311,7 +315,7 @@ class Folder:
         stopped = re.search(rb"fatal: bad config line (\d+) in file (.+)\n", run.stderr)
         deep = b"fatal: exceeded maximum include depth" in run.stderr
         if run.returncode != (REFUSED if stopped or deep else 0):
-            raise Wrong(f"{self.line[:200]}: git ended with status {run.returncode}: {run.stderr!r}")
+            raise Wrong(f"{self.line[:80]}: git ended with status {run.returncode}: {run.stderr!r}")
         place = TOO_DEEP if deep else stopped and (stopped[2], int(stopped[1]))
         return [(name.removeprefix(b"file:"), entry(data)) for name, data in zip(parts[::2], parts[1::2])], place
 
@@ -369,8 +373,10 @@ class Comparison:
         return NUL if is_cut and listed.reason == "a NUL byte outside a comment" else None
 
     def judge(self, text, listed, git):
-        name = "accepted" if git.refused is None else "refused"
-        name = name if listed.answer == git else self.class_of(listed, git)
+        if listed.answer == git:
+            name = "accepted" if git.refused is None else "refused"
+        else:
+            name = self.class_of(listed, git)
         if name is None:
             self.faults.append((text, listed, git))
         else:
@@ -414,27 +420,22 @@ class Comparison:
             if difference is None or difference in self.expected:
                 self.follow("folders", Folder(folder / f"f{number}" / "R", line, self.git), difference)
 
-    def has_answer(self, star, tree, seconds):
-        """Whether the program answers in time as Git did, and as this Git does where it answers at once."""
-        began = processor_seconds()
-        ours = tree.by_program(self.program.path)
-        taken = processor_seconds() - began
-        other = tree.by_git() if star.since and self.git.version >= star.since else ours
-        holds = [entry for _, entry in ours[0]].count((b"hit.k", b"1")) == 1
-        return ours == other and holds == star.holds and taken < seconds
-
     def follow_stars(self, seconds, folder):
-        """Compares the repositories of STARS."""
+        """Compares the repositories of STARS with what Git said, and with this Git where it answers at once."""
         for number, star in enumerate(STARS):
             tree = Folder(folder / f"s{number}" / star.tree, f"?{star.condition}", self.git)
             tree.head("ref:", f"refs/heads/{star.branch}")
+            began = processor_seconds()
             try:
-                is_right = self.has_answer(star, tree, seconds)
-            except Wrong:
-                is_right = False
-            self.counts["conditions with many stars"] += is_right
-            if not is_right:
-                self.faults.append((star.condition[:60], f"not in {seconds} s", star.holds))
+                holds = has_hit(tree.by_program(self.program.path))
+            except Wrong as wrong:
+                holds = wrong
+            taken = processor_seconds() - began
+            wanted = has_hit(tree.by_git()) if star.since and self.git.version >= star.since else star.holds
+            if holds == wanted == star.holds and taken < seconds:
+                self.counts["conditions with many stars"] += 1
+            else:
+                self.faults.append((star.condition[:60], f"{holds} after {taken:.2f} s", f"{wanted} and {star.holds}"))
 
     def follow_drawn(self, arguments, folder):
         """Compares folders with random patterns for the git directory and the branch."""
