@@ -697,7 +697,7 @@ static void patterns(void)
         strcpy(tree + letters + 1, "/.git");
         count(pthread_create(&thread, &small, ask, &of) == 0 && pthread_join(thread, NULL) == 0 && of.status == rows[at].status &&
                   of.seconds < 0.1,
-              key);
+              rows[at].front);
         free(key);
         free(tree);
     }
