@@ -226,7 +226,7 @@ def files(arguments):
     draw, known, count = random.Random(arguments.seed), rows(), range(arguments.files)
     short = short_texts()
     if not arguments.short:
-        short = draw.sample(short, arguments.files)
+        short = draw.sample(short, min(arguments.files, len(short)))
     texts = [*known, LONG, LONG.replace(b"\n", b"\r\n"), *short]
     return [*texts, *(changed(draw, [*known, LONG]) for _ in count), *(valued(draw) for _ in count)]
 
