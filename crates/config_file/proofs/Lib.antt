@@ -32,3 +32,5 @@ pub mod Sets
 pub mod Patterns
 pub mod Conditions
 pub mod Walks
+pub mod OnLiterals
+pub mod StandardFacts
