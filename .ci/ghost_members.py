@@ -1,6 +1,6 @@
-"""Each reader, conversion, default and shown text of the library states its promise in a ghost member, and each type
-its equality, order and clone in a law. The prover does not report a missing one. So each `impl` and `derive` of these
-traits is checked here, and fails without a promise of a known form. The last line is 'N passed, M failed'."""
+"""Each reader, conversion, default and shown text states its promise in a ghost member, and each public type of a
+library its equality, order and clone in a law. The prover does not report a missing one. So each `impl` and `derive` of
+these traits is checked here, and fails without a promise of a known form. The last line is 'N passed, M failed'."""
 import pathlib
 import re
 import sys
@@ -35,10 +35,9 @@ def members(file, text):
 
 
 def laws(texts):
-    """For each trait of LAWS that a comparable type derives: the message if its law is missing, and if it is there."""
+    """For each trait of LAWS that a type derives: the message if its law is missing, and whether it is there."""
     for traits, of in [found for text in texts for found in DERIVED.findall(text)]:
-        traits = set(traits.split(", "))
-        for trait in sorted(LAWS.keys() & traits) if "PartialEq" in traits else ():
+        for trait in sorted(LAWS.keys() & set(traits.split(", "))):
             law = rf"{LAWS[trait]}\b[^{{}}]*⟦<{of}(?:<[^⟧]*>)? as {trait}>⟧"
             yield f"{trait} for {of} has no law", any(re.search(law, text) for text in texts)
 
@@ -48,7 +47,8 @@ def main():
     for crate in sorted(CRATES.iterdir()):
         texts = {file: file.read_text(encoding="utf-8") for file in sorted(crate.glob("src/**/*.rt"))}
         told += [it for file, text in texts.items() for it in members(file, text)]
-        told += laws(texts.values()) if (crate / "src/laws").is_dir() else []
+        # nothing outside a program or the tests uses their types
+        told += laws(texts.values()) if crate / "src/lib.rt" in texts and crate.name != "tests" else []
     missing = [fault for fault, is_there in told if not is_there]
     print(*missing, f"{len(told) - len(missing)} passed, {len(missing)} failed", sep="\n")
     return 1 if missing or not told else 0

@@ -3,22 +3,47 @@
 Each input is measured in turn at its size and at twice that size. The result is the least processor time of all runs,
 minus that of an empty input. A ratio near 2 says that the time grows as the input does. A long line takes less time
 than the start of a process, so its input repeats it as often as the table says.
+
+In the last rows the pattern of a condition and the name of the branch are doubled both: a ratio near 4 says that the
+time grows as their product.
 """
 import argparse
 import os
+import pathlib
 import subprocess
 import sys
 import tempfile
 
 
+class Lines:
+    """Lines on standard input."""
+
+    def __init__(self, data):
+        self.words, self.folder, self.file = [], None, tempfile.TemporaryFile()
+        self.file.write(data)
+        self.file.flush()
+
+
+class Condition:
+    """A file in a repository, with a condition on its branch."""
+
+    def __init__(self, pattern, branch):
+        self.made, self.file = tempfile.TemporaryDirectory(), tempfile.TemporaryFile()
+        self.words, self.folder = ["--file", "config", "--includes"], self.made.name
+        for name in ("objects", "refs"):
+            pathlib.Path(self.folder, ".git", name).mkdir(parents=True)
+        pathlib.Path(self.folder, ".git/HEAD").write_text(f"ref: refs/heads/{branch}\n", "ascii")
+        pathlib.Path(self.folder, "config").write_text(f'[includeIf "onbranch:{pattern}"]path=none\n', "ascii")
+
+
 def often(times, front, repeated, back=b""):
     """Makes this many lines, in each of which a part is repeated."""
-    return lambda size: (front + repeated * size + back + b"\n") * times
+    return lambda size: Lines((front + repeated * size + back + b"\n") * times)
 
 
 def lines(*texts):
     """Makes as many lines as the size says, from these texts in turn."""
-    return lambda size: b"".join(text + b"\n" for text in texts) * (size // len(texts))
+    return lambda size: Lines(b"".join(text + b"\n" for text in texts) * (size // len(texts)))
 
 
 # the name of an input, its size, and what makes the input of a size
@@ -34,23 +59,23 @@ INPUTS = [
     ("short lines", 100_000, lines(b"integer 0x10k")),
     ("lines of five kinds", 100_000, lines(b"suffix K", b"integer -010m", b"boolean Yes", b"name #F1b",
                                            b"color red ul blue")),
-    ("one line of 25 and 50 MB, digits", 25_000_000, lambda size: b"integer " + b"9" * size + b"\n"),
-    ("one line of 25 and 50 MB, zeros", 25_000_000, lambda size: b"integer 0x" + b"0" * size + b"7\n"),
-    ("one line of 25 and 50 MB, `ul `", 25_000_000, lambda size: b"color " + b"ul " * (size // 3) + b"\n"),
+    ("one line of 25 and 50 MB, digits", 25_000_000, lambda size: Lines(b"integer " + b"9" * size + b"\n")),
+    ("one line of 25 and 50 MB, zeros", 25_000_000, lambda size: Lines(b"integer 0x" + b"0" * size + b"7\n")),
+    ("one line of 25 and 50 MB, `ul `", 25_000_000, lambda size: Lines(b"color " + b"ul " * (size // 3) + b"\n")),
+    ("`*a` for each letter", 50_000, lambda size: Condition("*a" * size, "a" * size)),
+    ("`*a` for each letter, then `b`", 50_000, lambda size: Condition("*a" * size + "b", "a" * size)),
+    ("`*`, half the letters, `b`", 5_000, lambda size: Condition("*" + "a" * (size // 2) + "b", "a" * size)),
+    ("`**/`, half the names, `b`", 5_000, lambda size: Condition("**/" + "a/" * (size // 2) + "b", "a/" * size + "a")),
+    ("`**/a/` for each name, then `b`", 5_000, lambda size: Condition("**/a/" * size + "b", "a/" * size + "a")),
+    ("`*` and a set of `[:` that is not closed", 2_000, lambda size: Condition("*[" + "[:" * size, "a" * size)),
 ]
 
 
-def stored(data):
-    file = tempfile.TemporaryFile()
-    file.write(data)
-    file.flush()
-    return file
-
-
-def seconds(program, file):
+def seconds(program, given):
     """The processor time of one run, user and system."""
-    file.seek(0)
-    process = subprocess.Popen([program], stdin=file, stdout=subprocess.DEVNULL)
+    given.file.seek(0)
+    command = [program, *given.words]
+    process = subprocess.Popen(command, cwd=given.folder, stdin=given.file, stdout=subprocess.DEVNULL)
     _, status, usage = os.wait4(process.pid, 0)
     process.returncode = os.waitstatus_to_exitcode(status)
     if process.returncode not in (0, 1):
@@ -60,14 +85,14 @@ def seconds(program, file):
 
 def main():
     arguments = argparse.ArgumentParser()
-    arguments.add_argument("program")
+    arguments.add_argument("program", type=os.path.abspath)
     arguments.add_argument("--runs", type=int, default=15)
     arguments = arguments.parse_args()
-    nothing = min(seconds(arguments.program, stored(b"")) for _ in range(50))
+    nothing = min(seconds(arguments.program, Lines(b"")) for _ in range(50))
     print("| Input | Size | ms | Twice | ms | Ratio |")
     print("|---|---|---|---|---|---|")
     for what, size, made in INPUTS:
-        once, twice = stored(made(size)), stored(made(2 * size))
+        once, twice = made(size), made(2 * size)
         least = [float("inf"), float("inf")]
         for _ in range(arguments.runs):
             least[0] = min(least[0], seconds(arguments.program, once))

@@ -1,10 +1,10 @@
 """The classes of differences between Git and this library. docs/DIFFERENCES.md has a row for each, with its reason.
 
-Run as a program, it compares the page: each class has one row, with its versions, a text in which it is shown and what
-was run. Its last line is 'N passed, M failed'.
+Run as a program, it compares the page: each class has one row, with its versions, a text in which it is shown and the
+Gits in which it was seen. Its last line is 'N passed, M failed'.
 
-A rule over a question and its two answers decides whether they are in a class; no two rules hold for the same case. A
-class is expected in the versions that it names: there it has to be seen, and in other versions it must not be seen.
+A class is expected in the versions that it names, and has to be seen there. A difference belongs to the first class
+that is expected and whose rule holds for the question and its two answers.
 """
 import collections
 import pathlib
@@ -62,9 +62,9 @@ def is_number_of_ours_alone(case):
     return number is not None and case.git is None and case.ours == number_shown(case.question.kind, number)
 
 
-def is_beyond(case):
-    """The number is outside Git's range, which begins at the negative of its greatest number."""
-    return abs(amount(case.question.text)) >= (2 ** 63 if case.question.kind == "int" else 2 ** 31)
+def beyond(case):
+    """The least number above the range of the question's kind."""
+    return 2 ** 63 if case.question.kind == "int" else 2 ** 31
 
 
 def white_space_before_a_number(case):
@@ -73,13 +73,16 @@ def white_space_before_a_number(case):
     return number is not None and case.ours is None and case.git == number_shown(case.question.kind, number)
 
 
+def least_number(case):
+    return is_number_of_ours_alone(case) and amount(case.question.text) == -beyond(case)
+
+
 def number_out_of_range(case):
-    return is_number_of_ours_alone(case) and is_beyond(case)
+    return is_number_of_ours_alone(case) and not -beyond(case) <= amount(case.question.text) < beyond(case)
 
 
 def binary_digits(case):
-    is_binary = BINARY.match(case.question.text) is not None
-    return is_binary and is_number_of_ours_alone(case) and not is_beyond(case)
+    return is_number_of_ours_alone(case) and BINARY.match(case.question.text) is not None
 
 
 def suffix_alone(case):
@@ -98,8 +101,7 @@ def unknown_white_space(case):
 
 
 def three_digits(case):
-    is_there = THREE_DIGITS.search(case.question.text) is not None
-    return is_there and is_color_of_ours_alone(case) and not unknown_white_space(case)
+    return is_color_of_ours_alone(case) and THREE_DIGITS.search(case.question.text) is not None
 
 
 def minus_zero(case):
@@ -107,14 +109,11 @@ def minus_zero(case):
 
 
 def word_default(case):
-    is_there = b"default" in case.question.text.lower().split()
-    return is_there and is_color_of_ours_alone(case) and not unknown_white_space(case) and not three_digits(case)
+    return is_color_of_ours_alone(case) and b"default" in case.question.text.lower().split()
 
 
 def word_reset(case):
-    is_there = b"reset" in case.question.text.lower().split()
-    is_other = unknown_white_space(case) or three_digits(case) or word_default(case)
-    return is_there and is_color_of_ours_alone(case) and not is_other
+    return is_color_of_ours_alone(case) and b"reset" in case.question.text.lower().split()
 
 
 def plain_color(text):
@@ -124,18 +123,18 @@ def plain_color(text):
     return MINUS_ZERO.sub(lambda match: b"-1" if match[1] else b"0", text)
 
 
-# paths
+# paths: these rules are about the path after a mark, and a Git that does not know the mark keeps it
 
 def directory_and_rest(case):
     """The directory that a `~` or a `~user` means, and what follows its slash, or None without one of the two."""
-    name, slash, rest = case.question.text.partition(b"/")
+    name, slash, rest = case.question.text.removeprefix(MARK).partition(b"/")
     directory = case.question.home if name == b"~" else case.user
     return (directory, rest) if slash and name.startswith(b"~") and directory is not None else None
 
 
 def is_expanded_by_git(case):
     """Git put the rest after a directory and a slash; only after the prefix it keeps an absolute rest unchanged."""
-    text = case.question.text
+    text = case.question.text.removeprefix(MARK)
     if text.startswith(PREFIX):
         rest = text[len(PREFIX):]
         return case.git == (rest if rest.startswith(b"/") else case.install + b"/" + rest)
@@ -164,8 +163,7 @@ def second_slash(case):
 
 
 def no_utf8(case):
-    is_refused = case.ours is None and not is_utf8(case.question.text) and not case.question.text.startswith(MARK)
-    return is_refused and is_expanded_by_git(case)
+    return case.ours is None and not is_utf8(case.question.text) and is_expanded_by_git(case)
 
 
 def is_marked(case):
@@ -209,10 +207,11 @@ def paths(*texts, home=HOME):
 CLASSES = [
     Class("white space before a number", NUMBERS, When(), white_space_before_a_number,
           numbers(b" 1", b"\t-0x10k", b"\v7", b"\f\r0")),
-    Class("the least number", ["int"], When(), number_out_of_range,
-          numbers(b"-9223372036854775808", b"-8589934592g", kinds=["int"])),
+    Class("the least number", NUMBERS, When(before=(2, 50)), least_number,
+          numbers(b"-9223372036854775808", b"-8589934592g", kinds=["int"])
+          + numbers(b"-2147483648", b"-2g", kinds=SMALL_NUMBERS)),
     Class("a number beyond 32 bits", SMALL_NUMBERS, When(), number_out_of_range,
-          numbers(b"2147483648", b"-2147483648", b"2g", b"-9223372036854775808", kinds=SMALL_NUMBERS)),
+          numbers(b"2147483648", b"-2147483649", b"2g", b"-9223372036854775808", kinds=SMALL_NUMBERS)),
     Class("binary digits", NUMBERS, When("glibc", before=(2, 38)), binary_digits, numbers(b"0b1", b"-0B101k", b"+0b0")),
     Class("a suffix alone", NUMBERS, When(before=(2, 39)), suffix_alone, numbers(b"k", b"G")),
     Class("white space that Git does not know", ["color"], When(), unknown_white_space,
@@ -234,6 +233,12 @@ CLASSES = [
           paths(MARK + b"/no/such/file"), without_mark, "ours"),
     Class("the prefix", ["path"], When(before=(2, 34)), prefix_is_kept, paths(b"%(prefix)/x")),
 ]
+# the classes of whole files, by whose names config_file.py has the rules
+NUL = "a NUL outside a comment"
+BLANK = "a blank inside a value"
+HASCONFIG = "the condition hasconfig"
+REFTABLE = "a branch in a reftable"
+OF_FILES = {NUL: When(), BLANK: When(before=(2, 45)), HASCONFIG: When(), REFTABLE: When(since=(2, 45))}
 
 
 def dotted(version):
@@ -254,17 +259,18 @@ def is_expected(when, running):
     return (when.since is None or version >= when.since) and (when.before is None or version < when.before)
 
 
-def of(case):
-    """The classes to which a difference belongs."""
-    return [one for one in CLASSES if case.question.kind in one.kinds and one.rule(case)]
+def of(case, running):
+    """The class to which a difference belongs in the versions that run, or None."""
+    return next((one for one in CLASSES if is_expected(one.when, running)
+                 and case.question.kind in one.kinds and one.rule(case)), None)
 
 
 # the page
 
 PAGE = pathlib.Path(__file__).resolve().parent.parent / "docs/DIFFERENCES.md"
-# what a row may say was run, and the versions of Git and glibc of the rows that name Git
-RUN = re.compile(r"crate 0\.21\.1(, Git 2\.39\.5)?")
-RUNNING = {"Git": (2, 39), "glibc": (2, 36)}
+# the Gits that were run, as the page names them, and the versions of each
+RUN = {"2.39.5": {"Git": (2, 39), "glibc": (2, 36)}, "2.47.3": {"Git": (2, 47), "glibc": (2, 41)},
+       "2.55.0": {"Git": (2, 55), "glibc": (2, 43)}}
 
 
 def tables(page):
@@ -279,33 +285,30 @@ def written(text):
     return "`" + text.decode(errors="backslashreplace").replace("\v", "\\v") + "`"
 
 
-def faults_of_class(one, rows):
-    """What is wrong with the row of a class, if anything."""
+def faults_of_class(rows, when, texts):
+    """What is wrong with the row of a class, if anything: it has to show one of the texts, if there are texts."""
     if len(rows) != 1:
         return [f"{len(rows)} rows"]
-    _, git, _, said, run = rows[0]
-    is_seen, wanted = is_expected(one.when, RUNNING), versions(one.when)
-    faults = [] if said == wanted else [f"versions {said!r}, not {wanted!r}"]
-    if ("Git" in run) != is_seen:
-        faults.append(f"run {run!r}, and it is {'' if is_seen else 'not '}expected in the Git that was run")
-    shown = [written(question.text) for question in one.shown if question.text]
-    if shown and not any(text in git for text in shown):
-        faults.append("none of the texts in which it is shown")
-    return faults
+    _, git, _, said, seen = rows[0]
+    wanted = ", ".join(name for name, running in RUN.items() if is_expected(when, running)) or "none of them"
+    faults = [] if said == versions(when) else [f"versions {said!r}, not {versions(when)!r}"]
+    faults += [] if seen == wanted else [f"seen in {seen!r}, not {wanted!r}"]
+    return faults + ["none of the texts in which it is shown"] * bool(texts and not any(text in git for text in texts))
 
 
 def main():
-    found = tables(PAGE.read_text(encoding="utf-8"))
-    of_git = next((table[1:] for table in found if table[0][0] == "Class"), [])
-    faults = [f"{row[0]}: says not what was run, but {row[-1]!r}" for row in of_git if not RUN.fullmatch(row[-1])]
-    for one in CLASSES:
-        own = [row for row in of_git if row[0] == one.name]
-        faults += [f"{one.name}: {fault}" for fault in faults_of_class(one, own)]
-    names = [one.name for one in CLASSES]
-    faults += [f"{row[0]}: no class has this name" for row in of_git if row[0] not in names]
+    page = PAGE.read_text(encoding="utf-8")
+    rows = [row for table in tables(page) if table[0][0] == "Class" for row in table[1:]]
+    known = {one.name: (one.when, [written(it.text) for it in one.shown if it.text]) for one in CLASSES}
+    known |= {name: (when, []) for name, when in OF_FILES.items()}
+    faults = [f"{name}: {fault}" for name, (when, texts) in known.items()
+              for fault in faults_of_class([row for row in rows if row[0] == name], when, texts)]
+    faults += [f"{row[0]}: no class has this name" for row in rows if row[0] not in known]
+    faults += [f"Git {name} with its C library is not named" for name, running in RUN.items()
+               if f"{name} with glibc {dotted(running['glibc'])}" not in page]
     for fault in faults:
         print(fault)
-    print(f"{len(of_git) + len(names) - len(faults)} passed, {len(faults)} failed")
+    print(f"{len(rows) + len(known) + len(RUN) - len(faults)} passed, {len(faults)} failed")
     return 1 if faults else 0
 
 

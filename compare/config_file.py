@@ -1,20 +1,22 @@
-"""Compares how configuration files are read, by the built program and by the installed Git.
+"""Compares how configuration files are read, by the built program and by a Git: the installed one, or that of --git.
 
-python3 config_file.py PROGRAM [--seed N] [--files N] [--short] [--patterns N] [--git COMMAND]
+python3 config_file.py PROGRAM [--seed N] [--files N] [--short] [--patterns N] [--seconds N] [--git COMMAND]
 
 PROGRAM is config_value, which lists many files in one call; Git lists one in a call. Both have to give the same
 entries in the same order, and to refuse a file at the same line after the same entries. Git tells the line of an entry
 whose value is not a color; the program has to give this line to an entry.
 
-The files are those of config_files.txt, as many random changes of them as --files says, and as many of the short texts,
-which are all texts of up to 4 bytes of LETTERS; with --short all of these are taken.
+The files are those of config_files.txt, as many random changes of them as --files says, as many files of values with
+TABs and CRs, and as many of the short texts, which are all texts of up to 4 bytes of LETTERS; with --short all of these
+are taken.
 
-Then both follow includes: in the folders of includes.txt, and in as many folders as --patterns says, whose file has
-PATTERNS random conditions on a git directory with a random name.
+Then both follow includes: in the folders of includes.txt, in the repositories of STARS, and in as many folders as
+--patterns says, whose file has PATTERNS random conditions on a git directory and a branch with a random name. In a
+repository of STARS the program may take --seconds of a processor.
 
-The classes of differences are a NUL outside a comment, where Git ends a value or a key but the program refuses the
-file, and the condition hasconfig, which the program does not follow. The run is the same for the same seed and numbers.
-The last line is 'N passed, M failed'. Without such a Git it says `skipped` and why, and nothing has passed.
+A difference has to belong to a class of classes.OF_FILES that is expected in the version of this Git, and each class
+that is expected has to be seen. The run is the same for the same seed and numbers. The last line is 'N passed, M
+failed'. Without such a Git it says `skipped` and why, and nothing has passed.
 """
 import argparse
 import collections
@@ -24,12 +26,14 @@ import os
 import pathlib
 import random
 import re
-import shutil
+import resource
 import subprocess
 import sys
 import tempfile
 
-from programs import Missing, Wrong, counted
+import readers
+from classes import BLANK, HASCONFIG, NUL, OF_FILES, REFTABLE, is_expected
+from programs import Wrong, counted
 
 ROWS = pathlib.Path(__file__).with_name("config_files.txt")
 TREES = ROWS.with_name("includes.txt")
@@ -37,7 +41,10 @@ LETTERS = [bytes([byte]) for byte in b'[]"\\=#;\n\r \ta1.-']
 LONGEST = 4
 PIECES = [*LETTERS, b"\r\n", b"\\\n", b"\\\r\n", b'\\"', b"\\\\", b"\\n", b"\\t", b"\\b", b"\\x", b"\0", b"\v", b"\f",
           b"\xef\xbb\xbf", b"\xff", "ü".encode(), b"A", b"b", b"_", b"[a]", b'[a "b"]', b"[a.b]\n", b"k = v\n", b"k\n",
-          b'"x y"', b" # c\n", b" ; c\n", b'"#"', b"= ", b"\n\n", b"  ", b"red", b"true"]
+          b'"x y"', b" # c\n", b" ; c\n", b'"#"', b"= ", b"\n\n", b"  ", b"red", b"true", b"a\tb", b" \t ", b"x\r y",
+          b"a \t\\\n b"]
+VALUES = [*[b"\t", b"\r", b" \t\r", b"a", b"b c"] * 4, b'"', b'"\t"', b"\\\n", b" \t\\\n", b"\\t", b"\\n", b"#", b";",
+          b"\n", b"\n k =", b"\n[c]\rd\t=\t", b"\r\n", b'\\"', b"=", b"\xff"]
 LONG = rb'''# one of each
 [core]
 	repositoryformatversion = 0
@@ -56,8 +63,6 @@ BATCH = 500
 SHOWN = 20
 REFUSED = 128
 REFUSAL = re.compile(rb"fatal: bad config line (\d+) in file ")
-NUL = "a NUL outside a comment"
-HASCONFIG = "the condition hasconfig"
 TOO_DEEP = "too deep"
 PATTERNS = 150
 NAMES = [*"aabAB1-[]!^*?:,_~", " ", "\\", "/", "/", "\u00e9"]
@@ -65,6 +70,20 @@ PARTS = [" ", *r"""a b A B 1 - ! ^ : , _ ? * / ] \ é ** /**/ **/ /** [ [] [! [^
          [a-\c] [/] \* \A \[ [:alpha:] [[: :] :]] [[:upper:]a]""".split(), *(
              f"[{no}[:{name}:]]" for no in ("", "!") for name in
              "alnum alpha blank cntrl digit graph lower print punct space upper xdigit word ALPHA".split())]
+STARRED = ["*a", "*a", "*b", "a*", "?*", "**", "*/", "**/", "/**/", "*[ab]", "*ab", "a"]
+LONGEST_RUN = 20
+# a work tree, its branch, a condition that is slow if each star is tried again at all its places, whether it holds, and
+# the first Git that says so at once. Git knows no branch of 60,000 bytes, so it was asked about a URL of these bytes
+Star = collections.namedtuple("Star", "tree branch condition holds since")
+STARS = [Star(*row) for row in [
+    ("R", "a" * 100, "onbranch:" + "*a" * 5 + "*ab", False, (2, 30)),
+    ("R", "a" * 200, "onbranch:" + "*a" * 4 + "*ab", False, (2, 30)),
+    ("R", "a" * 200, "onbranch:" + "*a" * 50, True, (2, 30)),
+    ("R", "a" * 100, "onbranch:**/" + "a*" * 5 + "ab", False, (2, 30)),
+    ("R", "a" * 100, "onbranch:*[" + "[:" * 2000, False, (2, 30)),
+    ("a" * 100, "main", "gitdir:" + "*a" * 6 + "b/.git", False, (2, 41)),
+    ("R", "a" * 60_000, "onbranch:" + "*a" * 60_000, True, None),
+]]
 
 # what a reader gives: keys and values (None for a key alone), and the line of the refusal, or None
 Answer = collections.namedtuple("Answer", "entries refused")
@@ -109,20 +128,13 @@ def refusal(line):
     return match[1], (int(match[2]), match[3])
 
 
-class Git:
-    """The installed Git, asked for one file in a call."""
-
-    def __init__(self, command, folder):
-        found = shutil.which(command)
-        if found is None:
-            raise Missing(f"no {command} is installed")
-        self.command, self.folder = os.path.abspath(found), folder
-        self.said = subprocess.check_output([self.command, "--version"]).decode().strip()
-        self.known = {"PATH": os.environ["PATH"], "LC_ALL": "C", "GIT_CONFIG_NOSYSTEM": "1"}
+class Git(readers.Command):
+    """A Git, asked for one file in a call."""
 
     def run(self, name, *words):
+        known = {"PATH": os.environ["PATH"], "LC_ALL": "C", "GIT_CONFIG_NOSYSTEM": "1"}
         command = [self.command, "config", "--file", name, *words]
-        return subprocess.run(command, env=self.known, cwd=self.folder, capture_output=True, check=False)
+        return subprocess.run(command, env=known, cwd=self.folder, capture_output=True, check=False)
 
     def answer(self, name):
         run = self.run(name, "--list", "--null")
@@ -146,16 +158,32 @@ class Git:
             return list(pool.map(self.line, names))
 
 
+def processor_seconds():
+    """The processor time of all processes that have ended so far."""
+    used = resource.getrusage(resource.RUSAGE_CHILDREN)
+    return used.ru_utime + used.ru_stime
+
+
 def is_part(some, entries):
     """Whether `some` are entries of these, in the same order."""
     left = iter(entries)
     return all(one in left for one in some)
 
 
-def is_cut(listed, git):
-    """Whether the program refuses a NUL, and Git's entries begin with the entries before it."""
-    entries = listed.answer.entries
-    return listed.reason == "a NUL byte outside a comment" and git.entries[:len(entries)] == entries
+def has_hit(answer):
+    """Whether the entries of a folder have the one that is included on a condition."""
+    return (b"hit.k", b"1") in [one for _, one in answer[0]]
+
+
+def with_spaces(ours, git):
+    """An answer, with a space in place of each TAB and CR for which Git has one."""
+    def text(ours, git):
+        if ours is None or git is None or len(ours) != len(git):
+            return ours
+        return bytes(other if byte in b"\t\r" and other == ord(" ") else byte for byte, other in zip(ours, git))
+
+    pairs = itertools.zip_longest(ours.entries, git.entries[:len(ours.entries)], fillvalue=(None, None))
+    return ours._replace(entries=[(key, text(value, other)) for (key, value), (_, other) in pairs])
 
 
 def rows():
@@ -187,20 +215,28 @@ def changed(draw, texts):
     return bytes(text)
 
 
+def valued(draw):
+    """A file with a value that has a TAB or a CR, unless it ends before. Most of them begin and end with a letter."""
+    pieces = [draw.choice(VALUES) for _ in range(draw.randint(1, 8))]
+    pieces.insert(draw.randrange(len(pieces) + 1), draw.choice((b"\t", b"\r")))
+    return b"".join([b"[a]b=", draw.choice((b"", b"x", b"x")), *pieces, draw.choice((b"", b"\ty", b"\ry"))])
+
+
 def files(arguments):
-    draw, known = random.Random(arguments.seed), rows()
+    draw, known, count = random.Random(arguments.seed), rows(), range(arguments.files)
     short = short_texts()
     if not arguments.short:
-        short = draw.sample(short, arguments.files)
-    texts = [*known, LONG, LONG.replace(b"\n", b"\r\n")]
-    return [*texts, *short, *(changed(draw, [*known, LONG]) for _ in range(arguments.files))]
+        short = draw.sample(short, min(arguments.files, len(short)))
+    texts = [*known, LONG, LONG.replace(b"\n", b"\r\n"), *short]
+    return [*texts, *(changed(draw, [*known, LONG]) for _ in count), *(valued(draw) for _ in count)]
 
 
 class Folder:
     """A folder of files that include others, as a line of includes.txt has it."""
 
-    def __init__(self, path, line):
+    def __init__(self, path, line, git):
         self.path, self.main, self.known, self.line = path, "p", {"PATH": os.environ["PATH"], "LC_ALL": "C"}, line
+        self.git = git.command
         path.mkdir(parents=True)
         asked, names = "", []
         for field in line.encode().decode("unicode_escape").split(" | "):
@@ -226,19 +262,21 @@ class Folder:
     def read(self, name):
         self.main = name
 
-    def branch(self, name=None):
-        known = self.known | {"HOME": str(self.path), "GIT_CONFIG_NOSYSTEM": "1"}
-        words = ["git", "init", "-q", *(["-b", name] if name else [])]
-        subprocess.run(words, cwd=self.path, env=known, check=True, capture_output=True)
-        if name is None:
-            (self.path / ".git/HEAD").write_text("0" * 39 + "1\n", "ascii")
+    def branch(self, name, form="files"):
+        known = self.known | {"HOME": str(self.path), "GIT_CONFIG_NOSYSTEM": "1", "GIT_DEFAULT_REF_FORMAT": form}
+        subprocess.run([self.git, "init", "-q", "-b", name], cwd=self.path, env=known, check=True, capture_output=True)
 
-    def git_dir(self, name):
-        """Makes a git directory that Git uses instead of the one that it would find from here."""
+    def reftable(self, name):
+        self.branch(name, "reftable")
+
+    def git_dir(self, name, head):
+        """Makes a git directory."""
         for part in ("objects", "refs"):
             (self.path / name / part).mkdir(parents=True)
-        (self.path / name / "HEAD").write_text("ref: refs/heads/main\n", "ascii")
-        self.known["GIT_DIR"] = str(self.path / name)
+        (self.path / name / "HEAD").write_text(f"{head}\n", "ascii")
+
+    def head(self, *words):
+        self.git_dir(".git", " ".join(words))
 
     def home(self, name):
         self.known["HOME"] = str(self.path / name)
@@ -255,7 +293,10 @@ class Folder:
         (self.path / name).mkdir()
 
     def run(self, *words):
-        return subprocess.run(words, cwd=self.path, env=self.known, capture_output=True, check=False)
+        try:
+            return subprocess.run(words, cwd=self.path, env=self.known, capture_output=True, timeout=LONGEST_RUN)
+        except subprocess.TimeoutExpired:
+            raise Wrong(f"{self.line[:80]}: {words[0]} does not end") from None
 
     def by_program(self, program):
         """The entries with their files, and where the program stops: a file and a line, or None."""
@@ -263,26 +304,26 @@ class Folder:
         parts = run.stdout.split(b"\0")
         stopped = re.fullmatch(rb"(.+):(\d+): (.*)\n", run.stderr, re.DOTALL)
         if run.returncode != bool(stopped) or bool(run.stderr) != bool(stopped):
-            raise Wrong(f"{self.line}: {program} ended with status {run.returncode} and {run.stderr!r}")
+            raise Wrong(f"{self.line[:80]}: {program} ended with status {run.returncode} and {run.stderr!r}")
         place = stopped and (TOO_DEEP if b"too deep" in stopped[3] else (stopped[1], int(stopped[2])))
         return [(name.rsplit(b":", 1)[0], entry(data)) for name, data in zip(parts[::2], parts[1::2])], place
 
-    def by_git(self, git):
+    def by_git(self):
         """The same for Git."""
-        run = self.run(git, "config", "--file", self.main, "--includes", "--list", "--null", "--show-origin")
+        run = self.run(self.git, "config", "--file", self.main, "--includes", "--list", "--null", "--show-origin")
         parts = run.stdout.split(b"\0")
         stopped = re.search(rb"fatal: bad config line (\d+) in file (.+)\n", run.stderr)
         deep = b"fatal: exceeded maximum include depth" in run.stderr
         if run.returncode != (REFUSED if stopped or deep else 0):
-            raise Wrong(f"{self.line}: git ended with status {run.returncode}: {run.stderr!r}")
+            raise Wrong(f"{self.line[:80]}: git ended with status {run.returncode}: {run.stderr!r}")
         place = TOO_DEEP if deep else stopped and (stopped[2], int(stopped[1]))
         return [(name.removeprefix(b"file:"), entry(data)) for name, data in zip(parts[::2], parts[1::2])], place
 
-    def values(self, program, git):
+    def values(self, program):
         """The value of the last entry that has a value, asked by its key: as the program and as Git give it."""
-        keys = [key for _, (key, value) in self.by_git(git)[0] if value is not None and key.count(b".") == 1]
+        keys = [key for _, (key, value) in self.by_git()[0] if value is not None and key.count(b".") == 1]
         ours = [self.run(program, "--file", self.main, key, "--includes").stdout for key in keys[-1:]]
-        return ours, [self.run(git, "config", "--file", self.main, "--includes", key).stdout for key in keys[-1:]]
+        return ours, [self.run(self.git, "config", "--file", self.main, "--includes", key).stdout for key in keys[-1:]]
 
 
 def lines_of_trees():
@@ -293,12 +334,25 @@ def drawn(draw, pieces, length):
     return "".join(draw.choice(pieces) for _ in range(draw.randint(1, length)))
 
 
+def starred(draw, is_deep):
+    """A pattern of several stars, or of many if the names have no `/`: older Gits take exponential time otherwise."""
+    most = 5 if is_deep else 40
+    if draw.randrange(2):
+        return draw.choice(STARRED) * draw.randint(1, most) + drawn(draw, STARRED, 1)
+    return drawn(draw, STARRED, most)
+
+
 def conditions(draw):
-    """A random name, and a line with conditions whose patterns may match it."""
+    """A random name and branch, and a line with conditions whose patterns may match them."""
     name = "/".join(part for part in drawn(draw, NAMES, 5).split("/") if part) or "a"
-    quoted = [drawn(draw, PARTS, 4).replace("\\", "\\\\") for _ in range(PATTERNS)]
-    fields = [f"?gitdir{'/i' * draw.randrange(2)}:./{pattern}" for pattern in quoted]
-    return name, " | ".join(fields).encode("unicode_escape").decode("ascii")
+    patterns = [drawn(draw, PARTS, 4) for _ in range(PATTERNS)]
+    if draw.randrange(2):
+        name = draw.choice(("a", "a", "ab", "aab/", "a/")) * draw.randint(3, 12) + draw.choice("ab")
+        patterns = [starred(draw, "/" in name) for _ in range(PATTERNS)]
+    fields = [f"?{draw.choice(('gitdir:./', 'gitdir/i:./', 'onbranch:'))}{pattern}".replace("\\", "\\\\")
+              for pattern in patterns]
+    branch = re.sub(r"[^\w/!,\]-]", "a", name, flags=re.ASCII)
+    return name, branch, " | ".join(fields).encode("unicode_escape").decode("ascii")
 
 
 class Comparison:
@@ -306,16 +360,27 @@ class Comparison:
 
     def __init__(self, program, git, folder):
         self.program, self.git, self.folder = program, git, folder
+        self.expected = [name for name, when in OF_FILES.items() if is_expected(when, git.running)]
         self.counts = collections.Counter()
         self.faults = []
 
+    def class_of(self, listed, git):
+        """The class of a difference between what the program and what Git gives for a file, or None."""
+        ours = with_spaces(listed.answer, git) if BLANK in self.expected else listed.answer
+        if ours == git:
+            return BLANK
+        is_cut = git.entries[:len(ours.entries)] == ours.entries
+        return NUL if is_cut and listed.reason == "a NUL byte outside a comment" else None
+
     def judge(self, text, listed, git):
         if listed.answer == git:
-            self.counts["accepted" if git.refused is None else "refused"] += 1
-        elif is_cut(listed, git):
-            self.counts[NUL] += 1
+            name = "accepted" if git.refused is None else "refused"
         else:
+            name = self.class_of(listed, git)
+        if name is None:
             self.faults.append((text, listed, git))
+        else:
+            self.counts[name] += 1
 
     def ask(self, texts):
         """Compares a batch of files."""
@@ -334,8 +399,7 @@ class Comparison:
 
     def follow(self, name, tree, difference=None):
         """Compares the entries of a folder with includes. In a class of differences Git may have more entries."""
-        program, git = self.program.path, self.git.command
-        ours, other = tree.by_program(program), tree.by_git(git)
+        ours, other = tree.by_program(self.program.path), tree.by_git()
         if ours != other and difference and is_part(ours[0], other[0]):
             self.counts[difference] += 1
         elif ours != other:
@@ -343,21 +407,44 @@ class Comparison:
         else:
             self.counts[name] += 1
             if other[1] is None:
-                ours, other = tree.values(program, git)
+                ours, other = tree.values(self.program.path)
                 self.counts["values"] += ours == other
                 if ours != other:
                     self.faults.append((tree.line[:200], ours, other))
 
-    def follow_all(self, arguments, folder):
-        """Compares the folders of includes.txt, and folders with random patterns for the git directory."""
+    def follow_trees(self, folder):
+        """Compares the folders of includes.txt."""
         for number, line in enumerate(lines_of_trees()):
-            difference = HASCONFIG if "hasconfig" in line else NUL if r"\x00" in line else None
-            self.follow("folders", Folder(folder / f"f{number}" / "R", line), difference)
+            known = ((HASCONFIG, "hasconfig"), (NUL, r"\x00"), (REFTABLE, "@reftable"))
+            difference = next((name for name, word in known if word in line), None)
+            if difference is None or difference in self.expected:
+                self.follow("folders", Folder(folder / f"f{number}" / "R", line, self.git), difference)
+
+    def follow_stars(self, seconds, folder):
+        """Compares the repositories of STARS with what Git said, and with this Git where it answers at once."""
+        for number, star in enumerate(STARS):
+            tree = Folder(folder / f"s{number}" / star.tree, f"?{star.condition}", self.git)
+            tree.head("ref:", f"refs/heads/{star.branch}")
+            began = processor_seconds()
+            try:
+                holds = has_hit(tree.by_program(self.program.path))
+            except Wrong as wrong:
+                holds = wrong
+            taken = processor_seconds() - began
+            wanted = has_hit(tree.by_git()) if star.since and self.git.version >= star.since else star.holds
+            if holds == wanted == star.holds and taken < seconds:
+                self.counts["conditions with many stars"] += 1
+            else:
+                self.faults.append((star.condition[:60], f"{holds} after {taken:.2f} s", f"{wanted} and {star.holds}"))
+
+    def follow_drawn(self, arguments, folder):
+        """Compares folders with random patterns for the git directory and the branch."""
         draw = random.Random(arguments.seed)
         for number in range(arguments.patterns):
-            name, line = conditions(draw)
-            tree = Folder(folder / f"p{number}", line)
-            tree.git_dir(name)
+            name, branch, line = conditions(draw)
+            tree = Folder(folder / f"p{number}", line, self.git)
+            tree.git_dir(name, f"ref: refs/heads/{branch}")
+            tree.known["GIT_DIR"] = str(tree.path / name)
             self.follow(f"folders with {PATTERNS} patterns", tree)
 
 
@@ -368,22 +455,27 @@ def compare(arguments, folder):
     texts = files(arguments)
     for at in range(0, len(texts), BATCH):
         comparison.ask(texts[at:at + BATCH])
-    comparison.follow_all(arguments, folder / "includes")
+    comparison.follow_trees(folder / "includes")
+    comparison.follow_stars(arguments.seconds, folder / "stars")
+    comparison.follow_drawn(arguments, folder / "drawn")
     for name, count in comparison.counts.items():
         print(f"{count:>7,} {name}")
     for text, listed, other in comparison.faults[:SHOWN]:
         print(f"{text!r}: {listed} here, {other} in Git")
-    failed = len(comparison.faults) + (comparison.counts[NUL] == 0)
-    return comparison.counts.total() - (comparison.counts[NUL] == 0), failed
+    missing = [name for name in comparison.expected if not comparison.counts[name]]
+    for name in missing:
+        print(f"not seen: {name}")
+    return comparison.counts.total(), len(comparison.faults) + len(missing)
 
 
 def main():
     arguments = argparse.ArgumentParser()
     arguments.add_argument("program")
     arguments.add_argument("--seed", type=int, default=1)
-    arguments.add_argument("--files", type=int, default=1500)
+    arguments.add_argument("--files", type=int, default=1000)
     arguments.add_argument("--short", action="store_true")
     arguments.add_argument("--patterns", type=int, default=30)
+    arguments.add_argument("--seconds", type=float, default=0.1)
     arguments.add_argument("--git", default="git")
     arguments = arguments.parse_args()
     with tempfile.TemporaryDirectory() as folder:

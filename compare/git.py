@@ -1,4 +1,4 @@
-"""Compares the built programs with the installed Git, from 2.30 on.
+"""Compares the built programs with a Git, from 2.30 on: the installed one, or the one that --git names.
 
 python3 git.py PROGRAM PATHS_PROGRAM [--seed N] [--texts N] [--git COMMAND]
 
@@ -9,14 +9,13 @@ directory and with users that the machine has. A color of the library is turned 
 Texts with a NUL are left out, since a value ends there for Git; and texts with an LF, except paths, since it ends a
 line of PROGRAM. First it is checked that the files carry all others.
 
-Each difference has to belong to exactly one class of classes.py, in a version in which it is expected; and each
-class that is expected has to be seen. The run is the same for the same seed and number of texts on the same machine. It
-prints the classes with their counts, the faults, and last 'N passed, M failed', counted in texts and classes. Without
-such a Git it says `skipped` and why, and nothing has passed.
+Each difference has to belong to a class of classes.py that is expected in the version of this Git, or of the C library
+that it calls; and each class that is expected has to be seen. The run is the same for the same seed and number of texts
+on the same machine. It prints the classes with their counts, the faults, and last 'N passed, M failed', counted in
+texts and classes. Without such a Git it says `skipped` and why, and nothing has passed.
 """
 import argparse
 import collections
-import platform
 import random
 import sys
 import tempfile
@@ -25,7 +24,7 @@ import classes
 import texts
 from classes import Case
 from programs import Wrong, counted
-from readers import Git, Library, c_library, user_of, users
+from readers import Git, Library, user_of, users
 
 SHOWN = 20
 
@@ -36,7 +35,7 @@ class Comparison:
     def __init__(self, library, git):
         self.library = library
         self.git = git
-        self.running = {"Git": git.version, "glibc": c_library()}
+        self.running = git.running
         self.asked = collections.Counter()
         self.seen = {one.name: [] for one in classes.CLASSES}
         self.faults = []
@@ -46,14 +45,11 @@ class Comparison:
         return [Case(asked, user_of(asked.text)[1], self.library.install, ours, git) for asked, ours, git in given]
 
     def judge(self, case):
-        """The class of a difference, if it is in exactly one class that is expected; otherwise it is a fault."""
-        found = classes.of(case)
-        if len(found) == 1 and classes.is_expected(found[0].when, self.running):
-            return found[0]
-        names = " and ".join(repr(one.name) for one in found)
-        where = f"in {len(found)} classes" if len(found) != 1 else "in a class that is not expected in this version"
-        self.faults.append((f"{where} {names}".strip(), case))
-        return None
+        """The class of a difference, if it has one; otherwise it is a fault."""
+        one = classes.of(case, self.running)
+        if one is None:
+            self.faults.append(("in no class that is expected", case))
+        return one
 
     def ask(self, questions):
         """Judges each difference, and asks the plain text of its class too."""
@@ -107,7 +103,7 @@ def report(comparison):
 
 def compare(arguments, folder):
     git = Git(arguments.git, folder)
-    print(f"{git.said}, C library {platform.libc_ver()}, seed {arguments.seed}")
+    print(f"{git.said}, seed {arguments.seed}")
     questions = texts.questions(random.Random(arguments.seed), arguments.texts, users())
     lost = git.lost(sorted({question.text for question in questions}))
     if lost:

@@ -1,13 +1,13 @@
-"""The two readers: the library's programs and the installed Git. Each answers questions; None means refused. A color
-of the library is turned into the codes that Git prints."""
+"""The two readers: the library's programs and a Git. Each answers questions; None means refused. A color of the library
+is turned into the codes that Git prints."""
 import concurrent.futures
 import os
 import pathlib
-import platform
 import pwd
 import re
 import shutil
 import subprocess
+import tempfile
 
 import calls
 from classes import NOT_SET, Question, dotted
@@ -98,8 +98,8 @@ class Library:
         return [bytes.fromhex(outcome[1].decode()) if outcome[0] == b"ok" else None for outcome in outcomes]
 
 
-class Git:
-    """The installed Git, over files in a folder of its own."""
+class Command:
+    """A Git by its command, which is asked in a folder: what it says it is, and the versions that are running."""
 
     def __init__(self, command, folder):
         found = shutil.which(command)
@@ -107,10 +107,26 @@ class Git:
             raise Missing(f"no {command} is installed")
         self.command = os.path.abspath(found)
         self.folder = pathlib.Path(folder)
-        self.said = subprocess.check_output([self.command, "--version"]).decode().strip()
-        self.version = tuple(map(int, re.search(r"(\d+)\.(\d+)", self.said).groups()))
+        said = subprocess.check_output([self.command, "--version"]).decode().strip()
+        self.version = tuple(map(int, re.search(r"(\d+)\.(\d+)", said).groups()))
         if self.version < FIRST_VERSION:
-            raise Missing(f"{self.said}, and Git from {dotted(FIRST_VERSION)} on is compared")
+            raise Missing(f"{said}, and Git from {dotted(FIRST_VERSION)} on is compared")
+        self.running = {"Git": self.version, "glibc": self.c_library()}
+        self.said = f"{said}, glibc {dotted(self.running['glibc'])}"
+
+    def c_library(self):
+        """The version of the glibc that this Git calls, or a version below all others if it is another C library."""
+        with tempfile.TemporaryDirectory(dir=self.folder) as folder:
+            known = {"PATH": os.environ["PATH"], "LC_ALL": "C", "GIT_EDITOR": ":"}
+            command = [self.command, "bugreport", "--suffix", "said"]
+            subprocess.run(command, env=known, cwd=folder, capture_output=True, check=True)
+            said = (pathlib.Path(folder) / "git-bugreport-said.txt").read_text("utf-8", "replace")
+        version = re.search(r"^libc info: glibc: (\d+)\.(\d+)", said, re.MULTILINE)
+        return tuple(map(int, version.groups())) if version else (0,)
+
+
+class Git(Command):
+    """A Git that is asked for values, over files in its folder."""
 
     def config(self, name, values, arguments, home):
         """Runs `git config` over a file with these values, one for each line."""
@@ -159,7 +175,8 @@ def escaped(text):
 
 def user_of(text):
     """The user that a path names, and that user's home directory, or None if the machine has no such user."""
-    name = text.partition(b"/")[0].removeprefix(b"~") if text.startswith(b"~") else b""
+    first = text.removeprefix(calls.MARK).partition(b"/")[0]
+    name = first.removeprefix(b"~") if first.startswith(b"~") else b""
     try:
         return name, os.fsencode(pwd.getpwnam(name.decode()).pw_dir)
     except (KeyError, UnicodeDecodeError):
@@ -170,9 +187,3 @@ def users():
     """A few users of the machine, with different homes."""
     by_home = {entry.pw_dir: entry.pw_name for entry in reversed(pwd.getpwall())}
     return [name.encode() for name in list(by_home.values())[::-1][:USERS]]
-
-
-def c_library():
-    """The version of glibc, or a version below all others if the machine has another C library."""
-    name, version = platform.libc_ver()
-    return tuple(map(int, version.split("."))) if name == "glibc" else (0,)

@@ -4,7 +4,7 @@
 settings.tsv has a line for each question: the key of a row, the key that is asked, the name of a command, a value as
 Python writes it (None for a key alone), and Git's answer: `takes`, `warns: ..` or `dies: ..`, with its first line.
 A row that no command was seen to read has one line, whose command is `-` and whose answer is `unread`.
---ask asks the installed Git again, about all rows or those with these keys, and writes the answers. PROGRAM is
+--ask asks the Git on PATH again, about all rows or those with these keys, and writes the answers. PROGRAM is
 config_check: its verdict on each question has to agree, or to differ in exactly one class of CLASSES.
 """
 import ast

@@ -25,6 +25,8 @@ COLOR_TEXTS = [b"#0a1B2c", b"#f1B", b"#12", b"-0", b"-001", b"00255", b"+7", b"+
                b"red blue green", b"RESET red", b"no-reset", b"bold bold nobold no-bold ul", b"normal normal", b"Bold"]
 PATH_TEXTS = [PREFIX, b"%(prefix)", b"%(prefix)//x", b"%(prefix)/~/x", b"~", b"~no-such-user/x", b"~/..",
               b"~\xff/x", b"/x"]
+# paths to files that are there, whose mark is cut off by a Git that knows it
+MARKED = [Question("path", MARK + text, home) for text, home in ((b"~/..", b"/"), (b"~//", b"/"), (b"~/", b""))]
 HOMES = (b"/home/u", b"/home/u", b"/home/u", b"", b"/h/", b"/", b"rel", None)
 PATH_PIECES = [b"~", b"~/", b"/", b"//", b"x", b"x/y", b"..", PREFIX, b"%(prefix)", b"%(PREFIX)/", MARK, b":(Optional)",
                b" ", b"\n", b"\r", b"\"", b"\\", b"#;", b"=", "ü".encode(), b"\xff", b"\xc3", b"\xe2\x82"]
@@ -146,7 +148,7 @@ def questions(draw, count, users):
     asked = [Question(kind, text) for kind in NUMBERS for text in numbers]
     known = [question.text for question in shown if question.kind == "color"]
     asked += [Question("color", text) for text in texts(draw, "color", known + COLOR_WORDS + COLOR_TEXTS, count)]
-    known = [question for question in shown if question.kind == "path"]
+    known = [question for question in shown if question.kind == "path"] + MARKED
     paths = texts(draw, "path", PATH_TEXTS + of_users(users), count)
     others = [Question("path", text, draw.choice(HOMES)) for text in paths]
     return asked + list(dict.fromkeys(known + others))[:max(count, len(known))]

@@ -171,9 +171,9 @@ def bodies():
 
 
 def lengths():
-    code = (words.CRATES / "config_text/src/value.rt").read_text("utf-8")
-    longest = re.findall(r"LONGEST_TEXT: usize = (\d+)", code)
-    yield "the longest text", longest, re.findall(r"longest has (\d+) bytes", SECTIONS["Colors"])
+    told = [sentence("Colors", r"longest has (\d+) bytes")]
+    for crate, file, name in (("config_text", "Value", "IsTextOf"), ("uses", "Headline", "Headline")):
+        yield f"the longest text of {name}", re.findall(r"length s ≤ (\d+)", spec(crate, file, name)), told
 
 
 def reading():

@@ -59,10 +59,11 @@ class Repository:
         return os.path.realpath(self.directory)
 
     def branch(self):
-        """The name of the branch, or `None` if HEAD is detached."""
+        """The name of the branch, or `None` if HEAD is detached, or a stub, as in a repository with a reftable."""
         head = _line(self.file("HEAD")) or ""
         reference = head[4:].strip() if head.startswith("ref:") else ""
-        return reference[11:] if reference.startswith("refs/heads/") else None
+        is_branch = reference.startswith("refs/heads/") and reference != "refs/heads/.invalid"
+        return reference[11:] if is_branch else None
 
 
 def _linked(folder, name):

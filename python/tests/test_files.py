@@ -12,6 +12,7 @@ import re
 import shutil
 import subprocess
 import tempfile
+import time
 import unittest
 from unittest import mock
 
@@ -29,10 +30,16 @@ TYPED = """[core]
 [branch "Main"]
     rebase
 """
+# conditions that are slow if each star is tried again at all its places, on a branch or a folder whose name is a run of
+# this many letters; and whether they hold in Git 2.55.0, which needs no time
+STARS = [(100, "onbranch:" + "*a" * 5 + "*ab", False), (200, "onbranch:" + "*a" * 4 + "*ab", False),
+         (200, "onbranch:" + "*a" * 50, True), (60_000, "onbranch:" + "*a" * 60_000, True),
+         (100, "onbranch:**/" + "a*" * 5 + "ab", False), (100, "onbranch:*[" + "[:" * 2000, False),
+         (100, "gitdir:" + "*a" * 6 + "b/.git", False), (100, "gitdir:" + "*a" * 6 + "/.git", True)]
 # files of a tree, of which `main` is read; {root} is the folder of the tree, and {user} the current user
 FILES = {
     "one after the other": {"main": "[a]k=1\nk\n[b \"C\\\"d\"]K=\n[a] k = x # y\n"},
-    "texts": {"main": "\ufeff[a]b=\"q\\n \" \\\n  c\td ; e\r\n[a.B]c=\\\"\\\\\\t\n[a \"\u00e9\"]c=\u00e9\udcff\n"},
+    "texts": {"main": "\ufeff[a]b=\"q\\n \" \\\n  c d ; e\r\n[a.B]c=\\\"\\\\\\t\n[a \"\u00e9\"]c=\u00e9\udcff\n"},
     "no section": {"main": "k=1\n[x]\ny"},
     "in place": {"main": "[a]k=1\n[include]path=other\nk=2\n[a]k=3", "other": "[hit]k=1\nk=2"},
     "in folders": {"main": "[include]path=s/one", "s/one": "[include]path=two\npath=../two\npath=/{root}/two",
@@ -276,6 +283,31 @@ class Configurations(Files):
         self.assertRaises(FileNotFoundError, read, "none")
         self.assertRaises(IsADirectoryError, read, b".")
         self.assertRaises(TypeError, read, 3)
+
+    def test_blanks(self):
+        # as Git reads them since 2.45
+        self.write({"main": "[a]b = x\ty \r z\t\n c=\t\"\t\" \\\n\t;\n d = p\t\\\n\tq\r\r\n"})
+        self.assertEqual(dict(read("main")), {"a.b": "x\ty \r z", "a.c": "\t ", "a.d": "p\t\tq"})
+
+    def repository_of(self, folder, head, conditions):
+        """Writes a repository that includes a file on each of these conditions, and returns which ones hold."""
+        config = "".join(f"[includeIf \"{condition}\"]path=../{at}\n" for at, condition in enumerate(conditions))
+        self.write({f"{folder}/.git/HEAD": head, f"{folder}/.git/objects/x": "", f"{folder}/.git/refs/x": "",
+                    f"{folder}/.git/config": config})
+        self.write({f"{folder}/{at}": f"[holds]c{at}" for at in range(len(conditions))})
+        config = read_repository(folder)
+        return [f"holds.c{at}" in config for at in range(len(conditions))]
+
+    def test_reftable(self):
+        conditions = ["onbranch:.invalid", "onbranch:**", "gitdir:r/"]
+        held = self.repository_of("r", "ref: refs/heads/.invalid\n", conditions)
+        self.assertEqual(held, [False, False, True])
+
+    def test_stars(self):
+        for letters, condition, holds in STARS:
+            began = time.process_time()
+            held = self.repository_of("a" * min(letters, 200), f"ref: refs/heads/{'a' * letters}\n", [condition])
+            self.assertEqual((held, time.process_time() - began < 0.1), ([holds], True), condition[:40])
 
     def test_without_git(self):
         self.write({"r/.git/HEAD": "ref: refs/heads/main\n", "r/.git/objects/x": "", "r/.git/refs/x": "",

@@ -5,10 +5,11 @@ mod here;
 
 use crate::here::{File, STDIN};
 use clap::{Arg, ArgAction, ArgMatches, Command};
-use config_checks::check::{CheckError, Counts, check_file};
+use config_checks::check::{CheckError, check_file};
 use config_checks::finding::push_shown;
 use config_checks::git::SETTINGS;
 use config_checks::options::{Format, Options};
+use config_checks::outcome::Outcome;
 use config_checks::reason::Severity;
 use config_checks::row::Row;
 use config_checks::table::{BadRow, read_rows};
@@ -159,46 +160,6 @@ fn read_text(rt: &HostRuntime, file: &str) -> io::Result<Vec<u8>> {
     let mut text = Vec::new(rt.alloc());
     rt.stdin().read_to_end(&mut text)?;
     Ok(text)
-}
-
-/// The counts of the files so far, and whether one of them could not be read.
-#[derive(Clone, Copy, Default)]
-struct Outcome {
-    counts: Counts,
-    is_unread: bool,
-}
-
-impl Outcome {
-    /// Adds the counts of a file.
-    fn add(&mut self, counts: Counts) {
-        self.counts = Counts {
-            entries: self.counts.entries.saturating_add(counts.entries),
-            unknown: self.counts.unknown.saturating_add(counts.unknown),
-            findings: self.counts.findings.saturating_add(counts.findings),
-            errors: self.counts.errors.saturating_add(counts.errors),
-            warnings: self.counts.warnings.saturating_add(counts.warnings),
-        };
-    }
-
-    /// Whether there is a finding of at least this severity.
-    fn has(&self, least: Severity) -> bool {
-        match least {
-            Severity::Note => self.counts.findings > 0,
-            Severity::Warning => self.counts.errors > 0 || self.counts.warnings > 0,
-            Severity::Error => self.counts.errors > 0,
-        }
-    }
-
-    /// The exit status, if findings of at least this severity count.
-    fn status(&self, fails_on: Severity) -> u8 {
-        if self.is_unread {
-            2
-        } else if self.has(fails_on) {
-            1
-        } else {
-            0
-        }
-    }
 }
 
 /// What the check of each file needs: the runtime, the rows and the options.

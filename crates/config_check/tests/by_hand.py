@@ -1,4 +1,5 @@
 """Compares single entries, keys, rows and arguments with the tables of rows.py."""
+import itertools
 import re
 
 import made
@@ -124,12 +125,17 @@ def as_json(group, program):
 
 
 def fail_on(group, program):
-    """The severities of `--fail-on` at which the status is 1."""
+    """The severities of `--fail-on` at which the status is 1, for one file and for two."""
     how = arguments(program.settings(rows.SETTINGS), canonical=True)
     for data, severities in rows.FAIL_ON:
         for severity in ("note", "warning", "error"):
             came = program.run(["--fail-on", severity, *how], data)
             group.expect((severity, data), int(severity in severities), came.status)
+    files = [(program.settings(data), severities) for data, severities in rows.FAIL_ON]
+    for (first, one), (second, other) in itertools.permutations(files, 2):
+        for severity in ("note", "warning", "error"):
+            came = program.run(["--fail-on", severity, *how[:-1], first, second])
+            group.expect((severity, one, other), int(severity in one + other), came.status)
 
 
 def built_in(group, program):

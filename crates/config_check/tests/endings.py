@@ -14,6 +14,8 @@ FINDING = b"[test] bool = maybe\n"
 MANY = 200_000
 # a file that is larger than the address space of a process, and that address space, in bytes
 LONG, ADDRESSES = 20_000_000, 16_000_000
+# the length of a value that fits into it, and whose line does not, since each byte is shown as four
+SHOWN = 3_000_000
 RED, PLAIN = b"\x1b[31m", b"\x1b[m"
 
 
@@ -63,7 +65,7 @@ def closed_files(group, program, how):
 
 
 def memory(group, program, how):
-    """There is not enough memory for a file."""
+    """There is not enough memory for a file, or for the line of a finding."""
     if b"__asan_init" in pathlib.Path(program.path).read_bytes():
         group.skip("the end of memory", "a checked build needs more addresses to start")
         return
@@ -79,6 +81,8 @@ def memory(group, program, how):
     came = program.run(how, FINDING, preexec_fn=starve)
     line = finding(1, b"test.bool", b"maybe", rows.BOOLEAN_FAULT)
     group.expect("memory enough", Ended(1, line, summary((1, 1, 0, 1))), came)
+    came = program.run(how, b'[test] bool = "' + b"\1" * SHOWN + b'"\n', preexec_fn=starve)
+    group.expect("no memory for a line", Ended(2, b"", b"config_check: no memory\n"), came)
 
 
 def written_on_terminal(terminal):

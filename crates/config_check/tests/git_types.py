@@ -19,7 +19,7 @@ import classes  # noqa: E402
 import texts  # noqa: E402
 from classes import Case, Question, amount  # noqa: E402
 from programs import Missing, Wrong  # noqa: E402
-from readers import NOT_SET, REFUSED, Git, c_library, escape_code, user_of  # noqa: E402
+from readers import NOT_SET, REFUSED, Git, escape_code, user_of  # noqa: E402
 
 TEXTS = 400
 # the last part of a row's key, and the type that Git is asked for
@@ -116,13 +116,13 @@ def all_by_git(git, asked, ours):
 
 
 def classes_of(kind, case, running):
-    found = [one.name for one in classes.of(case) if classes.is_expected(one.when, running)]
+    one = classes.of(case, running)
+    found = [] if one is None else [one.name]
     return found + [own.name for own in OWN_CLASSES if own.kind == kind and own.rule(case)]
 
 
 def compare(group, program, draw, git):
     """Asks both programs, and counts the differences by class."""
-    running = {"Git": git.version, "glibc": c_library()}
     install = git.install()
     how = arguments(program.settings(rows.SETTINGS), canonical=True)
     seen = collections.defaultdict(list)
@@ -132,7 +132,7 @@ def compare(group, program, draw, git):
         ours = canonical_texts(program, how, b"test." + kind.encode(), [one.text for one in asked])
         for one, text, answer in zip(asked, ours, all_by_git(git, asked, ours)):
             case = Case(one, user_of(one.text)[1], install, in_terms_of_git(asked_type, text), answer)
-            found = classes_of(kind, case, running) if case.ours != case.git else None
+            found = classes_of(kind, case, git.running) if case.ours != case.git else None
             group.expect((kind, case, found), True, found is None or len(found) == 1)
             for name in found or []:
                 seen[name].append((kind, case))

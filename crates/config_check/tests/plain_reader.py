@@ -463,7 +463,7 @@ def value_at(data, at):
         if not is_quoted and byte in (b"", b"\n", b"#", b";"):
             return b"".join(text), at
         if not is_quoted and byte in b" \t\r":
-            blanks += b" " if text else b""
+            blanks += byte if text else b""
             at += 1
             continue
         if blanks:

@@ -6,5 +6,6 @@ pub mod Rows
 pub mod Findings
 pub mod Json
 pub mod Report
+pub mod Outcome
 pub mod Suggestions
 pub mod Reading

@@ -9,6 +9,8 @@ ghost use Rattle.config_checks.specs.declared.check.CheckError.{CheckError};
 ghost use Rattle.config_checks.specs.Reasons.{HasReason, HasFinding, IsSameFinding};
 ghost use Rattle.config_checks.specs.Report.{BeginsReport, IsReport};
 
+pub mod clones;
+
 /// The definitions give each value of a setting one result: one reason why it is wrong, or no reason.
 pub fn one_reason()
     ensures { (row : Row) (value : Option (List ℕ)) (a b : Option Reason)

@@ -11,6 +11,7 @@ pub mod kind;
 pub mod laws;
 pub mod lookup;
 pub mod options;
+pub mod outcome;
 pub mod reason;
 pub mod row;
 pub mod suggestion;

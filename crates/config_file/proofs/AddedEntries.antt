@@ -129,7 +129,7 @@ line_taken k key (Some value) is spellable =
     let all : list_all is_key_byte (k ∷ key) ≡ true = grind (arith, nat_tests) in
     let raw = spelled_value value in
     let after = raw ++ 10 ∷ [] in
-    let taken : TakesValue after raw (line_feeds raw) (10 ∷ []) = closed refl (value_spelled value spellable) (inl refl) in
+    let taken : TakesValue after raw (line_feeds raw) (10 ∷ []) = closed refl (value_spelled value spellable).0 (inl refl) in
     let none = value_lines value in
     valued (key_then k key after 61 all refl refl) refl (subst (λ l. TakesValue after raw l (10 ∷ [])) none taken)
 

@@ -30,6 +30,8 @@ pub mod Found
 pub mod Paths
 pub mod Sets
 pub mod Patterns
+pub mod Same
+pub mod Places
 pub mod Conditions
 pub mod Walks
 pub mod OnLiterals

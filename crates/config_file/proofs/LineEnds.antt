@@ -206,7 +206,7 @@ plain_is_no_line_end true b is e = grind (arith, nat_tests)
 plain_is_no_line_end false b is e = grind (arith, nat_tests)
 
 -- the bytes of a value do not end in an LF over which they are not continued
-pub value_has_no_end : {q : Bool} {value raw text : List ℕ} {held : ℕ} {ending : Ending} → Spells q value held raw text ending → HasLineEnd raw → ⊥
+pub value_has_no_end : {w : ℕ → ℕ} {q : Bool} {value held raw text : List ℕ} {ending : Ending} → Spells w q value held raw text ending → HasLineEnd raw → ⊥
 value_has_no_end ends_outside h = none_ends h
 value_has_no_end ends_inside h = none_ends h
 value_has_no_end (ends_at_backslash {b = b} is) h = let e = one_end b h.line h.joined in omega arith

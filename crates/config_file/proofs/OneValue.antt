@@ -106,7 +106,7 @@ blank_no_backslash : (b : ℕ) → is_blank b ≡ true → (b == 92) ≡ false
 blank_no_backslash b is = grind (arith, nat_tests)
 
 -- the scan of the bytes of a value stops after them, or before their last backslash, if no step goes on there
-stops_after : {q : Bool} {so_far raw spelled : List ℕ} {held : ℕ} {e : Ending} → Spells q so_far held raw spelled e → (rest : List ℕ) (n : ℕ) → length raw ≤ n
+stops_after : {w : ℕ → ℕ} {q : Bool} {so_far raw spelled held : List ℕ} {e : Ending} → Spells w q so_far held raw spelled e → (rest : List ℕ) (n : ℕ) → length raw ≤ n
     → step (state e) (tail e ++ rest) ≡ None → stop n q (raw ++ rest) ≡ (state e, tail e ++ rest)
 stops_after value.ends_outside rest n room none = stops_at_once n false rest none
 stops_after value.ends_inside rest n room none = stops_at_once n true rest none
@@ -137,7 +137,7 @@ stops_after {e = e} (value.plain {quoted = q} {b = b} {raw = raw} is s) rest (su
     (step_plain q b (raw ++ rest) (plain_goes_on q b is) (plain_no_quote q b is) (plain_no_backslash q b is)) (stops_after s rest n (omega arith) none)
 
 -- the bytes of a value that ends at a backslash end in that backslash
-before_backslash : {q : Bool} {so_far raw spelled : List ℕ} {held : ℕ} → Spells q so_far held raw spelled at_backslash → (front : List ℕ) × (raw ≡ front ++ 92 ∷ [])
+before_backslash : {w : ℕ → ℕ} {q : Bool} {so_far raw spelled held : List ℕ} → Spells w q so_far held raw spelled at_backslash → (front : List ℕ) × (raw ≡ front ++ 92 ∷ [])
 before_backslash (value.ends_at_backslash is) = ([], rw is)
 before_backslash (value.quote {b = b} is s) = let (front, e) = before_backslash s in (b ∷ front, ap (◌∷◌ b) e)
 before_backslash (value.escaped {b = b} {e = l} is letter s) = let (front, e) = before_backslash s in (b ∷ l ∷ front, ap (λ x. b ∷ l ∷ x) e)

@@ -6,7 +6,7 @@ use Rattle.config_file.specs.Runs.{Run}
 use Rattle.config_file.specs.Bytes.{left_bracket, backslash}
 use Rattle.config_file.specs.Set.{slash, folded, StandsForByte}
 use Rattle.config_file.proofs.OneRun.{run_only}
-use Rattle.config_file.proofs.Sets.{rest_unique, set_shortens, longer}
+use Rattle.config_file.proofs.Sets.{set_shortens, longer}
 use Rattle.config_file.specs.Pattern.{star, is_star, stands_for, crosses, is_passed}
 use Rattle.config_file.specs.Pattern.{Item, byte, escaped, set, Passes, Matches, MatchesLater, MatchesStars, MatchesNoDirectory, LacksStar}
 use Rattle.config_file.specs.Pattern.{ends, one, stars, no_directory, no_more, passes}
@@ -16,27 +16,16 @@ run_shortens {a = a} {r = r} run = rw run.joined (longer a r)
 
 -- ---- items
 
-stands_for_backslash : (i : Bool) (c b : ℕ) → c ≡ backslash → stands_for i c b ≡ true → ⊥
+pub stands_for_backslash : (i : Bool) (c b : ℕ) → c ≡ backslash → stands_for i c b ≡ true → ⊥
 stands_for_backslash i c b e is = true≢false (sym (rw e at is))
 
-stands_for_bracket : (i : Bool) (c b : ℕ) → c ≡ left_bracket → stands_for i c b ≡ true → ⊥
+pub stands_for_bracket : (i : Bool) (c b : ℕ) → c ≡ left_bracket → stands_for i c b ≡ true → ⊥
 stands_for_bracket i c b e is = true≢false (sym (rw e at is))
 
-no_star_item : {i : Bool} {b : ℕ} {pattern rest : List ℕ} → Item i (star ∷ pattern) b rest → ⊥
+pub no_star_item : {i : Bool} {b : ℕ} {pattern rest : List ℕ} → Item i (star ∷ pattern) b rest → ⊥
 no_star_item (byte is) = true≢false (sym is)
 no_star_item (escaped e f) = absurd (omega arith)
 no_star_item (set e is) = absurd (omega arith)
-
-item_unique : {i : Bool} {b : ℕ} {pattern r r2 : List ℕ} → Item i pattern b r → Item i pattern b r2 → r ≡ r2
-item_unique (byte is) (byte is2) = refl
-item_unique {i = i} (byte {c = c} {b = b} is) (escaped e f) = absurd (stands_for_backslash i c b e is)
-item_unique {i = i} (byte {c = c} {b = b} is) (set e stands) = absurd (stands_for_bracket i c b e is)
-item_unique {i = i} (escaped {c = c} {b = b} e f) (byte is) = absurd (stands_for_backslash i c b e is)
-item_unique (escaped e f) (escaped e2 f2) = refl
-item_unique (escaped e f) (set e2 stands) = absurd (omega arith)
-item_unique {i = i} (set {c = c} {b = b} e stands) (byte is) = absurd (stands_for_bracket i c b e is)
-item_unique (set e stands) (escaped e2 f2) = absurd (omega arith)
-item_unique (set e stands) (set e2 stands2) = rest_unique stands stands2
 
 pub item_shortens : {i : Bool} {b : ℕ} {pattern r : List ℕ} → Item i pattern b r → length r < length pattern
 item_shortens (byte is) = omega arith
@@ -54,7 +43,7 @@ pub set_item : {i : Bool} {b c : ℕ} {more rest : List ℕ} (pattern : List ℕ
     → StandsForByte i more b rest → Item i pattern b rest
 set_item pattern at is stands = rw at (set is stands)
 
-empty_no_item : {i : Bool} {b : ℕ} {rest : List ℕ} → Item i [] b rest → ⊥
+pub empty_no_item : {i : Bool} {b : ℕ} {rest : List ℕ} → Item i [] b rest → ⊥
 empty_no_item item = let short = item_shortens item in omega arith
 
 pub no_item : {i : Bool} {b : ℕ} (pattern rest : List ℕ) → pattern ≡ [] → ¬ (Item i pattern b rest)
@@ -93,31 +82,20 @@ no_byte_item {i = i} {b = b} pattern rest at plain closed never item =
 
 -- ---- patterns that do not begin with a star
 
-one_inv : {i starts : Bool} {b : ℕ} {pattern text : List ℕ} → Matches i starts pattern (b ∷ text) → LacksStar pattern
+pub one_inv : {i starts : Bool} {b : ℕ} {pattern text : List ℕ} → Matches i starts pattern (b ∷ text) → LacksStar pattern
     → (rest : List ℕ) × Item i pattern b rest × Matches i (b == slash) rest text
 one_inv (one rest item more) lacks = (rest, item, more)
 one_inv (stars {pattern = pattern} more rest left is run passed match) lacks = absurd (lacks pattern (ap (λ x. x ∷ pattern) is))
 one_inv (no_directory {pattern = pattern} more rest is run crossing match) lacks = absurd (lacks pattern (ap (λ x. x ∷ pattern) is))
 
-end_inv : {i starts : Bool} {pattern : List ℕ} → Matches i starts pattern [] → LacksStar pattern → pattern ≡ []
+pub end_inv : {i starts : Bool} {pattern : List ℕ} → Matches i starts pattern [] → LacksStar pattern → pattern ≡ []
 end_inv ends lacks = refl
 end_inv (stars {pattern = pattern} more rest left is run passed match) lacks = absurd (lacks pattern (ap (λ x. x ∷ pattern) is))
 end_inv (no_directory {pattern = pattern} more rest is run crossing match) lacks = absurd (lacks pattern (ap (λ x. x ∷ pattern) is))
 
-pub one_byte : {i starts : Bool} {b : ℕ} {pattern rest : List ℕ} (r : Bool) (at text : List ℕ) → at ≡ b ∷ text → LacksStar pattern
-    → Item i pattern b rest → IsTrue r ↔ (Matches i (b == slash) rest text) → IsTrue r ↔ (Matches i starts pattern at)
-one_byte {i = i} {starts = starts} {b = b} {pattern = pattern} {rest = rest} r at text e lacks item same = rw e (
-  λ t. one rest item (same.0 t),
-  λ whole. let (rest2, item2, more) = one_inv whole lacks in
-      same.1 (subst (λ x. Matches i (b == slash) x text) (item_unique item2 item) more),
-)
-
-pub at_end : {i starts : Bool} (pattern at : List ℕ) → at ≡ [] → LacksStar pattern → (pattern ≡ []) ↔ (Matches i starts pattern at)
-at_end {i = i} {starts = starts} pattern at e lacks = rw e (λ none. rw none ends, λ whole. end_inv whole lacks)
-
 -- ---- stars
 
-stars_inv : {i starts : Bool} {pattern more rest text : List ℕ} → Run is_star pattern more rest → Matches i starts (star ∷ pattern) text
+pub stars_inv : {i starts : Bool} {pattern more rest text : List ℕ} → Run is_star pattern more rest → Matches i starts (star ∷ pattern) text
     → MatchesNoDirectory i (crosses starts more rest) rest text ⊎ MatchesLater i (crosses starts more rest) rest text
 stars_inv run (one rest item match) = absurd (no_star_item item)
 stars_inv {pattern = pattern} {more = more} {rest = rest} run (stars more2 rest2 left is run2 passed match) =
@@ -136,14 +114,6 @@ pub stars_later : {i starts : Bool} {pattern more rest text : List ℕ} → Run 
     → MatchesLater i (crosses starts more rest) rest text → MatchesStars i starts pattern text
 stars_later {more = more} {rest = rest} run (left, passed, match) = stars more rest left refl run passed match
 
-pub stars_only_later : {i starts : Bool} {pattern more rest text : List ℕ} → Run is_star pattern more rest
-    → ¬ (MatchesNoDirectory i (crosses starts more rest) rest text)
-    → MatchesStars i starts pattern text → MatchesLater i (crosses starts more rest) rest text
-stars_only_later run never whole = elim (stars_inv run whole) [
-  | inl direct ↦ absurd (never direct)
-  | inr later ↦ later
-]
-
 -- ---- what stars pass
 
 pub later_here : {i crossing : Bool} {pattern at : List ℕ} → Matches i false pattern at → MatchesLater i crossing pattern at
@@ -158,7 +128,7 @@ passes_inv : {crossing : Bool} {b : ℕ} {rest left : List ℕ} → Passes cross
 passes_inv no_more = inl refl
 passes_inv (passes is more) = inr (is, more)
 
-passes_none : {crossing : Bool} {left : List ℕ} → Passes crossing [] left → left ≡ []
+pub passes_none : {crossing : Bool} {left : List ℕ} → Passes crossing [] left → left ≡ []
 passes_none no_more = refl
 
 later_inv : {i crossing : Bool} {b : ℕ} {pattern rest : List ℕ} (at : List ℕ) → at ≡ b ∷ rest → ¬ (Matches i false pattern at)

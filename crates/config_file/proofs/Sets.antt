@@ -1,23 +1,55 @@
 -- Sets of bytes in patterns: their classes, their members, and what they match.
-use Rattle.std.proofs.Common.{◌≡◌, ◌≢◌, ℕ, ◌<◌, ◌≤◌, Bool, true, false, not, ◌||◌, ◌&&◌, ◌==◌, List, [], ◌∷◌, ◌++◌, Option, None, Some, length, drop, get_or, codes, refl, sym, ap, ◌∙◌, subst, arith, inl, inr}
+use Rattle.std.proofs.Common.{◌≡◌, ◌≢◌, ℕ, suc, ◌<◌, ◌≤◌, ◌⊎◌, Bool, true, false, ◌||◌, ◌&&◌, ◌==◌, if◌then◌else◌, List, [], ◌∷◌, ◌++◌, Option, None, Some, length, drop, get_or, codes, refl, sym, ap, ◌∙◌, subst, arith, inl, inr, append_assoc}
+use Rattle.std.specs.List.{list_all}
+use Rattle.std.specs.Str.{bytes_eq}
+use Rattle.std.specs.Char.{is_ascii_alphanumeric, is_ascii_alphabetic, is_ascii_digit, is_ascii_control, is_ascii_graphic}
+use Rattle.std.specs.Char.{is_ascii_punctuation, is_ascii_hexdigit, is_ascii_lowercase, is_ascii_uppercase}
 use Rattle.std.proofs.lemmas.List.{append_cancel_left, append_cancel_right}
-use Rattle.config_file.specs.Runs.{Run}
-use Rattle.config_file.specs.Bytes.{LacksFront}
-use Rattle.config_file.proofs.OneRun.{run_only}
-use Rattle.std.proofs.lemmas.Option.{same_Some, none-some}
-use Rattle.std.proofs.lemmas.Bool.{cases_Bool, true≢false}
+use Rattle.std.proofs.lemmas.Option.{same_Some}
+use Rattle.std.proofs.lemmas.Bool.{cases_Bool, true≢false, and_parts}
+use Rattle.std.proofs.lemmas.Bool.Decides.{nat_tests}
 use Rattle.std.proofs.Math.Bool.{or_assoc}
-use Rattle.config_file.specs.Bytes.{right_bracket, backslash, dash}
-use Rattle.config_file.specs.Set.{first_byte, set_byte, range_end, range_or_byte, byte_from, byte_or_range, is_negation, is_wanted, opened, is_unclosed, IsClass, class_has, Member, class, plain, SetHas, closes, has, StandsForByte}
+use Rattle.config_file.specs.Runs.{Run, StopsRun}
+use Rattle.config_file.specs.Reading.Places.{Closing}
+use Rattle.config_file.specs.Bytes.{LacksFront, right_bracket, backslash, dash, is_blank, is_space}
+use Rattle.config_file.proofs.OneRun.{run_only}
+use Rattle.config_file.specs.Set.{folded, is_negation, is_wanted, opened, is_unclosed, IsClass, IsNoClass, IsNoRange, range_has, StandsForByte}
+use Rattle.config_file.specs.Set.{SetByte, bare, after_backslash, RangeEnd, to, Member, class, single, range, SetHas, closes, has}
+use Rattle.config_file.specs.Set.{Class, alnum, alpha, blank, cntrl, digit, graph, lower, print, punct, spaces, upper, xdigit}
 
 -- ---- classes
 
-pub is_class : {text inner inside closing name rest : List ℕ} → text ≡ codes "[:" ++ inner → Run is_unclosed inner inside closing
+-- the text after `[:` has the same next `]`
+inner_run : {text inner closing : List ℕ} (inside : List ℕ) → Run is_unclosed text inside closing → text ≡ codes "[:" ++ inner
+    → (front : List ℕ) × Run is_unclosed inner front closing
+inner_run {inner = inner} {closing = closing} [] run e =
+    absurd (true≢false (subst (λ x. StopsRun is_unclosed x) (sym run.joined ∙ e) run.longest))
+inner_run {inner = inner} {closing = closing} (x ∷ []) run e =
+    let rest : closing ≡ 58 ∷ inner = cc in
+    absurd (true≢false (subst (λ x. StopsRun is_unclosed x) rest run.longest))
+inner_run {inner = inner} {closing = closing} (x ∷ y ∷ inside) run e =
+    let rest : inner ≡ inside ++ closing = cc in
+    (inside, record { joined = rest; pass = (and_parts _ _ ((and_parts _ _ run.pass).1)).1; longest = run.longest })
+
+abbrev pub Closes : List ℕ → List ℕ → Type 0
+Closes text closing = (inside : List ℕ) × Run is_unclosed text inside closing
+
+pub inner_before : {text inner closing : List ℕ} → Closes text closing → text ≡ codes "[:" ++ inner → (front : List ℕ) × (inner ≡ front ++ closing)
+inner_before (inside, run) e = let (front, more) = inner_run inside run e in (front, more.joined)
+
+run_before : {text inner inside closing : List ℕ} → Closes text closing → text ≡ codes "[:" ++ inner → inner ≡ inside ++ closing
+    → Run is_unclosed inner inside closing
+run_before {inner = inner} {inside = inside} {closing = closing} (all, run) opens joined =
+    let (front, more) = inner_run all run opens in
+    subst (λ x. Run is_unclosed inner x closing) (append_cancel_right front inside closing (sym more.joined ∙ joined)) more
+
+pub is_class : {text inner inside closing name rest : List ℕ} → Closes text closing → text ≡ codes "[:" ++ inner → inner ≡ inside ++ closing
     → inside ≡ name ++ codes ":" → closing ≡ right_bracket ∷ rest → IsClass text name rest
-is_class {inner = inner} {inside = inside} {rest = rest} opens run ends closing = record {
+is_class {inner = inner} {inside = inside} {rest = rest} ahead opens joined ends closing = record {
   inner = inner;
   opened = opens;
-  closed = subst (λ a. Run is_unclosed inner a (right_bracket ∷ rest)) ends (subst (λ c. Run is_unclosed inner inside c) closing run);
+  closed = subst (λ a. Run is_unclosed inner a (right_bracket ∷ rest)) ends
+      (subst (λ c. Run is_unclosed inner inside c) closing (run_before ahead opens joined));
 }
 
 same_run : {text inner inside closing name rest : List ℕ} → text ≡ codes "[:" ++ inner → Run is_unclosed inner inside closing
@@ -26,18 +58,18 @@ same_run {inner = inner} {inside = inside} {closing = closing} opens run is =
     let inners : inner ≡ is.inner = append_cancel_left (codes "[:") inner is.inner (sym opens ∙ is.opened) in
     run_only (subst (λ x. Run is_unclosed x inside closing) inners run) is.closed
 
-pub not_opened : {text : List ℕ} → LacksFront (codes "[:") text → (name rest : List ℕ) → ¬ (IsClass text name rest)
+pub not_opened : {text : List ℕ} → LacksFront (codes "[:") text → IsNoClass text
 not_opened lacks name rest is = lacks is.inner is.opened
 
-pub no_colon : {text inner inside closing : List ℕ} → text ≡ codes "[:" ++ inner → Run is_unclosed inner inside closing
-    → ((front : List ℕ) → inside ≢ front ++ codes ":") → (name rest : List ℕ) → ¬ (IsClass text name rest)
-no_colon opens run never name rest is = never name ((same_run opens run is).0)
+pub no_colon : {text inner inside closing : List ℕ} → Closes text closing → text ≡ codes "[:" ++ inner → inner ≡ inside ++ closing
+    → ((front : List ℕ) → inside ≢ front ++ codes ":") → IsNoClass text
+no_colon ahead opens joined never name rest is = never name ((same_run opens (run_before ahead opens joined) is).0)
 
-pub no_closing : {text inner inside closing : List ℕ} → text ≡ codes "[:" ++ inner → Run is_unclosed inner inside closing
-    → ((rest : List ℕ) → closing ≢ right_bracket ∷ rest) → (name rest : List ℕ) → ¬ (IsClass text name rest)
-no_closing opens run never name rest is = never rest ((same_run opens run is).1)
+pub no_closing : {text inner closing : List ℕ} (inside : List ℕ) → Closes text closing → text ≡ codes "[:" ++ inner → inner ≡ inside ++ closing
+    → ((rest : List ℕ) → closing ≢ right_bracket ∷ rest) → IsNoClass text
+no_closing inside ahead opens joined never name rest is = never rest ((same_run opens (run_before ahead opens joined) is).1)
 
-class_unique : {text name name2 rest rest2 : List ℕ} → IsClass text name rest → IsClass text name2 rest2 → (name ≡ name2) × (rest ≡ rest2)
+pub class_unique : {text name name2 rest rest2 : List ℕ} → IsClass text name rest → IsClass text name2 rest2 → (name ≡ name2) × (rest ≡ rest2)
 class_unique {name = name} {name2 = name2} one other =
     let (names, rests) = same_run one.opened one.closed other in
     (append_cancel_right name name2 (codes ":") names, ap (λ l. drop 1 l) rests)
@@ -51,109 +83,183 @@ class_shortens {name = name} {rest = rest} is =
     let more = longer (name ++ codes ":") (right_bracket ∷ rest) in
     rw is.opened (rw is.closed.joined (omega arith))
 
+-- the classes by name, and whether each has the byte
+abbrev rows : Bool → ℕ → List (List ℕ × Bool)
+rows i b =
+    (codes "alnum", is_ascii_alphanumeric b)
+    ∷ (codes "alpha", is_ascii_alphabetic b)
+    ∷ (codes "blank", is_space b)
+    ∷ (codes "cntrl", is_ascii_control b)
+    ∷ (codes "digit", is_ascii_digit b)
+    ∷ (codes "graph", is_ascii_graphic b)
+    ∷ (codes "lower", is_ascii_lowercase b || (i && is_ascii_uppercase b))
+    ∷ (codes "print", b == 32 || is_ascii_graphic b)
+    ∷ (codes "punct", is_ascii_punctuation b)
+    ∷ (codes "space", is_blank b || b == 10)
+    ∷ (codes "upper", is_ascii_uppercase b || (i && is_ascii_lowercase b))
+    ∷ (codes "xdigit", is_ascii_hexdigit b)
+    ∷ []
+
+abbrev row_of : List (List ℕ × Bool) → List ℕ → Option Bool
+row_of [] name = None
+row_of ((word, here) ∷ rows) name = if bytes_eq name word then Some here else row_of rows name
+
+class_row : {i : Bool} {b : ℕ} {name : List ℕ} {h : Bool} → Class i b name h → row_of (rows i b) name ≡ Some h
+class_row (alnum e f) = rw e (ap Some (sym f))
+class_row (alpha e f) = rw e (ap Some (sym f))
+class_row (blank e f) = rw e (ap Some (sym f))
+class_row (cntrl e f) = rw e (ap Some (sym f))
+class_row (digit e f) = rw e (ap Some (sym f))
+class_row (graph e f) = rw e (ap Some (sym f))
+class_row (lower e f) = rw e (ap Some (sym f))
+class_row (print e f) = rw e (ap Some (sym f))
+class_row (punct e f) = rw e (ap Some (sym f))
+class_row (spaces e f) = rw e (ap Some (sym f))
+class_row (upper e f) = rw e (ap Some (sym f))
+class_row (xdigit e f) = rw e (ap Some (sym f))
+
+class_only : {i : Bool} {b : ℕ} {name name2 : List ℕ} {h h2 : Bool} → Class i b name h → Class i b name2 h2 → name ≡ name2 → h ≡ h2
+class_only {i = i} {b = b} one other e = same_Some _ _ (sym (class_row one) ∙ ap (row_of (rows i b)) e ∙ class_row other)
+
 -- ---- members
 
+byte_unique : {starts : Bool} {text r r2 : List ℕ} {c c2 : ℕ} → SetByte starts text c r → SetByte starts text c2 r2 → (c ≡ c2) × (r ≡ r2)
+byte_unique (bare other first) (bare other2 first2) = (refl, refl)
+byte_unique (bare other first) (after_backslash e) = absurd (other e)
+byte_unique (after_backslash e) (bare other first) = absurd (other e)
+byte_unique (after_backslash e) (after_backslash e2) = (refl, refl)
+
+range_unique : {text r r2 : List ℕ} {c c2 : ℕ} → RangeEnd text c r → RangeEnd text c2 r2 → (c ≡ c2) × (r ≡ r2)
+range_unique (to e is) (to e2 is2) = byte_unique is is2
+
 -- `]` is not a member, unless the set begins with it
-no_end_member : (i : Bool) (b c : ℕ) (rest : List ℕ) (here : Bool) (after : List ℕ) → c ≡ right_bracket
+no_end_byte : {b c : ℕ} {rest after : List ℕ} → b ≡ right_bracket → SetByte false (b ∷ rest) c after → ⊥
+no_end_byte e (bare other first) = true≢false (sym (first e))
+no_end_byte e (after_backslash e2) = omega (arith, e, e2)
+
+pub no_end_member : (i : Bool) (b c : ℕ) (rest : List ℕ) (here : Bool) (after : List ℕ) → c ≡ right_bracket
     → Member i b false (c ∷ rest) here after → ⊥
-no_end_member i b c rest here after e (class name is found) =
+no_end_member i b c rest here after e (class name is known) =
     let head : c ≡ 91 = ap (λ l. get_or l 0 0) is.opened in
     omega (arith, e, head)
-no_end_member i b c rest here after e (plain none is) = none-some (here, after) (rw e at is)
+no_end_member i b c rest here after e (single d none is alone found) = no_end_byte e is
+no_end_member i b c rest here after e (range first last mid none is more found) = no_end_byte e is
 
-pub of_class : {i : Bool} {b : ℕ} {starts here : Bool} {text name rest : List ℕ} → IsClass text name rest
-    → Some here ≡ class_has i name b → Member i b starts text here rest
-of_class {name = name} is found = class name is (sym found)
+escapes_none : {starts : Bool} {c d : ℕ} {after : List ℕ} → c ≡ backslash → SetByte starts (c ∷ []) d after → ⊥
+escapes_none is (bare other first) = other is
 
-pub of_byte : {i : Bool} {b : ℕ} {starts here : Bool} {text rest : List ℕ} → ((name after : List ℕ) → ¬ (IsClass text name after))
-    → Some (here, rest) ≡ byte_or_range i b starts text → Member i b starts text here rest
-of_byte none is = plain none (sym is)
+range_byte : {c last : ℕ} {mid rest : List ℕ} → RangeEnd (c ∷ mid) last rest → SetByte false mid last rest
+range_byte (to e is) = is
 
-pub of_no_class : {i : Bool} {b : ℕ} {starts : Bool} {text name after : List ℕ} → IsClass text name after → None ≡ class_has i name b
-    → (here : Bool) (rest : List ℕ) → ¬ (Member i b starts text here rest)
-of_no_class {i = i} {b = b} is unknown here rest (class name2 is2 found) =
-    none-some here (unknown ∙ ap (λ n. class_has i n b) ((class_unique is is2).0) ∙ found)
-of_no_class is unknown here rest (plain none found) = none _ _ is
+pub is_first : (c d e : ℕ) (more : Bool) → c ≡ d → d ≡ e → (c == d) ≡ ((c == e) || more)
+is_first c d e more same too =
+    let here : (c == d) ≡ true = grind (arith, nat_tests) in
+    let there : (c == e) ≡ true = grind (arith, nat_tests) in
+    here ∙ sym (ap (λ x. x || more) there)
 
-pub of_no_byte : {i : Bool} {b : ℕ} {starts : Bool} {text : List ℕ} → ((name after : List ℕ) → ¬ (IsClass text name after))
-    → None ≡ byte_or_range i b starts text → (here : Bool) (rest : List ℕ) → ¬ (Member i b starts text here rest)
-of_no_byte none nothing here rest (class name is found) = none name rest is
-of_no_byte none nothing here rest (plain none2 found) = none-some (here, rest) (nothing ∙ found)
+pub is_no_first : (c d : ℕ) (more : Bool) → c ≢ d → more ≡ ((c == d) || more)
+is_no_first c d more apart = let other : (c == d) ≡ false = grind (arith, nat_tests) in sym (ap (λ x. x || more) other)
 
-member_unique : {i : Bool} {b : ℕ} {starts h h2 : Bool} {text r r2 : List ℕ} → Member i b starts text h r → Member i b starts text h2 r2
-    → (h ≡ h2) × (r ≡ r2)
-member_unique {i = i} {b = b} (class name is found) (class name2 is2 found2) =
+-- the next byte of a set
+pub bare_here : {starts : Bool} {text rest : List ℕ} {c : ℕ} → text ≡ c ∷ rest → c ≢ backslash → (c ≡ right_bracket → starts ≡ true)
+    → SetByte starts text c rest
+bare_here e other first = rw e (bare other first)
+
+pub escaped_here : {starts : Bool} {text rest after : List ℕ} {c d : ℕ} → text ≡ c ∷ rest → c ≡ backslash → rest ≡ d ∷ after
+    → SetByte starts text d after
+escaped_here e is f = rw (e, f) (after_backslash is)
+
+pub no_escaped : {starts : Bool} {text rest : List ℕ} {c : ℕ} → text ≡ c ∷ rest → c ≡ backslash → rest ≡ []
+    → (d : ℕ) (after : List ℕ) → ¬ (SetByte starts text d after)
+no_escaped {starts = starts} {c = c} e is none d after here =
+    escapes_none is (subst (λ x. SetByte starts (c ∷ x) d after) none (subst (λ x. SetByte starts x d after) e here))
+
+pub range_here : {text mid rest : List ℕ} {last : ℕ} → text ≡ dash ∷ mid → SetByte false mid last rest → RangeEnd text last rest
+range_here e is = rw e (to refl is)
+
+pub no_range_byte : {text mid : List ℕ} → text ≡ dash ∷ mid → ((c : ℕ) (rest : List ℕ) → ¬ (SetByte false mid c rest)) → IsNoRange text
+no_range_byte e none last rest here = none last rest (range_byte (subst (λ x. RangeEnd x last rest) e here))
+
+pub of_no_class : {i : Bool} {b : ℕ} {starts : Bool} {text name after : List ℕ} → IsClass text name after
+    → ((h : Bool) → ¬ (Class i b name h)) → (here : Bool) (rest : List ℕ) → ¬ (Member i b starts text here rest)
+of_no_class {i = i} {b = b} is unknown here rest (class name2 is2 known) =
+    unknown here (subst (λ n. Class i b n here) (sym ((class_unique is is2).0)) known)
+of_no_class is unknown here rest (single c none byte alone found) = none _ _ is
+of_no_class is unknown here rest (range first last mid none byte more found) = none _ _ is
+
+pub of_no_byte : {i : Bool} {b : ℕ} {starts : Bool} {text : List ℕ} → IsNoClass text
+    → ((c : ℕ) (after : List ℕ) → ¬ (SetByte starts text c after)) → (here : Bool) (rest : List ℕ) → ¬ (Member i b starts text here rest)
+of_no_byte none nothing here rest (class name is known) = none name rest is
+of_no_byte none nothing here rest (single c none2 byte alone found) = nothing c rest byte
+of_no_byte none nothing here rest (range first last mid none2 byte more found) = nothing first mid byte
+
+-- what follows a member does not depend on the byte that is sought
+pub member_same : {i : Bool} {b b2 : ℕ} {starts h h2 : Bool} {text r r2 : List ℕ} → Member i b starts text h r → Member i b2 starts text h2 r2
+    → (r ≡ r2) × (b ≡ b2 → h ≡ h2)
+member_same {i = i} {b2 = b2} {h2 = h2} (class name is known) (class name2 is2 known2) =
     let (names, rests) = class_unique is is2 in
-    (same_Some _ _ (sym found ∙ ap (λ n. class_has i n b) names ∙ found2), rests)
-member_unique (class name is found) (plain none is2) = absurd (none _ _ is)
-member_unique (plain none is) (class name is2 found) = absurd (none _ _ is2)
-member_unique (plain none is) (plain none2 is2) =
-    let same = same_Some _ _ (sym is ∙ is2) in
-    (ap (λ p. p.0) same, ap (λ p. p.1) same)
+    (rests, λ e. class_only known (subst (λ x. Class i x name2 h2) (sym e) known2) names)
+member_same (class name is known) (single c none byte alone found) = absurd (none _ _ is)
+member_same (class name is known) (range first last mid none byte more found) = absurd (none _ _ is)
+member_same (single c none byte alone found) (class name is known) = absurd (none _ _ is)
+member_same {i = i} {b = b} {b2 = b2} (single c none byte alone found) (single c2 none2 byte2 alone2 found2) =
+    let (bytes, rests) = byte_unique byte byte2 in
+    (rests, λ e. found ∙ ap (λ x. x == folded i b) bytes ∙ ap (λ x. c2 == folded i x) e ∙ sym found2)
+member_same {r2 = r2} (single c none byte alone found) (range first last mid none2 byte2 more found2) =
+    absurd (alone last r2 (subst (λ x. RangeEnd x last r2) (sym ((byte_unique byte byte2).1)) more))
+member_same (range first last mid none byte more found) (class name is known) = absurd (none _ _ is)
+member_same {r = r} (range first last mid none byte more found) (single c none2 byte2 alone found2) =
+    absurd (alone last r (subst (λ x. RangeEnd x last r) ((byte_unique byte byte2).1) more))
+member_same {i = i} {b = b} {b2 = b2} {r = r} (range first last mid none byte more found) (range first2 last2 mid2 none2 byte2 more2 found2) =
+    let (bytes, mids) = byte_unique byte byte2 in
+    let (ends, rests) = range_unique (subst (λ x. RangeEnd x last r) mids more) more2 in (
+      rests,
+      λ e. found ∙ ap (λ x. x == folded i b || range_has i x last b) bytes ∙ ap (λ x. first2 == folded i b || range_has i first2 x b) ends
+          ∙ ap (λ x. first2 == folded i x || range_has i first2 last2 x) e ∙ sym found2,
+    )
 
-has_inv : {i : Bool} {b : ℕ} {starts all : Bool} {text rest : List ℕ} (here : Bool) (after : List ℕ)
-    → Member i b starts text here after → SetHas i b starts text all rest
-    → (found : Bool) × SetHas i b false after found rest × (all ≡ (here || found))
+-- so what follows a member is the same, and with the same byte so is whether the members have it
+has_inv : {i : Bool} {b b2 : ℕ} {starts all : Bool} {text rest : List ℕ} (here : Bool) (after : List ℕ)
+    → Member i b starts text here after → SetHas i b2 starts text all rest
+    → (found : Bool) × SetHas i b2 false after found rest × (b ≡ b2 → all ≡ (here || found))
 has_inv {i = i} {b = b} here after is (closes {c = c} {rest = tail} e) = absurd (no_end_member i b c tail here after e is)
-has_inv {i = i} {b = b} {rest = rest} here after is (has here2 found after2 is2 more all) =
-    let same = member_unique is2 is in
-    (found, subst (λ a. SetHas i b false a found rest) same.1 more, all ∙ ap (λ h. h || found) same.0)
+has_inv {i = i} {b2 = b2} {rest = rest} here after is (has here2 found after2 is2 more all) =
+    let (rests, heres) = member_same is is2 in
+    (found, subst (λ a. SetHas i b2 false a found rest) (sym rests) more, λ e. all ∙ ap (λ h. h || found) (sym (heres e)))
 
-pub set_unique : {i : Bool} {b : ℕ} {starts f f2 : Bool} {text r r2 : List ℕ} → SetHas i b starts text f r → SetHas i b starts text f2 r2
-    → (f ≡ f2) × (r ≡ r2)
-set_unique (closes e) (closes e2) = (refl, refl)
-set_unique {i = i} {b = b} (closes {c = c} {rest = tail} e) (has here found after is more all) =
-    absurd (no_end_member i b c tail here after e is)
-set_unique (has here found after is more all) other =
+pub set_same : {i : Bool} {b b2 : ℕ} {starts f f2 : Bool} {text r r2 : List ℕ} → SetHas i b starts text f r
+    → SetHas i b2 starts text f2 r2 → (r ≡ r2) × (b ≡ b2 → f ≡ f2)
+set_same (closes e) (closes e2) = (refl, λ e3. refl)
+set_same {i = i} {b2 = b2} (closes {c = c} {rest = tail} e) (has here found after is more all) =
+    absurd (no_end_member i b2 c tail here after e is)
+set_same (has here found after is more all) other =
     let (found2, more2, all2) = has_inv here after is other in
-    let same = set_unique more more2 in
-    (all ∙ ap (λ x. here || x) same.0 ∙ sym all2, same.1)
+    let (rests, founds) = set_same more more2 in
+    (rests, λ e. all ∙ ap (λ x. here || x) (founds e) ∙ sym (all2 e))
 
-pub rest_unique : {i : Bool} {b : ℕ} {text r r2 : List ℕ} → StandsForByte i text b r → StandsForByte i text b r2 → r ≡ r2
-rest_unique one other = (set_unique one.members other.members).1
+class_rest : {text name rest : List ℕ} → IsClass text name rest → (front : List ℕ) × (text ≡ front ++ rest)
+class_rest {name = name} {rest = rest} is =
+    (codes "[:" ++ ((name ++ codes ":") ++ right_bracket ∷ []), is.opened ∙ ap (λ x. codes "[:" ++ x) (is.closed.joined ∙ simp append_assoc))
 
-first_shortens : (text : List ℕ) (c : ℕ) (rest : List ℕ) → first_byte text ≡ Some (c, rest) → length rest < length text
-first_shortens [] c rest is = absurd (none-some (c, rest) is)
-first_shortens (d ∷ text) c rest is = rw (ap (λ p. p.1) (same_Some _ _ (sym is))) (omega arith)
+byte_rest : {starts : Bool} {text rest : List ℕ} {c : ℕ} → SetByte starts text c rest → (front : List ℕ) × (text ≡ front ++ rest)
+byte_rest (bare {c = c} other first) = (c ∷ [], refl)
+byte_rest (after_backslash {c = c} {e = e} is) = (c ∷ e ∷ [], refl)
 
-byte_shortens : (starts : Bool) (text : List ℕ) (c : ℕ) (rest : List ℕ) → set_byte starts text ≡ Some (c, rest)
-    → length rest < length text
-byte_shortens starts [] c rest is = absurd (none-some (c, rest) is)
-byte_shortens starts (d ∷ text) c rest is =
-    elim (cases_Bool (d == backslash)) [
-      | inl e ↦ let short = first_shortens text c rest (rw e at is) in omega arith
-      | inr f ↦ elim (cases_Bool (d == right_bracket && not starts)) [
-        | inl e ↦ absurd (none-some (c, rest) (rw (f, e) at is))
-        | inr g ↦ rw (ap (λ p. p.1) (same_Some _ _ (sym (rw (f, g) at is)))) (omega arith)
-      ]
-    ]
+range_rest : {text rest : List ℕ} {c : ℕ} → RangeEnd text c rest → (front : List ℕ) × (text ≡ front ++ rest)
+range_rest (to {c = c} e is) = let (front, f) = byte_rest is in (c ∷ front, ap (◌∷◌ c) f)
 
-end_shortens : (text : List ℕ) (c : ℕ) (rest : List ℕ) → range_end text ≡ Some (c, rest) → length rest < length text
-end_shortens [] c rest is = absurd (none-some (c, rest) is)
-end_shortens (d ∷ text) c rest is =
-    elim (cases_Bool (d == dash)) [
-      | inl e ↦ let short = byte_shortens false text c rest (rw e at is) in omega arith
-      | inr f ↦ absurd (none-some (c, rest) (rw f at is))
-    ]
+byte_shortens : {starts : Bool} {text rest : List ℕ} {c : ℕ} → SetByte starts text c rest → length rest < length text
+byte_shortens (bare other first) = omega arith
+byte_shortens (after_backslash e) = omega arith
 
-ranges_shorten : (i : Bool) (b c : ℕ) (text : List ℕ) (o : Option (ℕ × List ℕ)) → range_end text ≡ o
-    → length ((range_or_byte i b c text o).1) ≤ length text
-ranges_shorten i b c text None e = omega arith
-ranges_shorten i b c text (Some (d, rest)) e = let short = end_shortens text d rest e in omega arith
-
-members_shorten : (i : Bool) (b : ℕ) (starts : Bool) (text : List ℕ) (o : Option (ℕ × List ℕ)) (here : Bool) (after : List ℕ)
-    → set_byte starts text ≡ o → byte_from i b o ≡ Some (here, after) → length after < length text
-members_shorten i b starts text None here after e is = absurd (none-some (here, after) is)
-members_shorten i b starts text (Some (c, rest)) here after e is =
-    let short = byte_shortens starts text c rest e in
-    let more = ranges_shorten i b c rest (range_end rest) refl in
-    rw (ap (λ p. p.1) (same_Some _ _ (sym is))) (omega arith)
+range_shortens : {text rest : List ℕ} {c : ℕ} → RangeEnd text c rest → length rest < length text
+range_shortens (to e is) = let short = byte_shortens is in omega arith
 
 pub member_shortens : {i : Bool} {b : ℕ} {starts here : Bool} {text after : List ℕ} → Member i b starts text here after
     → length after < length text
-member_shortens (class name is found) = class_shortens is
-member_shortens {i = i} {b = b} {starts = starts} {here = here} {text = text} {after = after} (plain none is) =
-    members_shorten i b starts text (set_byte starts text) here after refl is
+member_shortens (class name is known) = class_shortens is
+member_shortens (single c none byte alone found) = byte_shortens byte
+member_shortens (range first last mid none byte more found) = let short = byte_shortens byte in let shorter = range_shortens more in omega arith
 
 has_shortens : {i : Bool} {b : ℕ} {starts f : Bool} {text r : List ℕ} → SetHas i b starts text f r → length r < length text
 has_shortens (closes e) = omega arith
@@ -171,6 +277,36 @@ set_shortens {text = text} stands =
     let short = has_shortens stands.members in
     let inner = opened_shortens text in
     omega arith
+
+-- ---- the next `]`
+
+member_rest : {i : Bool} {b : ℕ} {starts here : Bool} {text after : List ℕ} → Member i b starts text here after
+    → (front : List ℕ) × (text ≡ front ++ after)
+member_rest (class name is known) = class_rest is
+member_rest (single c none byte alone found) = byte_rest byte
+member_rest (range first last mid none byte more found) =
+    let (front, e) = byte_rest byte in
+    let (ends, f) = range_rest more in
+    (front ++ ends, e ∙ ap (◌++◌ front) f ∙ sym (append_assoc front ends _))
+
+-- either the first `]` is still ahead, or it has been passed
+passed : (front inside after closing : List ℕ) → list_all is_unclosed inside ≡ true → front ++ after ≡ inside ++ closing
+    → ((more : List ℕ) × (after ≡ more ++ closing) × (list_all is_unclosed more ≡ true)) ⊎ (length after < length closing)
+passed [] inside after closing all e = inl (inside, e, all)
+passed (f ∷ front) [] after closing all e =
+    let less = longer front after in
+    let whole : suc (length (front ++ after)) ≡ length closing = ap length e in
+    inr (omega arith)
+passed (f ∷ front) (x ∷ inside) after closing all e =
+    passed front inside after closing ((and_parts (is_unclosed x) (list_all is_unclosed inside) all).1) (cc)
+
+pub closing_after : {i : Bool} {b : ℕ} {starts here : Bool} {text after closing : List ℕ} (inside : List ℕ)
+    → Run is_unclosed text inside closing → Member i b starts text here after → Closing after closing
+closing_after {after = after} {closing = closing} inside run is =
+    let (front, e) = member_rest is in elim (passed front inside after closing run.pass (sym e ∙ run.joined)) [
+      | inl (more, f, all) ↦ inl (more, record { joined = f; pass = all; longest = run.longest })
+      | inr less ↦ inr less
+    ]
 
 -- ---- the members that are read one by one
 
@@ -259,7 +395,7 @@ pub stands_unwanted : {i : Bool} {b : ℕ} {negated found : Bool} {text inner af
 stands_unwanted {i = i} {b = b} {negated = negated} e whole unwanted rest is =
     let members = subst (λ x. SetHas i b true x is.found rest) (sym (ap (λ p. p.1) e)) is.members in
     let wanted = subst (λ x. is_wanted is.found x ≡ true) (sym (ap (λ p. p.0) e)) is.wanted in
-    let same = subst (λ f. is_wanted f negated ≡ false) ((set_unique whole members).0) unwanted in
+    let same = subst (λ f. is_wanted f negated ≡ false) ((set_same whole members).1 refl) unwanted in
     true≢false (sym wanted ∙ same)
 
 pub stands_for_no_slash : {i : Bool} {b : ℕ} {text : List ℕ} → b ≡ 47 → (rest : List ℕ) → ¬ (StandsForByte i text b rest)

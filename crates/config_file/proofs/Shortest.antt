@@ -3,11 +3,12 @@ use Rattle.std.proofs.Common.{◌≡◌, ◌≢◌, ℕ, zero, suc, ◌+◌, ◌
 use Rattle.std.specs.Prelude.{replicate, nat_lt, count_by}
 use Rattle.std.specs.List.{flat_map, list_any}
 use Rattle.std.proofs.lemmas.Grind.{flat_map-append}
+use Rattle.std.proofs.lemmas.List.{replicate_more}
 use Rattle.std.proofs.lemmas.List.Sums.{sum_by-cons}
 use Rattle.std.proofs.lemmas.Bool.{cases_Bool, true≢false}
 use Rattle.std.proofs.lemmas.Bool.Decides.{nat_tests}
 use Rattle.config_file.specs.Bytes.{is_plain}
-use Rattle.config_file.specs.Value.{Ending, outside, Spells, ends_outside, ends_inside, ends_at_backslash, quote, escaped, continued, continued_after_return, blank, plain, kept, escape}
+use Rattle.config_file.specs.Value.{Ending, outside, Spells, as_space, ends_outside, ends_inside, ends_at_backslash, quote, escaped, continued, continued_after_return, blank, plain, kept, escape}
 use Rattle.config_file.specs.Spelling.{IsSpelling, IsShortest}
 use Rattle.config_file.specs.Reading.Spellings.{letter_of, after_backslash, spelled_byte, is_lost, begins_with_space, ends_with_space, is_quoted, spelled_value, is_spellable}
 use Rattle.config_file.proofs.Spellings.{value_spelled}
@@ -60,9 +61,9 @@ abbrev lead : List ℕ → ℕ → List ℕ
 lead [] held = []
 lead (b ∷ value) held = replicate held 32
 
-kept_lead : (value : List ℕ) (held : ℕ) → kept value held ≡ value ++ lead value held
-kept_lead [] held = refl
-kept_lead (b ∷ value) held = refl
+kept_lead : (value blanks : List ℕ) (held : ℕ) → blanks ≡ replicate held 32 → kept value blanks ≡ value ++ lead value held
+kept_lead [] blanks held is = refl
+kept_lead (b ∷ value) blanks held is = ap (λ x. (b ∷ value) ++ x) is
 
 spaces_cost : (q : Bool) (held : ℕ) → cost q (replicate held 32) ≡ held
 spaces_cost q zero = refl
@@ -178,53 +179,57 @@ plain_bare true b is e = cc
 plain_bare false b is e = plain_is_kept b is
 
 -- a text, split into its first bytes and what is left
-left_of : (value left text : List ℕ) (held : ℕ) → text ≡ kept value held ++ left → text ≡ value ++ (lead value held ++ left)
-left_of value left text held e = e ∙ rw (kept_lead value held) (append_assoc value (lead value held) left)
+module _ (value blanks left text : List ℕ) (held : ℕ) (is : blanks ≡ replicate held 32) where
+  left_of : text ≡ kept value blanks ++ left → text ≡ value ++ (lead value held ++ left)
+  left_of e = e ∙ rw (kept_lead value blanks held is) (append_assoc value (lead value held) left)
 
-left_of_byte : (value left text : List ℕ) (held c : ℕ) → text ≡ (kept value held ++ c ∷ []) ++ left → text ≡ value ++ (lead value held ++ c ∷ left)
-left_of_byte value left text held c e = left_of value (c ∷ left) text held (e ∙ append_assoc (kept value held) (c ∷ []) left)
+left_of_byte : (value blanks left text : List ℕ) (held c : ℕ) → blanks ≡ replicate held 32
+    → text ≡ (kept value blanks ++ c ∷ []) ++ left → text ≡ value ++ (lead value held ++ c ∷ left)
+left_of_byte value blanks left text held c is e =
+    left_of value blanks (c ∷ left) text held is (e ∙ append_assoc (kept value blanks) (c ∷ []) left)
 
-costs : {q : Bool} {value raw text : List ℕ} {held : ℕ} {ending : Ending} → Spells q value held raw text ending → ending ≡ outside
-    → (left : List ℕ) × (text ≡ value ++ left) × Costs q value left (length raw + held)
-costs (ends_outside {value = value} {held = held}) e =
+-- before Git 2.45, when each blank was read as a space
+costs : {q : Bool} {value blanks raw text : List ℕ} {ending : Ending} → Spells as_space q value blanks raw text ending → ending ≡ outside
+    → (held : ℕ) → blanks ≡ replicate held 32 → (left : List ℕ) × (text ≡ value ++ left) × Costs q value left (length raw + held)
+costs (ends_outside {value = value}) e held all =
     ([], sym (append-nil value), inl (record { found = refl; last = refl; first = λ none. refl; fits = omega arith }))
-costs ends_inside e = cc
-costs (ends_at_backslash is) e = cc
-costs (quote {quoted = q} {value = value} {held = held} {raw = raw} {text = text} is s) e =
-    let (left, same, h) = costs s e in (
+costs ends_inside e held all = cc
+costs (ends_at_backslash is) e held all = cc
+costs (quote {quoted = q} {value = value} {held = blanks} {raw = raw} {text = text} is s) e held all =
+    let (left, same, h) = costs s e 0 refl in (
       lead value held ++ left,
-      left_of value left text held same,
-      fewer q value (lead value held ++ left) _ _ (omega arith) (quote_costs q value (kept value held) left held (length raw + 0) h),
+      left_of value blanks left text held all same,
+      fewer q value (lead value held ++ left) _ _ (omega arith) (quote_costs q value (kept value blanks) left held (length raw + 0) h),
     )
-costs (escaped {quoted = q} {value = value} {held = held} {e = letter} {c = c} {raw = raw} {text = text} is l s) e =
-    let (left, same, h) = costs s e in (
+costs (escaped {quoted = q} {e = letter} {c = c} {value = value} {held = blanks} {raw = raw} {text = text} is l s) e held all =
+    let (left, same, h) = costs s e 0 refl in (
       lead value held ++ c ∷ left,
-      left_of_byte value left text held c same,
+      left_of_byte value blanks left text held c all same,
       fewer q value (lead value held ++ c ∷ left) _ _ (omega arith)
-          (byte_costs q value (kept value held ++ c ∷ []) left held c 2 (length raw + 0) (byte_at_most true c) (λ f. byte_at_most false c) (λ f. escaped_is_kept letter c l) h),
+          (byte_costs q value (kept value blanks ++ c ∷ []) left held c 2 (length raw + 0) (byte_at_most true c) (λ f. byte_at_most false c) (λ f. escaped_is_kept letter c l) h),
     )
-costs (continued {quoted = q} {value = value} {held = held} {raw = raw} {text = text} is l s) e =
-    let (left, same, h) = costs s e in (
+costs (continued {quoted = q} {value = value} {held = blanks} {raw = raw} {text = text} is l s) e held all =
+    let (left, same, h) = costs s e 0 refl in (
       lead value held ++ left,
-      left_of value left text held same,
-      fewer q value (lead value held ++ left) _ _ (omega arith) (continued_costs q value (kept value held) left held 2 (length raw + 0) (omega arith) h),
+      left_of value blanks left text held all same,
+      fewer q value (lead value held ++ left) _ _ (omega arith) (continued_costs q value (kept value blanks) left held 2 (length raw + 0) (omega arith) h),
     )
-costs (continued_after_return {quoted = q} {value = value} {held = held} {raw = raw} {text = text} is l n s) e =
-    let (left, same, h) = costs s e in (
+costs (continued_after_return {quoted = q} {value = value} {held = blanks} {raw = raw} {text = text} is l n s) e held all =
+    let (left, same, h) = costs s e 0 refl in (
       lead value held ++ left,
-      left_of value left text held same,
-      fewer q value (lead value held ++ left) _ _ (omega arith) (continued_costs q value (kept value held) left held 3 (length raw + 0) (omega arith) h),
+      left_of value blanks left text held all same,
+      fewer q value (lead value held ++ left) _ _ (omega arith) (continued_costs q value (kept value blanks) left held 3 (length raw + 0) (omega arith) h),
     )
-costs (blank {value = value} {held = held} {raw = raw} is s) e =
-    let (left, same, h) = costs s e in
+costs (blank {value = value} {held = blanks} {raw = raw} is s) e held all =
+    let (left, same, h) = costs s e (held + 1) (ap (λ x. x ++ 32 ∷ []) all ∙ replicate_more {X = ℕ} held 32) in
     (left, same, fewer false value left _ _ (omega arith) h)
-costs (plain {quoted = q} {value = value} {held = held} {b = b} {raw = raw} {text = text} is s) e =
-    let (left, same, h) = costs s e in
+costs (plain {quoted = q} {b = b} {value = value} {held = blanks} {raw = raw} {text = text} is s) e held all =
+    let (left, same, h) = costs s e 0 refl in
     let (fits, fits_outside) = plain_fits q b is in (
       lead value held ++ b ∷ left,
-      left_of_byte value left text held b same,
+      left_of_byte value blanks left text held b all same,
       fewer q value (lead value held ++ b ∷ left) _ _ (omega arith)
-          (byte_costs q value (kept value held ++ b ∷ []) left held b 1 (length raw + 0) fits fits_outside (plain_bare q b is) h),
+          (byte_costs q value (kept value blanks ++ b ∷ []) left held b 1 (length raw + 0) fits fits_outside (plain_bare q b is) h),
     )
 
 -- the spelling of a value costs at most as much as any other
@@ -246,7 +251,7 @@ bare_length value is = rw is refl
 
 shortest : (value raw : List ℕ) → IsSpelling raw value → length (spelled_value value) ≤ length raw
 shortest value raw s =
-    let (left, same, h) = costs s refl in
+    let (left, same, h) = costs s.1 refl 0 refl in
     let whole : left ≡ value = sym same in
     let at_value = subst (λ l. Costs false [] l (length raw + 0)) whole h in
     let tabs = tabs_cost value in

@@ -1,13 +1,12 @@
 -- Spellings of values.
-use Rattle.std.proofs.Common.{◌≡◌, ◌≢◌, ℕ, zero, suc, ◌+◌, ◌-◌, ◌≤◌, Bool, true, false, not, ◌||◌, List, [], ◌∷◌, ◌++◌, Option, Some, None, length, refl, sym, ap, ◌∙◌, append_assoc, append-nil, arith, inl, inr, ◌==◌, slice_index_or}
-use Rattle.std.specs.Prelude.{replicate, nat_eq}
+use Rattle.std.proofs.Common.{◌≡◌, ◌≢◌, ℕ, suc, ◌-◌, ◌≤◌, Bool, true, false, not, ◌||◌, List, [], ◌∷◌, ◌++◌, Option, Some, None, length, refl, sym, ap, subst, ◌∙◌, append_assoc, append-nil, arith, inl, inr, ◌==◌, slice_index_or}
+use Rattle.std.specs.Prelude.{nat_eq}
 use Rattle.std.specs.List.{flat_map, list_any}
-use Rattle.std.proofs.lemmas.List.{replicate_more}
 use Rattle.std.proofs.lemmas.List.Folds.{list_all-append}
 use Rattle.std.proofs.lemmas.Bool.{cases_Bool, true≢false}
 use Rattle.std.proofs.lemmas.Bool.Decides.{nat_tests}
-use Rattle.config_file.specs.Bytes.{is_plain}
-use Rattle.config_file.specs.Value.{Ending, outside, Spells, ends_outside, ends_inside, ends_at_backslash, quote, escaped, continued, continued_after_return, blank, plain, kept, escape}
+use Rattle.config_file.specs.Bytes.{is_plain, is_blank}
+use Rattle.config_file.specs.Value.{Ending, outside, Spells, itself, as_space, ends_outside, ends_inside, ends_at_backslash, quote, escaped, continued, continued_after_return, blank, plain, kept, escape}
 use Rattle.config_file.specs.Spelling.{IsSpelling, HasNoSpelling}
 use Rattle.config_file.specs.Reading.Spellings.{letter_of, after_backslash, spelled_byte, is_lost, begins_with_space, ends_with_space, is_quoted, spelled_value, is_spellable}
 
@@ -18,7 +17,7 @@ ends_with_space_at (b ∷ c ∷ rest) some =
     let next : length (b ∷ c ∷ rest) - 1 ≡ suc (length (c ∷ rest) - 1) = omega arith in
     let more = ends_with_space_at (c ∷ rest) (omega arith) in rw next more
 
-kept_none : (value : List ℕ) → kept value 0 ≡ value
+kept_none : (value : List ℕ) → kept value [] ≡ value
 kept_none [] = refl
 kept_none (b ∷ value) = ap (◌∷◌ b) (append-nil value)
 
@@ -33,21 +32,22 @@ plain_outside : (b : ℕ) → letter_of false b ≡ None → b ≢ 0 → is_lost
 plain_outside b e some found other = grind (arith, nat_tests)
 
 -- a spelled byte, before bytes that spell the rest of a value, adds that byte to the value
-spelled_next : {q : Bool} {value raw text : List ℕ} {held : ℕ} {e : Ending} (b : ℕ) (o : Option ℕ) → letter_of q b ≡ o
+spelled_next : {w : ℕ → ℕ} {q : Bool} {value held raw text : List ℕ} {e : Ending} (b : ℕ) (o : Option ℕ) → letter_of q b ≡ o
     → (letter_of q b ≡ None → is_plain q b ≡ true)
-    → Spells q (kept value held ++ b ∷ []) 0 raw text e → Spells q value held (after_backslash b o ++ raw) text e
+    → Spells w q (kept value held ++ b ∷ []) [] raw text e → Spells w q value held (after_backslash b o ++ raw) text e
 spelled_next {q = q} b (Some l) is no_letter h = escaped refl (letter_escapes q b l is) h
 spelled_next b None is no_letter h = plain (no_letter is) h
 
-spelled_quoted : (value before : List ℕ) → is_spellable value ≡ true
-    → Spells true before 0 (flat_map (spelled_byte true) value ++ 34 ∷ []) (before ++ value) outside
-spelled_quoted [] before all = quote refl (rw (kept_none before, append-nil before) ends_outside)
-spelled_quoted (b ∷ rest) before all =
+spelled_quoted : (w : ℕ → ℕ) (value before : List ℕ) → is_spellable value ≡ true
+    → Spells w true before [] (flat_map (spelled_byte true) value ++ 34 ∷ []) (before ++ value) outside
+spelled_quoted w [] before all = quote refl (rw (kept_none before, append-nil before) ends_outside)
+spelled_quoted w (b ∷ rest) before all =
     let some : b ≢ 0 = grind (arith, nat_tests) in
     let others : is_spellable rest ≡ true = grind (arith, nat_tests) in
-    let more = spelled_quoted rest (before ++ b ∷ []) others in
+    let more = spelled_quoted w rest (before ++ b ∷ []) others in
     let same : (before ++ b ∷ []) ++ rest ≡ before ++ b ∷ rest = append_assoc before (b ∷ []) rest in
-    rw (append_assoc (spelled_byte true b) (flat_map (spelled_byte true) rest) (34 ∷ [])) (spelled_next b (letter_of true b) refl (λ e. plain_in_quotes b e some) (rw (kept_none before) (rw same at more)))
+    rw (append_assoc (spelled_byte true b) (flat_map (spelled_byte true) rest) (34 ∷ []))
+    (spelled_next b (letter_of true b) refl (λ e. plain_in_quotes b e some) (rw (kept_none before) (rw same at more)))
 
 last_is_no_space : (b : ℕ) (rest : List ℕ) → ends_with_space (b ∷ rest) ≡ false → ends_with_space rest ≡ false
 last_is_no_space b [] e = refl
@@ -60,51 +60,55 @@ last_alone_is_no_space b (c ∷ rest) last is none = cc
 pushed_before : (xs ys rest : List ℕ) (b : ℕ) → (xs ++ (ys ++ b ∷ [])) ++ rest ≡ (xs ++ ys) ++ b ∷ rest
 pushed_before xs ys rest b = ap (λ l. l ++ rest) (sym (append_assoc xs ys (b ∷ []))) ∙ append_assoc (xs ++ ys) (b ∷ []) rest
 
-blank_next : {raw : List ℕ} (before rest : List ℕ) (first held : ℕ)
-    → Spells false (first ∷ before) (held + 1) raw (kept (first ∷ before) (held + 1) ++ rest) outside
-    → Spells false (first ∷ before) held (32 ∷ raw) (kept (first ∷ before) held ++ 32 ∷ rest) outside
-blank_next before rest first held h =
-    let more : replicate (held + 1) 32 ≡ replicate held 32 ++ 32 ∷ [] = sym (replicate_more {X = ℕ} held 32) in
-    let same : kept (first ∷ before) (held + 1) ++ rest ≡ kept (first ∷ before) held ++ 32 ∷ rest =
-    rw more (pushed_before (first ∷ before) (replicate held 32) rest 32) in
-    blank refl (rw same at h)
+-- outside quotes, where a space is read as a space
+module _ (w : ℕ → ℕ) (reads : w 32 ≡ 32) where
+  blank_next : {raw : List ℕ} (before rest held : List ℕ) (first : ℕ)
+      → Spells w false (first ∷ before) (held ++ 32 ∷ []) raw (kept (first ∷ before) (held ++ 32 ∷ []) ++ rest) outside
+      → Spells w false (first ∷ before) held (32 ∷ raw) (kept (first ∷ before) held ++ 32 ∷ rest) outside
+  blank_next {raw = raw} before rest held first h =
+      let text = kept (first ∷ before) held ++ 32 ∷ rest in
+      let more : Spells w false (first ∷ before) (held ++ 32 ∷ []) raw text outside =
+      subst (λ x. Spells w false (first ∷ before) (held ++ 32 ∷ []) raw x outside) (pushed_before (first ∷ before) held rest 32) h in
+      blank refl (subst (λ c. Spells w false (first ∷ before) (held ++ c ∷ []) raw text outside) (sym reads) more)
 
-spelled_after : (value before : List ℕ) (first held : ℕ) → is_spellable value ≡ true → list_any is_lost value ≡ false → ends_with_space value ≡ false
-    → (value ≡ [] → held ≡ 0)
-    → Spells false (first ∷ before) held (flat_map (spelled_byte false) value) (kept (first ∷ before) held ++ value) outside
-spelled_after [] before first held all found last none =
-    let e = none refl in rw (e, append-nil before, append-nil (first ∷ before)) ends_outside
-spelled_after (b ∷ rest) before first held all found last none =
-    let some : b ≢ 0 = grind (arith, nat_tests) in
-    let others : is_spellable rest ≡ true = grind (arith, nat_tests) in
-    let not_lost : is_lost b ≡ false = grind (arith, nat_tests) in
-    let no_others : list_any is_lost rest ≡ false = grind (arith, nat_tests) in
-    let last_other = last_is_no_space b rest last in
-    elim (cases_Bool (b == 32)) [
-      | inl is ↦
-          let same : b ≡ 32 = grind (arith, nat_tests) in
-          let more = spelled_after rest before first (held + 1) others no_others last_other (λ e. absurd (last_alone_is_no_space b rest last same e)) in
-          rw same (blank_next before rest first held more)
-      | inr other ↦
-          let no_space : b ≢ 32 = grind (arith, nat_tests) in
-          let now = before ++ replicate held 32 ++ b ∷ [] in
-          let more = spelled_after rest now first 0 others no_others last_other (λ e. refl) in
-          let same : kept (first ∷ now) 0 ++ rest ≡ kept (first ∷ before) held ++ b ∷ rest =
-          rw (append-nil now) (ap (◌∷◌ first) (append_assoc (before ++ replicate held 32) (b ∷ []) rest)) in
-          spelled_next b (letter_of false b) refl (λ e. plain_outside b e some not_lost no_space) (rw same at more)
-    ]
+  spelled_after : (value before held : List ℕ) (first : ℕ) → is_spellable value ≡ true → list_any is_lost value ≡ false
+      → ends_with_space value ≡ false → (value ≡ [] → held ≡ [])
+      → Spells w false (first ∷ before) held (flat_map (spelled_byte false) value) (kept (first ∷ before) held ++ value) outside
+  spelled_after [] before held first all found last none =
+      let e = none refl in rw (e, append-nil before, append-nil (first ∷ before)) ends_outside
+  spelled_after (b ∷ rest) before held first all found last none =
+      let some : b ≢ 0 = grind (arith, nat_tests) in
+      let others : is_spellable rest ≡ true = grind (arith, nat_tests) in
+      let not_lost : is_lost b ≡ false = grind (arith, nat_tests) in
+      let no_others : list_any is_lost rest ≡ false = grind (arith, nat_tests) in
+      let last_other = last_is_no_space b rest last in
+      elim (cases_Bool (b == 32)) [
+        | inl is ↦
+            let same : b ≡ 32 = grind (arith, nat_tests) in
+            let more = spelled_after rest before (held ++ 32 ∷ []) first others no_others last_other
+            (λ e. absurd (last_alone_is_no_space b rest last same e)) in
+            rw same (blank_next before rest held first more)
+        | inr other ↦
+            let no_space : b ≢ 32 = grind (arith, nat_tests) in
+            let now = before ++ held ++ b ∷ [] in
+            let more = spelled_after rest now [] first others no_others last_other (λ e. refl) in
+            let same : kept (first ∷ now) [] ++ rest ≡ kept (first ∷ before) held ++ b ∷ rest =
+            rw (append-nil now) (ap (◌∷◌ first) (append_assoc (before ++ held) (b ∷ []) rest)) in
+            spelled_next b (letter_of false b) refl (λ e. plain_outside b e some not_lost no_space) (rw same at more)
+      ]
 
-spelled_outside : (value : List ℕ) → is_spellable value ≡ true → list_any is_lost value ≡ false → begins_with_space value ≡ false → ends_with_space value ≡ false
-    → Spells false [] 0 (flat_map (spelled_byte false) value) value outside
-spelled_outside [] all found first last = ends_outside
-spelled_outside (b ∷ rest) all found first last =
-    let some : b ≢ 0 = grind (arith, nat_tests) in
-    let others : is_spellable rest ≡ true = grind (arith, nat_tests) in
-    let not_lost : is_lost b ≡ false = grind (arith, nat_tests) in
-    let no_others : list_any is_lost rest ≡ false = grind (arith, nat_tests) in
-    let no_space : b ≢ 32 = grind (arith, nat_tests) in
-    spelled_next b (letter_of false b) refl (λ e. plain_outside b e some not_lost no_space)
-    (spelled_after rest [] b 0 others no_others (last_is_no_space b rest last) (λ e. refl))
+  spelled_outside : (value : List ℕ) → is_spellable value ≡ true → list_any is_lost value ≡ false
+      → begins_with_space value ≡ false → ends_with_space value ≡ false
+      → Spells w false [] [] (flat_map (spelled_byte false) value) value outside
+  spelled_outside [] all found first last = ends_outside
+  spelled_outside (b ∷ rest) all found first last =
+      let some : b ≢ 0 = grind (arith, nat_tests) in
+      let others : is_spellable rest ≡ true = grind (arith, nat_tests) in
+      let not_lost : is_lost b ≡ false = grind (arith, nat_tests) in
+      let no_others : list_any is_lost rest ≡ false = grind (arith, nat_tests) in
+      let no_space : b ≢ 32 = grind (arith, nat_tests) in
+      spelled_next b (letter_of false b) refl (λ e. plain_outside b e some not_lost no_space)
+      (spelled_after rest [] [] b others no_others (last_is_no_space b rest last) (λ e. refl))
 
 or_left : (a b : Bool) → (a || b) ≡ false → a ≡ false
 or_left true b e = absurd (true≢false e)
@@ -114,28 +118,26 @@ or_right : (a b : Bool) → (a || b) ≡ false → b ≡ false
 or_right true b e = absurd (true≢false e)
 or_right false b e = e
 
-pub value_spelled : (value : List ℕ) → is_spellable value ≡ true → IsSpelling (spelled_value value) value
-value_spelled value all =
+spelled : (w : ℕ → ℕ) → w 32 ≡ 32 → (value : List ℕ) → is_spellable value ≡ true → Spells w false [] [] (spelled_value value) value outside
+spelled w reads value all =
     elim (cases_Bool (is_quoted value)) [
-      | inl is ↦ rw is (quote refl (spelled_quoted value [] all))
+      | inl is ↦ rw is (quote refl (spelled_quoted w value [] all))
       | inr other ↦
           let without_tabs = or_left _ _ other in
           let spaces = or_left _ _ without_tabs in
           let found : list_any is_lost value ≡ false = or_right (begins_with_space value || ends_with_space value) _ without_tabs in
           let first : begins_with_space value ≡ false = or_left _ (ends_with_space value) spaces in
           let last : ends_with_space value ≡ false = or_right (begins_with_space value) _ spaces in
-          rw other (spelled_outside value all found first last)
+          rw other (spelled_outside w reads value all found first last)
     ]
 
--- no bytes spell a value with a NUL
-spaces_spellable : (held : ℕ) → is_spellable (replicate held 32) ≡ true
-spaces_spellable zero = refl
-spaces_spellable (suc held) = spaces_spellable held
+pub value_spelled : (value : List ℕ) → is_spellable value ≡ true → IsSpelling (spelled_value value) value
+value_spelled value all = (spelled itself refl value all, spelled as_space refl value all)
 
-kept_spellable : (value : List ℕ) (held : ℕ) → is_spellable value ≡ true → is_spellable (kept value held) ≡ true
-kept_spellable [] held all = refl
-kept_spellable (b ∷ value) held all =
-    let spaces = spaces_spellable held in rw (list_all-append (λ c. not (c == 0)) (b ∷ value) (replicate held 32), all, spaces)
+-- no bytes spell a value with a NUL
+kept_spellable : (value held : List ℕ) → is_spellable value ≡ true → is_spellable held ≡ true → is_spellable (kept value held) ≡ true
+kept_spellable [] held all blanks = refl
+kept_spellable (b ∷ value) held all blanks = rw (list_all-append (λ c. not (c == 0)) (b ∷ value) held, all, blanks)
 
 pushed_spellable : (value : List ℕ) (b : ℕ) → is_spellable value ≡ true → b ≢ 0 → is_spellable (value ++ b ∷ []) ≡ true
 pushed_spellable value b all some =
@@ -148,18 +150,23 @@ plain_is_some : (q : Bool) (b : ℕ) → is_plain q b ≡ true → b ≢ 0
 plain_is_some true b is none = grind (arith, nat_tests)
 plain_is_some false b is none = grind (arith, nat_tests)
 
-spelled_spellable : {q : Bool} {value raw text : List ℕ} {held : ℕ} {e : Ending} → Spells q value held raw text e → is_spellable value ≡ true → is_spellable text ≡ true
-spelled_spellable ends_outside all = all
-spelled_spellable ends_inside all = all
-spelled_spellable (ends_at_backslash {value = value} {held = held} e) all = kept_spellable value held all
-spelled_spellable (quote {value = value} {held = held} e s) all = spelled_spellable s (kept_spellable value held all)
-spelled_spellable (escaped {value = value} {held = held} {e = e} {c = c} is l s) all =
-    spelled_spellable s (pushed_spellable (kept value held) c (kept_spellable value held all) (escaped_is_some e c l))
-spelled_spellable (continued {value = value} {held = held} e l s) all = spelled_spellable s (kept_spellable value held all)
-spelled_spellable (continued_after_return {value = value} {held = held} e l n s) all = spelled_spellable s (kept_spellable value held all)
-spelled_spellable (blank e s) all = spelled_spellable s all
-spelled_spellable (plain {quoted = q} {value = value} {held = held} {b = b} is s) all =
-    spelled_spellable s (pushed_spellable (kept value held) b (kept_spellable value held all) (plain_is_some q b is))
+blank_is_some : (b : ℕ) → is_blank b ≡ true → b ≢ 0
+blank_is_some b is none = grind (arith, nat_tests)
+
+spelled_spellable : {q : Bool} {value held raw text : List ℕ} {e : Ending} → Spells itself q value held raw text e
+    → is_spellable value ≡ true → is_spellable held ≡ true → is_spellable text ≡ true
+spelled_spellable ends_outside all blanks = all
+spelled_spellable ends_inside all blanks = all
+spelled_spellable (ends_at_backslash {value = value} {held = held} e) all blanks = kept_spellable value held all blanks
+spelled_spellable (quote {value = value} {held = held} e s) all blanks = spelled_spellable s (kept_spellable value held all blanks) refl
+spelled_spellable (escaped {e = e} {c = c} {value = value} {held = held} is l s) all blanks =
+    spelled_spellable s (pushed_spellable (kept value held) c (kept_spellable value held all blanks) (escaped_is_some e c l)) refl
+spelled_spellable (continued {value = value} {held = held} e l s) all blanks = spelled_spellable s (kept_spellable value held all blanks) refl
+spelled_spellable (continued_after_return {value = value} {held = held} e l n s) all blanks =
+    spelled_spellable s (kept_spellable value held all blanks) refl
+spelled_spellable (blank {b = b} {held = held} is s) all blanks = spelled_spellable s all (pushed_spellable held b blanks (blank_is_some b is))
+spelled_spellable (plain {quoted = q} {b = b} {value = value} {held = held} is s) all blanks =
+    spelled_spellable s (pushed_spellable (kept value held) b (kept_spellable value held all blanks) (plain_is_some q b is)) refl
 
 pub not_spelled : (value : List ℕ) → is_spellable value ≡ false → HasNoSpelling value
-not_spelled value refused raw s = true≢false (sym (spelled_spellable s refl) ∙ refused)
+not_spelled value refused raw s = true≢false (sym (spelled_spellable s refl refl) ∙ refused)

@@ -6,16 +6,16 @@ use Rattle.std.proofs.lemmas.Bool.Decides.{nat_tests}
 use Rattle.config_file.specs.declared.errors.Fault.TheVariants.{BadLine, Nul}
 use Rattle.config_file.specs.Bytes.{is_plain, is_blank, is_comment_sign, EndsText}
 use Rattle.config_file.specs.Header.{fault_at}
-use Rattle.config_file.specs.Value.{Ending, outside, inside, at_backslash, Spells, ends_outside, ends_inside, ends_at_backslash, quote, escaped, continued, continued_after_return, blank, plain, SpellsValue, IsPart, EndsValue, IsNoEscape, line_feeds, kept, escape}
+use Rattle.config_file.specs.Value.{Ending, outside, inside, at_backslash, Spells, itself, ends_outside, ends_inside, ends_at_backslash, quote, escaped, continued, continued_after_return, blank, plain, SpellsValue, IsPart, EndsValue, IsNoEscape, line_feeds, kept, escape}
 use Rattle.config_file.specs.Value.{TakesValue, closed, open_end, ValueStops, nul, unclosed, unclosed_open_end, no_escape}
 use Rattle.config_file.specs.Reading.Scans.{PassedValue, EndsScan, Escapes, letter, line, line_after_return, goes_on}
 
 pub passed_none : (text : List ℕ) → PassedValue text false text
-passed_none text = record { raw = []; value = []; held = 0; joined = refl; extends = λ more spelled o h. h }
+passed_none text = record { raw = []; value = []; held = []; joined = refl; extends = λ more spelled o h. h }
 
 -- if the scan has passed these bytes too, it goes on with this value and this many held blanks
-pub passed_more : {text at rest : List ℕ} {q r : Bool} (piece value : List ℕ) (held : ℕ) → (passed : PassedValue text q at) → at ≡ piece ++ rest
-    → ((more spelled : List ℕ) (o : Ending) → Spells r value held more spelled o → Spells q passed.value passed.held (piece ++ more) spelled o)
+pub passed_more : {text at rest : List ℕ} {q r : Bool} (piece value held : List ℕ) → (passed : PassedValue text q at) → at ≡ piece ++ rest
+    → ((more spelled : List ℕ) (o : Ending) → Spells itself r value held more spelled o → Spells itself q passed.value passed.held (piece ++ more) spelled o)
     → PassedValue text r rest
 passed_more {rest = rest} piece value held passed e spells =
     record {
@@ -28,16 +28,16 @@ passed_more {rest = rest} piece value held passed e spells =
 
 pub passed_quote : {text rest : List ℕ} {q : Bool} {b : ℕ} (at : List ℕ) → PassedValue text q at → at ≡ b ∷ rest → b ≡ 34 → PassedValue text (not q) rest
 passed_quote {b = b} at passed e is_quote =
-    passed_more (b ∷ []) (kept passed.value passed.held) 0 passed e (λ more spelled o h. quote is_quote h)
+    passed_more (b ∷ []) (kept passed.value passed.held) [] passed e (λ more spelled o h. quote is_quote h)
 
 pub passed_escape : {text rest after : List ℕ} {q : Bool} {b : ℕ} (at : List ℕ) → PassedValue text q at → at ≡ b ∷ rest → b ≡ 92
     → Escapes rest after → PassedValue text q after
 passed_escape {b = b} at passed e is_backslash (letter {e = l} {c = c} s is) =
-    passed_more (b ∷ l ∷ []) (kept passed.value passed.held ++ c ∷ []) 0 passed (e ∙ ap (◌∷◌ b) s) (λ more spelled o h. escaped is_backslash is h)
+    passed_more (b ∷ l ∷ []) (kept passed.value passed.held ++ c ∷ []) [] passed (e ∙ ap (◌∷◌ b) s) (λ more spelled o h. escaped is_backslash is h)
 passed_escape {b = b} at passed e is_backslash (line {e = l} s is) =
-    passed_more (b ∷ l ∷ []) (kept passed.value passed.held) 0 passed (e ∙ ap (◌∷◌ b) s) (λ more spelled o h. continued is_backslash is h)
+    passed_more (b ∷ l ∷ []) (kept passed.value passed.held) [] passed (e ∙ ap (◌∷◌ b) s) (λ more spelled o h. continued is_backslash is h)
 passed_escape {b = b} at passed e is_backslash (line_after_return {e = l} {f = f} s is next) =
-    passed_more (b ∷ l ∷ f ∷ []) (kept passed.value passed.held) 0 passed (e ∙ ap (◌∷◌ b) s)
+    passed_more (b ∷ l ∷ f ∷ []) (kept passed.value passed.held) [] passed (e ∙ ap (◌∷◌ b) s)
     (λ more spelled o h. continued_after_return is_backslash is next h)
 
 plain_quoted : (b : ℕ) → goes_on true b ≡ true → b ≢ 34 → b ≢ 92 → is_plain true b ≡ true
@@ -48,12 +48,12 @@ plain_unquoted b on not_quote not_backslash not_blank = grind (arith, nat_tests)
 
 pub passed_byte : {text rest : List ℕ} {b : ℕ} (q : Bool) (at : List ℕ) → PassedValue text q at → at ≡ b ∷ rest → goes_on q b ≡ true → b ≢ 34 → b ≢ 92 → PassedValue text q rest
 passed_byte {b = b} true at passed e on not_quote not_backslash =
-    passed_more (b ∷ []) (kept passed.value passed.held ++ b ∷ []) 0 passed e
+    passed_more (b ∷ []) (kept passed.value passed.held ++ b ∷ []) [] passed e
     (λ more spelled o h. plain (plain_quoted b on not_quote not_backslash) h)
 passed_byte {b = b} false at passed e on not_quote not_backslash =
     elim (cases_Bool (is_blank b)) [
-      | inl is ↦ passed_more (b ∷ []) passed.value (passed.held + 1) passed e (λ more spelled o h. blank is h)
-      | inr other ↦ passed_more (b ∷ []) (kept passed.value passed.held ++ b ∷ []) 0 passed e
+      | inl is ↦ passed_more (b ∷ []) passed.value (passed.held ++ b ∷ []) passed e (λ more spelled o h. blank is h)
+      | inr other ↦ passed_more (b ∷ []) (kept passed.value passed.held ++ b ∷ []) [] passed e
           (λ more spelled o h. plain (plain_unquoted b on not_quote not_backslash other) h)
     ]
 

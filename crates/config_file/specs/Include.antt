@@ -32,6 +32,14 @@ Includes key condition = (text : List ℕ) × IsConditional key text × Names te
 abbrev pub IncludesNone : List ℕ → Type 0
 IncludesNone key = (key ≢ codes "include.path") × ((text : List ℕ) → ¬ (IsConditional key text))
 
+-- the same condition; patterns are compared byte by byte
+abbrev pub IsSameCondition : Condition → Condition → Type 0
+IsSameCondition (GitDir a) (GitDir b) = a.now ≡ b.now
+IsSameCondition (GitDirIgnoringCase a) (GitDirIgnoringCase b) = a.now ≡ b.now
+IsSameCondition (OnBranch a) (OnBranch b) = a.now ≡ b.now
+IsSameCondition (HasRemoteUrl a) (HasRemoteUrl b) = a.now ≡ b.now
+IsSameCondition a b = a ≡ b
+
 -- the pattern, with `**` appended if it ends with `/`, so that it matches everything below
 abbrev pub below : List ℕ → List ℕ
 below pattern = if ends_with nat_eq pattern (codes "/") then pattern ++ codes "**" else pattern

@@ -1,3 +1,4 @@
 pub mod Scans
 pub mod Spellings
 pub mod Walks
+pub mod Places

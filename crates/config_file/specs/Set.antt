@@ -1,9 +1,8 @@
 -- Sets of bytes in patterns, after their `[`.
-use Rattle.std.specs.Prelude.{◌≡◌, ◌≢◌, ℕ, Bool, true, false, not, if◌then◌else◌, ◌||◌, ◌&&◌, ◌==◌, List, [], ◌∷◌, ◌++◌, codes, Option, Some, None}
+use Rattle.std.specs.Prelude.{◌≡◌, ◌≢◌, ℕ, Bool, true, false, not, if◌then◌else◌, ◌||◌, ◌&&◌, ◌==◌, List, [], ◌∷◌, ◌++◌, codes}
 use Rattle.std.specs.Char.{to_ascii_lowercase, to_ascii_uppercase, is_ascii_alphanumeric, is_ascii_alphabetic, is_ascii_digit}
 use Rattle.std.specs.Char.{is_ascii_control, is_ascii_graphic, is_ascii_punctuation, is_ascii_hexdigit, is_ascii_lowercase, is_ascii_uppercase}
 use Rattle.std.specs.Int.{is_in_range}
-use Rattle.std.specs.Str.{bytes_eq}
 use Rattle.config_file.specs.Bytes.{space, line_feed, dash, right_bracket, backslash, is_blank, is_space}
 use Rattle.config_file.specs.Runs.{Run}
 
@@ -23,65 +22,37 @@ abbrev pub opened : List ℕ → Bool × List ℕ
 opened [] = (false, [])
 opened (c ∷ rest) = if is_negation c then (true, rest) else (false, c ∷ rest)
 
--- the first byte, and the rest
-abbrev pub first_byte : List ℕ → Option (ℕ × List ℕ)
-first_byte [] = None
-first_byte (c ∷ rest) = Some (c, rest)
+-- A byte of a set: itself, or any byte after a backslash. A `]` is a byte of the set only if it is the first one.
+pub data SetByte (starts : Bool) : List ℕ → ℕ → List ℕ → Type 0 where
+  bare : {c : ℕ} {rest : List ℕ} → c ≢ backslash → (c ≡ right_bracket → starts ≡ true) → SetByte starts (c ∷ rest) c rest
+  after_backslash : {c e : ℕ} {rest : List ℕ} → c ≡ backslash → SetByte starts (c ∷ e ∷ rest) e rest
 
--- the next byte of a set, or the byte after a backslash, and the rest; a `]` ends the set unless it is first
-abbrev pub set_byte : Bool → List ℕ → Option (ℕ × List ℕ)
-set_byte starts [] = None
-set_byte starts (c ∷ rest) =
-    if c == backslash then first_byte rest else if c == right_bracket && not starts then None else Some (c, rest)
-
--- the last byte of a range, after its `-`, and the rest
-abbrev pub range_end : List ℕ → Option (ℕ × List ℕ)
-range_end [] = None
-range_end (c ∷ rest) = if c == dash then set_byte false rest else None
+-- after its first byte, a range has `-` and its last byte, and then this rest
+pub data RangeEnd : List ℕ → ℕ → List ℕ → Type 0 where
+  to : {c last : ℕ} {text rest : List ℕ} → c ≡ dash → SetByte false text last rest → RangeEnd (c ∷ text) last rest
 
 -- whether a range has the byte, in either case if case is ignored
 abbrev pub range_has : Bool → ℕ → ℕ → ℕ → Bool
 range_has ignores_case first last b =
     is_in_range first last (folded ignores_case b) || (ignores_case && is_in_range first last (to_ascii_uppercase b))
 
--- whether the byte is `c`, or in the range from `c` if there is one, and the rest
-abbrev pub range_or_byte : Bool → ℕ → ℕ → List ℕ → Option (ℕ × List ℕ) → Bool × List ℕ
-range_or_byte ignores_case b c after None = (c == folded ignores_case b, after)
-range_or_byte ignores_case b c after (Some (last, rest)) =
-    (c == folded ignores_case b || range_has ignores_case c last b, rest)
-
-abbrev pub byte_from : Bool → ℕ → Option (ℕ × List ℕ) → Option (Bool × List ℕ)
-byte_from ignores_case b None = None
-byte_from ignores_case b (Some (c, after)) = Some (range_or_byte ignores_case b c after (range_end after))
-
--- whether the text begins with this byte or with a range that has it, and the rest
-abbrev pub byte_or_range : Bool → ℕ → Bool → List ℕ → Option (Bool × List ℕ)
-byte_or_range ignores_case b starts text = byte_from ignores_case b (set_byte starts text)
-
--- the POSIX classes by name, with Git's `space`; if case is ignored, `lower` and `upper` have every letter
-unfoldable pub classes : Bool → List (List ℕ × (ℕ → Bool))
-classes ignores_case =
-    (codes "alnum", is_ascii_alphanumeric)
-    ∷ (codes "alpha", is_ascii_alphabetic)
-    ∷ (codes "blank", is_space)
-    ∷ (codes "cntrl", is_ascii_control)
-    ∷ (codes "digit", is_ascii_digit)
-    ∷ (codes "graph", is_ascii_graphic)
-    ∷ (codes "lower", λ b. is_ascii_lowercase b || (ignores_case && is_ascii_uppercase b))
-    ∷ (codes "print", λ b. b == space || is_ascii_graphic b)
-    ∷ (codes "punct", is_ascii_punctuation)
-    ∷ (codes "space", λ b. is_blank b || b == line_feed)
-    ∷ (codes "upper", λ b. is_ascii_uppercase b || (ignores_case && is_ascii_lowercase b))
-    ∷ (codes "xdigit", is_ascii_hexdigit)
-    ∷ []
-
--- whether the class of this name has the byte, if there is such a class
-abbrev pub named_has : List (List ℕ × (ℕ → Bool)) → List ℕ → ℕ → Option Bool
-named_has [] name b = None
-named_has ((word, has) ∷ rows) name b = if bytes_eq name word then Some (has b) else named_has rows name b
-
-abbrev pub class_has : Bool → List ℕ → ℕ → Option Bool
-class_has ignores_case name b = named_has (classes ignores_case) name b
+-- The POSIX class of this name, and whether it has the byte. White space is Git's: it has no vertical tab and no form
+-- feed. If case is ignored, `lower` and `upper` have every letter.
+pub data Class (ignores_case : Bool) (b : ℕ) (name : List ℕ) (has : Bool) : Type 0 where
+  alnum : name ≡ codes "alnum" → has ≡ is_ascii_alphanumeric b → Class ignores_case b name has
+  alpha : name ≡ codes "alpha" → has ≡ is_ascii_alphabetic b → Class ignores_case b name has
+  blank : name ≡ codes "blank" → has ≡ is_space b → Class ignores_case b name has
+  cntrl : name ≡ codes "cntrl" → has ≡ is_ascii_control b → Class ignores_case b name has
+  digit : name ≡ codes "digit" → has ≡ is_ascii_digit b → Class ignores_case b name has
+  graph : name ≡ codes "graph" → has ≡ is_ascii_graphic b → Class ignores_case b name has
+  lower : name ≡ codes "lower" → has ≡ (is_ascii_lowercase b || (ignores_case && is_ascii_uppercase b))
+      → Class ignores_case b name has
+  print : name ≡ codes "print" → has ≡ (b == space || is_ascii_graphic b) → Class ignores_case b name has
+  punct : name ≡ codes "punct" → has ≡ is_ascii_punctuation b → Class ignores_case b name has
+  spaces : name ≡ codes "space" → has ≡ (is_blank b || b == line_feed) → Class ignores_case b name has
+  upper : name ≡ codes "upper" → has ≡ (is_ascii_uppercase b || (ignores_case && is_ascii_lowercase b))
+      → Class ignores_case b name has
+  xdigit : name ≡ codes "xdigit" → has ≡ is_ascii_hexdigit b → Class ignores_case b name has
 
 abbrev pub is_unclosed : ℕ → Bool
 is_unclosed b = not (b == right_bracket)
@@ -92,10 +63,22 @@ pub record IsClass (text name rest : List ℕ) : Type 0 where
   pub opened : text ≡ codes "[:" ++ inner
   pub closed : Run is_unclosed inner (name ++ codes ":") (right_bracket ∷ rest)
 
--- whether the first member of a set, which is a class, a byte or a range, has the byte, and the rest
+-- the text begins with no class
+abbrev pub IsNoClass : List ℕ → Type 0
+IsNoClass text = (name rest : List ℕ) → ¬ (IsClass text name rest)
+
+-- the byte before this text is not the first one of a range
+abbrev pub IsNoRange : List ℕ → Type 0
+IsNoRange text = (last : ℕ) (rest : List ℕ) → ¬ (RangeEnd text last rest)
+
+-- Whether the first member of a set has the byte, and the rest. It is a class, a byte or a range; the flag says whether
+-- it is at the start of the set. A range has its first byte, even if its last byte is a lower one.
 pub data Member (ignores_case : Bool) (b : ℕ) (starts : Bool) (text : List ℕ) (has : Bool) (rest : List ℕ) : Type 0 where
-  class : (name : List ℕ) → IsClass text name rest → class_has ignores_case name b ≡ Some has → Member ignores_case b starts text has rest
-  plain : ((name after : List ℕ) → ¬ (IsClass text name after)) → byte_or_range ignores_case b starts text ≡ Some (has, rest)
+  class : (name : List ℕ) → IsClass text name rest → Class ignores_case b name has → Member ignores_case b starts text has rest
+  single : (c : ℕ) → IsNoClass text → SetByte starts text c rest → IsNoRange rest
+      → has ≡ (c == folded ignores_case b) → Member ignores_case b starts text has rest
+  range : (first last : ℕ) (after : List ℕ) → IsNoClass text → SetByte starts text first after → RangeEnd after last rest
+      → has ≡ (first == folded ignores_case b || range_has ignores_case first last b)
       → Member ignores_case b starts text has rest
 
 -- whether one of the members up to `]` has the byte, and what follows; the flag is true at the first member

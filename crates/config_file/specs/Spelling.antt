@@ -5,7 +5,7 @@ use Rattle.config_file.specs.Bytes.{line_feed, carriage_return, backslash, equal
 use Rattle.config_file.specs.Runs.{Run}
 use Rattle.config_file.specs.Subsection.{SpellsSubsection}
 use Rattle.config_file.specs.Header.{Section, Header}
-use Rattle.config_file.specs.Value.{outside, SpellsValue, line_feeds}
+use Rattle.config_file.specs.Value.{outside, Spells, SpellsValue, as_space, line_feeds}
 use Rattle.config_file.specs.File.{Entry, IsFile}
 
 -- both are absent, or these bytes spell this text
@@ -40,9 +40,9 @@ abbrev pub IsNoKey : List ℕ → Type 0
 IsNoKey key =
     (b : ℕ) (text rest : List ℕ) → is_ascii_alphabetic b ≡ true → ¬ (Run is_key_byte (b ∷ text) key rest)
 
--- these bytes spell this value, and end outside quotes
+-- these bytes spell this value, today and before Git 2.45, and end outside quotes
 abbrev pub IsSpelling : List ℕ → List ℕ → Type 0
-IsSpelling raw value = SpellsValue raw value outside
+IsSpelling raw value = SpellsValue raw value outside × Spells as_space false [] [] raw value outside
 
 -- these bytes are the shortest spelling of this value
 pub record IsShortest (raw value : List ℕ) : Type 0 where
@@ -51,7 +51,7 @@ pub record IsShortest (raw value : List ℕ) : Type 0 where
 
 -- no bytes spell this value
 abbrev pub HasNoSpelling : List ℕ → Type 0
-HasNoSpelling value = (raw : List ℕ) → ¬ (IsSpelling raw value)
+HasNoSpelling value = (raw : List ℕ) → ¬ (SpellsValue raw value outside)
 
 -- there is a value, and no bytes spell it
 abbrev pub LacksSpelling : Option (List ℕ) → Type 0

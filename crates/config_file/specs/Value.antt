@@ -1,5 +1,5 @@
 -- The value of an entry: the bytes from its `=` to the end of the line or to a comment.
-use Rattle.std.specs.Prelude.{◌≡◌, ◌≢◌, ℕ, ◌+◌, Bool, true, false, not, if◌then◌else◌, ◌||◌, ◌==◌, List, [], ◌∷◌, ◌++◌, Option, Some, None, replicate, ⊤, ◌⊎◌}
+use Rattle.std.specs.Prelude.{◌≡◌, ◌≢◌, ℕ, ◌+◌, Bool, true, false, not, if◌then◌else◌, ◌||◌, ◌==◌, List, [], ◌∷◌, ◌++◌, Option, Some, None, ⊤, ◌⊎◌}
 use Rattle.std.specs.Prelude.{count_by}
 use Rattle.config_file.specs.declared.errors.Fault.{Fault}
 use Rattle.config_file.specs.declared.errors.Fault.TheVariants.{BadLine, Nul}
@@ -15,10 +15,10 @@ escape e =
     else if e == double_quote || e == backslash then Some e
     else None
 
--- the value so far and one space for each of the held blanks, which are dropped if the value has no byte yet
-abbrev pub kept : List ℕ → ℕ → List ℕ
+-- the value so far and the blanks that were held back, which are dropped if the value has no byte yet
+abbrev pub kept : List ℕ → List ℕ → List ℕ
 kept [] held = []
-kept (b ∷ value) held = (b ∷ value) ++ replicate held space
+kept (b ∷ value) held = (b ∷ value) ++ held
 
 -- where the bytes of a value end: outside quotes, inside them, or at a backslash that ends the file
 pub data Ending : Type 0 where
@@ -26,38 +26,45 @@ pub data Ending : Type 0 where
   inside : Ending
   at_backslash : Ending
 
--- After this value so far and this many held blanks, in quotes or not, these bytes complete it to this text,
--- and have this ending. Held blanks become spaces, unless they end the value.
-pub data Spells : Bool → List ℕ → ℕ → List ℕ → List ℕ → Ending → Type 0 where
-  ends_outside : {value : List ℕ} {held : ℕ} → Spells false value held [] value outside
-  ends_inside : {value : List ℕ} {held : ℕ} → Spells true value held [] value inside
-  ends_at_backslash : {value : List ℕ} {held b : ℕ}
+-- After this value so far and these held blanks, in quotes or not, these bytes complete it to this text, and have this
+-- ending. A blank outside quotes is held back, and counts as what it is read as only if a byte of the value follows.
+pub data Spells (read_as : ℕ → ℕ) : Bool → List ℕ → List ℕ → List ℕ → List ℕ → Ending → Type 0 where
+  ends_outside : {value held : List ℕ} → Spells read_as false value held [] value outside
+  ends_inside : {value held : List ℕ} → Spells read_as true value held [] value inside
+  ends_at_backslash : {b : ℕ} {value held : List ℕ}
       → b ≡ backslash
-      → Spells false value held (b ∷ []) (kept value held) at_backslash
-  quote : {quoted : Bool} {value : List ℕ} {held b : ℕ} {raw text : List ℕ} {ending : Ending}
-      → b ≡ double_quote → Spells (not quoted) (kept value held) 0 raw text ending
-      → Spells quoted value held (b ∷ raw) text ending
-  escaped : {quoted : Bool} {value : List ℕ} {held b e c : ℕ} {raw text : List ℕ} {ending : Ending}
-      → b ≡ backslash → escape e ≡ Some c → Spells quoted (kept value held ++ c ∷ []) 0 raw text ending
-      → Spells quoted value held (b ∷ e ∷ raw) text ending
-  continued : {quoted : Bool} {value : List ℕ} {held b e : ℕ} {raw text : List ℕ} {ending : Ending}
-      → b ≡ backslash → e ≡ line_feed → Spells quoted (kept value held) 0 raw text ending
-      → Spells quoted value held (b ∷ e ∷ raw) text ending
-  continued_after_return : {quoted : Bool} {value : List ℕ} {held b e f : ℕ} {raw text : List ℕ}
-      {ending : Ending}
+      → Spells read_as false value held (b ∷ []) (kept value held) at_backslash
+  quote : {quoted : Bool} {b : ℕ} {value held raw text : List ℕ} {ending : Ending}
+      → b ≡ double_quote → Spells read_as (not quoted) (kept value held) [] raw text ending
+      → Spells read_as quoted value held (b ∷ raw) text ending
+  escaped : {quoted : Bool} {b e c : ℕ} {value held raw text : List ℕ} {ending : Ending}
+      → b ≡ backslash → escape e ≡ Some c → Spells read_as quoted (kept value held ++ c ∷ []) [] raw text ending
+      → Spells read_as quoted value held (b ∷ e ∷ raw) text ending
+  continued : {quoted : Bool} {b e : ℕ} {value held raw text : List ℕ} {ending : Ending}
+      → b ≡ backslash → e ≡ line_feed → Spells read_as quoted (kept value held) [] raw text ending
+      → Spells read_as quoted value held (b ∷ e ∷ raw) text ending
+  continued_after_return : {quoted : Bool} {b e f : ℕ} {value held raw text : List ℕ} {ending : Ending}
       → b ≡ backslash → e ≡ carriage_return → f ≡ line_feed
-      → Spells quoted (kept value held) 0 raw text ending
-      → Spells quoted value held (b ∷ e ∷ f ∷ raw) text ending
-  blank : {value : List ℕ} {held b : ℕ} {raw text : List ℕ} {ending : Ending}
-      → is_blank b ≡ true → Spells false value (held + 1) raw text ending
-      → Spells false value held (b ∷ raw) text ending
-  plain : {quoted : Bool} {value : List ℕ} {held b : ℕ} {raw text : List ℕ} {ending : Ending}
-      → is_plain quoted b ≡ true → Spells quoted (kept value held ++ b ∷ []) 0 raw text ending
-      → Spells quoted value held (b ∷ raw) text ending
+      → Spells read_as quoted (kept value held) [] raw text ending
+      → Spells read_as quoted value held (b ∷ e ∷ f ∷ raw) text ending
+  blank : {b : ℕ} {value held raw text : List ℕ} {ending : Ending}
+      → is_blank b ≡ true → Spells read_as false value (held ++ read_as b ∷ []) raw text ending
+      → Spells read_as false value held (b ∷ raw) text ending
+  plain : {quoted : Bool} {b : ℕ} {value held raw text : List ℕ} {ending : Ending}
+      → is_plain quoted b ≡ true → Spells read_as quoted (kept value held ++ b ∷ []) [] raw text ending
+      → Spells read_as quoted value held (b ∷ raw) text ending
+
+-- since Git 2.45 a blank between bytes of a value is itself
+abbrev pub itself : ℕ → ℕ
+itself b = b
+
+-- before Git 2.45 it was a space
+abbrev pub as_space : ℕ → ℕ
+as_space b = space
 
 -- these bytes spell this value, and have this ending
 abbrev pub SpellsValue : List ℕ → List ℕ → Ending → Type 0
-SpellsValue raw text ending = Spells false [] 0 raw text ending
+SpellsValue raw text ending = Spells itself false [] [] raw text ending
 
 -- these bytes begin a value that can go on after them, in quotes or not
 abbrev pub IsPart : Bool → List ℕ → Type 0

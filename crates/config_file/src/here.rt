@@ -120,7 +120,8 @@ pub struct Repository {
     pub real_git_dir: String,
     /// The absolute path of the git directory, with its links kept.
     pub git_dir: String,
-    /// The name of the branch without `refs/heads/`, or `None` if HEAD names no branch.
+    /// The name of the branch without `refs/heads/`, or `None` if HEAD names no branch, as in a repository whose
+    /// references are in a reftable.
     pub branch: Option<String>,
 }
 
@@ -146,7 +147,8 @@ fn current_folder(rt: &HostRuntime) -> io::Result<String> {
     Ok(format!(in rt.alloc(); "{real}")?)
 }
 
-/// The branch that HEAD of a git directory names, without `refs/heads/`, or `None` if it names no branch.
+/// The branch that HEAD of a git directory names, without `refs/heads/`, or `None` if it names no branch. Where
+/// references are in a reftable, HEAD names `.invalid`, which no branch is called.
 fn branch_of(rt: &HostRuntime, git_dir: &str) -> io::Result<Option<String>> {
     let alloc = rt.alloc();
     let Some(line) = line_of(rt, &inside(alloc, git_dir, "HEAD")?)? else {
@@ -156,8 +158,8 @@ fn branch_of(rt: &HostRuntime, git_dir: &str) -> io::Result<Option<String>> {
         return Ok(None);
     };
     match name.trim().strip_prefix("refs/heads/") {
-        Some(branch) => Ok(Some(format!(in alloc; "{branch}")?)),
-        None => Ok(None),
+        Some(branch) if branch != ".invalid" => Ok(Some(format!(in alloc; "{branch}")?)),
+        _ => Ok(None),
     }
 }
 

@@ -3,6 +3,8 @@ ghost use Rattle.std.specs.Prelude.{◌≡◌, ℕ, List, Option};
 ghost use Rattle.config_file.specs.declared.errors.Error.{Error};
 ghost use Rattle.config_file.specs.File.{Entry, IsFile};
 
+pub mod equality;
+
 /// A text has at most one reading: all derivations give the same entries, and the same error if the text is
 /// refused. So no text is both accepted and refused.
 pub fn one_reading()

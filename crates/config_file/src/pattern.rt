@@ -1,28 +1,14 @@
 //! Patterns of paths, as in Git's conditions of includes.
-ghost use Rattle.std.specs.Prelude.{◌≡◌, ◌≢◌, ◌↔◌, IsTrue, MatchOption, List, ℕ, [], ◌∷◌, ◌<◌, ◌≤◌, length};
+ghost use Rattle.std.specs.Prelude.{◌≡◌, ◌≢◌, ◌↔◌, IsTrue, MatchOption, List, ℕ, [], ◌∷◌, ◌<◌, ◌≤◌, length, true, false};
 ghost use Rattle.std.specs.List.{prefix_len};
 ghost use Rattle.config_file.specs.Runs.{Run};
 ghost use Rattle.config_file.specs.Pattern as spec;
-ghost use Rattle.config_file.specs.Pattern.{Item, Matches, MatchesText, MatchesLater, MatchesStars};
+ghost use Rattle.config_file.specs.Pattern.{Item, Matches, MatchesText, MatchesLater, LacksStar};
 ghost use Rattle.config_file.specs.Pattern.{MatchesNoDirectory, is_star};
+ghost use Rattle.config_file.specs.Reading.Places.{Follows, FromHere, FindsStar, FindsDeep, MatchesDeep, size};
 
+use crate::bytes::{after_byte, split};
 use crate::set::{after_set, folded};
-
-/// The first byte of a text, and what follows it.
-fn split(text: &[u8]) -> Option<(u8, &[u8])>
-    ensures { MatchOption result (text.now ≡ []) (λ p. text.now ≡ p.0 ∷ p.1.now) }
-{
-    match text {
-        [first, rest @ ..] => Some((*first, rest)),
-        [] => None,
-    }
-}
-
-fn is_at_end(text: &[u8]) -> bool
-    ensures { IsTrue result ↔ (text.now ≡ []) }
-{
-    text.is_empty()
-}
 
 /// Whether a byte of a pattern matches this byte.
 fn stands_for(item: u8, byte: u8, ignores_case: bool) -> bool
@@ -33,15 +19,6 @@ fn stands_for(item: u8, byte: u8, ignores_case: bool) -> bool
         b'*' | b'[' | b'\\' => false,
         _ => folded(item, ignores_case) == folded(byte, ignores_case),
     }
-}
-
-/// What follows this byte, if the text begins with it.
-fn after_byte(byte: u8, text: &[u8]) -> Option<&[u8]>
-    ensures { MatchOption result ((rest : List ℕ) → text.now ≢ byte ∷ rest)
-        (λ rest. text.now ≡ byte ∷ rest.now) }
-{
-    let (first, rest) = split(text)?;
-    if first == byte { Some(rest) } else { None }
 }
 
 /// What follows the first item of the pattern, or `None` if that item does not match the byte.
@@ -101,82 +78,177 @@ fn crosses(starts: bool, more: &[u8], rest: &[u8]) -> bool
     }
 }
 
-/// Whether stars match this byte.
-fn is_passed(crosses: bool, byte: u8) -> bool
-    ensures { result ≡ spec.is_passed crosses byte }
+/// A place in a match: what is left of the pattern and of the text, and whether a name starts there.
+#[derive(Clone, Copy)]
+struct Place<'t> {
+    pattern: &'t [u8],
+    text: &'t [u8],
+    starts: bool,
+}
+
+/// The pattern matches, or it does not, or it does if stars and what is left match what is left of the text.
+#[derive(Clone, Copy)]
+enum Found<'t> {
+    Whole,
+    Nothing,
+    Stars(Place<'t>),
+}
+
+/// The place after the items at the front of the pattern, up to a star or the first item that does not match.
+#[tactic(auto, using(crate::proofs::Patterns::item_shortens))]
+fn after_items<'t>(pattern: &'t [u8], text: &'t [u8], starts: bool, ignores_case: bool) -> Place<'t>
+    ensures follows { Follows ignores_case starts pattern.now text.now result.starts result.pattern.now result.text.now }
+    ensures within { length result.pattern.now ≤ length pattern.now }
+    ensures stops { LacksStar result.pattern.now
+        → (Matches ignores_case result.starts result.pattern.now result.text.now)
+        ↔ ((result.pattern.now ≡ []) × (result.text.now ≡ [])) }
 {
-    crosses || byte != b'/'
+    let mut at = Place {
+        pattern,
+        text,
+        starts,
+    };
+    'items: loop {
+        let Some((byte, text)) = split(at.text) else {
+            return at;
+        };
+        let Some(pattern) = after_item(at.pattern, byte, ignores_case) else {
+            return at;
+        };
+        at = Place {
+            pattern,
+            text,
+            starts: byte == b'/',
+        };
+    }
+}
+
+/// Whether the pattern matches the text, up to its first star.
+fn found_here<'t>(pattern: &'t [u8], text: &'t [u8], starts: bool, ignores_case: bool) -> Found<'t>
+    ensures is { FindsStar ignores_case (Matches ignores_case starts pattern.now text.now)
+        (λ crossing. FromHere ignores_case crossing starts pattern.now text.now) result }
+    ensures shorter { size result ≤ length pattern.now }
+{
+    let at = after_items(pattern, text, starts, ignores_case);
+    match after_byte(b'*', at.pattern) {
+        Some(rest) => Found::Stars(Place {
+            pattern: rest,
+            text: at.text,
+            starts: at.starts,
+        }),
+        None => {
+            if at.pattern.is_empty() && at.text.is_empty() {
+                Found::Whole
+            } else {
+                Found::Nothing
+            }
+        }
+    }
+}
+
+/// Whether stars that do not match `/` and then this pattern match the text, up to the pattern's first star.
+fn found_later<'t>(pattern: &'t [u8], text: &'t [u8], ignores_case: bool) -> Found<'t>
+    ensures is { FindsStar ignores_case (MatchesLater ignores_case false pattern.now text.now)
+        (λ crossing. FromHere ignores_case crossing false pattern.now text.now) result }
+    ensures shorter { size result ≤ length pattern.now }
+{
+    let mut at = text;
+    'places: loop {
+        let found = found_here(pattern, at, false, ignores_case);
+        let Found::Nothing = found else {
+            return found;
+        };
+        let Some((byte, rest)) = split(at) else {
+            return Found::Nothing;
+        };
+        if byte == b'/' {
+            return Found::Nothing;
+        }
+        at = rest;
+    }
+}
+
+/// Whether the pattern matches the text, up to its first stars that cross directories.
+fn found_deep<'t>(pattern: &'t [u8], text: &'t [u8], starts: bool, ignores_case: bool) -> Found<'t>
+    ensures is { FindsDeep ignores_case (Matches ignores_case starts pattern.now text.now)
+        (FromHere ignores_case true starts pattern.now text.now) result }
+    ensures shorter { size result ≤ length pattern.now }
+{
+    let mut found = found_here(pattern, text, starts, ignores_case);
+    'steps: loop {
+        let Found::Stars(at) = found else {
+            return found;
+        };
+        let (more, rest) = stars(at.pattern);
+        if crosses(at.starts, more, rest) {
+            return Found::Stars(Place {
+                pattern: rest,
+                text: at.text,
+                starts: true,
+            });
+        }
+        found = found_later(rest, at.text, ignores_case);
+    }
+}
+
+/// Whether what follows `/` matches the text, up to the next stars that cross directories.
+fn found_no_directory<'t>(pattern: &'t [u8], text: &'t [u8], ignores_case: bool) -> Found<'t>
+    ensures is { FindsDeep ignores_case (MatchesNoDirectory ignores_case true pattern.now text.now)
+        (MatchesDeep ignores_case pattern.now text.now) result }
+    ensures shorter { size result ≤ length pattern.now }
+{
+    match after_byte(b'/', pattern) {
+        Some(after) => found_deep(after, text, true, ignores_case),
+        None => Found::Nothing,
+    }
+}
+
+/// Whether stars that cross directories and then this pattern match the text, up to the next such stars. The stars
+/// match each byte before the pattern.
+fn found_below<'t>(pattern: &'t [u8], text: &'t [u8], ignores_case: bool) -> Found<'t>
+    ensures is { FindsDeep ignores_case (MatchesLater ignores_case true pattern.now text.now)
+        (MatchesLater ignores_case true pattern.now text.now) result }
+    ensures shorter { size result ≤ length pattern.now }
+{
+    let mut at = text;
+    'places: loop {
+        let found = found_deep(pattern, at, false, ignores_case);
+        let Found::Nothing = found else {
+            return found;
+        };
+        let Some((_, rest)) = split(at) else {
+            return Found::Nothing;
+        };
+        at = rest;
+    }
+}
+
+/// Whether stars that cross directories and then this pattern match the text, up to the next such stars.
+fn found_after_deep<'t>(pattern: &'t [u8], text: &'t [u8], ignores_case: bool) -> Found<'t>
+    ensures is { FindsDeep ignores_case (MatchesDeep ignores_case pattern.now text.now)
+        (MatchesDeep ignores_case pattern.now text.now) result }
+    ensures shorter { size result ≤ length pattern.now }
+{
+    let found = found_no_directory(pattern, text, ignores_case);
+    match found {
+        Found::Nothing => found_below(pattern, text, ignores_case),
+        _ => found,
+    }
 }
 
 /// Whether the pattern matches the whole text. Stars and `?` do not match `/`, except for two or more stars
 /// that are a whole name: `**/`, `/**/` and `/**`.
 ///
-/// The time is exponential in the number of stars, as in Git.
+/// It takes no memory, and at most as much time as the length of the pattern times the square of that of the text.
 pub fn matches(pattern: &[u8], text: &[u8], ignores_case: bool) -> bool
     ensures { IsTrue result ↔ (MatchesText ignores_case pattern.now text.now) }
 {
-    matches_from(pattern, text, true, ignores_case)
-}
-
-/// Whether the pattern matches the whole text. `starts` says whether a name starts here.
-#[tactic(auto, using(crate::proofs::Patterns::item_shortens))]
-#[cycle(pattern)]
-fn matches_from(pattern: &[u8], text: &[u8], starts: bool, ignores_case: bool) -> bool
-    ensures { IsTrue result ↔ (Matches ignores_case starts pattern.now text.now) }
-{
-    if let Some(rest) = after_byte(b'*', pattern) {
-        return matches_stars(rest, text, starts, ignores_case);
-    }
-    match split(text) {
-        Some((byte, text)) => match after_item(pattern, byte, ignores_case) {
-            Some(rest) => matches_from(rest, text, byte == b'/', ignores_case),
-            None => false,
-        },
-        None => is_at_end(pattern),
-    }
-}
-
-/// Whether a star and this pattern match the text.
-#[cycle(pattern)]
-fn matches_stars(pattern: &[u8], text: &[u8], starts: bool, ignores_case: bool) -> bool
-    ensures { IsTrue result ↔ (MatchesStars ignores_case starts pattern.now text.now) }
-{
-    let (more, rest) = stars(pattern);
-    let crosses = crosses(starts, more, rest);
-    matches_no_directory(rest, text, crosses, ignores_case)
-        || matches_later(rest, text, crosses, ignores_case)
-}
-
-/// Whether stars cross directories, the pattern begins with `/`, and what follows that `/` matches the text.
-#[cycle(pattern)]
-fn matches_no_directory(pattern: &[u8], text: &[u8], crosses: bool, ignores_case: bool) -> bool
-    ensures { IsTrue result ↔ (MatchesNoDirectory ignores_case crosses pattern.now text.now) }
-{
-    if !crosses {
-        return false;
-    }
-    match after_byte(b'/', pattern) {
-        Some(after) => matches_from(after, text, true, ignores_case),
-        None => false,
-    }
-}
-
-/// Whether stars match some bytes at the start of the text, or no byte, and the pattern matches what is left.
-#[cycle(pattern)]
-fn matches_later(pattern: &[u8], text: &[u8], crosses: bool, ignores_case: bool) -> bool
-    ensures { IsTrue result ↔ (MatchesLater ignores_case crosses pattern.now text.now) }
-{
-    let mut at = text;
-    'places: loop {
-        if matches_from(pattern, at, false, ignores_case) {
-            return true;
+    let mut found = found_deep(pattern, text, true, ignores_case);
+    'steps: loop {
+        match found {
+            Found::Whole => return true,
+            Found::Nothing => return false,
+            Found::Stars(at) => found = found_after_deep(at.pattern, at.text, ignores_case),
         }
-        let Some((byte, rest)) = split(at) else {
-            return false;
-        };
-        if !is_passed(crosses, byte) {
-            return false;
-        }
-        at = rest;
     }
 }

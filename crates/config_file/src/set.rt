@@ -1,13 +1,15 @@
 //! Sets of bytes in patterns, such as `[a-z]` and `[!/]`.
 ghost use Rattle.std.specs.Prelude.{◌≡◌, ◌<◌, ◌≤◌, ◌≢◌, ◌∷◌, Bool, true, List, ℕ, IfSome, MatchOption};
-ghost use Rattle.std.specs.Prelude.{length, option_map};
+ghost use Rattle.std.specs.Prelude.{length};
 ghost use Rattle.std.specs.Int.{is_in_range};
 ghost use Rattle.std.specs.List.{prefix_len};
 ghost use Rattle.config_file.specs.Runs.{Run};
 ghost use Rattle.config_file.specs.Set as spec;
-ghost use Rattle.config_file.specs.Set.{IsClass, Member, SetHas, StandsForByte, is_unclosed};
+ghost use Rattle.config_file.specs.Set.{Class, IsClass, IsNoClass, IsNoRange, Member, RangeEnd, SetByte, SetHas};
+ghost use Rattle.config_file.specs.Set.{StandsForByte, is_unclosed};
+ghost use Rattle.config_file.specs.Reading.Places.{Closing};
 
-use crate::bytes::{is_blank, strip, strip_end};
+use crate::bytes::{after_byte, before, is_blank, split, strip, strip_end};
 use config_text::words::equals;
 
 /// A byte as it is compared: in lower case if case is ignored.
@@ -31,48 +33,30 @@ fn opened(text: &[u8]) -> (bool, &[u8])
     }
 }
 
-/// The first byte, and the rest.
-fn first_byte(text: &[u8]) -> Option<(u8, &[u8])>
-    ensures { option_map (λ p. (p.0, p.1.now)) result ≡ spec.first_byte text.now }
-{
-    match text {
-        [first, rest @ ..] => Some((*first, rest)),
-        [] => None,
-    }
-}
-
-/// The next byte of a set, or the byte after a backslash, and the rest.
+/// The next byte of a set, or the byte after a backslash, and the rest, or `None` if the set ends.
 fn set_byte(text: &[u8], starts: bool) -> Option<(u8, &[u8])>
-    ensures { option_map (λ p. (p.0, p.1.now)) result ≡ spec.set_byte starts text.now }
+    ensures { MatchOption result ((c : ℕ) (rest : List ℕ) → ¬ (SetByte starts text.now c rest))
+        (λ p. SetByte starts text.now p.0 p.1.now) }
 {
-    match text {
-        [] => None,
-        [first, rest @ ..] => {
-            if *first == b'\\' {
-                return first_byte(rest);
-            }
-            if *first == b']' && !starts {
-                return None;
-            }
-            Some((*first, rest))
-        }
+    let (first, rest) = split(text)?;
+    if first == b'\\' {
+        let (escaped, after) = split(rest)?;
+        return Some((escaped, after));
+    }
+    if first == b']' && !starts {
+        None
+    } else {
+        Some((first, rest))
     }
 }
 
-/// The last byte of a range, after its `-`, and the rest.
+/// The last byte of a range, after its `-`, and the rest, or `None` if there is no range.
 fn range_end(text: &[u8]) -> Option<(u8, &[u8])>
-    ensures { option_map (λ p. (p.0, p.1.now)) result ≡ spec.range_end text.now }
+    ensures { MatchOption result (IsNoRange text.now) (λ p. RangeEnd text.now p.0 p.1.now) }
 {
-    match text {
-        [] => None,
-        [first, rest @ ..] => {
-            if *first == b'-' {
-                set_byte(rest, false)
-            } else {
-                None
-            }
-        }
-    }
+    let after = after_byte(b'-', text)?;
+    let (last, rest) = set_byte(after, false)?;
+    Some((last, rest))
 }
 
 /// Whether a range has the byte, in either case if case is ignored.
@@ -90,15 +74,18 @@ fn is_between(first: u8, last: u8, byte: u8) -> bool
     first <= byte && byte <= last
 }
 
-/// Whether the text begins with this byte or with a range that has it, and the rest.
+/// Whether a byte or a range at the start of the text has the byte, and the rest, or `None` if the set ends.
 fn byte_or_range(text: &[u8], starts: bool, byte: u8, ignores_case: bool) -> Option<(bool, &[u8])>
-    ensures { option_map (λ p. (p.0, p.1.now)) result ≡ spec.byte_or_range ignores_case byte starts text.now }
+    requires { IsNoClass text.now }
+    ensures { MatchOption result ((has : Bool) (rest : List ℕ)
+        → ¬ (Member ignores_case byte starts text.now has rest))
+        (λ p. Member ignores_case byte starts text.now p.0 p.1.now) }
 {
     let (first, after) = set_byte(text, starts)?;
-    let is_here = first == folded(byte, ignores_case);
+    let is_first = first == folded(byte, ignores_case);
     match range_end(after) {
-        Some((last, rest)) => Some((is_here || range_has(first, last, byte, ignores_case), rest)),
-        None => Some((is_here, after)),
+        Some((last, rest)) => Some((is_first || range_has(first, last, byte, ignores_case), rest)),
+        None => Some((is_first, after)),
     }
 }
 
@@ -113,9 +100,9 @@ fn after_end(text: &[u8]) -> Option<&[u8]>
 }
 
 /// Whether the class of this name has the byte, or `None` if there is no such class.
-#[tactic(auto, unfolding(crate::specs::Set::classes))]
 fn class_has(name: &[u8], byte: u8, ignores_case: bool) -> Option<bool>
-    ensures { result ≡ spec.class_has ignores_case name.now byte }
+    ensures { MatchOption result ((has : Bool) → ¬ (Class ignores_case byte name.now has))
+        (λ has. Class ignores_case byte name.now has) }
 {
     if equals(name, b"alnum") {
         Some(byte.is_ascii_alphanumeric())
@@ -161,28 +148,48 @@ fn unclosed(text: &[u8]) -> (&[u8], &[u8])
     text.split_at(unclosed_count(text))
 }
 
+/// What begins with the next `]` of the set, which is at `closing` or, if the set went on past that, further on.
+fn next_closing<'t>(text: &'t [u8], closing: &'t [u8]) -> &'t [u8]
+    requires { Closing text.now closing.now }
+    ensures { (inside : List ℕ) × Run is_unclosed text.now inside result.now }
+{
+    if text.len() < closing.len() {
+        let (_, next) = unclosed(text);
+        return next;
+    }
+    closing
+}
+
 /// The name of the class with which the text begins, and the rest, or `None` if it begins with no class.
+/// `closing` begins with the next `]`, so that a class takes no time that grows with the set.
 #[tactic(auto, using(crate::proofs::Sets::is_class, crate::proofs::Sets::not_opened, crate::proofs::Sets::no_closing))]
-fn class_name(text: &[u8]) -> Option<(&[u8], &[u8])>
-    ensures { MatchOption result ((name rest : List ℕ) → ¬ (IsClass text.now name rest))
-        (λ p. IsClass text.now p.0.now p.1.now) }
+fn class_name<'t>(text: &'t [u8], closing: &'t [u8]) -> Option<(&'t [u8], &'t [u8])>
+    requires { (inside : List ℕ) × Run is_unclosed text.now inside closing.now }
+    ensures { MatchOption result (IsNoClass text.now) (λ p. IsClass text.now p.0.now p.1.now) }
 {
     let inner = strip(text, b"[:")?;
-    let (inside, closing) = unclosed(inner);
+    let inside = before(inner, closing);
     let name = strip_end(inside, b":")?;
     let rest = after_end(closing)?;
     Some((name, rest))
 }
 
 /// Whether the first member has the byte, and the rest, or `None` if the text begins with no member.
-#[tactic(auto, using(crate::proofs::Sets::class_shortens, crate::proofs::Sets::member_shortens, crate::proofs::Sets::of_byte, crate::proofs::Sets::of_no_byte))]
-fn member(text: &[u8], starts: bool, byte: u8, ignores_case: bool) -> Option<(bool, &[u8])>
+#[tactic(auto, using(crate::proofs::Sets::member_shortens))]
+fn member<'t>(
+    text: &'t [u8],
+    closing: &'t [u8],
+    starts: bool,
+    byte: u8,
+    ignores_case: bool,
+) -> Option<(bool, &'t [u8])>
+    requires { (inside : List ℕ) × Run is_unclosed text.now inside closing.now }
     ensures is { MatchOption result ((has : Bool) (rest : List ℕ)
         → ¬ (Member ignores_case byte starts text.now has rest))
         (λ p. Member ignores_case byte starts text.now p.0 p.1.now) }
     ensures shorter { IfSome result (λ p. length p.1.now < length text.now) }
 {
-    match class_name(text) {
+    match class_name(text, closing) {
         Some((name, rest)) => match class_has(name, byte, ignores_case) {
             Some(has) => Some((has, rest)),
             None => None,
@@ -195,19 +202,21 @@ fn member(text: &[u8], starts: bool, byte: u8, ignores_case: bool) -> Option<(bo
 }
 
 /// Whether one of the members up to `]` has the byte, and what follows, or `None` if the set has no end or an
-/// invalid member.
+/// invalid member. It takes time that is linear in the set.
 #[tactic(auto, using(crate::proofs::Sets::goes_on_first, crate::proofs::Sets::goes_on_found, crate::proofs::Sets::goes_on_here, crate::proofs::Sets::set_closed, crate::proofs::Sets::no_first))]
 fn members(text: &[u8], byte: u8, ignores_case: bool) -> Option<(bool, &[u8])>
     ensures { MatchOption result ((found : Bool) (rest : List ℕ)
         → ¬ (SetHas ignores_case byte true text.now found rest))
         (λ p. SetHas ignores_case byte true text.now p.0 p.1.now) }
 {
-    let (mut found, mut rest) = member(text, true, byte, ignores_case)?;
+    let (_, mut closing) = unclosed(text);
+    let (mut found, mut rest) = member(text, closing, true, byte, ignores_case)?;
     'members: loop {
         if let Some(after) = after_end(rest) {
             return Some((found, after));
         }
-        let (is_here, after) = member(rest, false, byte, ignores_case)?;
+        closing = next_closing(rest, closing);
+        let (is_here, after) = member(rest, closing, false, byte, ignores_case)?;
         found = found || is_here;
         rest = after;
     }

@@ -44,8 +44,7 @@ pub(crate) struct Taken<'a> {
 
 impl<'a> Value<'a> {
     /// The text that these bytes spell: docs/GRAMMAR.md, Configuration files. It is borrowed, and takes no
-    /// memory, if the bytes have no quote and no backslash, and each blank within the text is a space. It
-    /// fails only if memory is refused.
+    /// memory, if the bytes have no quote and no backslash. It fails only if memory is refused.
     ///
     /// ```rust
     /// use config_file::reader::Entries;
@@ -72,15 +71,16 @@ impl<'a> Value<'a> {
         let mut text = Vec::with_capacity(alloc, self.raw.len())?;
         let mut at = self.raw;
         let mut quoted = false;
-        let mut held = 0usize;
+        let mut held: &[u8] = &[];
         'pieces: while let Some((byte, rest)) = split(at) {
             if is_held_back(quoted, byte) {
-                held += 1;
-                at = rest;
+                let (blanks, after) = run(at, Class::Blank);
+                held = blanks;
+                at = after;
                 continue;
             }
             push_held(&mut text, held)?;
-            held = 0;
+            held = &[];
             if byte == b'"' {
                 quoted = !quoted;
                 at = rest;
@@ -99,7 +99,7 @@ impl<'a> Value<'a> {
     }
 }
 
-/// The text of a value as a slice of its bytes, or `None` if quotes, backslashes or blanks may change it.
+/// The text of a value as a slice of its bytes, or `None` if quotes or backslashes may change it.
 fn plain_text(raw: &[u8]) -> Option<&[u8]>
     ensures { (spelled : List ℕ) (ending : Ending) → SpellsValue raw.now spelled ending
         → IfSome result (λ text. text.now ≡ spelled) }
@@ -107,14 +107,12 @@ fn plain_text(raw: &[u8]) -> Option<&[u8]>
     let (_, start) = run(raw, Class::Blank);
     let mut at = start;
     let mut length = 0usize;
-    let mut has_other_blank = false;
     'bytes: while let Some((byte, rest)) = split(at) {
         at = rest;
         if is_blank(byte) {
-            has_other_blank = has_other_blank || byte != b' ';
             continue;
         }
-        if has_other_blank || byte == b'"' || byte == b'\\' {
+        if byte == b'"' || byte == b'\\' {
             return None;
         }
         length = start.len() - at.len();
@@ -129,16 +127,14 @@ fn is_held_back(quoted: bool, byte: u8) -> bool
     !quoted && is_blank(byte)
 }
 
-/// Appends a space for each blank that was held back, unless the value has no byte yet.
-fn push_held(text: &mut Vec<u8>, held: usize) -> Result<(), AllocError>
-    ensures { OnOk result (text.new.items ≡ kept text.old.items held) }
+/// Appends the blanks that were held back, unless the value has no byte yet.
+fn push_held(text: &mut Vec<u8>, held: &[u8]) -> Result<(), AllocError>
+    ensures { OnOk result (text.new.items ≡ kept text.old.items held.now) }
 {
     if text.is_empty() {
         return Ok(());
     }
-    'blanks: for _written in 0..held {
-        text.push(b' ')?;
-    }
+    text.extend_from_slice(held)?;
     Ok(())
 }
 

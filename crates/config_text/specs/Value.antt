@@ -3,7 +3,6 @@
 -- A grammar relates texts to the values that it gives them. A canonical grammar is a set of texts, defined
 -- without reference to how values are shown.
 use Rattle.std.specs.Prelude.{◌≡◌, ℕ, ◌≤◌, ◌↔◌, ◌⊎◌, List, length, Option, None, Some, Bool, IsTrue}
-use Rattle.config_text.specs.declared.value.TheConstants.{LONGEST_TEXT}
 
 -- the grammar gives the text no value
 abbrev pub IsRefused : {V : Type 0} → (List ℕ → V → Type 0) → List ℕ → Type 0
@@ -22,12 +21,12 @@ abbrev pub Reads : {V : Type 0} → (List ℕ → V → Type 0) → List ℕ →
 Reads grammar t None = IsRefused grammar t
 Reads grammar t (Some v) = grammar t v
 
--- a canonical text that reads to the value and has at most `LONGEST_TEXT` bytes
+-- a canonical text that reads to the value and has at most 127 bytes
 pub record IsTextOf {V : Type 0} (grammar : List ℕ → V → Type 0) (canonical : List ℕ → Type 0) (v : V)
     (s : List ℕ) : Type 0 where
   pub canonical_text : canonical s
   pub reads_to : grammar s v
-  pub short : length s ≤ LONGEST_TEXT
+  pub short : length s ≤ 127
 
 -- what a text means: `v`, its only value, and `s`, the only canonical text that reads to this value
 pub record HasMeaning {V : Type 0} (grammar : List ℕ → V → Type 0) (canonical : List ℕ → Type 0) (t : List ℕ)

@@ -164,3 +164,8 @@ pub fn one_meaning<V: Value>()
         → HasMeaning V.grammar V.canonical text w t → (v ≡ w) × (s ≡ t) }
     ensures unchanged { (s : List ℕ) → V.canonical s → (v : V) × HasMeaning V.grammar V.canonical s v s }
 {}
+
+/// [`LONGEST_TEXT`] is the bound that the definition of a value's text states.
+pub fn longest_text()
+    ensures { LONGEST_TEXT ≡ 127 }
+{}

@@ -1,5 +1,7 @@
 /* Tests each status of each call on bad input, and what it leaves alone; lookups, compositions, files, fault texts. */
 #include "guarded.h"
+#include <pthread.h>
+#include <time.h>
 
 static area buffer_area, text_area;
 
@@ -639,6 +641,69 @@ static void includes(void)
     }
 }
 
+/* A condition, what it is about, and what a thread finds out. */
+typedef struct asked {
+    const char *key;
+    gcv_includer from;
+    gcv_status status;
+    double seconds;
+} asked;
+
+static void *ask(void *state)
+{
+    asked *of = (asked *)state;
+    struct timespec began, ended;
+    char name[1];
+    size_t size;
+    clock_gettime(CLOCK_THREAD_CPUTIME_ID, &began);
+    of->status = gcv_include(of->key, strlen(of->key), "e", 1, &of->from, name, sizeof name, &size);
+    clock_gettime(CLOCK_THREAD_CPUTIME_ID, &ended);
+    of->seconds = (double)(ended.tv_sec - began.tv_sec) + (double)(ended.tv_nsec - began.tv_nsec) / 1e9;
+    return NULL;
+}
+
+/* Patterns that are slow, or need a deep stack, if each star is tried again at all its places: the answers are those of
+ * Git 2.55.0, which needs no time. The branch is a run of letters, and so is the work tree's name. */
+static void patterns(void)
+{
+    static const struct {
+        const char *front, *repeated;
+        size_t times;
+        const char *back;
+        size_t letters;
+        gcv_status status;
+    } rows[] = {
+        {"onbranch:", "*a", 5, "*ab", 100, GCV_NO_INCLUDE},    {"onbranch:", "*a", 4, "*ab", 200, GCV_NO_INCLUDE},
+        {"onbranch:", "*a", 50, "", 200, GCV_OK},              {"onbranch:", "*a", 60000, "", 60000, GCV_OK},
+        {"onbranch:**/", "a*", 5, "ab", 100, GCV_NO_INCLUDE},  {"onbranch:*[", "[:", 2000, "", 100, GCV_NO_INCLUDE},
+        {"gitdir:", "*a", 6, "b/.git", 100, GCV_NO_INCLUDE},   {"gitdir:", "*a", 6, "/.git", 100, GCV_OK},
+    };
+    pthread_attr_t small;
+    count(pthread_attr_init(&small) == 0 && pthread_attr_setstacksize(&small, 128 * 1024) == 0, "a stack of 128 kB");
+    for (size_t at = 0; at < sizeof rows / sizeof rows[0]; at++) {
+        size_t front = strlen(rows[at].front), once = strlen(rows[at].repeated), letters = rows[at].letters;
+        char *key = (char *)malloc(front + once * rows[at].times + strlen(rows[at].back) + sizeof "includeif..path");
+        char *tree = (char *)malloc(letters + sizeof "//.git");
+        char *end = key + sprintf(key, "includeif.%s", rows[at].front);
+        asked of = {key, {NULL, 0, NULL, 0, NULL, 0, NULL, 0, NULL, 0, tree, letters + 6, NULL, 0, tree + 1, letters}, GCV_REFUSED, 0};
+        pthread_t thread;
+        for (size_t time = 0; time < rows[at].times; time++) {
+            memcpy(end, rows[at].repeated, once);
+            end += once;
+        }
+        sprintf(end, "%s.path", rows[at].back);
+        memset(tree, 'a', letters + 1);
+        tree[0] = '/';
+        strcpy(tree + letters + 1, "/.git");
+        count(pthread_create(&thread, &small, ask, &of) == 0 && pthread_join(thread, NULL) == 0 && of.status == rows[at].status &&
+                  of.seconds < 0.1,
+              rows[at].front);
+        free(key);
+        free(tree);
+    }
+    pthread_attr_destroy(&small);
+}
+
 int main(void)
 {
     buffer_area = new_area(4096);
@@ -659,5 +724,6 @@ int main(void)
     words();
     files();
     includes();
+    patterns();
     return finish();
 }

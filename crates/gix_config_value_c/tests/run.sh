@@ -257,7 +257,7 @@ if ! clang $sanitizers -o "$work/empty" "$work/empty.c" 2> /dev/null || ! "$work
 fi
 for test in calls lines paths; do
     # shellcheck disable=SC2086
-    holds "$test by $compiler" $compiler -std=c99 $warnings $sanitizers -I"$prefix/include" -o "$work/$test" \
+    holds "$test by $compiler" $compiler -std=c99 -pthread $warnings $sanitizers -I"$prefix/include" -o "$work/$test" \
         "$tests/$test.c" "$archive"
 done
 # shellcheck disable=SC2086

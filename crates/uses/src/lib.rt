@@ -10,6 +10,7 @@
 #![tactic(auto)]
 
 pub mod headline;
+pub mod laws;
 pub mod literals;
 pub mod paths;
 pub mod push_default;

@@ -1,12 +1,13 @@
 -- What the scans of the reader have passed, and where they go on.
-use Rattle.std.specs.Prelude.{◌≡◌, ◌≢◌, ℕ, Bool, true, false, not, List, [], ◌∷◌, ◌++◌, Option, Some, None, ⊤, ◌&&◌, ◌==◌, if◌then◌else◌, is_some, drop, length, replicate}
+use Rattle.std.specs.Prelude.{◌≡◌, ◌≢◌, ℕ, Bool, true, false, not, List, [], ◌∷◌, ◌++◌, Option, Some, None, ⊤, ◌&&◌, ◌==◌, if◌then◌else◌, is_some, drop, length}
 use Rattle.std.specs.Char.{is_ascii_alphabetic}
+use Rattle.std.specs.List.{list_all}
 use Rattle.config_file.specs.declared.bytes.Class.{Class}
 use Rattle.config_file.specs.declared.bytes.Class.TheVariants.{Name, Key, Blank, Space, Comment}
 use Rattle.config_file.specs.Bytes.{line_feed, carriage_return, is_name_byte, is_key_byte, is_blank, is_space, is_comment_byte, is_comment_sign, is_text_byte}
 use Rattle.config_file.specs.Runs.{StopsRun}
 use Rattle.config_file.specs.Subsection.{SpellsSubsection, IsSubsection}
-use Rattle.config_file.specs.Value.{Ending, Spells, SpellsValue, escape}
+use Rattle.config_file.specs.Value.{Ending, Spells, SpellsValue, itself, escape}
 
 -- the test of a class of bytes
 abbrev pub passes : Class → ℕ → Bool
@@ -26,10 +27,10 @@ pub record PassedSubsection (text at : List ℕ) : Type 0 where
 pub record PassedValue (text : List ℕ) (quoted : Bool) (at : List ℕ) : Type 0 where
   pub raw : List ℕ
   pub value : List ℕ
-  pub held : ℕ
+  pub held : List ℕ
   pub joined : text ≡ raw ++ at
   pub extends : (more spelled : List ℕ) (ending : Ending)
-      → Spells quoted value held more spelled ending → SpellsValue (raw ++ more) spelled ending
+      → Spells itself quoted value held more spelled ending → SpellsValue (raw ++ more) spelled ending
 
 -- whether the scan of a value goes on after this byte, unless it is a quote or a backslash
 abbrev pub goes_on : Bool → ℕ → Bool
@@ -71,14 +72,13 @@ abbrev pub append_some : List ℕ → Option ℕ → List ℕ
 append_some value None = value
 append_some value (Some b) = value ++ b ∷ []
 
--- After the first blanks of a value, the scan has passed its text so far, of this length, and then a gap of
--- blanks. These are all spaces, unless the last flag is true.
-pub record PassedPlain (raw start at : List ℕ) (count : ℕ) (has_other_blank : Bool) : Type 0 where
+-- After the first blanks of a value, the scan has passed its text so far, of this length, and then a gap of blanks.
+pub record PassedPlain (raw start at : List ℕ) (count : ℕ) : Type 0 where
   pub front : List ℕ
   pub gap : List ℕ
   pub joined : start ≡ (front ++ gap) ++ at
   pub counted : count ≡ length front
   pub begins : StopsRun is_blank start
-  pub spaces : has_other_blank ≡ false → gap ≡ replicate (length gap) 32
+  pub blanks : list_all is_blank gap ≡ true
   pub spells : (spelled : List ℕ) (ending : Ending) → SpellsValue raw spelled ending
-      → (o : Ending) × (held : ℕ) × (front ≢ [] → held ≡ length gap) × Spells false front held at spelled o
+      → (o : Ending) × (held : List ℕ) × (front ≢ [] → held ≡ gap) × Spells itself false front held at spelled o

@@ -1,4 +1,4 @@
-//! What `==` and `clone` return for places, classes and refusals of paths, and `clone` for contexts.
+//! What `==` and `clone` return for places, classes and refusals of paths, and `clone` for the other types.
 ghost use Rattle.std.specs.Prelude.{◌≡◌};
 ghost use Rattle.config_text.specs.Orders.{Equates, IsCopied};
 ghost use Rattle.config_path.specs.declared.interpolate.Class.{Class};
@@ -8,6 +8,7 @@ ghost use Rattle.config_path.specs.declared.interpolate.Place.{Place};
 ghost use Rattle.config_path.specs.Interpolation.{IsSameError};
 
 use crate::interpolate::{Class, Context, Error, Place};
+use crate::parts::{Form, Joint, Parts};
 
 /// Places are equal exactly if they are the same.
 pub fn places()
@@ -29,6 +30,14 @@ pub fn path_errors()
     ensures equality { Equates IsSameError ⟦<Error<'static> as PartialEq>⟧.eq }
     ensures clones { IsCopied ⟦<Error<'static> as Clone>⟧.is_clone
         ⟦<Error<'static> as Clone>⟧.is_infallible }
+{}
+
+/// A clone of a form or of the parts of a path is the same, and never fails.
+pub fn parts()
+    ensures forms { IsCopied ⟦<Form<'static> as Clone>⟧.is_clone ⟦<Form<'static> as Clone>⟧.is_infallible }
+    ensures joints { IsCopied ⟦<Joint<'static> as Clone>⟧.is_clone ⟦<Joint<'static> as Clone>⟧.is_infallible }
+    ensures parts { IsCopied ⟦<Parts<'static, 'static> as Clone>⟧.is_clone
+        ⟦<Parts<'static, 'static> as Clone>⟧.is_infallible }
 {}
 
 /// A clone of a context is the same context, and never fails, if both are true of clones of its lookup.

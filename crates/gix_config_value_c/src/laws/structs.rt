@@ -4,6 +4,9 @@ ghost use Rattle.config_text.specs.Orders.{Equates, IsCopied};
 ghost use Rattle.gix_config_value_c.specs.Answers.{TellsApart};
 ghost use Rattle.gix_config_value_c.specs.Structs.{integer_struct, name_struct, part_struct, color_struct};
 
+use crate::files::{GcvFile, GcvPlace};
+use crate::settings::GcvEntry;
+use crate::status::Status;
 use crate::structs::{GcvColor, GcvInteger, GcvName};
 
 /// No two values have the same struct: two structs of values are equal exactly if the values are equal.
@@ -30,4 +33,12 @@ pub fn names()
 pub fn colors()
     ensures equality { Equates (◌≡◌) ⟦<GcvColor as PartialEq>⟧.eq }
     ensures clones { IsCopied ⟦<GcvColor as Clone>⟧.is_clone ⟦<GcvColor as Clone>⟧.is_infallible }
+{}
+
+/// A clone of a status, of an entry or of what is told of a file is the same, and never fails.
+pub fn answers()
+    ensures statuses { IsCopied ⟦<Status as Clone>⟧.is_clone ⟦<Status as Clone>⟧.is_infallible }
+    ensures entries { IsCopied ⟦<GcvEntry as Clone>⟧.is_clone ⟦<GcvEntry as Clone>⟧.is_infallible }
+    ensures places { IsCopied ⟦<GcvPlace as Clone>⟧.is_clone ⟦<GcvPlace as Clone>⟧.is_infallible }
+    ensures files { IsCopied ⟦<GcvFile as Clone>⟧.is_clone ⟦<GcvFile as Clone>⟧.is_infallible }
 {}

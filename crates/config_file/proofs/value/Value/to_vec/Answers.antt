@@ -1,12 +1,11 @@
-use Rattle.std.proofs.Common.{Some, None, length, ap, arith, rules, refl}
-use Rattle.config_file.proofs.Spelled.{held_next, quote_next, plain_next, backslash_next}
+use Rattle.std.proofs.Common.{Some, None, inl, inr, rules, refl}
+use Rattle.config_file.proofs.Spelled.{blanks_next, quote_next, plain_next, backslash_next}
 use Rattle.config_file.proofs.value.Value.to_vec.Goals as goal
 
 pub pieces-preserved-then-byte-eq34 : goal.pieces-preserved-then-byte-eq34
 pieces-preserved-then-byte-eq34 c =
-    let shorter = ap length c.in-Some.ensures in
     record {
-      fits = omega (arith, c.pieces.invariant.fits);
+      fresh = inl refl;
       spells = λ spelled ending h.
           let (o, s) = c.pieces.invariant.spells spelled ending h in
           quote_next c.pieces.at.now c.in-Some.ensures c.if-byte-eq34.true c.in_ok-push_held.ensures s;
@@ -14,9 +13,8 @@ pieces-preserved-then-byte-eq34 c =
 
 pub pieces-preserved-in_ok-push : goal.pieces-preserved-in_ok-push
 pieces-preserved-in_ok-push c =
-    let shorter = ap length c.in-Some.ensures in
     record {
-      fits = omega (arith, c.pieces.invariant.fits);
+      fresh = inl refl;
       spells = λ spelled ending h.
           let (o, s) = c.pieces.invariant.spells spelled ending h in
           backslash_next c.pieces.at.now c.in-Some.ensures (Some c.in-Some-escaped.escaped) c.if-byte-eq92.true c.in_ok-push_held.ensures
@@ -25,9 +23,8 @@ pieces-preserved-in_ok-push c =
 
 pub pieces-preserved-in_default-escaped : goal.pieces-preserved-in_default-escaped
 pieces-preserved-in_default-escaped c =
-    let shorter = ap length c.in-Some.ensures in
     record {
-      fits = omega (arith, c.pieces.invariant.fits);
+      fresh = inl refl;
       spells = λ spelled ending h.
           let (o, s) = c.pieces.invariant.spells spelled ending h in
           backslash_next c.pieces.at.now c.in-Some.ensures None c.if-byte-eq92.true c.in_ok-push_held.ensures
@@ -36,9 +33,8 @@ pieces-preserved-in_default-escaped c =
 
 pub pieces-preserved : goal.pieces-preserved
 pieces-preserved c =
-    let shorter = ap length c.in-Some.ensures in
     record {
-      fits = omega (arith, c.pieces.invariant.fits);
+      fresh = inl refl;
       spells = λ spelled ending h.
           let (o, s) = c.pieces.invariant.spells spelled ending h in
           plain_next c.pieces.at.now c.in-Some.ensures (search rules) c.if-byte-eq34.false c.if-byte-eq92.false c.in_ok-push_held.ensures c.in_ok-push-2.ensures.items s;
@@ -46,10 +42,9 @@ pieces-preserved c =
 
 pub pieces-preserved-then-is_held_back : goal.pieces-preserved-then-is_held_back
 pieces-preserved-then-is_held_back c =
-    let shorter = ap length c.in-Some.ensures in
     record {
-      fits = omega (arith, c.pieces.invariant.fits);
+      fresh = inr c.run.ensures.longest;
       spells = λ spelled ending h.
           let (o, s) = c.pieces.invariant.spells spelled ending h in
-          held_next c.pieces.at.now c.in-Some.ensures (search rules) s;
+          (o, blanks_next c.pieces.at.now c.in-Some.ensures (search rules) c.pieces.invariant.fresh c.run.ensures s);
     }

@@ -1,13 +1,15 @@
-use Rattle.std.proofs.Common.{◌+◌, ◌≤◌, ℕ, List, length}
-use Rattle.config_file.specs.Value.{Ending, Spells, SpellsValue}
+use Rattle.std.proofs.Common.{◌≡◌, ◌⊎◌, List, [], ℕ, length}
+use Rattle.config_file.specs.Bytes.{is_blank}
+use Rattle.config_file.specs.Runs.{StopsRun}
+use Rattle.config_file.specs.Value.{Ending, Spells, SpellsValue, itself}
 use Rattle.config_file.proofs.value.Value.to_vec.Given as goal
 
 abbrev pub invariant-pieces : goal.invariant-pieces
 invariant-pieces l =
     record {
-      fits : l.held + length l.at ≤ length l.self.raw.now;
+      fresh : (l.held ≡ []) ⊎ StopsRun is_blank l.at;
       spells : (spelled : List ℕ) (ending : Ending) → SpellsValue l.self.raw.now spelled ending
-          → (o : Ending) × Spells l.quoted l.text.items l.held l.at spelled o;
+          → (o : Ending) × Spells itself l.quoted l.text.items l.held l.at spelled o;
     }
 
 abbrev pub decreases-pieces : goal.decreases-pieces

@@ -1,0 +1,42 @@
+//! What `clone` returns for the types of a check.
+ghost use Rattle.config_text.specs.Orders.{IsCopied};
+
+use crate::check::Counts;
+use crate::finding::Finding;
+use crate::key::Key;
+use crate::kind::Form;
+use crate::options::{Format, Options};
+use crate::outcome::Outcome;
+use crate::reason::{Reason, Severity};
+use crate::row::Run;
+use crate::suggestion::UnknownKey;
+use crate::table::{BadRow, RowFault};
+
+/// A clone of a key, a form, a run of rows or the fault of a row is the same, and never fails.
+pub fn rows()
+    ensures keys { IsCopied ⟦<Key<'static> as Clone>⟧.is_clone ⟦<Key<'static> as Clone>⟧.is_infallible }
+    ensures forms { IsCopied ⟦<Form as Clone>⟧.is_clone ⟦<Form as Clone>⟧.is_infallible }
+    ensures runs { IsCopied ⟦<Run<'static, 'static> as Clone>⟧.is_clone
+        ⟦<Run<'static, 'static> as Clone>⟧.is_infallible }
+    ensures faults { IsCopied ⟦<RowFault as Clone>⟧.is_clone ⟦<RowFault as Clone>⟧.is_infallible }
+    ensures bad_rows { IsCopied ⟦<BadRow as Clone>⟧.is_clone ⟦<BadRow as Clone>⟧.is_infallible }
+{}
+
+/// A clone of a finding or of a part of it is the same, and never fails.
+pub fn findings()
+    ensures severities { IsCopied ⟦<Severity as Clone>⟧.is_clone ⟦<Severity as Clone>⟧.is_infallible }
+    ensures reasons { IsCopied ⟦<Reason<'static, 'static> as Clone>⟧.is_clone
+        ⟦<Reason<'static, 'static> as Clone>⟧.is_infallible }
+    ensures unknown_keys { IsCopied ⟦<UnknownKey<'static> as Clone>⟧.is_clone
+        ⟦<UnknownKey<'static> as Clone>⟧.is_infallible }
+    ensures findings { IsCopied ⟦<Finding<'static> as Clone>⟧.is_clone
+        ⟦<Finding<'static> as Clone>⟧.is_infallible }
+{}
+
+/// A clone of the options or the counts of a check is the same, and never fails.
+pub fn checks()
+    ensures formats { IsCopied ⟦<Format as Clone>⟧.is_clone ⟦<Format as Clone>⟧.is_infallible }
+    ensures options { IsCopied ⟦<Options as Clone>⟧.is_clone ⟦<Options as Clone>⟧.is_infallible }
+    ensures counts { IsCopied ⟦<Counts as Clone>⟧.is_clone ⟦<Counts as Clone>⟧.is_infallible }
+    ensures outcomes { IsCopied ⟦<Outcome as Clone>⟧.is_clone ⟦<Outcome as Clone>⟧.is_infallible }
+{}

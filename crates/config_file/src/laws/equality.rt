@@ -1,0 +1,67 @@
+//! What `==` and `clone` return for errors and conditions, and `clone` for the other types.
+ghost use Rattle.std.specs.Prelude.{◌≡◌};
+ghost use Rattle.config_text.specs.Orders.{Equates, IsCopied};
+ghost use Rattle.config_file.specs.Include.{IsSameCondition};
+
+use crate::entry::Entry;
+use crate::errors::{Error, Fault};
+use crate::include::{Condition, Repository};
+use crate::path::{Directories, Expanded};
+use crate::section::{Section, Subsection};
+use crate::settings::Refused;
+use crate::value::Value;
+use crate::walk::{Content, File, Known, Place, Walked};
+
+/// Faults are equal exactly if they are the same.
+pub fn faults()
+    ensures equality { Equates (◌≡◌) ⟦<Fault as PartialEq>⟧.eq }
+    ensures clones { IsCopied ⟦<Fault as Clone>⟧.is_clone ⟦<Fault as Clone>⟧.is_infallible }
+{}
+
+/// Errors are equal exactly if their lines and their faults are the same.
+pub fn errors()
+    ensures equality { Equates (◌≡◌) ⟦<Error as PartialEq>⟧.eq }
+    ensures clones { IsCopied ⟦<Error as Clone>⟧.is_clone ⟦<Error as Clone>⟧.is_infallible }
+{}
+
+/// Conditions are equal exactly if they are the same; their patterns are compared byte by byte.
+pub fn conditions()
+    ensures equality { Equates IsSameCondition ⟦<Condition<'static> as PartialEq>⟧.eq }
+    ensures clones { IsCopied ⟦<Condition<'static> as Clone>⟧.is_clone
+        ⟦<Condition<'static> as Clone>⟧.is_infallible }
+{}
+
+/// A clone of an entry or of a part of it is the same, and never fails.
+pub fn entries()
+    ensures entries { IsCopied ⟦<Entry<'static> as Clone>⟧.is_clone
+        ⟦<Entry<'static> as Clone>⟧.is_infallible }
+    ensures sections { IsCopied ⟦<Section<'static> as Clone>⟧.is_clone
+        ⟦<Section<'static> as Clone>⟧.is_infallible }
+    ensures subsections { IsCopied ⟦<Subsection<'static> as Clone>⟧.is_clone
+        ⟦<Subsection<'static> as Clone>⟧.is_infallible }
+    ensures values { IsCopied ⟦<Value<'static> as Clone>⟧.is_clone ⟦<Value<'static> as Clone>⟧.is_infallible }
+{}
+
+/// A clone of what a walk knows or finds is the same, and never fails.
+pub fn walks()
+    ensures known { IsCopied ⟦<Known<'static> as Clone>⟧.is_clone ⟦<Known<'static> as Clone>⟧.is_infallible }
+    ensures files { IsCopied ⟦<File<'static> as Clone>⟧.is_clone ⟦<File<'static> as Clone>⟧.is_infallible }
+    ensures places { IsCopied ⟦<Place<'static> as Clone>⟧.is_clone ⟦<Place<'static> as Clone>⟧.is_infallible }
+    ensures contents { IsCopied ⟦<Content<'static> as Clone>⟧.is_clone
+        ⟦<Content<'static> as Clone>⟧.is_infallible }
+    ensures repositories { IsCopied ⟦<Repository<'static> as Clone>⟧.is_clone
+        ⟦<Repository<'static> as Clone>⟧.is_infallible }
+    ensures directories { IsCopied ⟦<Directories<'static> as Clone>⟧.is_clone
+        ⟦<Directories<'static> as Clone>⟧.is_infallible }
+    ensures expanded { IsCopied ⟦<Expanded<'static> as Clone>⟧.is_clone
+        ⟦<Expanded<'static> as Clone>⟧.is_infallible }
+    ensures walked { IsCopied ⟦<Walked<'static> as Clone>⟧.is_clone
+        ⟦<Walked<'static> as Clone>⟧.is_infallible }
+{}
+
+/// A clone of a refusal is the same refusal, and never fails, if both are true of clones of its fault.
+pub fn refusals<F: Clone>()
+    ensures { IsCopied F.is_clone F.is_infallible
+        → IsCopied ⟦<Refused<'static, F> as Clone>⟧.is_clone
+        ⟦<Refused<'static, F> as Clone>⟧.is_infallible }
+{}
