@@ -1,5 +1,5 @@
 -- How Git lists the entries of a literal text: functions that compute it, with the proofs of what they return.
-use Rattle.std.proofs.Common.{◌≡◌, ℕ, suc, zero, ◌+◌, Bool, true, false, not, ◌==◌, List, [], ◌∷◌, ◌++◌, Option, Some, None, map, length, refl, subst, eqb-true, inl, inr}
+use Rattle.std.proofs.Common.{◌≡◌, ℕ, suc, zero, Bool, true, false, not, ◌==◌, List, [], ◌∷◌, ◌++◌, Option, Some, None, map, length, refl, subst, eqb-true, inl, inr}
 use Rattle.std.specs.Prelude.{⊤}
 use Rattle.std.specs.List.{AllByRecursion, AllZip}
 use Rattle.config_file.proofs.Pick.{cases, option_cases}
@@ -10,7 +10,7 @@ use Rattle.config_file.specs.Header.{Section}
 use Rattle.config_file.specs.Subsection as sub
 use Rattle.config_file.specs.Subsection.{SpellsSubsection}
 use Rattle.config_file.specs.Value as value
-use Rattle.config_file.specs.Value.{Ending, Spells, SpellsValue, escape, kept}
+use Rattle.config_file.specs.Value.{Ending, Spells, SpellsValue, itself, escape, kept}
 use Rattle.config_file.specs.File.{Entry, IsFile}
 use Rattle.config_file.specs.Listing as list
 use Rattle.config_file.specs.Listing.{IsListedSection, IsListed}
@@ -25,49 +25,49 @@ carry f more (Some found) = Some (f found.0, more found.0 found.1)
 
 -- ---- the text that the bytes of a value spell
 
-abbrev Spelling : Bool → List ℕ → ℕ → List ℕ → Type 0
-Spelling q so_far held raw = Known (λ (end : List ℕ × Ending). Spells q so_far held raw end.0 end.1)
+abbrev Spelling : Bool → List ℕ → List ℕ → List ℕ → Type 0
+Spelling q so_far held raw = Known (λ (end : List ℕ × Ending). Spells itself q so_far held raw end.0 end.1)
 
 abbrev Speller : Type 0
-Speller = (q : Bool) (so_far : List ℕ) (held : ℕ) (raw : List ℕ) → Spelling q so_far held raw
+Speller = (q : Bool) (so_far held raw : List ℕ) → Spelling q so_far held raw
 
-abbrev spell_return : Speller → (q : Bool) (so_far : List ℕ) (held b e : ℕ) (raw : List ℕ) → b ≡ 92
+abbrev spell_return : Speller → (q : Bool) (so_far held : List ℕ) (b e : ℕ) (raw : List ℕ) → b ≡ 92
     → Spelling q so_far held (b ∷ e ∷ raw)
 spell_return go q v held b e [] is = None
 spell_return go q v held b e (f ∷ raw) is =
     elim (cases (e == 13)) [
       | inl return ↦ elim (cases (f == 10)) [
-        | inl line ↦ carry (λ x. x) (λ x s. value.continued_after_return is (eqb-true e 13 return) (eqb-true f 10 line) s) (go q (kept v held) 0 raw)
+        | inl line ↦ carry (λ x. x) (λ x s. value.continued_after_return is (eqb-true e 13 return) (eqb-true f 10 line) s) (go q (kept v held) [] raw)
         | inr other ↦ None
       ]
       | inr other ↦ None
     ]
 
-abbrev spell_escape : Speller → (q : Bool) (so_far : List ℕ) (held b : ℕ) (raw : List ℕ) → b ≡ 92
+abbrev spell_escape : Speller → (q : Bool) (so_far held : List ℕ) (b : ℕ) (raw : List ℕ) → b ≡ 92
     → Spelling q so_far held (b ∷ raw)
 spell_escape go true v held b [] is = None
 spell_escape go false v held b [] is = Some ((kept v held, value.at_backslash), value.ends_at_backslash is)
 spell_escape go q v held b (e ∷ raw) is =
     elim (option_cases (escape e)) [
-      | inl letter ↦ carry (λ x. x) (λ x s. value.escaped is letter.1 s) (go q (kept v held ++ letter.0 ∷ []) 0 raw)
+      | inl letter ↦ carry (λ x. x) (λ x s. value.escaped is letter.1 s) (go q (kept v held ++ letter.0 ∷ []) [] raw)
       | inr none ↦ elim (cases (e == 10)) [
-        | inl line ↦ carry (λ x. x) (λ x s. value.continued is (eqb-true e 10 line) s) (go q (kept v held) 0 raw)
+        | inl line ↦ carry (λ x. x) (λ x s. value.continued is (eqb-true e 10 line) s) (go q (kept v held) [] raw)
         | inr other ↦ spell_return go q v held b e raw is
       ]
     ]
 
-abbrev spell_plain : Speller → (q : Bool) (so_far : List ℕ) (held b : ℕ) (raw : List ℕ) → Spelling q so_far held (b ∷ raw)
+abbrev spell_plain : Speller → (q : Bool) (so_far held : List ℕ) (b : ℕ) (raw : List ℕ) → Spelling q so_far held (b ∷ raw)
 spell_plain go q v held b raw =
     elim (cases (is_plain q b)) [
-      | inl is ↦ carry (λ x. x) (λ x s. value.plain is s) (go q (kept v held ++ b ∷ []) 0 raw)
+      | inl is ↦ carry (λ x. x) (λ x s. value.plain is s) (go q (kept v held ++ b ∷ []) [] raw)
       | inr other ↦ None
     ]
 
-abbrev spell_byte : Speller → (q : Bool) (so_far : List ℕ) (held b : ℕ) (raw : List ℕ) → Spelling q so_far held (b ∷ raw)
+abbrev spell_byte : Speller → (q : Bool) (so_far held : List ℕ) (b : ℕ) (raw : List ℕ) → Spelling q so_far held (b ∷ raw)
 spell_byte go true v held b raw = spell_plain go true v held b raw
 spell_byte go false v held b raw =
     elim (cases (is_blank b)) [
-      | inl is ↦ carry (λ x. x) (λ x s. value.blank is s) (go false v (held + 1) raw)
+      | inl is ↦ carry (λ x. x) (λ x s. value.blank is s) (go false v (held ++ b ∷ []) raw)
       | inr other ↦ spell_plain go false v held b raw
     ]
 
@@ -78,7 +78,7 @@ spell n false v held [] = Some ((v, value.outside), value.ends_outside)
 spell zero q v held (b ∷ raw) = None
 spell (suc n) q v held (b ∷ raw) =
     elim (cases (b == 34)) [
-      | inl is ↦ carry (λ x. x) (λ x s. value.quote (eqb-true b 34 is) s) (spell n (not q) (kept v held) 0 raw)
+      | inl is ↦ carry (λ x. x) (λ x s. value.quote (eqb-true b 34 is) s) (spell n (not q) (kept v held) [] raw)
       | inr other ↦ elim (cases (b == 92)) [
         | inl is ↦ spell_escape (spell n) q v held b raw (eqb-true b 92 is)
         | inr plain ↦ spell_byte (spell n) q v held b raw
@@ -104,7 +104,7 @@ pub record IsRow (entry : Entry) (row : Row) : Type 0 where
 
 abbrev text_of : (raw : Option (List ℕ)) → Known (IsText raw)
 text_of None = Some (None, tt)
-text_of (Some raw) = carry (λ x. Some x.0) (λ x s. (x.1, s)) (spell (length raw) false [] 0 raw)
+text_of (Some raw) = carry (λ x. Some x.0) (λ x s. (x.1, s)) (spell (length raw) false [] [] raw)
 
 abbrev escaped_of : ((raw : List ℕ) → Known (SpellsSubsection raw)) → (b : ℕ) (raw : List ℕ) → b ≡ 92 → Known (SpellsSubsection (b ∷ raw))
 escaped_of go b [] is = None
