@@ -36,3 +36,4 @@ pub mod Conditions
 pub mod Walks
 pub mod OnLiterals
 pub mod StandardFacts
+pub mod PatternsOnLiterals

@@ -16,10 +16,10 @@ use Rattle.config_file.specs.Listing as list
 use Rattle.config_file.specs.Listing.{IsListedSection, IsListed}
 
 -- what has this property, with the proof, if it is found
-abbrev Known : {A : Type 0} → (A → Type 0) → Type 0
+abbrev pub Known : {A : Type 0} → (A → Type 0) → Type 0
 Known {A} P = Option ((a : A) × P a)
 
-abbrev carry : {A B : Type 0} {P : A → Type 0} {Q : B → Type 0} (f : A → B) → ((a : A) → P a → Q (f a)) → Known P → Known Q
+abbrev pub carry : {A B : Type 0} {P : A → Type 0} {Q : B → Type 0} (f : A → B) → ((a : A) → P a → Q (f a)) → Known P → Known Q
 carry f more None = None
 carry f more (Some found) = Some (f found.0, more found.0 found.1)
 

@@ -1,10 +1,11 @@
 -- What git-config(1) says about configuration files, with its own examples. A definition with a wrong escape, comment
 -- sign, byte of a name, case, include or condition fails here. Not on that page, but as Git reads them, are CR, the
 -- byte order mark, and the lines of entries and errors.
-use Rattle.std.proofs.Common.{◌≡◌, ℕ, List, [], ◌∷◌, ◌++◌, length, length-append, map, codes, Bor, Option, Some, None, false, refl, ap, arith}
+use Rattle.std.proofs.Common.{true, false, ◌≡◌, ℕ, List, [], ◌∷◌, ◌++◌, length, length-append, map, codes, Bor, Option, Some, None, false, refl, ap, arith}
 use Rattle.std.specs.List.{flat_map}
 use Prim.Native.String.{String}
 use Rattle.config_file.proofs.Fronts.{is_front, lacks}
+use Rattle.config_file.proofs.PatternsOnLiterals.{AreMatched, all_matched}
 use Rattle.config_file.proofs.OnLiterals.{Row, Lists, AreListed, lists, all_listed}
 use Rattle.config_file.specs.declared.errors.Fault.TheVariants.{BadLine, Nul}
 use Rattle.config_file.specs.declared.errors.Error.{Error}
@@ -265,3 +266,36 @@ pub patterns_are_completed : (anywhere (codes "foo/bar") ≡ codes "**/foo/bar")
     × (below (codes "foo") ≡ codes "foo")
     × (at_home (Some (codes "/home/user")) (codes "~/to/group/") ≡ codes "/home/user/to/group/")
 patterns_are_completed = (refl, refl, refl, refl, refl)
+
+-- ---- patterns
+
+abbrev pairs : List (String × String) → List (List ℕ × List ℕ)
+pairs rows = map (λ row. (codes row.0, codes row.1)) rows
+
+-- gitignore(5): "An asterisk * matches anything except a slash. The character ? matches any one character except /.
+-- The range notation, e.g. [a-zA-Z]". "**/foo matches file or directory foo anywhere", "abc/** matches all files
+-- inside", and "a/**/b matches a/b, a/x/b, a/x/y/b". fnmatch(3) has `!`, a leading `]`, `\` and classes.
+abbrev matched : List (String × String)
+matched =
+    ("foo", "foo") ∷ ("f?o", "foo") ∷ ("*", "foo") ∷ ("f*", "foo") ∷ ("*o*a*", "foobar") ∷ ("*ab", "aab")
+    ∷ ("**/foo", "foo") ∷ ("**/foo", "a/b/foo") ∷ ("abc/**", "abc/a/b") ∷ ("a/**/b", "a/b") ∷ ("a/**/b", "a/x/b") ∷ ("a/**/b", "a/x/y/b")
+    ∷ ("[a-c]t", "bt") ∷ ("[!a]b", "cb") ∷ ("[^a]b", "cb") ∷ ("[]a]", "]") ∷ ("[\\]]", "]") ∷ ("[[:alpha:]]", "A") ∷ ("[[:digit:][:upper:]]", "7")
+    ∷ ("\\*", "*") ∷ ("\\f", "f") ∷ []
+
+abbrev not_matched : List (String × String)
+not_matched =
+    ("foo", "Foo") ∷ ("f?o", "f/o") ∷ ("?", "") ∷ ("*", "a/b") ∷ ("a*", "a/b") ∷ ("a**b", "a/b") ∷ ("**/foo", "afoo") ∷ ("abc/**", "abc")
+    ∷ ("a/**/b", "a/xb") ∷ ("[a-c]t", "dt") ∷ ("[!a]b", "ab") ∷ ("[!a]b", "/b") ∷ ("[[:alpha:]]", "1") ∷ ("\\*", "a") ∷ []
+
+pub patterns_match : AreMatched true false (pairs matched)
+patterns_match = all_matched true false (pairs matched) refl
+
+pub patterns_do_not_match : AreMatched false false (pairs not_matched)
+patterns_do_not_match = all_matched false false (pairs not_matched) refl
+
+-- ignoring case, for gitdir/i
+abbrev matched_in_any_case : List (String × String)
+matched_in_any_case = ("foo", "FOO") ∷ ("FOO", "foo") ∷ ("[a-c]", "B") ∷ ("[A-C]", "b") ∷ ("[[:upper:]]", "a") ∷ []
+
+pub patterns_match_in_any_case : AreMatched true true (pairs matched_in_any_case)
+patterns_match_in_any_case = all_matched true true (pairs matched_in_any_case) refl
