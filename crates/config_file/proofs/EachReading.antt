@@ -1,16 +1,16 @@
 -- Each text has a reading.
-use Rattle.std.proofs.Common.{◌≡◌, ℕ, zero, suc, ◌+◌, ◌≤◌, true, ◌==◌, List, [], ◌∷◌, Option, Some, None, Result, Ok, Err, length, take, drop, refl, arith, eqb-true, inl, inr, ◌⊎◌}
-use Rattle.std.proofs.lemmas.Bool.{cases_Bool}
+use Rattle.std.proofs.Common.{◌≡◌, ◌≢◌, ℕ, zero, suc, ◌+◌, ◌≤◌, true, ◌==◌, List, [], ◌∷◌, Option, Some, None, Result, Ok, Err, length, take, drop, refl, arith, eqb-true, inl, inr, ◌⊎◌}
 use Rattle.std.specs.List.{prefix_len}
 use Rattle.std.specs.Char.{is_ascii_alphabetic}
 use Rattle.config_file.proofs.Runs.{run_split}
+use Rattle.config_file.proofs.Pick.{cases, option_cases}
 use Rattle.config_file.proofs.Headers.{no_blanks}
 use Rattle.config_file.proofs.Readings.{begins_none}
 use Rattle.config_file.proofs.Bounds.{header_shortens, entry_shortens, run_shortens}
-use Rattle.config_file.proofs.EachValue.{each_value, each_subsection, test_not}
-use Rattle.config_file.proofs.OneSubsection.{SubsectionHas}
+use Rattle.config_file.proofs.EachValue.{value_holds, subsection_holds, test_not}
+use Rattle.config_file.proofs.OneSubsection.{SubsectionHas, subsection_of}
 use Rattle.config_file.proofs.OneValue as one_value
-use Rattle.config_file.proofs.OneValue.{ValueHas}
+use Rattle.config_file.proofs.OneValue.{ValueHas, value_of}
 use Rattle.config_file.proofs.OneHeader as one_header
 use Rattle.config_file.proofs.OneHeader.{HeaderHas}
 use Rattle.config_file.proofs.OneEntry as one_entry
@@ -25,14 +25,17 @@ use Rattle.config_file.specs.Header.{Section, ClosesSubsection, SubsectionStops,
 use Rattle.config_file.specs.File as file
 use Rattle.config_file.specs.File.{Entry, TakesKey, Reads, IsFile, Begins, after_mark, IsPartOfMark}
 
-line_end_decided : (rest : List ℕ) → IsAtLineEnd rest ⊎ (IsAtLineEnd rest → ⊥)
+pub not_empty : (b : ℕ) (rest : List ℕ) → b ∷ rest ≢ []
+not_empty b rest e = cc
+
+abbrev line_end_decided : (rest : List ℕ) → IsAtLineEnd rest ⊎ (IsAtLineEnd rest → ⊥)
 line_end_decided [] = inl tt
-line_end_decided (a ∷ []) = elim (cases_Bool (a == 10)) [ inl is ↦ inl (eqb-true a 10 is) | inr off ↦ inr (test_not a 10 off) ]
+line_end_decided (a ∷ []) = elim (cases (a == 10)) [ inl is ↦ inl (eqb-true a 10 is) | inr off ↦ inr (test_not a 10 off) ]
 line_end_decided (a ∷ b ∷ rest) =
-    elim (cases_Bool (a == 10)) [
+    elim (cases (a == 10)) [
       | inl is ↦ inl (inl (eqb-true a 10 is))
-      | inr off ↦ elim (cases_Bool (a == 13)) [
-        | inl return ↦ elim (cases_Bool (b == 10)) [
+      | inr off ↦ elim (cases (a == 13)) [
+        | inl return ↦ elim (cases (b == 10)) [
           | inl next ↦ inl (inr (eqb-true a 13 return, eqb-true b 10 next))
           | inr no_line ↦ inr (λ h. elim h [ inl is ↦ test_not a 10 off is | inr both ↦ test_not b 10 no_line both.1 ])
         ]
@@ -44,11 +47,11 @@ abbrev ClosingIs : List ℕ → Result (List ℕ × List ℕ) (ℕ × Fault) →
 ClosingIs text (Ok p) = ClosesSubsection text p.0 p.1
 ClosingIs text (Err stop) = SubsectionStops text stop.0 stop.1
 
-closing_of : (text : List ℕ) (o : Result (List ℕ × List ℕ) (List ℕ)) → SubsectionHas text o → (c : Result (List ℕ × List ℕ) (ℕ × Fault)) × ClosingIs text c
+abbrev closing_of : (text : List ℕ) (o : Result (List ℕ × List ℕ) (List ℕ)) → SubsectionHas text o → (c : Result (List ℕ × List ℕ) (ℕ × Fault)) × ClosingIs text c
 closing_of text (Err rest) place = (Err (0, fault_at rest), header.within place)
 closing_of text (Ok (raw, [])) takes = (Err (1, BadLine), header.closed_at_line_end takes tt)
 closing_of text (Ok (raw, b ∷ rest)) takes =
-    elim (cases_Bool (b == 93)) [
+    elim (cases (b == 93)) [
       | inl is ↦ (Ok (raw, rest), header.closes takes (eqb-true b 93 is))
       | inr other ↦ elim (line_end_decided (b ∷ rest)) [
         | inl end ↦ (Err (1, BadLine), header.closed_at_line_end takes end)
@@ -59,32 +62,32 @@ closing_of text (Ok (raw, b ∷ rest)) takes =
 abbrev HasHeader : List ℕ → Type 0
 HasHeader text = (o : one_header.Outcome) × HeaderHas text o
 
-named : {text : List ℕ} (name after : List ℕ) → Run is_name_byte text name after → StopsRun is_blank after → HasHeader text
+abbrev named : {text : List ℕ} (name after : List ℕ) → Run is_name_byte text name after → StopsRun is_blank after → HasHeader text
 named name [] run none = (Err (1, BadLine), header.name run none header.at_end)
 named [] (b ∷ rest) run none = (Err (0, fault_at (b ∷ rest)), header.name run none header.empty)
 named (n ∷ name) (b ∷ rest) run none =
-    elim (cases_Bool (b == 93)) [
-      | inl is ↦ (Ok ((n ∷ name, None), rest), header.plain run (λ e. cc) (eqb-true b 93 is))
+    elim (cases (b == 93)) [
+      | inl is ↦ (Ok ((n ∷ name, None), rest), header.plain run (not_empty n name) (eqb-true b 93 is))
       | inr other ↦ (Err (0, fault_at (b ∷ rest)), header.name run none (header.not_closed (test_not b 93 other)))
     ]
 
-with_subsection : {text inner : List ℕ} (name : List ℕ) → header.OpensSubsection text name inner → (c : Result (List ℕ × List ℕ) (ℕ × Fault)) → ClosingIs inner c → HasHeader text
+abbrev with_subsection : {text inner : List ℕ} (name : List ℕ) → header.OpensSubsection text name inner → (c : Result (List ℕ × List ℕ) (ℕ × Fault)) → ClosingIs inner c → HasHeader text
 with_subsection name opens (Ok (raw, rest)) closed = (Ok ((name, Some raw), rest), header.quoted opens closed)
 with_subsection name opens (Err (lines, fault)) stopped = (Err (lines, fault), header.subsection opens stopped)
 
-blanked : {text : List ℕ} (name after blanks more : List ℕ) → Run is_name_byte text name after → Run is_blank after blanks more → HasHeader text
+abbrev blanked : {text : List ℕ} (name after blanks more : List ℕ) → Run is_name_byte text name after → Run is_blank after blanks more → HasHeader text
 blanked name after [] more run blank_run = named name after run (no_blanks [] blank_run refl)
-blanked name after (x ∷ blanks) [] run blank_run = (Err (0, BadLine), header.blanks run blank_run (λ e. cc) tt)
+blanked name after (x ∷ blanks) [] run blank_run = (Err (0, BadLine), header.blanks run blank_run (not_empty x blanks) tt)
 blanked name after (x ∷ blanks) (b ∷ inner) run blank_run =
-    elim (cases_Bool (b == 34)) [
+    elim (cases (b == 34)) [
       | inl is ↦
-          let (o, has) = each_subsection inner in
-          let (c, closing) = closing_of inner o has in
-          with_subsection name (record { blanks = x ∷ blanks; blanked = after; quote = b; name_run = run; blank_run = blank_run; some_blank = (λ e. cc); is_quote = eqb-true b 34 is }) c closing
-      | inr other ↦ (Err (0, fault_at (b ∷ inner)), header.blanks run blank_run (λ e. cc) (test_not b 34 other))
+          let o = subsection_of inner in
+          let (c, closing) = closing_of inner o (subsection_holds inner) in
+          with_subsection name (record { blanks = x ∷ blanks; blanked = after; quote = b; name_run = run; blank_run = blank_run; some_blank = (not_empty x blanks); is_quote = eqb-true b 34 is }) c closing
+      | inr other ↦ (Err (0, fault_at (b ∷ inner)), header.blanks run blank_run (not_empty x blanks) (test_not b 34 other))
     ]
 
-each_header : (text : List ℕ) → HasHeader text
+abbrev each_header : (text : List ℕ) → HasHeader text
 each_header text =
     let n = prefix_len is_name_byte text in
     let after = drop n text in
@@ -94,20 +97,20 @@ each_header text =
 abbrev HasEntry : List ℕ → Type 0
 HasEntry text = (o : one_entry.Outcome) × EntryHas text o
 
-with_value : {text : List ℕ} (key : List ℕ) (b : ℕ) (after : List ℕ) → TakesKey text key (b ∷ after) → b ≡ 61 → (o : one_value.Outcome) → ValueHas after o → HasEntry text
+abbrev with_value : {text : List ℕ} (key : List ℕ) (b : ℕ) (after : List ℕ) → TakesKey text key (b ∷ after) → b ≡ 61 → (o : one_value.Outcome) → ValueHas after o → HasEntry text
 with_value key b after takes is (Ok (raw, lines, rest)) taken = (Ok (key, Some raw, lines, rest), file.valued takes is taken)
 with_value key b after takes is (Err (lines, fault)) stopped = (Err (lines, fault), file.value takes is stopped)
 
-after_key : {text : List ℕ} (key rest : List ℕ) → TakesKey text key rest → IsAtLineEnd rest ⊎ (IsAtLineEnd rest → ⊥) → HasEntry text
+abbrev after_key : {text : List ℕ} (key rest : List ℕ) → TakesKey text key rest → IsAtLineEnd rest ⊎ (IsAtLineEnd rest → ⊥) → HasEntry text
 after_key key rest takes (inl end) = (Ok (key, None, 0, rest), file.alone takes end)
 after_key key [] takes (inr not_end) = absurd (not_end tt)
 after_key key (b ∷ after) takes (inr not_end) =
-    elim (cases_Bool (b == 61)) [
-      | inl is ↦ let (o, has) = each_value after in with_value key b after takes (eqb-true b 61 is) o has
+    elim (cases (b == 61)) [
+      | inl is ↦ with_value key b after takes (eqb-true b 61 is) (value_of after) (value_holds after)
       | inr other ↦ (Err (0, fault_at (b ∷ after)), file.key takes (test_not b 61 other) not_end)
     ]
 
-each_entry : (text : List ℕ) → HasEntry text
+abbrev each_entry : (text : List ℕ) → HasEntry text
 each_entry text =
     let n = prefix_len is_key_byte text in
     let spaced = drop n text in
@@ -122,7 +125,7 @@ HasReading section line text = (entries : List Entry) × (error : Option Error) 
 abbrev pub AreRead : ℕ → Type 0
 AreRead n = (section : Option Section) (line : ℕ) (text : List ℕ) → length text ≤ n → HasReading section line text
 
-after_header : (n : ℕ) → AreRead n → (section : Option Section) (line b : ℕ) (text : List ℕ) → length text ≤ n → b ≡ 91 → (o : one_header.Outcome) → HeaderHas text o
+abbrev after_header : (n : ℕ) → AreRead n → (section : Option Section) (line b : ℕ) (text : List ℕ) → length text ≤ n → b ≡ 91 → (o : one_header.Outcome) → HeaderHas text o
     → HasReading section line (b ∷ text)
 after_header n more section line b text room is (Ok (next, rest)) has =
     let shorter = header_shortens has in
@@ -130,7 +133,7 @@ after_header n more section line b text room is (Ok (next, rest)) has =
     (entries, error, file.header is has reads)
 after_header n more section line b text room is (Err (lines, fault)) has = ([], Some (file.error_at (line + lines) fault), file.header_refused is has)
 
-after_entry : (n : ℕ) → AreRead n → (section : Option Section) (line b : ℕ) (text : List ℕ) → length text ≤ n → is_ascii_alphabetic b ≡ true → (o : one_entry.Outcome)
+abbrev after_entry : (n : ℕ) → AreRead n → (section : Option Section) (line b : ℕ) (text : List ℕ) → length text ≤ n → is_ascii_alphabetic b ≡ true → (o : one_entry.Outcome)
     → EntryHas (b ∷ text) o → HasReading section line (b ∷ text)
 after_entry n more section line b text room is (Ok (key, v, lines, rest)) has =
     let shorter = entry_shortens (b ∷ text) refl is has in
@@ -138,21 +141,21 @@ after_entry n more section line b text room is (Ok (key, v, lines, rest)) has =
     (file.entry_at section key v (line + lines) ∷ entries, error, file.entry is has reads)
 after_entry n more section line b text room is (Err (lines, fault)) has = ([], Some (file.error_at (line + lines) fault), file.entry_refused is has)
 
-after_byte : (n : ℕ) → AreRead n → (section : Option Section) (line b : ℕ) (text : List ℕ) → length text ≤ n → HasReading section line (b ∷ text)
+abbrev after_byte : (n : ℕ) → AreRead n → (section : Option Section) (line b : ℕ) (text : List ℕ) → length text ≤ n → HasReading section line (b ∷ text)
 after_byte n more section line b text room =
-    elim (cases_Bool (is_blank b)) [
+    elim (cases (is_blank b)) [
       | inl is ↦ let (entries, error, reads) = more section line text room in (entries, error, file.blank is reads)
-      | inr not_blank ↦ elim (cases_Bool (b == 10)) [
+      | inr not_blank ↦ elim (cases (b == 10)) [
         | inl is ↦ let (entries, error, reads) = more section (line + 1) text room in (entries, error, file.line_end (eqb-true b 10 is) reads)
-        | inr not_line ↦ elim (cases_Bool (is_comment_sign b)) [
+        | inr not_line ↦ elim (cases (is_comment_sign b)) [
           | inl is ↦
               let run = run_split is_comment_byte text in
               let shorter = run_shortens run in
               let (entries, error, reads) = more section line (drop (prefix_len is_comment_byte text) text) (omega arith) in
               (entries, error, file.comment is run reads)
-          | inr not_sign ↦ elim (cases_Bool (b == 91)) [
+          | inr not_sign ↦ elim (cases (b == 91)) [
             | inl is ↦ let (o, has) = each_header text in after_header n more section line b text room (eqb-true b 91 is) o has
-            | inr not_bracket ↦ elim (cases_Bool (is_ascii_alphabetic b)) [
+            | inr not_bracket ↦ elim (cases (is_ascii_alphabetic b)) [
               | inl is ↦ let (o, has) = each_entry (b ∷ text) in after_entry n more section line b text room is o has
               | inr not_letter ↦
                   let none = begins_none b not_blank (test_not b 10 not_line) not_sign (test_not b 91 not_bracket) not_letter in
@@ -163,20 +166,20 @@ after_byte n more section line b text room =
       ]
     ]
 
-pub are_read : (n : ℕ) → AreRead n
+abbrev pub are_read : (n : ℕ) → AreRead n
 are_read n section line [] room = ([], None, file.ends)
 are_read zero section line (b ∷ text) room = absurd (omega arith)
 are_read (suc n) section line (b ∷ text) room = after_byte n (are_read n) section line b text (omega arith)
 
-part_decided : (text : List ℕ) → IsPartOfMark text ⊎ (IsPartOfMark text → ⊥)
+abbrev part_decided : (text : List ℕ) → IsPartOfMark text ⊎ (IsPartOfMark text → ⊥)
 part_decided [] = inr (λ h. h)
-part_decided (a ∷ []) = elim (cases_Bool (a == 0xef)) [ inl is ↦ inl (eqb-true a 0xef is) | inr off ↦ inr (test_not a 0xef off) ]
+part_decided (a ∷ []) = elim (cases (a == 0xef)) [ inl is ↦ inl (eqb-true a 0xef is) | inr off ↦ inr (test_not a 0xef off) ]
 part_decided (a ∷ b ∷ rest) =
-    elim (cases_Bool (a == 0xef)) [
+    elim (cases (a == 0xef)) [
       | inr off ↦ inr (λ h. test_not a 0xef off h.0)
       | inl is ↦ elim (line_end_decided (b ∷ rest)) [
         | inl end ↦ inl (eqb-true a 0xef is, inl end)
-        | inr not_end ↦ elim (cases_Bool (b == 0xbb)) [
+        | inr not_end ↦ elim (cases (b == 0xbb)) [
           | inr other ↦ inr (λ h. elim h.1 [ inl end ↦ not_end end | inr both ↦ test_not b 0xbb other both.0 ])
           | inl next ↦ elim (line_end_decided rest) [
             | inl end ↦ inl (eqb-true a 0xef is, inr (eqb-true b 0xbb next, end))
@@ -189,13 +192,9 @@ part_decided (a ∷ b ∷ rest) =
 abbrev HasBeginning : List ℕ → Type 0
 HasBeginning text = (line : ℕ) × (rest : List ℕ) × Begins text line rest
 
-mark_cases : (o : Option (List ℕ)) → ((rest : List ℕ) × (o ≡ Some rest)) ⊎ (o ≡ None)
-mark_cases None = inr refl
-mark_cases (Some rest) = inl (rest, refl)
-
-each_beginning : (text : List ℕ) → HasBeginning text
+abbrev each_beginning : (text : List ℕ) → HasBeginning text
 each_beginning text =
-    elim (mark_cases (after_mark text)) [
+    elim (option_cases (after_mark text)) [
       | inl marked ↦ (1, marked.0, file.marked marked.1)
       | inr none ↦ elim (part_decided text) [
         | inl part ↦ (2, text, file.part_of_mark part)
@@ -203,7 +202,7 @@ each_beginning text =
       ]
     ]
 
-pub each_is_read : (text : List ℕ) → (entries : List Entry) × (error : Option Error) × IsFile text entries error
+abbrev pub each_is_read : (text : List ℕ) → (entries : List Entry) × (error : Option Error) × IsFile text entries error
 each_is_read text =
     let (line, rest, begins) = each_beginning text in
     let (entries, error, reads) = are_read (length rest) None line rest (omega arith) in

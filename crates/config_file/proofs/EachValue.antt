@@ -1,12 +1,13 @@
 -- After an `=`, each text has a value or a place at which the reading stops. The same holds after a quote.
-use Rattle.std.proofs.Common.{◌≡◌, ◌≢◌, ℕ, zero, suc, ◌+◌, ◌≤◌, Bool, true, false, not, ◌==◌, List, [], ◌∷◌, Option, Some, None, Result, Ok, Err, length, refl, ap, arith, eqb-true, if◌then◌else◌, inl, inr, ◌⊎◌}
+use Rattle.std.proofs.Common.{◌≡◌, ◌≢◌, ℕ, zero, suc, ◌+◌, ◌≤◌, Bool, true, false, not, ◌==◌, List, [], ◌∷◌, None, Result, Ok, Err, length, refl, ap, subst, arith, eqb-true, if◌then◌else◌, inl, inr}
 use Rattle.std.proofs.lemmas.Bool.{cases_Bool}
 use Rattle.std.proofs.lemmas.Bool.Decides.{nat_tests}
+use Rattle.config_file.proofs.Pick.{option_cases}
 use Rattle.config_file.proofs.Values as values
 use Rattle.config_file.proofs.Subsections as subsections
 use Rattle.config_file.proofs.OneValue as one_value
-use Rattle.config_file.proofs.OneValue.{ValueHas}
-use Rattle.config_file.proofs.OneSubsection.{SubsectionHas}
+use Rattle.config_file.proofs.OneValue.{ValueHas, value_of, value_is}
+use Rattle.config_file.proofs.OneSubsection.{SubsectionHas, subsection_of, subsection_is}
 use Rattle.config_file.specs.declared.errors.Fault.TheVariants.{BadLine, Nul}
 use Rattle.config_file.specs.Bytes.{is_text_byte}
 use Rattle.config_file.specs.Header.{fault_at}
@@ -38,10 +39,6 @@ data AfterBackslash (rest : List ℕ) : Type 0 where
   ends : rest ≡ [] → AfterBackslash rest
   stops : IsNoEscape rest → AfterBackslash rest
 
-escape_cases : (o : Option ℕ) → ((c : ℕ) × (o ≡ Some c)) ⊎ (o ≡ None)
-escape_cases None = inr refl
-escape_cases (Some c) = inl (c, refl)
-
 after_return : (e : ℕ) (rest : List ℕ) → escape e ≡ None → e ≢ 10 → AfterBackslash (e ∷ rest)
 after_return e [] none other = stops (none, other)
 after_return e (f ∷ rest) none other =
@@ -56,7 +53,7 @@ after_return e (f ∷ rest) none other =
 after_backslash : (rest : List ℕ) → AfterBackslash rest
 after_backslash [] = ends refl
 after_backslash (e ∷ rest) =
-    elim (escape_cases (escape e)) [
+    elim (option_cases (escape e)) [
       | inl found ↦ goes rest (letter refl found.1) (omega arith)
       | inr none ↦ elim (cases_Bool (e == 10)) [
         | inl is ↦ goes rest (line refl (eqb-true e 10 is)) (omega arith)
@@ -99,8 +96,10 @@ value_from n text q [] room passed = value_ends q [] passed tt
 value_from zero text q (b ∷ rest) room passed = absurd (omega arith)
 value_from (suc n) text q (b ∷ rest) room passed = value_turn n (value_from n text) q b rest (omega arith) passed
 
-pub each_value : (text : List ℕ) → (o : one_value.Outcome) × ValueHas text o
-each_value text = value_from (length text) text false text (omega arith) (values.passed_none text)
+pub value_holds : (text : List ℕ) → ValueHas text (value_of text)
+value_holds text =
+    let (o, has) = value_from (length text) text false text (omega arith) (values.passed_none text) in
+    subst (λ x. ValueHas text x) (value_is text o has) has
 
 abbrev HasSubsection : List ℕ → Type 0
 HasSubsection text = (o : Result (List ℕ × List ℕ) (List ℕ)) × SubsectionHas text o
@@ -134,5 +133,7 @@ subsection_from n text [] room passed = (Err [], subsections.stops_here [] passe
 subsection_from zero text (b ∷ rest) room passed = absurd (omega arith)
 subsection_from (suc n) text (b ∷ rest) room passed = subsection_turn n (subsection_from n text) b rest (omega arith) passed
 
-pub each_subsection : (text : List ℕ) → (o : Result (List ℕ × List ℕ) (List ℕ)) × SubsectionHas text o
-each_subsection text = subsection_from (length text) text text (omega arith) (subsections.passed_none text)
+pub subsection_holds : (text : List ℕ) → SubsectionHas text (subsection_of text)
+subsection_holds text =
+    let (o, has) = subsection_from (length text) text text (omega arith) (subsections.passed_none text) in
+    subst (λ x. SubsectionHas text x) (subsection_is text o has) has

@@ -1,5 +1,7 @@
 -- What a text begins with.
-use Rattle.std.proofs.Common.{◌≡◌, ◌≢◌, ◌<◌, ◌++◌, ◌∙◌, ℕ, zero, suc, List, [], ◌∷◌, Option, None, Some, Bor, MatchOption, length, take, drop, get_or, sym, ap, refl, arith}
+use Rattle.std.proofs.Common.{◌≡◌, ◌≢◌, ◌<◌, ◌++◌, ◌∙◌, ◌==◌, ◌&&◌, Bool, true, false, ℕ, zero, suc, List, [], ◌∷◌, Option, None, Some, Bor, MatchOption, length, take, drop, get_or, sym, ap, refl, arith}
+use Rattle.std.proofs.lemmas.Bool.{true≢false, eq-eqb}
+use Rattle.config_file.specs.Bytes.{LacksFront}
 use Rattle.std.proofs.lemmas.List.{append_assoc, append_cancel_left}
 use Rattle.std.specs.Char.{to_ascii_lowercase}
 use Rattle.std.specs.Str.{str_to_ascii_lowercase}
@@ -26,3 +28,16 @@ both first second text rest None begins never =
     λ more e. never more (append_cancel_left first rest (second ++ more) (sym begins ∙ e ∙ append_assoc first second more))
 both first second text rest (Some after) begins goes =
     begins ∙ ap (λ t. first ++ t) goes ∙ sym (append_assoc first second after.now)
+
+-- whether the text begins with the whole front, which computes
+abbrev pub is_front : List ℕ → List ℕ → Bool
+is_front [] text = true
+is_front (f ∷ front) [] = false
+is_front (f ∷ front) (b ∷ text) = f == b && is_front front text
+
+front_is : (front rest : List ℕ) → is_front front (front ++ rest) ≡ true
+front_is [] rest = refl
+front_is (f ∷ front) rest = rw (eq-eqb f f refl, front_is front rest)
+
+pub lacks : (front text : List ℕ) → is_front front text ≡ false → LacksFront front text
+lacks front text e rest is = true≢false (sym (front_is front rest) ∙ ap (is_front front) (sym is) ∙ e)

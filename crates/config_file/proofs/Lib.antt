@@ -34,3 +34,6 @@ pub mod Same
 pub mod Places
 pub mod Conditions
 pub mod Walks
+pub mod OnLiterals
+pub mod StandardFacts
+pub mod PatternsOnLiterals

@@ -1,5 +1,6 @@
 -- A text begins with only one longest run of bytes that pass a test.
-use Rattle.std.proofs.Common.{◌≡◌, ℕ, Bool, true, List, [], ◌∷◌, ◌++◌, refl, sym, ◌∙◌, subst}
+use Rattle.std.proofs.Common.{◌≡◌, ℕ, Bool, true, List, [], ◌∷◌, ◌++◌, ◌-◌, length, take, length-append, refl, sym, ap, ◌∙◌, subst, arith}
+use Rattle.std.proofs.Math.Seq.{take-append_seam}
 use Rattle.std.proofs.lemmas.Bool.{true≢false, and_parts}
 use Rattle.std.specs.List.{list_all}
 use Rattle.config_file.specs.Runs.{Run, StopsRun}
@@ -24,3 +25,12 @@ run_same test (x ∷ a) (y ∷ b) r s pass_a pass_b stop_r stop_s e =
 pub run_only : {test : ℕ → Bool} {text a b r s : List ℕ} → Run test text a r → Run test text b s → (a ≡ b) × (r ≡ s)
 run_only {test = test} {a = a} {b = b} {r = r} {s = s} first second =
     run_same test a b r s first.pass second.pass first.longest second.longest (sym first.joined ∙ second.joined)
+
+-- the bytes of a text before this rest of it
+abbrev pub before : List ℕ → List ℕ → List ℕ
+before text rest = take (length text - length rest) text
+
+pub before_is : (front rest text : List ℕ) → text ≡ front ++ rest → front ≡ before text rest
+before_is front rest text e =
+    let n : length text - length rest ≡ length front = omega (arith, length-append front rest, ap length e) in
+    rw (n, e) (sym (take-append_seam front rest))

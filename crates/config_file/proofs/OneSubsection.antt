@@ -2,6 +2,7 @@
 use Rattle.std.proofs.Common.{◌≡◌, ℕ, zero, suc, ◌≤◌, true, false, ◌==◌, List, [], ◌∷◌, ◌++◌, Option, Some, None, Result, Ok, Err, length, refl, sym, ap, ◌∙◌, subst, arith, if◌then◌else◌, length-append}
 use Rattle.std.proofs.lemmas.List.{append_cancel_right}
 use Rattle.std.proofs.lemmas.Bool.Decides.{nat_tests}
+use Rattle.config_file.proofs.OneRun.{before, before_is}
 use Rattle.config_file.proofs.Pick.{pick, pick_first, pick_second, pick_third}
 use Rattle.config_file.specs.Bytes.{is_text_byte, is_plain_in_quotes, EndsText}
 use Rattle.config_file.specs.Subsection as sub
@@ -126,3 +127,16 @@ found (Err rest) h = stops_found h
 
 pub subsection_only : (text : List ℕ) (a b : Result (List ℕ × List ℕ) (List ℕ)) → SubsectionHas text a → SubsectionHas text b → a ≡ b
 subsection_only text a b first second = found_only (found a first) (found b second)
+
+-- the outcome of the scan, by how far it goes
+abbrev finish_at : List ℕ → List ℕ → Result (List ℕ × List ℕ) (List ℕ)
+finish_at text at = finish (before text at) at
+
+abbrev pub subsection_of : List ℕ → Result (List ℕ × List ℕ) (List ℕ)
+subsection_of text = finish_at text (stop (length text) text)
+
+pub subsection_is : (text : List ℕ) (outcome : Result (List ℕ × List ℕ) (List ℕ)) → SubsectionHas text outcome → outcome ≡ subsection_of text
+subsection_is text outcome has =
+    let scan = found outcome has in
+    let front = before_is scan.raw scan.at text scan.joined in
+    scan.is ∙ ap (λ raw. finish raw scan.at) front ∙ ap (finish_at text) (sym scan.stops)

@@ -3,6 +3,7 @@ use Rattle.std.proofs.Common.{◌≡◌, ◌≢◌, ℕ, zero, suc, ◌+◌, ◌
 use Rattle.std.proofs.lemmas.List.{append_cancel_right}
 use Rattle.std.proofs.lemmas.Bool.{cases_Bool}
 use Rattle.std.proofs.lemmas.Bool.Decides.{nat_tests}
+use Rattle.config_file.proofs.OneRun.{before, before_is}
 use Rattle.config_file.proofs.Pick.{pick, pick_first, pick_second, pick_third, pick_no}
 use Rattle.config_file.specs.declared.errors.Fault.{Fault}
 use Rattle.config_file.specs.declared.errors.Fault.TheVariants.{BadLine, Nul}
@@ -303,3 +304,16 @@ found (Err (lines, fault)) h = stopped_found h
 
 pub value_only : (text : List ℕ) (a b : Outcome) → ValueHas text a → ValueHas text b → a ≡ b
 value_only text a b first second = found_only (found a first) (found b second)
+
+-- the outcome of the scan, by how far it goes
+abbrev finish_at : List ℕ → Bool × List ℕ → Outcome
+finish_at text place = finish (before text place.1) place.0 place.1
+
+abbrev pub value_of : List ℕ → Outcome
+value_of text = finish_at text (stop (length text) false text)
+
+pub value_is : (text : List ℕ) (outcome : Outcome) → ValueHas text outcome → outcome ≡ value_of text
+value_is text outcome has =
+    let scan = found outcome has in
+    let front = before_is scan.raw scan.at text scan.joined in
+    scan.is ∙ ap (λ raw. finish raw scan.quoted scan.at) front ∙ ap (finish_at text) (sym scan.stops)

@@ -1,5 +1,14 @@
--- A choice by two tests.
-use Rattle.std.proofs.Common.{◌≡◌, Bool, true, false, if◌then◌else◌}
+-- A choice by two tests, and the cases of a test and of an option.
+use Rattle.std.proofs.Common.{◌≡◌, Bool, true, false, if◌then◌else◌, ◌⊎◌, inl, inr, refl, Option, Some, None}
+
+-- a test passes or fails, and an option has a value or none; both compute if the bytes are known
+abbrev pub cases : (b : Bool) → (b ≡ true) ⊎ (b ≡ false)
+cases true = inl refl
+cases false = inr refl
+
+abbrev pub option_cases : {T : Type 0} (o : Option T) → ((x : T) × (o ≡ Some x)) ⊎ (o ≡ None)
+option_cases None = inr refl
+option_cases (Some x) = inl (x, refl)
 
 abbrev pub pick : {T : Type 0} → Bool → Bool → T → T → T → T
 pick x y a b c = if x then a else if y then b else c

@@ -1,0 +1,301 @@
+-- What git-config(1) says about configuration files, with its own examples. A definition with a wrong escape, comment
+-- sign, byte of a name, case, include or condition fails here. Not on that page, but as Git reads them, are CR, the
+-- byte order mark, and the lines of entries and errors.
+use Rattle.std.proofs.Common.{true, false, ◌≡◌, ℕ, List, [], ◌∷◌, ◌++◌, length, length-append, map, codes, Bor, Option, Some, None, false, refl, ap, arith}
+use Rattle.std.specs.List.{flat_map}
+use Prim.Native.String.{String}
+use Rattle.config_file.proofs.Fronts.{is_front, lacks}
+use Rattle.config_file.proofs.PatternsOnLiterals.{AreMatched, all_matched}
+use Rattle.config_file.proofs.OnLiterals.{Row, Lists, AreListed, lists, all_listed}
+use Rattle.config_file.specs.declared.errors.Fault.TheVariants.{BadLine, Nul}
+use Rattle.config_file.specs.declared.errors.Error.{Error}
+use Rattle.config_file.specs.declared.include.Condition.{Condition}
+use Rattle.config_file.specs.declared.include.Condition.TheVariants.{Always, GitDir, GitDirIgnoringCase, OnBranch, HasRemoteUrl, Unknown}
+use Rattle.config_file.specs.Bytes.{line_feed}
+use Rattle.config_file.specs.File.{error_at}
+use Rattle.config_file.specs.Settings.{listed}
+use Rattle.config_file.specs.Include.{Names, Includes, IncludesNone, below, anywhere, at_home}
+use Rattle.config_file.specs.Path.{Expands, below_home, below_prefix, other, BeginsUnknown, user, IsIncludedName, absolute, relative}
+
+-- ---- entries
+
+abbrev lines : List String → List ℕ
+lines texts = flat_map (λ t. codes t ++ line_feed ∷ []) texts
+
+-- an entry on this line, with this key as Git lists it and this value
+abbrev row : ℕ → String → String → Row
+row line key text = (codes key, Some (codes text), line)
+
+-- "Example"
+abbrev example : List ℕ
+example = lines (
+    "# Core variables"
+    ∷ "[core]"
+    ∷ "\t; Don't trust file modes"
+    ∷ "\tfilemode = false"
+    ∷ ""
+    ∷ "# Our diff algorithm"
+    ∷ "[diff]"
+    ∷ "\texternal = /usr/local/bin/diff-wrapper"
+    ∷ "\trenames = true"
+    ∷ ""
+    ∷ "[branch \"devel\"]"
+    ∷ "\tremote = origin"
+    ∷ "\tmerge = refs/heads/devel"
+    ∷ ""
+    ∷ "# Proxy settings"
+    ∷ "[core]"
+    ∷ "\tgitProxy=\"ssh\" for \"kernel.org\""
+    ∷ "\tgitProxy=default-proxy ; for the rest"
+    ∷ ""
+    ∷ "[include]"
+    ∷ "\tpath = /path/to/foo.inc ; include by absolute path"
+    ∷ "\tpath = foo.inc ; find \"foo.inc\" relative to the current file"
+    ∷ "\tpath = ~/foo.inc ; find \"foo.inc\" in your `$HOME` directory"
+    ∷ ""
+    ∷ "; include if $GIT_DIR is /path/to/foo/.git"
+    ∷ "[includeIf \"gitdir:/path/to/foo/.git\"]"
+    ∷ "\tpath = /path/to/foo.inc"
+    ∷ ""
+    ∷ "; include for all repositories inside /path/to/group"
+    ∷ "[includeIf \"gitdir:/path/to/group/\"]"
+    ∷ "\tpath = /path/to/foo.inc"
+    ∷ ""
+    ∷ "; include for all repositories inside $HOME/to/group"
+    ∷ "[includeIf \"gitdir:~/to/group/\"]"
+    ∷ "\tpath = /path/to/foo.inc"
+    ∷ ""
+    ∷ "; relative paths are always relative to the including"
+    ∷ "; file (if the condition is true); their location is not"
+    ∷ "; affected by the condition"
+    ∷ "[includeIf \"gitdir:/path/to/group/\"]"
+    ∷ "\tpath = foo.inc"
+    ∷ ""
+    ∷ "; include only if we are in a worktree where foo-branch is"
+    ∷ "; currently checked out"
+    ∷ "[includeIf \"onbranch:foo-branch\"]"
+    ∷ "\tpath = foo.inc"
+    ∷ ""
+    ∷ "; include only if a remote with the given URL exists (note"
+    ∷ "; that such a URL may be provided later in a file or in a"
+    ∷ "; file read after this file is read, as seen in this example)"
+    ∷ "[includeIf \"hasconfig:remote.*.url:https://example.com/**\"]"
+    ∷ "\tpath = foo.inc"
+    ∷ "[remote \"origin\"]"
+    ∷ "\turl = https://example.com/git"
+    ∷ []
+    )
+
+pub example_is_listed : Lists example (
+    row 4 "core.filemode" "false"
+    ∷ row 8 "diff.external" "/usr/local/bin/diff-wrapper"
+    ∷ row 9 "diff.renames" "true"
+    ∷ row 12 "branch.devel.remote" "origin"
+    ∷ row 13 "branch.devel.merge" "refs/heads/devel"
+    ∷ row 17 "core.gitproxy" "ssh for kernel.org"
+    ∷ row 18 "core.gitproxy" "default-proxy"
+    ∷ row 21 "include.path" "/path/to/foo.inc"
+    ∷ row 22 "include.path" "foo.inc"
+    ∷ row 23 "include.path" "~/foo.inc"
+    ∷ row 27 "includeif.gitdir:/path/to/foo/.git.path" "/path/to/foo.inc"
+    ∷ row 31 "includeif.gitdir:/path/to/group/.path" "/path/to/foo.inc"
+    ∷ row 35 "includeif.gitdir:~/to/group/.path" "/path/to/foo.inc"
+    ∷ row 41 "includeif.gitdir:/path/to/group/.path" "foo.inc"
+    ∷ row 46 "includeif.onbranch:foo-branch.path" "foo.inc"
+    ∷ row 52 "includeif.hasconfig:remote.*.url:https://example.com/**.path" "foo.inc"
+    ∷ row 54 "remote.origin.url" "https://example.com/git"
+    ∷ []
+    ) None
+example_is_listed = lists example _ _ refl
+
+-- a line that gives `k` a value
+abbrev valued : String × String → List ℕ × List Row × Option Error
+valued line = (codes line.0, row 1 "k" line.1 ∷ [], None)
+
+-- "Whitespace characters surrounding name, = and value are discarded", and quotes keep them; "# or ;" begins a
+-- comment; "\" and \\ .. \n for newline character, \t for horizontal tabulation and \b for backspace"
+abbrev values : List (String × String)
+values =
+    ("k=a", "a")
+    ∷ (" \tk \t= \ta \tb \t", "a \tb")
+    ∷ ("k = a\tb\rc", "a\tb\rc")
+    ∷ ("k = a\r\n", "a")
+    ∷ ("k =", "")
+    ∷ ("k = \" a \"", " a ")
+    ∷ ("k = a\" \"b", "a b")
+    ∷ ("k = a # b", "a")
+    ∷ ("k = a ; b", "a")
+    ∷ ("k = a;b", "a")
+    ∷ ("k = \"a;b#c\"", "a;b#c")
+    ∷ ("k = \\n\\t\\b\\\"\\\\", "\n\t\u{8}\"\\")
+    ∷ ("k = \"\\n\\t\\b\\\"\\\\\"", "\n\t\u{8}\"\\")
+    ∷ []
+
+pub values_are_listed : AreListed (map valued values)
+values_are_listed = all_listed (map valued values) refl
+
+-- "A line that defines a value can be continued to the next line by ending it with a backslash". "[section]",
+-- "[section "subsection"]" with the escapes \" and \\, where other backslashes are dropped, and
+-- "[section.subsection]"; names of sections and of variables in any case, but not subsections. A key alone.
+abbrev listings : List (List ℕ × List Row × Option Error)
+listings =
+    (codes "k = a \\\n b\nl = c", row 2 "k" "a  b" ∷ row 3 "l" "c" ∷ [], None)
+    ∷ (codes "k = \"a\\\r\nb\"", row 2 "k" "ab" ∷ [], None)
+    ∷ (codes "k = a\\", row 2 "k" "a" ∷ [], None)
+    ∷ (
+      codes "[a-1] k = b\n[http \"https://Weak.example.com\"]\n\tsslVerify",
+      row 1 "a-1.k" "b"
+          ∷ (codes "http.https://Weak.example.com.sslverify", None, 3) ∷ [],
+      None,
+    )
+    ∷ (codes "[Core] FileMode = No", row 1 "core.filemode" "No" ∷ [], None)
+    ∷ (codes "[Branch.Main] k-1 = b", row 1 "branch.main.k-1" "b" ∷ [], None)
+    ∷ (codes "[a \"\\\"b\\\\\\t# ]\"] k = b", row 1 "a.\"b\\t# ].k" "b" ∷ [], None)
+    ∷ (0xef ∷ 0xbb ∷ 0xbf ∷ codes "k = a", row 1 "k" "a" ∷ [], None)
+    ∷ []
+
+pub listings_are_listed : AreListed listings
+listings_are_listed = all_listed listings refl
+
+-- a text that is refused on its second line, after the first entry
+abbrev refused : String → List ℕ × List Row × Option Error
+refused text = (codes "a = b\n" ++ codes text, row 1 "a" "b" ∷ [], Some (error_at 2 BadLine))
+
+-- "Other char escape sequences .. are invalid", and so is a quote that is not closed; names have "only alphanumeric
+-- characters and -, and must start with an alphabetic character", and those of sections - and . too
+abbrev no_lines : List String
+no_lines =
+    "k = \\r" ∷ "k = \\0" ∷ "k = \"a" ∷ "k = \"a\nb\"" ∷ "a_b = 1" ∷ "a.b = 1" ∷ "1a = 1" ∷ "-a = 1" ∷ "= 1" ∷ "a b"
+    ∷ "[a_b]" ∷ "[]" ∷ "[a b]" ∷ "[a\"b\"]" ∷ "[a \"b\" ]" ∷ []
+
+pub no_lines_are_refused : AreListed (map refused no_lines)
+no_lines_are_refused = all_listed (map refused no_lines) refl
+
+pub nul_is_refused : Lists (codes "a = b\0") [] (Some (error_at 1 Nul))
+nul_is_refused = lists (codes "a = b\0") _ _ refl
+
+-- how a lookup writes a key
+pub keys_are_listed : (listed (codes "Core") None (codes "FileMode") ≡ codes "core.filemode")
+    × (listed (codes "Branch") (Some (codes "Main")) (codes "Rebase") ≡ codes "branch.Main.rebase")
+keys_are_listed = (refl, refl)
+
+-- ---- includes
+
+abbrev lent : String → Bor (List ℕ)
+lent text = record { ref_ptr = (0, 0); now = codes text }
+
+-- "include.path (or includeIf.*.path)", and the keywords gitdir, gitdir/i, onbranch and hasconfig:remote.*.url, each
+-- "followed by a colon and some data"
+pub always : Includes (codes "include.path") Always
+always = refl
+
+abbrev IsNamed : String → Condition → Type 0
+IsNamed text condition = Includes (codes "includeif." ++ codes text ++ codes ".path") condition
+
+pub conditions_are_named : IsNamed "gitdir:/path/to/foo/.git" (GitDir (lent "/path/to/foo/.git"))
+    × IsNamed "gitdir/i:~/to/group/" (GitDirIgnoringCase (lent "~/to/group/"))
+    × IsNamed "onbranch:foo-branch" (OnBranch (lent "foo-branch"))
+    × IsNamed "hasconfig:remote.*.url:https://example.com/**" (HasRemoteUrl (lent "https://example.com/**"))
+conditions_are_named = ((_, refl, refl), (_, refl, refl), (_, refl, refl), (_, refl, refl))
+
+abbrev keywords : List (List ℕ)
+keywords = codes "gitdir:" ∷ codes "gitdir/i:" ∷ codes "onbranch:" ∷ codes "hasconfig:remote.*.url:" ∷ []
+
+unknown : (text : String) → map (λ k. is_front k (codes text)) keywords ≡ map (λ k. false) keywords → Names (codes text) Unknown
+unknown text e = (
+  lacks (codes "gitdir:") (codes text) (cc (e)),
+  lacks (codes "gitdir/i:") (codes text) (cc (e)),
+  lacks (codes "onbranch:") (codes text) (cc (e)),
+  lacks (codes "hasconfig:remote.*.url:") (codes text) (cc (e)),
+)
+
+-- no keyword: another word, another case, no colon
+pub others_are_unknown : Names (codes "os:linux") Unknown
+    × Names (codes "GitDir:/a/") Unknown
+    × Names (codes "gitdir") Unknown
+    × Names (codes "hasconfig:remote.a.url:b") Unknown
+others_are_unknown = (unknown "os:linux" refl, unknown "GitDir:/a/" refl, unknown "gitdir" refl, unknown "hasconfig:remote.a.url:b" refl)
+
+-- no includes
+pub paths_is_none : IncludesNone (codes "include.paths")
+paths_is_none = (λ e. cc, λ text. lacks (codes "includeif.") (codes "include.paths") refl (text ++ codes ".path"))
+
+pub no_condition_is_none : IncludesNone (codes "includeif.path")
+no_condition_is_none = (λ e. cc, λ text e. omega (arith, ap length e, length-append text (codes ".path")))
+
+-- ---- paths
+
+abbrev IsExpanded : String → String → Type 0
+IsExpanded value path = Expands (Some (codes "/home/user")) (Some (codes "/usr")) (codes value) (codes path)
+
+literal : (value : String) → is_front (codes "~") (codes value) ≡ false → is_front (codes "%(prefix)/") (codes value) ≡ false
+    → IsExpanded value value
+literal value a b = other (lacks (codes "~") (codes value) a) (lacks (codes "%(prefix)/") (codes value) b) refl
+
+-- "subject to tilde expansion", and since Git 2.32 to that of %(prefix)/
+pub paths_are_expanded : IsExpanded "~/foo.inc" "/home/user/foo.inc"
+    × IsExpanded "~" "/home/user"
+    × IsExpanded "%(prefix)/foo.inc" "/usr/foo.inc"
+    × IsExpanded "foo.inc" "foo.inc"
+    × IsExpanded "a/~/foo.inc" "a/~/foo.inc"
+paths_are_expanded = (
+  below_home (codes "/home/user") (codes "/foo.inc") refl refl refl refl,
+  below_home (codes "/home/user") [] refl refl refl refl,
+  below_prefix (codes "/usr") (codes "foo.inc") refl refl refl,
+  literal "foo.inc" refl refl,
+  literal "a/~/foo.inc" refl refl,
+)
+
+pub user_is_unknown : BeginsUnknown None None (codes "~user/foo.inc")
+user_is_unknown = user (codes "user/foo.inc") refl refl
+
+-- a relative path is "relative to the configuration file in which the include directive was found"
+pub names_are_included : IsIncludedName (codes "/etc/gitconfig") (codes "foo.inc") (codes "/etc/foo.inc")
+    × IsIncludedName (codes "config") (codes "foo.inc") (codes "foo.inc")
+    × IsIncludedName (codes "/etc/gitconfig") (codes "/path/to/foo.inc") (codes "/path/to/foo.inc")
+names_are_included = (
+  relative (lacks (codes "/") (codes "foo.inc") refl) refl,
+  relative (lacks (codes "/") (codes "foo.inc") refl) refl,
+  absolute (codes "path/to/foo.inc") refl refl,
+)
+
+-- "the pattern foo/bar becomes **/foo/bar", "the pattern foo/ becomes foo/**", and "~ will be substituted"
+pub patterns_are_completed : (anywhere (codes "foo/bar") ≡ codes "**/foo/bar")
+    × (anywhere (codes "/foo/bar") ≡ codes "/foo/bar")
+    × (below (codes "foo/") ≡ codes "foo/**")
+    × (below (codes "foo") ≡ codes "foo")
+    × (at_home (Some (codes "/home/user")) (codes "~/to/group/") ≡ codes "/home/user/to/group/")
+patterns_are_completed = (refl, refl, refl, refl, refl)
+
+-- ---- patterns
+
+abbrev pairs : List (String × String) → List (List ℕ × List ℕ)
+pairs rows = map (λ row. (codes row.0, codes row.1)) rows
+
+-- gitignore(5): "An asterisk * matches anything except a slash. The character ? matches any one character except /.
+-- The range notation, e.g. [a-zA-Z]". "**/foo matches file or directory foo anywhere", "abc/** matches all files
+-- inside", and "a/**/b matches a/b, a/x/b, a/x/y/b". fnmatch(3) has `!`, a leading `]`, `\` and classes.
+abbrev matched : List (String × String)
+matched =
+    ("foo", "foo") ∷ ("f?o", "foo") ∷ ("*", "foo") ∷ ("f*", "foo") ∷ ("*o*a*", "foobar") ∷ ("*ab", "aab")
+    ∷ ("**/foo", "foo") ∷ ("**/foo", "a/b/foo") ∷ ("abc/**", "abc/a/b") ∷ ("a/**/b", "a/b") ∷ ("a/**/b", "a/x/b") ∷ ("a/**/b", "a/x/y/b")
+    ∷ ("[a-c]t", "bt") ∷ ("[!a]b", "cb") ∷ ("[^a]b", "cb") ∷ ("[]a]", "]") ∷ ("[\\]]", "]") ∷ ("[[:alpha:]]", "A") ∷ ("[[:digit:][:upper:]]", "7")
+    ∷ ("\\*", "*") ∷ ("\\f", "f") ∷ []
+
+abbrev not_matched : List (String × String)
+not_matched =
+    ("foo", "Foo") ∷ ("f?o", "f/o") ∷ ("?", "") ∷ ("*", "a/b") ∷ ("a*", "a/b") ∷ ("a**b", "a/b") ∷ ("**/foo", "afoo") ∷ ("abc/**", "abc")
+    ∷ ("a/**/b", "a/xb") ∷ ("[a-c]t", "dt") ∷ ("[!a]b", "ab") ∷ ("[!a]b", "/b") ∷ ("[[:alpha:]]", "1") ∷ ("\\*", "a") ∷ []
+
+pub patterns_match : AreMatched true false (pairs matched)
+patterns_match = all_matched true false (pairs matched) refl
+
+pub patterns_do_not_match : AreMatched false false (pairs not_matched)
+patterns_do_not_match = all_matched false false (pairs not_matched) refl
+
+-- ignoring case, for gitdir/i
+abbrev matched_in_any_case : List (String × String)
+matched_in_any_case = ("foo", "FOO") ∷ ("FOO", "foo") ∷ ("[a-c]", "B") ∷ ("[A-C]", "b") ∷ ("[[:upper:]]", "a") ∷ []
+
+pub patterns_match_in_any_case : AreMatched true true (pairs matched_in_any_case)
+patterns_match_in_any_case = all_matched true true (pairs matched_in_any_case) refl
