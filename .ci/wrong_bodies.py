@@ -99,7 +99,10 @@ def tried(name):
     with tempfile.TemporaryDirectory() as room:
         crate = Crate(name, room)
         edits = [edit_of(file) for file in sorted((crate.folder / "wrong_bodies").glob("*.edit"))]
-        return crate.faults(edits) if edits else {}
+        # a changed definition is checked anew wherever it is cited, so these edits are tried after the others
+        of_specs = [edit for edit in edits if any(path.startswith("specs/") for path, *_ in edit.pairs)]
+        parts = [edit for edit in edits if edit not in of_specs], of_specs
+        return {name: why for part in parts if part for name, why in crate.faults(part).items()}
 
 
 def main():

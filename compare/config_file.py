@@ -71,7 +71,7 @@ PARTS = [" ", *r"""a b A B 1 - ! ^ : , _ ? * / ] \ é ** /**/ **/ /** [ [] [! [^
              f"[{no}[:{name}:]]" for no in ("", "!") for name in
              "alnum alpha blank cntrl digit graph lower print punct space upper xdigit word ALPHA".split())]
 STARRED = ["*a", "*a", "*b", "a*", "?*", "**", "*/", "**/", "/**/", "*[ab]", "*ab", "a"]
-LONGEST_RUN = 20
+LONGEST_RUN = 60
 # a work tree, its branch, a condition that is slow if each star is tried again at all its places, whether it holds, and
 # the first Git that says so at once. Git knows no branch of 60,000 bytes, so it was asked about a URL of these bytes
 Star = collections.namedtuple("Star", "tree branch condition holds since")

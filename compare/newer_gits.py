@@ -20,13 +20,15 @@ SECONDS = 60
 
 
 def run(until, folder, *words):
-    """Runs a command in a folder, up to a time."""
+    """Runs a command in a folder, up to a time, and returns its output."""
     try:
-        subprocess.run(words, cwd=folder, timeout=until - time.monotonic(), check=True, capture_output=True)
-    except subprocess.CalledProcessError as error:
-        raise Missing(f"{words[0]} says {error.stderr.decode().strip().splitlines()[-1]}") from None
+        done = subprocess.run(words, cwd=folder, timeout=until - time.monotonic(), check=False, capture_output=True)
     except (OSError, subprocess.TimeoutExpired) as error:
         raise Missing(error) from None
+    if done.returncode != 0:
+        last = done.stderr.decode(errors="replace").strip().rpartition("\n")[2]
+        raise Missing(f"{words[0]} says {last}")
+    return done.stdout
 
 
 def fetch(folder, suite, until):
@@ -62,7 +64,7 @@ def fetch_all(folder):
     with concurrent.futures.ThreadPoolExecutor() as pool:
         list(pool.map(lambda suite: fetch(folder, suite, until), SUITES))
     for suite in SUITES:
-        print(subprocess.check_output([folder / suite / "git", "--version"]).decode().strip())
+        print(run(until, folder, folder / suite / "git", "--version").decode().strip())
     return len(SUITES), 0
 
 

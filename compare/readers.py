@@ -107,7 +107,10 @@ class Command:
             raise Missing(f"no {command} is installed")
         self.command = os.path.abspath(found)
         self.folder = pathlib.Path(folder)
-        said = subprocess.check_output([self.command, "--version"]).decode().strip()
+        run = subprocess.run([self.command, "--version"], capture_output=True, check=False)
+        if run.returncode != 0:
+            raise Missing(f"{command} does not run: {run.stderr.decode(errors='replace').strip()}")
+        said = run.stdout.decode().strip()
         self.version = tuple(map(int, re.search(r"(\d+)\.(\d+)", said).groups()))
         if self.version < FIRST_VERSION:
             raise Missing(f"{said}, and Git from {dotted(FIRST_VERSION)} on is compared")

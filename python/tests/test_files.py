@@ -2,6 +2,7 @@
 
 Run: python -W error -bb -m unittest discover -s tests, where the package can be imported.
 """
+import concurrent.futures
 import copy
 import getpass
 import json
@@ -12,6 +13,7 @@ import re
 import shutil
 import subprocess
 import tempfile
+import threading
 import time
 import unittest
 from unittest import mock
@@ -303,11 +305,16 @@ class Configurations(Files):
         held = self.repository_of("r", "ref: refs/heads/.invalid\n", conditions)
         self.assertEqual(held, [False, False, True])
 
-    def test_stars(self):
+    def stars(self):
         for letters, condition, holds in STARS:
-            began = time.process_time()
+            began = time.thread_time()
             held = self.repository_of("a" * min(letters, 200), f"ref: refs/heads/{'a' * letters}\n", [condition])
-            self.assertEqual((held, time.process_time() - began < 0.1), ([holds], True), condition[:40])
+            self.assertEqual((held, time.thread_time() - began < 0.1), ([holds], True), condition[:40])
+
+    def test_stars(self):
+        self.addCleanup(threading.stack_size, threading.stack_size(128 * 1024))
+        with concurrent.futures.ThreadPoolExecutor(1) as pool:
+            pool.submit(self.stars).result()
 
     def test_without_git(self):
         self.write({"r/.git/HEAD": "ref: refs/heads/main\n", "r/.git/objects/x": "", "r/.git/refs/x": "",

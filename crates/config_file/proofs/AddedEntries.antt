@@ -26,7 +26,8 @@ no_letter_other : (q : Bool) (b : ℕ) → letter_of q b ≡ None → is_comment
 no_letter_other true b e = grind (arith, nat_tests)
 no_letter_other false b e = grind (arith, nat_tests)
 
-byte_other : (q : Bool) (b : ℕ) (o : Option ℕ) → letter_of q b ≡ o → list_all is_comment_byte (after_backslash b o) ≡ true
+byte_other : (q : Bool) (b : ℕ) (o : Option ℕ) → letter_of q b ≡ o
+    → list_all is_comment_byte (after_backslash b o) ≡ true
 byte_other q b (Some l) is = rw (letter_other q b l is)
 byte_other q b None is = rw (no_letter_other q b is)
 
@@ -49,7 +50,8 @@ letter_stays b l e is = grind (arith, nat_tests)
 no_letter_stays : (b : ℕ) → letter_of false b ≡ None → b ≢ 92
 no_letter_stays b e is = grind (arith, nat_tests)
 
-byte_stays : (b : ℕ) (o : Option ℕ) (line : List ℕ) → letter_of false b ≡ o → is_continued line ≡ false → is_continued (after_backslash b o ++ line) ≡ false
+byte_stays : (b : ℕ) (o : Option ℕ) (line : List ℕ) → letter_of false b ≡ o → is_continued line ≡ false
+    → is_continued (after_backslash b o ++ line) ≡ false
 byte_stays b (Some l) line is h = pair_continued l line (letter_stays b l is) ∙ h
 byte_stays b None line is h = continued_tail b line (no_letter_stays b is) ∙ h
 
@@ -75,13 +77,15 @@ key_stays (b ∷ key) all =
     let other : b ≢ 92 = grind (arith, nat_tests) in
     continued_tail b key other ∙ key_stays key others
 
-line_stays : (front : List ℕ) (k : ℕ) (key : List ℕ) → is_ascii_alphabetic k ≡ true → is_continued (k ∷ key) ≡ false → is_continued (front ++ k ∷ key) ≡ false
+line_stays : (front : List ℕ) (k : ℕ) (key : List ℕ) → is_ascii_alphabetic k ≡ true
+    → is_continued (k ∷ key) ≡ false → is_continued (front ++ k ∷ key) ≡ false
 line_stays front k key letter h =
     let no_backslash : k ≢ 92 = grind (arith, nat_tests) in
     let no_return : k ≢ 13 = grind (arith, nat_tests) in
     continued_by_last front k key no_backslash no_return h
 
-line_ends : (front key : List ℕ) (value : Option (List ℕ)) → is_key key ≡ true → HasLineEnd (front ++ spelled_line key value)
+line_ends : (front key : List ℕ) (value : Option (List ℕ)) → is_key key ≡ true
+    → HasLineEnd (front ++ spelled_line key value)
 line_ends front [] value is = cc
 line_ends front (k ∷ key) None is =
     let letter : is_ascii_alphabetic k ≡ true = grind (arith, nat_tests) in
@@ -109,7 +113,8 @@ value_of : Option (List ℕ) → Option (List ℕ)
 value_of None = None
 value_of (Some value) = Some (spelled_value value)
 
-key_then : (k : ℕ) (key rest : List ℕ) (b : ℕ) → list_all is_key_byte (k ∷ key) ≡ true → is_key_byte b ≡ false → (b == 32 || b == 9) ≡ false
+key_then : (k : ℕ) (key rest : List ℕ) (b : ℕ) → list_all is_key_byte (k ∷ key) ≡ true
+    → is_key_byte b ≡ false → (b == 32 || b == 9) ≡ false
     → TakesKey ((k ∷ key) ++ b ∷ rest) (k ∷ key) (b ∷ rest)
 key_then k key rest b all no_key no_space =
     record {
@@ -119,7 +124,8 @@ key_then k key rest b all no_key no_space =
       space_run = record { joined = refl; pass = refl; longest = no_space };
     }
 
-line_taken : (k : ℕ) (key : List ℕ) (value : Option (List ℕ)) → is_key (k ∷ key) ≡ true → is_spellable_or_absent value ≡ true
+line_taken : (k : ℕ) (key : List ℕ) (value : Option (List ℕ)) → is_key (k ∷ key) ≡ true
+    → is_spellable_or_absent value ≡ true
     → TakesEntry (spelled_line (k ∷ key) value) (k ∷ key) (value_of value) 0 (10 ∷ [])
 unfolding value_of
 line_taken k key None is spellable =
@@ -133,7 +139,8 @@ line_taken k key (Some value) is spellable =
     let none = value_lines value in
     valued (key_then k key after 61 all refl refl) refl (subst (λ l. TakesValue after raw l (10 ∷ [])) none taken)
 
-value_spells : (value : Option (List ℕ)) → is_spellable_or_absent value ≡ true → SpellsOptional IsSpelling (value_of value) value
+value_spells : (value : Option (List ℕ)) → is_spellable_or_absent value ≡ true
+    → SpellsOptional IsSpelling (value_of value) value
 unfolding value_of
 value_spells None is = tt
 value_spells (Some value) is = value_spelled value is
@@ -141,7 +148,8 @@ value_spells (Some value) is = value_spelled value is
 entry_on : Section → List ℕ → Option (List ℕ) → ℕ → Entry
 entry_on section key value line = record { section = Some section; key = key; value = value_of value; line = line }
 
-line_reads : (section : Section) (key : List ℕ) (value : Option (List ℕ)) (line : ℕ) → is_key key ≡ true → is_spellable_or_absent value ≡ true
+line_reads : (section : Section) (key : List ℕ) (value : Option (List ℕ)) (line : ℕ) → is_key key ≡ true
+    → is_spellable_or_absent value ≡ true
     → Reads (Some section) line (spelled_line key value) (entry_on section key value line ∷ []) None
 unfolding entry_on
 line_reads section [] value line is spellable = cc
@@ -159,7 +167,8 @@ line_reads section (k ∷ key) (Some value) line is spellable =
     rw same at read
 
 -- how a text begins, and how it begins after bytes are appended to it
-begins_no_mark : {section : Option Section} {line b : ℕ} {text : List ℕ} {entries : List Entry} → Reads section line (b ∷ text) entries None → b ≢ 0xef
+begins_no_mark : {section : Option Section} {line b : ℕ} {text : List ℕ} {entries : List Entry}
+    → Reads section line (b ∷ text) entries None → b ≢ 0xef
 begins_no_mark (file.blank is h) e = grind (arith, nat_tests)
 begins_no_mark (file.line_end is h) e = omega arith
 begins_no_mark (file.comment is run h) e = grind (arith, nat_tests)
@@ -194,12 +203,14 @@ mark_is (a ∷ b ∷ c ∷ text) rest e =
       | inr other ↦ let none : None ≡ Some rest = rw other at e in cc
     ]
 
-marked_ends : {text : List ℕ} (rest : List ℕ) → text ≡ 0xef ∷ 0xbb ∷ 0xbf ∷ rest → EndsLine text → EndsLine rest
+marked_ends : {text : List ℕ} (rest : List ℕ) → text ≡ 0xef ∷ 0xbb ∷ 0xbf ∷ rest → EndsLine text
+    → EndsLine rest
 marked_ends rest same (inl none) = cc
 marked_ends rest same (inr h) = let other : 0xbf ≢ 92 = omega arith in ends_line (after_front (0xef ∷ 0xbb ∷ []) 0xbf rest other same h)
 
 module _ (bytes : List ℕ) (last : List Entry) (end : ℕ) (reads : (section : Option Section) → Reads section end (91 ∷ bytes) last None) where
-  unmarked_more : (text : List ℕ) (entries : List Entry) → Reads None 1 text entries None → EndsLine text → 1 + line_feeds text ≡ end
+  unmarked_more : (text : List ℕ) (entries : List Entry) → Reads None 1 text entries None → EndsLine text
+      → 1 + line_feeds text ≡ end
       → IsFile (text ++ 91 ∷ bytes) (entries ++ last) None
   unmarked_more [] entries h ends e =
       let bracket : 91 ≢ 0xef = omega arith in
@@ -212,7 +223,8 @@ module _ (bytes : List ℕ) (last : List Entry) (end : ℕ) (reads : (section : 
         reads = reads_more (91 ∷ bytes) last end reads h ends e;
       }
 
-  begun_more : {text rest : List ℕ} {line : ℕ} {entries : List Entry} → Begins text line rest → Reads None line rest entries None → EndsLine text
+  begun_more : {text rest : List ℕ} {line : ℕ} {entries : List Entry} → Begins text line rest
+      → Reads None line rest entries None → EndsLine text
       → 1 + line_feeds text ≡ end → IsFile (text ++ 91 ∷ bytes) (entries ++ last) None
   begun_more {entries = entries} (marked {text = text} {rest = rest} mark) h ends e =
       let same = mark_is text rest mark in
@@ -228,7 +240,8 @@ module _ (bytes : List ℕ) (last : List Entry) (end : ℕ) (reads : (section : 
   begun_more (part_of_mark {text = b ∷ c ∷ text} part) h ends e = absurd (begins_no_mark h part.0)
   begun_more {entries = entries} (unmarked {text = text} none other) h ends e = unmarked_more text entries h ends e
 
-pub entry_added : (bytes name : List ℕ) (text : Option (List ℕ)) (key : List ℕ) (value : Option (List ℕ)) → IsHeader bytes name text
+pub entry_added : (bytes name : List ℕ) (text : Option (List ℕ)) (key : List ℕ) (value : Option (List ℕ))
+    → IsHeader bytes name text
     → is_key key ≡ true → is_spellable_or_absent value ≡ true → AddsEntry (bytes ++ spelled_line key value) name text key value
 unfolding entry_on
 entry_added bytes name text key value (inner, section, same, names, header) is spellable file_text entries is_file ends =
@@ -250,7 +263,8 @@ lacks_spelling : (value : Option (List ℕ)) → is_spellable_or_absent value �
 lacks_spelling None no_value = absurd (true≢false no_value)
 lacks_spelling (Some value) refused = not_spelled value refused
 
-pub not_writable : (name : List ℕ) (text : Option (List ℕ)) (key : List ℕ) (value : Option (List ℕ)) → is_writable name text key value ≡ false
+pub not_writable : (name : List ℕ) (text : Option (List ℕ)) (key : List ℕ) (value : Option (List ℕ))
+    → is_writable name text key value ≡ false
     → HasNoHeader name text ⊎ IsNoKey key ⊎ LacksSpelling value
 not_writable name text key value refused =
     elim (cases_Bool (is_section name text)) [
@@ -271,7 +285,8 @@ and_right : (a b : Bool) → (a && b) ≡ true → b ≡ true
 and_right true b e = e
 and_right false b e = absurd (true≢false (sym e))
 
-pub writable_added : (name : List ℕ) (text : Option (List ℕ)) (key : List ℕ) (value : Option (List ℕ)) → is_writable name text key value ≡ true
+pub writable_added : (name : List ℕ) (text : Option (List ℕ)) (key : List ℕ) (value : Option (List ℕ))
+    → is_writable name text key value ≡ true
     → AddsEntry ((91 ∷ spelled_section name text) ++ spelled_line key value) name text key value
 writable_added name text key value all =
     let first = and_left _ (is_spellable_or_absent value) all in
@@ -280,7 +295,8 @@ writable_added name text key value all =
     let spellable : is_spellable_or_absent value ≡ true = and_right (is_section name text && is_key key) _ all in
     entry_added (91 ∷ spelled_section name text) name text key value (header_spelled name text section) is spellable
 
-pub writable_line : (name : List ℕ) (text : Option (List ℕ)) (key : List ℕ) (value : Option (List ℕ)) → is_writable name text key value ≡ true
+pub writable_line : (name : List ℕ) (text : Option (List ℕ)) (key : List ℕ) (value : Option (List ℕ))
+    → is_writable name text key value ≡ true
     → IsLine ((91 ∷ spelled_section name text) ++ spelled_line key value) name text key value
 writable_line name text key None all =
     let section : is_section name text ≡ true = and_left _ (is_key key) (and_left _ true all) in

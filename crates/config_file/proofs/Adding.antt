@@ -11,7 +11,8 @@ use Rattle.config_file.specs.Settings.{IsSettingOf, Adds, HasFirst}
 use Rattle.config_file.specs.Views.{section_of}
 use Rattle.config_file.proofs.EachReading.{are_read}
 
-pub zip_push : {A B : Type 0} (R : A → B → Type 0) (xs : List A) (ys : List B) (x : A) (y : B) → AllZip R xs ys → R x y
+pub zip_push : {A B : Type 0} (R : A → B → Type 0) (xs : List A) (ys : List B) (x : A) (y : B)
+    → AllZip R xs ys → R x y
     → AllZip R (xs ++ x ∷ []) (ys ++ y ∷ [])
 zip_push R [] [] x y all one = (one, tt)
 zip_push R [] (z ∷ zs) x y all one = absurd all
@@ -34,7 +35,8 @@ pub file_more : (text : List ℕ) (entries left : List Entry) (entry : Entry) (e
     → IsFile text (entries ++ entry ∷ left) error → IsFile text ((entries ++ entry ∷ []) ++ left) error
 file_more text entries left entry error file = subst (λ e. IsFile text e error) (sym (append_assoc entries (entry ∷ []) left)) file
 
-pub file_end : (text : List ℕ) (entries : List Entry) (error : Option Error) → IsFile text (entries ++ []) error → IsFile text entries error
+pub file_end : (text : List ℕ) (entries : List Entry) (error : Option Error)
+    → IsFile text (entries ++ []) error → IsFile text entries error
 file_end text entries error file = subst (λ e. IsFile text e error) (append-nil entries) file
 
 pub first_of : (text : List ℕ) (entries : List Entry) (reader : Entries)

@@ -38,20 +38,24 @@ subsection_other sub.ends = refl
 subsection_other (sub.escaped {e = e} b t s) = rw (b, text_other e t, subsection_other s)
 subsection_other (sub.plain {b = b} p s) = rw (plain_other b p, subsection_other s)
 
-pub both_other : (front rest : List ℕ) → list_all is_comment_byte front ≡ true → list_all is_comment_byte rest ≡ true → list_all is_comment_byte (front ++ rest) ≡ true
+pub both_other : (front rest : List ℕ) → list_all is_comment_byte front ≡ true
+    → list_all is_comment_byte rest ≡ true → list_all is_comment_byte (front ++ rest) ≡ true
 both_other front rest all others = rw (list_all-append is_comment_byte front rest, all, others)
 
 -- runs
-stops_more : (test : ℕ → Bool) (rest more : List ℕ) → rest ≢ [] → StopsRun test rest → StopsRun test (rest ++ more)
+stops_more : (test : ℕ → Bool) (rest more : List ℕ) → rest ≢ [] → StopsRun test rest
+    → StopsRun test (rest ++ more)
 stops_more test [] more some stops = absurd (some refl)
 stops_more test (b ∷ rest) more some stops = stops
 
-run_more : {test : ℕ → Bool} {text run : List ℕ} (rest more : List ℕ) → rest ≢ [] → Run test text run rest → Run test (text ++ more) run (rest ++ more)
+run_more : {test : ℕ → Bool} {text run : List ℕ} (rest more : List ℕ) → rest ≢ [] → Run test text run rest
+    → Run test (text ++ more) run (rest ++ more)
 run_more {test = test} {run = run} rest more some h =
     record { joined = rw h.joined (append_assoc run rest more); pass = h.pass; longest = stops_more test rest more some h.longest }
 
 -- headers
-header_more : {text rest : List ℕ} {section : Section} (more : List ℕ) → Header text section rest → Header (text ++ more) section (rest ++ more)
+header_more : {text rest : List ℕ} {section : Section} (more : List ℕ) → Header text section rest
+    → Header (text ++ more) section (rest ++ more)
 header_more more (plain {b = b} {rest = rest} run some e) = plain (run_more (b ∷ rest) more (λ no. cc) run) some e
 header_more more (quoted {inner = inner} opens (closes {b = b} {raw = raw} {rest = rest} takes e)) =
     let some : opens.blanked ≢ [] = λ none. not_none opens.blanks inner opens.quote (sym opens.blank_run.joined ∙ none) in
@@ -95,7 +99,8 @@ key_bytes {key = key} rest takes = (
       (all_more is_space is_comment_byte space_other takes.spaces takes.space_run.pass),
 )
 
-key_more : {text key : List ℕ} (rest more : List ℕ) → rest ≢ [] → TakesKey text key rest → TakesKey (text ++ more) key (rest ++ more)
+key_more : {text key : List ℕ} (rest more : List ℕ) → rest ≢ [] → TakesKey text key rest
+    → TakesKey (text ++ more) key (rest ++ more)
 key_more rest more some takes =
     let some_spaced : takes.spaced ≢ [] = λ none. some (rest_none takes.spaces rest (sym takes.space_run.joined ∙ none)) in
     record {
@@ -110,12 +115,14 @@ ends_value_more : (rest more : List ℕ) → rest ≢ [] → EndsValue rest → 
 ends_value_more [] more some ends = absurd (some refl)
 ends_value_more (b ∷ rest) more some ends = ends
 
-value_some : {after raw rest : List ℕ} {lines : ℕ} → HasLineEnd after → TakesValue after raw lines rest → rest ≢ []
+value_some : {after raw rest : List ℕ} {lines : ℕ} → HasLineEnd after → TakesValue after raw lines rest
+    → rest ≢ []
 value_some h (closed {raw = raw} joined spells ends) none =
     value_has_no_end spells (subst HasLineEnd (joined ∙ ap (λ r. raw ++ r) none ∙ append-nil raw) h)
 value_some h (open_end spells) none = value_has_no_end spells h
 
-value_more : {after raw rest : List ℕ} {lines : ℕ} (more : List ℕ) → HasLineEnd after → TakesValue after raw lines rest → TakesValue (after ++ more) raw lines (rest ++ more)
+value_more : {after raw rest : List ℕ} {lines : ℕ} (more : List ℕ) → HasLineEnd after
+    → TakesValue after raw lines rest → TakesValue (after ++ more) raw lines (rest ++ more)
 value_more more h (closed {raw = raw} {rest = rest} joined spells ends) =
     let some = value_some h (closed joined spells ends) in
     closed (rw joined (append_assoc raw rest more)) spells (ends_value_more rest more some ends)
@@ -125,18 +132,21 @@ value_end_is_no_backslash : (b : ℕ) → (b ≡ 10) ⊎ (is_comment_sign b ≡ 
 value_end_is_no_backslash b (inl is) e = omega arith
 value_end_is_no_backslash b (inr is) e = grind (arith, nat_tests)
 
-value_ends : {after : List ℕ} (raw rest : List ℕ) → rest ≢ [] → EndsValue rest → after ≡ raw ++ rest → HasLineEnd after → EndsLine rest
+value_ends : {after : List ℕ} (raw rest : List ℕ) → rest ≢ [] → EndsValue rest → after ≡ raw ++ rest
+    → HasLineEnd after → EndsLine rest
 value_ends raw [] some ends joined h = inl refl
 value_ends raw (b ∷ rest) some ends joined h = inr (ends_at_byte raw b rest (value_end_is_no_backslash b ends) joined h)
 
-value_lines : {after raw rest : List ℕ} {lines : ℕ} → HasLineEnd after → TakesValue after raw lines rest → (line_feeds after ≡ lines + line_feeds rest) × EndsLine rest
+value_lines : {after raw rest : List ℕ} {lines : ℕ} → HasLineEnd after → TakesValue after raw lines rest
+    → (line_feeds after ≡ lines + line_feeds rest) × EndsLine rest
 value_lines h (closed {raw = raw} {rest = rest} joined spells ends) =
     let some = value_some h (closed joined spells ends) in
     (ap line_feeds joined ∙ line_feeds_append raw rest, value_ends raw rest some ends joined h)
 value_lines h (open_end spells) = absurd (value_has_no_end spells h)
 
 -- if the text has a line end over which it is not continued, so has what follows the `=`
-after_equals : {text key after : List ℕ} {b : ℕ} → HasLineEnd text → TakesKey text key (b ∷ after) → b ≡ 61 → HasLineEnd after
+after_equals : {text key after : List ℕ} {b : ℕ} → HasLineEnd text → TakesKey text key (b ∷ after) → b ≡ 61
+    → HasLineEnd after
 after_equals {key = key} {after = after} {b = b} h takes is =
     let bytes = key_bytes (b ∷ after) takes in
     elim (after_front (key ++ takes.spaces) b after (omega arith) bytes.0 h) [
@@ -155,25 +165,29 @@ at_line_end_more (a ∷ []) [] some end = end
 at_line_end_more (a ∷ []) (m ∷ more) some end = inl end
 at_line_end_more (a ∷ b ∷ rest) more some end = end
 
-entry_more : {text key rest : List ℕ} {value : Option (List ℕ)} {lines : ℕ} (more : List ℕ) → HasLineEnd text → TakesEntry text key value lines rest
+entry_more : {text key rest : List ℕ} {value : Option (List ℕ)} {lines : ℕ} (more : List ℕ)
+    → HasLineEnd text → TakesEntry text key value lines rest
     → TakesEntry (text ++ more) key value lines (rest ++ more)
 entry_more more h (alone {rest = rest} takes end) =
     let some = alone_some rest h takes in alone (key_more rest more some takes) (at_line_end_more rest more some end)
 entry_more more h (valued {b = b} {after = after} takes e taken) =
     valued (key_more (b ∷ after) more (λ no. cc) takes) e (value_more more (after_equals h takes e) taken)
 
-line_ends : {text : List ℕ} (front rest : List ℕ) → IsAtLineEnd rest → text ≡ front ++ rest → HasLineEnd text → EndsLine rest
+line_ends : {text : List ℕ} (front rest : List ℕ) → IsAtLineEnd rest → text ≡ front ++ rest
+    → HasLineEnd text → EndsLine rest
 line_ends front [] end joined h = inl refl
 line_ends front (a ∷ []) end joined h = inr (ends_at_byte front a [] (omega arith) joined h)
 line_ends front (a ∷ b ∷ rest) (inl is) joined h = inr (ends_at_byte front a (b ∷ rest) (omega arith) joined h)
 line_ends front (a ∷ b ∷ rest) (inr is) joined h = let e = is.0 in inr (ends_at_byte front a (b ∷ rest) (omega arith) joined h)
 
-comment_ends : {text : List ℕ} (front rest : List ℕ) → StopsRun is_comment_byte rest → text ≡ front ++ rest → HasLineEnd text → EndsLine rest
+comment_ends : {text : List ℕ} (front rest : List ℕ) → StopsRun is_comment_byte rest → text ≡ front ++ rest
+    → HasLineEnd text → EndsLine rest
 comment_ends front [] stops joined h = inl refl
 comment_ends front (b ∷ rest) stops joined h =
     let other : b ≢ 92 = grind (arith, nat_tests) in inr (ends_at_byte front b rest other joined h)
 
-entry_lines : {text key rest : List ℕ} {value : Option (List ℕ)} {lines : ℕ} → HasLineEnd text → TakesEntry text key value lines rest
+entry_lines : {text key rest : List ℕ} {value : Option (List ℕ)} {lines : ℕ} → HasLineEnd text
+    → TakesEntry text key value lines rest
     → (line_feeds text ≡ lines + line_feeds rest) × EndsLine rest
 entry_lines h (alone {key = key} {rest = rest} takes end) =
     let bytes = key_bytes rest takes in
@@ -187,7 +201,8 @@ entry_lines h (valued {b = b} {key = key} {after = after} takes is taken) =
     let (g, ends) = value_lines (after_equals h takes is) taken in
     (omega arith, ends)
 
-comment_some : (b : ℕ) (text comment rest : List ℕ) → is_comment_sign b ≡ true → Run is_comment_byte text comment rest → HasLineEnd (b ∷ text) → rest ≢ []
+comment_some : (b : ℕ) (text comment rest : List ℕ) → is_comment_sign b ≡ true
+    → Run is_comment_byte text comment rest → HasLineEnd (b ∷ text) → rest ≢ []
 comment_some b text comment rest is run h none =
     let first : is_comment_byte b ≡ true = grind (arith, nat_tests) in
     let same : text ≡ comment = run.joined ∙ ap (λ r. comment ++ r) none ∙ append-nil comment in
@@ -199,7 +214,8 @@ blank_alone : (b : ℕ) → is_blank b ≡ true → list_all is_comment_byte (b 
 blank_alone b is = rw (blank_other b is)
 
 module _ (more : List ℕ) (last : List Entry) (end : ℕ) (then : (section : Option Section) → Reads section end more last None) where
-  pub reads_more : {section : Option Section} {line : ℕ} {text : List ℕ} {entries : List Entry} → Reads section line text entries None
+  pub reads_more : {section : Option Section} {line : ℕ} {text : List ℕ} {entries : List Entry}
+      → Reads section line text entries None
       → EndsLine text → line + line_feeds text ≡ end → Reads section line (text ++ more) (entries ++ last) None
   reads_more {section = section} {line = line} file.ends ends e =
       let same : end ≡ line = omega arith in subst (λ l. Reads section l more last None) same (then section)

@@ -14,13 +14,16 @@ use Rattle.config_file.specs.Value.{TakesValue, ValueStops, line_feeds}
 use Rattle.config_file.specs.File as file
 use Rattle.config_file.specs.File.{TakesKey, TakesEntry, EntryStops}
 
-pub length_joined : (text front rest : List ℕ) → text ≡ front ++ rest → length text ≡ length front + length rest
+pub length_joined : (text front rest : List ℕ) → text ≡ front ++ rest
+    → length text ≡ length front + length rest
 length_joined text front rest e = ap length e ∙ length-append front rest
 
-pub run_shortens : {test : ℕ → Bool} {text run rest : List ℕ} → Run test text run rest → length rest ≤ length text
+pub run_shortens : {test : ℕ → Bool} {text run rest : List ℕ} → Run test text run rest
+    → length rest ≤ length text
 run_shortens {text = text} {run = run} {rest = rest} h = let e = length_joined text run rest h.joined in omega arith
 
-pub header_shortens : {text rest : List ℕ} {section : Section} → Header text section rest → length rest < length text
+pub header_shortens : {text rest : List ℕ} {section : Section} → Header text section rest
+    → length rest < length text
 header_shortens (header.plain {b = b} {text = text} {name = name} {rest = rest} run some e) =
     let joined = length_joined text name (b ∷ rest) run.joined in omega arith
 header_shortens (header.quoted {text = text} {name = name} {inner = inner} opens (header.closes {b = b} {raw = raw} {rest = rest} takes e)) =
@@ -41,17 +44,20 @@ header_stops_soon (header.subsection opens (header.closed_at_line_end h l)) = om
 pub line_feeds_fit : (raw : List ℕ) → line_feeds raw ≤ length raw
 line_feeds_fit raw = omega (arith, count_by-le-length (λ b. b == 10) raw)
 
-pub value_bound : {text raw rest : List ℕ} {lines : ℕ} → TakesValue text raw lines rest → lines + length rest ≤ length text + 1
+pub value_bound : {text raw rest : List ℕ} {lines : ℕ} → TakesValue text raw lines rest
+    → lines + length rest ≤ length text + 1
 value_bound (value.closed {raw = raw} {text = text} {rest = rest} joined spells ends) =
     let e = length_joined text raw rest joined in
     omega (arith, line_feeds_fit raw)
 value_bound (value.open_end {raw = raw} spells) = omega (arith, line_feeds_fit raw)
 
-value_shortens : {text raw rest : List ℕ} {lines : ℕ} → TakesValue text raw lines rest → length rest ≤ length text
+value_shortens : {text raw rest : List ℕ} {lines : ℕ} → TakesValue text raw lines rest
+    → length rest ≤ length text
 value_shortens (value.closed {raw = raw} {text = text} {rest = rest} joined spells ends) = omega (arith, length_joined text raw rest joined)
 value_shortens (value.open_end {raw = raw} spells) = omega arith
 
-pub value_stops_bound : {text : List ℕ} {lines : ℕ} {fault : Fault} → ValueStops text lines fault → lines ≤ length text
+pub value_stops_bound : {text : List ℕ} {lines : ℕ} {fault : Fault} → ValueStops text lines fault
+    → lines ≤ length text
 value_stops_bound (value.nul {b = b} {text = text} raw rest joined part e) =
     let f = length_joined text raw (b ∷ rest) joined in omega (arith, line_feeds_fit raw)
 value_stops_bound (value.unclosed {text = text} raw rest joined part e) =
@@ -68,12 +74,14 @@ letter_is_key_byte : (b : ℕ) → is_ascii_alphabetic b ≡ true → is_key_byt
 letter_is_key_byte b h = grind (arith, nat_tests)
 
 -- a key that begins with a letter is not empty
-key_taken : {test : ℕ → Bool} {b : ℕ} {text rest : List ℕ} (run : List ℕ) → test b ≡ true → Run test (b ∷ text) run rest → length rest ≤ length text
+key_taken : {test : ℕ → Bool} {b : ℕ} {text rest : List ℕ} (run : List ℕ) → test b ≡ true
+    → Run test (b ∷ text) run rest → length rest ≤ length text
 key_taken {test = test} {b = b} {text = text} {rest = rest} [] pass h =
     let stops = subst (λ x. StopsRun test x) (sym h.joined) h.longest in absurd (true≢false (sym pass ∙ stops))
 key_taken {b = b} {text = text} {rest = rest} (r ∷ run) pass h = let e = length_joined (b ∷ text) (r ∷ run) rest h.joined in omega arith
 
-pub entry_bound : {b lines : ℕ} {text key rest : List ℕ} {v : Option (List ℕ)} → is_ascii_alphabetic b ≡ true → TakesEntry (b ∷ text) key v lines rest
+pub entry_bound : {b lines : ℕ} {text key rest : List ℕ} {v : Option (List ℕ)}
+    → is_ascii_alphabetic b ≡ true → TakesEntry (b ∷ text) key v lines rest
     → lines + length rest ≤ length text
 entry_bound {b = b} letter (file.alone {key = key} takes end) =
     let f = key_taken key (letter_is_key_byte b letter) takes.key_run in let g = run_shortens takes.space_run in omega arith
@@ -81,7 +89,8 @@ entry_bound {b = b} letter (file.valued {key = key} takes e taken) =
     let f = key_taken key (letter_is_key_byte b letter) takes.key_run in let g = run_shortens takes.space_run in
     omega (arith, value_bound taken)
 
-entry_shorter : {b lines : ℕ} {text key rest : List ℕ} {v : Option (List ℕ)} → is_ascii_alphabetic b ≡ true → TakesEntry (b ∷ text) key v lines rest
+entry_shorter : {b lines : ℕ} {text key rest : List ℕ} {v : Option (List ℕ)} → is_ascii_alphabetic b ≡ true
+    → TakesEntry (b ∷ text) key v lines rest
     → length rest < length (b ∷ text)
 entry_shorter {b = b} letter (file.alone {key = key} takes end) =
     let f = key_taken key (letter_is_key_byte b letter) takes.key_run in let g = run_shortens takes.space_run in omega arith
@@ -89,17 +98,20 @@ entry_shorter {b = b} letter (file.valued {key = key} takes e taken) =
     let f = key_taken key (letter_is_key_byte b letter) takes.key_run in let g = run_shortens takes.space_run in
     omega (arith, value_shortens taken)
 
-pub entry_stops_bound : {text : List ℕ} {lines : ℕ} {fault : Fault} → EntryStops text lines fault → lines ≤ length text
+pub entry_stops_bound : {text : List ℕ} {lines : ℕ} {fault : Fault} → EntryStops text lines fault
+    → lines ≤ length text
 entry_stops_bound (file.key takes h l) = omega arith
 entry_stops_bound (file.value takes e stops) = let f = key_shortens takes in omega (arith, value_stops_bound stops)
 
-pub entry_bound_at : {b lines : ℕ} {text key rest : List ℕ} {v : Option (List ℕ)} (at : List ℕ) → at ≡ b ∷ text → is_ascii_alphabetic b ≡ true → TakesEntry at key v lines rest
+pub entry_bound_at : {b lines : ℕ} {text key rest : List ℕ} {v : Option (List ℕ)} (at : List ℕ)
+    → at ≡ b ∷ text → is_ascii_alphabetic b ≡ true → TakesEntry at key v lines rest
     → lines + length rest ≤ length at
 entry_bound_at {b = b} {lines = lines} {text = text} {key = key} {rest = rest} {v = v} at e letter taken =
     let bound = entry_bound letter (subst (λ t. TakesEntry t key v lines rest) e taken) in
     rw e (omega arith)
 
-pub entry_shortens : {b lines : ℕ} {text key rest : List ℕ} {v : Option (List ℕ)} (at : List ℕ) → at ≡ b ∷ text → is_ascii_alphabetic b ≡ true → TakesEntry at key v lines rest
+pub entry_shortens : {b lines : ℕ} {text key rest : List ℕ} {v : Option (List ℕ)} (at : List ℕ)
+    → at ≡ b ∷ text → is_ascii_alphabetic b ≡ true → TakesEntry at key v lines rest
     → length rest < length at
 entry_shortens {b = b} {lines = lines} {text = text} {key = key} {rest = rest} {v = v} at e letter taken =
     rw e (entry_shorter letter (subst (λ t. TakesEntry t key v lines rest) e taken))

@@ -6,29 +6,35 @@ use Rattle.config_file.specs.Runs.{Run, StopsRun}
 use Rattle.config_file.specs.Subsection.{TakesSubsection}
 use Rattle.config_file.specs.Header.{fault_at, BeginsWithout, ClosesSubsection, closes, OpensSubsection, Header, plain, NameStops, at_end, empty, not_closed}
 
-pub closes_at : {text raw rest : List ℕ} (at : List ℕ) → TakesSubsection text raw at → at ≡ 93 ∷ rest → ClosesSubsection text raw rest
+pub closes_at : {text raw rest : List ℕ} (at : List ℕ) → TakesSubsection text raw at → at ≡ 93 ∷ rest
+    → ClosesSubsection text raw rest
 closes_at {text = text} {raw = raw} at takes e = closes (subst (λ x. TakesSubsection text raw x) e takes) refl
 
 pub name_stops_at_end : {name after : List ℕ} → after ≡ [] → NameStops name after 1 BadLine
 name_stops_at_end e = rw e at_end
 
-pub name_stops_empty : (name after : List ℕ) → after ≢ [] → name ≡ [] → NameStops name after 0 (fault_at after)
+pub name_stops_empty : (name after : List ℕ) → after ≢ [] → name ≡ []
+    → NameStops name after 0 (fault_at after)
 name_stops_empty name [] some e = absurd (some refl)
 name_stops_empty name (b ∷ rest) some e = rw e empty
 
-pub name_stops_not_closed : (name after : List ℕ) → after ≢ [] → BeginsWithout 93 after → NameStops name after 0 (fault_at after)
+pub name_stops_not_closed : (name after : List ℕ) → after ≢ [] → BeginsWithout 93 after
+    → NameStops name after 0 (fault_at after)
 name_stops_not_closed name [] some h = absurd (some refl)
 name_stops_not_closed name (b ∷ rest) some h = not_closed h
 
 -- if the run of blanks at the start of a text is empty, the text does not begin with a blank
-pub no_blanks : {after quoted : List ℕ} (run : List ℕ) → Run is_blank after run quoted → run ≡ [] → StopsRun is_blank after
+pub no_blanks : {after quoted : List ℕ} (run : List ℕ) → Run is_blank after run quoted → run ≡ []
+    → StopsRun is_blank after
 no_blanks [] h e = rw h.joined h.longest
 no_blanks (b ∷ run) h e = cc
 
-pub named : {text name rest : List ℕ} (after : List ℕ) → Run is_name_byte text name after → name ≢ [] → after ≡ 93 ∷ rest → Header text (name, None) rest
+pub named : {text name rest : List ℕ} (after : List ℕ) → Run is_name_byte text name after → name ≢ []
+    → after ≡ 93 ∷ rest → Header text (name, None) rest
 named {text = text} {name = name} after run some e = plain (subst (λ x. Run is_name_byte text name x) e run) some refl
 
-pub opened : {text name inner : List ℕ} (after blanks quoted : List ℕ) → Run is_name_byte text name after → Run is_blank after blanks quoted
+pub opened : {text name inner : List ℕ} (after blanks quoted : List ℕ) → Run is_name_byte text name after
+    → Run is_blank after blanks quoted
     → blanks ≢ [] → quoted ≡ 34 ∷ inner → OpensSubsection text name inner
 opened {inner = inner} after blanks quoted name_run blank_run some e =
     record {

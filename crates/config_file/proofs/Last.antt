@@ -9,7 +9,8 @@ use Rattle.config_file.specs.declared.settings.Setting.{Setting}
 use Rattle.config_file.specs.Settings.{texts, IsLast}
 
 -- if the text at an index has this key, there is a setting at that index, and it has the key
-named_setting : (settings : List Setting) (key : List ℕ) (j : ℕ) (t : List ℕ) → IsNamed (texts settings) key j t
+named_setting : (settings : List Setting) (key : List ℕ) (j : ℕ) (t : List ℕ)
+    → IsNamed (texts settings) key j t
     → (s : Setting) × (slice_get settings j ≡ Some s) × (s.key.items ≡ key)
 named_setting [] key j t named = absurd (none-some (key, t) named)
 named_setting (s ∷ settings) key zero t named = (s, refl, ap (λ p. p.0) (same_Some _ _ named))

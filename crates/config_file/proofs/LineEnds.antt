@@ -12,7 +12,8 @@ use Rattle.config_file.specs.Spelling.{is_continued, HasLineEnd, EndsLine}
 pub line_feeds_append : (xs ys : List ℕ) → line_feeds (xs ++ ys) ≡ line_feeds xs + line_feeds ys
 line_feeds_append xs ys = sum_by-append (λ b. cond (b == 10) 1 0) xs ys
 
-line_feeds_other : (b : ℕ) (text : List ℕ) → is_comment_byte b ≡ true → line_feeds (b ∷ text) ≡ line_feeds text
+line_feeds_other : (b : ℕ) (text : List ℕ) → is_comment_byte b ≡ true
+    → line_feeds (b ∷ text) ≡ line_feeds text
 line_feeds_other b text other =
     let no : (b == 10) ≡ false = grind (arith, nat_tests) in
     let e = sum_by-cons (λ c. cond (c == 10) 1 0) b text in
@@ -28,11 +29,13 @@ line_feeds_none (b ∷ text) all =
     let others : list_all is_comment_byte text ≡ true = grind (arith, nat_tests) in
     line_feeds_other b text first ∙ line_feeds_none text others
 
-pub line_feeds_after : {text : List ℕ} (front rest : List ℕ) → text ≡ front ++ rest → list_all is_comment_byte front ≡ true → line_feeds text ≡ line_feeds rest
+pub line_feeds_after : {text : List ℕ} (front rest : List ℕ) → text ≡ front ++ rest
+    → list_all is_comment_byte front ≡ true → line_feeds text ≡ line_feeds rest
 line_feeds_after front rest joined all =
     let e = line_feeds_append front rest in let f = line_feeds_none front all in rw joined (omega arith)
 
-pub all_more : (p q : ℕ → Bool) → ((b : ℕ) → p b ≡ true → q b ≡ true) → (xs : List ℕ) → list_all p xs ≡ true → list_all q xs ≡ true
+pub all_more : (p q : ℕ → Bool) → ((b : ℕ) → p b ≡ true → q b ≡ true) → (xs : List ℕ) → list_all p xs ≡ true
+    → list_all q xs ≡ true
 all_more p q more [] all = refl
 all_more p q more (b ∷ xs) all =
     let first : p b ≡ true = grind (arith, nat_tests) in
@@ -53,11 +56,13 @@ continued_tail a [] other = grind (arith, nat_tests)
 continued_tail a (b ∷ []) other = let no_backslash : (a == 92) ≡ false = grind (arith, nat_tests) in rw no_backslash
 continued_tail a (b ∷ c ∷ line) other = let no_backslash : (a == 92) ≡ false = grind (arith, nat_tests) in rw no_backslash
 
-continued_pair : (a e : ℕ) (line : List ℕ) → a ≡ 92 → is_continued (a ∷ e ∷ line) ≡ false → is_continued line ≡ false
+continued_pair : (a e : ℕ) (line : List ℕ) → a ≡ 92 → is_continued (a ∷ e ∷ line) ≡ false
+    → is_continued line ≡ false
 continued_pair a e [] is h = refl
 continued_pair a e (c ∷ line) is h = rw is at h
 
-continued_after_front : (front : List ℕ) (b : ℕ) (line : List ℕ) → b ≢ 92 → is_continued (front ++ b ∷ line) ≡ false → is_continued line ≡ false
+continued_after_front : (front : List ℕ) (b : ℕ) (line : List ℕ) → b ≢ 92
+    → is_continued (front ++ b ∷ line) ≡ false → is_continued line ≡ false
 continued_after_front [] b line other h = sym (continued_tail b line other) ∙ h
 continued_after_front (x ∷ []) b line other h =
     elim (cases_Bool (x == 92)) [
@@ -78,7 +83,8 @@ pair_before : (a e : ℕ) (line : List ℕ) → line ≢ [] → a ≡ 92 → is_
 pair_before a e [] some is = absurd (some refl)
 pair_before a e (c ∷ line) some is = rw is refl
 
-pub continued_by_last : (front : List ℕ) (b : ℕ) (line : List ℕ) → b ≢ 92 → b ≢ 13 → is_continued (b ∷ line) ≡ false → is_continued (front ++ b ∷ line) ≡ false
+pub continued_by_last : (front : List ℕ) (b : ℕ) (line : List ℕ) → b ≢ 92 → b ≢ 13
+    → is_continued (b ∷ line) ≡ false → is_continued (front ++ b ∷ line) ≡ false
 continued_by_last [] b line other no_return h = h
 continued_by_last (x ∷ []) b [] other no_return h =
     let no_backslash : (b == 92) ≡ false = grind (arith, nat_tests) in
@@ -97,11 +103,13 @@ continued_by_last (x ∷ y ∷ front) b line other no_return h =
           continued_tail x (y ∷ (front ++ b ∷ line)) no_escape ∙ continued_by_last (y ∷ front) b line other no_return h
     ]
 
-pub pair_continued : (letter : ℕ) (line : List ℕ) → letter ≢ 13 → is_continued (92 ∷ letter ∷ line) ≡ is_continued line
+pub pair_continued : (letter : ℕ) (line : List ℕ) → letter ≢ 13
+    → is_continued (92 ∷ letter ∷ line) ≡ is_continued line
 pair_continued letter [] no_return = grind (arith, nat_tests)
 pair_continued letter (c ∷ line) no_return = refl
 
-tail_of : (b : ℕ) (rest line : List ℕ) → b ≢ 92 → b ∷ rest ≡ line ++ 10 ∷ [] → is_continued line ≡ false → ((rest ≡ []) × (b ≡ 10)) ⊎ HasLineEnd rest
+tail_of : (b : ℕ) (rest line : List ℕ) → b ≢ 92 → b ∷ rest ≡ line ++ 10 ∷ [] → is_continued line ≡ false
+    → ((rest ≡ []) × (b ≡ 10)) ⊎ HasLineEnd rest
 tail_of b rest [] other e h =
     let none : rest ≡ [] = cc in let is : b ≡ 10 = cc in inl (none, is)
 tail_of b rest (x ∷ line) other e h =
@@ -110,10 +118,12 @@ tail_of b rest (x ∷ line) other e h =
     let no_backslash : x ≢ 92 = rw same at other in
     inr (record { line = line; joined = joined; not_continued = sym (continued_tail x line no_backslash) ∙ h })
 
-pub tail_or_last : (b : ℕ) (rest : List ℕ) → b ≢ 92 → HasLineEnd (b ∷ rest) → ((rest ≡ []) × (b ≡ 10)) ⊎ HasLineEnd rest
+pub tail_or_last : (b : ℕ) (rest : List ℕ) → b ≢ 92 → HasLineEnd (b ∷ rest)
+    → ((rest ≡ []) × (b ≡ 10)) ⊎ HasLineEnd rest
 tail_or_last b rest other h = tail_of b rest h.line other h.joined h.not_continued
 
-pair_of : (b e : ℕ) (rest line : List ℕ) → b ≡ 92 → b ∷ e ∷ rest ≡ line ++ 10 ∷ [] → is_continued line ≡ false → HasLineEnd rest
+pair_of : (b e : ℕ) (rest line : List ℕ) → b ≡ 92 → b ∷ e ∷ rest ≡ line ++ 10 ∷ []
+    → is_continued line ≡ false → HasLineEnd rest
 pair_of b e rest [] is joined h = cc
 pair_of b e rest (x ∷ []) is joined h =
     let same : b ≡ x = cc in let backslash : x ≡ 92 = rw same at is in let yes : true ≡ false = rw backslash at h in absurd (true≢false yes)
@@ -140,7 +150,8 @@ splits (f ∷ front) b rest (x ∷ line) e =
       | inr p ↦ inr (p.0, p.1, rw (same, p.2))
     ]
 
-after_front_of : (front : List ℕ) (b : ℕ) (rest line : List ℕ) → b ≢ 92 → front ++ b ∷ rest ≡ line ++ 10 ∷ [] → is_continued line ≡ false
+after_front_of : (front : List ℕ) (b : ℕ) (rest line : List ℕ) → b ≢ 92
+    → front ++ b ∷ rest ≡ line ++ 10 ∷ [] → is_continued line ≡ false
     → ((rest ≡ []) × (b ≡ 10)) ⊎ HasLineEnd rest
 after_front_of front b rest line other e h =
     elim (splits front b rest line e) [
@@ -150,15 +161,18 @@ after_front_of front b rest line other e h =
           inr (record { line = p.0; joined = p.1; not_continued = continued_after_front front b p.0 other whole })
     ]
 
-pub after_front : {text : List ℕ} (front : List ℕ) (b : ℕ) (rest : List ℕ) → b ≢ 92 → text ≡ front ++ b ∷ rest → HasLineEnd text → ((rest ≡ []) × (b ≡ 10)) ⊎ HasLineEnd rest
+pub after_front : {text : List ℕ} (front : List ℕ) (b : ℕ) (rest : List ℕ) → b ≢ 92
+    → text ≡ front ++ b ∷ rest → HasLineEnd text → ((rest ≡ []) × (b ≡ 10)) ⊎ HasLineEnd rest
 after_front front b rest other joined h = after_front_of front b rest h.line other (sym joined ∙ h.joined) h.not_continued
 
-cons_end : (b : ℕ) (rest : List ℕ) → b ≢ 92 → ((rest ≡ []) × (b ≡ 10)) ⊎ HasLineEnd rest → HasLineEnd (b ∷ rest)
+cons_end : (b : ℕ) (rest : List ℕ) → b ≢ 92 → ((rest ≡ []) × (b ≡ 10)) ⊎ HasLineEnd rest
+    → HasLineEnd (b ∷ rest)
 cons_end b rest other (inl p) = record { line = []; joined = rw (p.0, p.1); not_continued = refl }
 cons_end b rest other (inr h) =
     record { line = b ∷ h.line; joined = ap (◌∷◌ b) h.joined; not_continued = continued_tail b h.line other ∙ h.not_continued }
 
-pub ends_at_byte : {text : List ℕ} (front : List ℕ) (b : ℕ) (rest : List ℕ) → b ≢ 92 → text ≡ front ++ b ∷ rest → HasLineEnd text → HasLineEnd (b ∷ rest)
+pub ends_at_byte : {text : List ℕ} (front : List ℕ) (b : ℕ) (rest : List ℕ) → b ≢ 92
+    → text ≡ front ++ b ∷ rest → HasLineEnd text → HasLineEnd (b ∷ rest)
 ends_at_byte front b rest other joined h = cons_end b rest other (after_front front b rest other joined h)
 
 pub ends_line : {b : ℕ} {rest : List ℕ} → ((rest ≡ []) × (b ≡ 10)) ⊎ HasLineEnd rest → EndsLine rest
@@ -183,7 +197,8 @@ one_end : (b : ℕ) (line : List ℕ) → b ∷ [] ≡ line ++ 10 ∷ [] → b �
 one_end b [] e = cc
 one_end b (x ∷ line) e = let none : line ++ 10 ∷ [] ≡ [] = cc in absurd (not_none line [] 10 none)
 
-return_end : (b e f : ℕ) (line : List ℕ) → b ∷ e ∷ f ∷ [] ≡ line ++ 10 ∷ [] → is_continued line ≡ false → b ≡ 92 → e ≡ 13 → ⊥
+return_end : (b e f : ℕ) (line : List ℕ) → b ∷ e ∷ f ∷ [] ≡ line ++ 10 ∷ [] → is_continued line ≡ false
+    → b ≡ 92 → e ≡ 13 → ⊥
 return_end b e f [] joined h is next = cc
 return_end b e f (x ∷ []) joined h is next = cc
 return_end b e f (x ∷ y ∷ []) joined h is next =
@@ -206,7 +221,8 @@ plain_is_no_line_end true b is e = grind (arith, nat_tests)
 plain_is_no_line_end false b is e = grind (arith, nat_tests)
 
 -- the bytes of a value do not end in an LF over which they are not continued
-pub value_has_no_end : {w : ℕ → ℕ} {q : Bool} {value held raw text : List ℕ} {ending : Ending} → Spells w q value held raw text ending → HasLineEnd raw → ⊥
+pub value_has_no_end : {w : ℕ → ℕ} {q : Bool} {value held raw text : List ℕ} {ending : Ending}
+    → Spells w q value held raw text ending → HasLineEnd raw → ⊥
 value_has_no_end ends_outside h = none_ends h
 value_has_no_end ends_inside h = none_ends h
 value_has_no_end (ends_at_backslash {b = b} is) h = let e = one_end b h.line h.joined in omega arith

@@ -19,8 +19,10 @@ with_key key (Err stop) = Err stop
 
 data Ends : List ℕ → List ℕ → Outcome → Type 0 where
   alone : {key rest : List ℕ} → IsAtLineEnd rest → Ends key rest (Ok (key, None, 0, rest))
-  valued : {b : ℕ} {key after : List ℕ} (o : one_value.Outcome) → b ≡ 61 → ValueHas after o → Ends key (b ∷ after) (with_key key o)
-  stops : {key rest : List ℕ} → BeginsWithout 61 rest → ¬ (IsAtLineEnd rest) → Ends key rest (Err (0, fault_at rest))
+  valued : {b : ℕ} {key after : List ℕ} (o : one_value.Outcome) → b ≡ 61 → ValueHas after o
+      → Ends key (b ∷ after) (with_key key o)
+  stops : {key rest : List ℕ} → BeginsWithout 61 rest → ¬ (IsAtLineEnd rest)
+      → Ends key rest (Err (0, fault_at rest))
 
 no_line_end : (b : ℕ) (after : List ℕ) → b ≡ 61 → IsAtLineEnd (b ∷ after) → ⊥
 no_line_end b [] is h = omega arith
@@ -62,12 +64,14 @@ abbrev pub EntryHas : List ℕ → Outcome → Type 0
 EntryHas text (Ok p) = TakesEntry text p.0 p.1 p.2 p.3
 EntryHas text (Err stop) = EntryStops text stop.0 stop.1
 
-taken_found : {text key rest : List ℕ} {v : Option (List ℕ)} {lines : ℕ} → TakesEntry text key v lines rest → Found text (Ok (key, v, lines, rest))
+taken_found : {text key rest : List ℕ} {v : Option (List ℕ)} {lines : ℕ} → TakesEntry text key v lines rest
+    → Found text (Ok (key, v, lines, rest))
 taken_found (file.alone {key = key} {rest = rest} takes h) = record { key = key; rest = rest; takes = takes; ends = alone h }
 taken_found (file.valued {b = b} {lines = lines} {key = key} {after = after} {raw = raw} {rest = rest} takes is taken) =
     record { key = key; rest = b ∷ after; takes = takes; ends = valued (Ok (raw, lines, rest)) is taken }
 
-stopped_found : {text : List ℕ} {lines : ℕ} {fault : Fault} → EntryStops text lines fault → Found text (Err (lines, fault))
+stopped_found : {text : List ℕ} {lines : ℕ} {fault : Fault} → EntryStops text lines fault
+    → Found text (Err (lines, fault))
 stopped_found (file.key {key = key} {rest = rest} takes other h) = record { key = key; rest = rest; takes = takes; ends = stops other h }
 stopped_found (file.value {b = b} {lines = lines} {fault = fault} {key = key} {after = after} takes is stopped) =
     record { key = key; rest = b ∷ after; takes = takes; ends = valued (Err (lines, fault)) is stopped }

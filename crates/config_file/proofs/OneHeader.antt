@@ -55,7 +55,8 @@ close_late raw [] h = refl
 close_late raw (b ∷ rest) h =
     sym (pick_second _ _ (Ok (raw, rest)) (Err (1, BadLine)) (Err (0, fault_at (b ∷ rest))) (line_end_no_bracket b rest h) (at_line_end (b ∷ rest) h))
 
-close_wrong : (raw rest : List ℕ) → BeginsWithout 93 rest → (IsAtLineEnd rest → ⊥) → Err (0, fault_at rest) ≡ close raw rest
+close_wrong : (raw rest : List ℕ) → BeginsWithout 93 rest → (IsAtLineEnd rest → ⊥)
+    → Err (0, fault_at rest) ≡ close raw rest
 close_wrong raw [] other h = absurd (h tt)
 close_wrong raw (b ∷ rest) other h =
     sym (pick_third _ _ (Ok (raw, rest)) (Err (1, BadLine)) (Err (0, fault_at (b ∷ rest))) (test_false b 93 other) (not_at_line_end (b ∷ rest) h))
@@ -66,12 +67,14 @@ ClosingHas text outcome = (o : Result (List ℕ × List ℕ) (List ℕ)) × Subs
 closes_has : {text raw rest : List ℕ} → ClosesSubsection text raw rest → ClosingHas text (Ok (raw, rest))
 closes_has (header.closes {b = b} {raw = raw} {rest = rest} takes is) = (Ok (raw, b ∷ rest), takes, rw is)
 
-stops_has : {text : List ℕ} {lines : ℕ} {fault : Fault} → SubsectionStops text lines fault → ClosingHas text (Err (lines, fault))
+stops_has : {text : List ℕ} {lines : ℕ} {fault : Fault} → SubsectionStops text lines fault
+    → ClosingHas text (Err (lines, fault))
 stops_has (header.within {rest = rest} place) = (Err rest, place, refl)
 stops_has (header.closed {raw = raw} {rest = rest} takes other h) = (Ok (raw, rest), takes, close_wrong raw rest other h)
 stops_has (header.closed_at_line_end {raw = raw} {rest = rest} takes h) = (Ok (raw, rest), takes, close_late raw rest h)
 
-closing_only : {text : List ℕ} {a b : Result (List ℕ × List ℕ) (ℕ × Fault)} → ClosingHas text a → ClosingHas text b → a ≡ b
+closing_only : {text : List ℕ} {a b : Result (List ℕ × List ℕ) (ℕ × Fault)} → ClosingHas text a
+    → ClosingHas text b → a ≡ b
 closing_only {text = text} (o, has, is) (p, also, so) = is ∙ ap close_subsection (subsection_only text o p has also) ∙ sym so
 
 abbrev pub Outcome : Type 0
@@ -83,7 +86,8 @@ close_name name [] = Err (1, BadLine)
 close_name [] (b ∷ rest) = Err (0, fault_at (b ∷ rest))
 close_name (n ∷ name) (b ∷ rest) = if b == 93 then Ok ((n ∷ name, None), rest) else Err (0, fault_at (b ∷ rest))
 
-name_stops : {name rest : List ℕ} {lines : ℕ} {fault : Fault} → NameStops name rest lines fault → Err (lines, fault) ≡ close_name name rest
+name_stops : {name rest : List ℕ} {lines : ℕ} {fault : Fault} → NameStops name rest lines fault
+    → Err (lines, fault) ≡ close_name name rest
 name_stops header.at_end = refl
 name_stops header.empty = refl
 name_stops (header.not_closed {b = b} {name = []} {rest = rest} other) = refl
@@ -100,7 +104,8 @@ Ends name (x ∷ blanks) (b ∷ inner) outcome =
     ((b ≡ 34) × ((o : Result (List ℕ × List ℕ) (ℕ × Fault)) × ClosingHas inner o × (outcome ≡ with_name name o)))
     ⊎ ((b ≢ 34) × (outcome ≡ Err (0, fault_at (b ∷ inner))))
 
-ends_only : (name blanks more : List ℕ) (a b : Outcome) → Ends name blanks more a → Ends name blanks more b → a ≡ b
+ends_only : (name blanks more : List ℕ) (a b : Outcome) → Ends name blanks more a → Ends name blanks more b
+    → a ≡ b
 ends_only name [] more a b first second = first ∙ sym second
 ends_only name (x ∷ blanks) [] a b first second = first ∙ sym second
 ends_only name (x ∷ blanks) (c ∷ inner) a b (inl (is, (o, has, e))) (inl (so, (p, also, f))) = e ∙ ap (with_name name) (closing_only has also) ∙ sym f
@@ -130,17 +135,20 @@ found_only {a = a} {b = b} first second =
 no_run : (after : List ℕ) → StopsRun is_blank after → Run is_blank after [] after
 no_run after stops = record { joined = refl; pass = refl; longest = stops }
 
-opened_ends : (name blanks : List ℕ) (quote : ℕ) (inner : List ℕ) (o : Result (List ℕ × List ℕ) (ℕ × Fault)) → blanks ≢ [] → quote ≡ 34 → ClosingHas inner o
+opened_ends : (name blanks : List ℕ) (quote : ℕ) (inner : List ℕ) (o : Result (List ℕ × List ℕ) (ℕ × Fault))
+    → blanks ≢ [] → quote ≡ 34 → ClosingHas inner o
     → Ends name blanks (quote ∷ inner) (with_name name o)
 opened_ends name [] quote inner o some is has = absurd (some refl)
 opened_ends name (x ∷ blanks) quote inner o some is has = inl (is, (o, has, refl))
 
-unopened_ends : (name blanks more : List ℕ) → blanks ≢ [] → BeginsWithout 34 more → Ends name blanks more (Err (0, fault_at more))
+unopened_ends : (name blanks more : List ℕ) → blanks ≢ [] → BeginsWithout 34 more
+    → Ends name blanks more (Err (0, fault_at more))
 unopened_ends name [] more some other = absurd (some refl)
 unopened_ends name (x ∷ blanks) [] some other = refl
 unopened_ends name (x ∷ blanks) (b ∷ inner) some other = inr (other, refl)
 
-named_ends : (name : List ℕ) (b : ℕ) (rest : List ℕ) → name ≢ [] → b ≡ 93 → Ok ((name, None), rest) ≡ close_name name (b ∷ rest)
+named_ends : (name : List ℕ) (b : ℕ) (rest : List ℕ) → name ≢ [] → b ≡ 93
+    → Ok ((name, None), rest) ≡ close_name name (b ∷ rest)
 named_ends [] b rest some is = absurd (some refl)
 named_ends (n ∷ name) b rest some is = rw is
 
@@ -156,13 +164,15 @@ opened_found {text} {name} {inner} opens o has = record {
   ends = opened_ends name opens.blanks opens.quote inner o opens.some_blank opens.is_quote has;
 }
 
-taken_found : {text rest : List ℕ} {section : Section} → Header text section rest → Found text (Ok (section, rest))
+taken_found : {text rest : List ℕ} {section : Section} → Header text section rest
+    → Found text (Ok (section, rest))
 taken_found (header.plain {b = b} {text = text} {name = n} {rest = rest} run some is) =
     record { name = n; after = b ∷ rest; blanks = []; more = b ∷ rest; name_run = run; blank_run = no_run (b ∷ rest) (rw is refl); ends = named_ends n b rest some is }
 taken_found (header.quoted {raw = raw} {rest = rest} opens closed) =
     opened_found opens (Ok (raw, rest)) (closes_has closed)
 
-stopped_found : {text : List ℕ} {lines : ℕ} {fault : Fault} → HeaderStops text lines fault → Found text (Err (lines, fault))
+stopped_found : {text : List ℕ} {lines : ℕ} {fault : Fault} → HeaderStops text lines fault
+    → Found text (Err (lines, fault))
 stopped_found (header.name {name = n} {rest = rest} run none stops) =
     record { name = n; after = rest; blanks = []; more = rest; name_run = run; blank_run = no_run rest none; ends = name_stops stops }
 stopped_found (header.blanks {name = n} {blanked = blanked} {blanks = blanks} {rest = rest} run more some other) =

@@ -34,10 +34,12 @@ kind b = choose (is_blank b) (b == 10) (is_comment_sign b) (b == 91) (is_ascii_a
 chosen_blank : (p q r s t : Bool) → p ≡ true → choose p q r s t ≡ blank
 chosen_blank p q r s t e = rw e
 
-chosen_entry : (p q r s t : Bool) → p ≡ false → q ≡ false → r ≡ false → s ≡ false → t ≡ true → choose p q r s t ≡ entry
+chosen_entry : (p q r s t : Bool) → p ≡ false → q ≡ false → r ≡ false → s ≡ false → t ≡ true
+    → choose p q r s t ≡ entry
 chosen_entry p q r s t e f g h i = rw (e, f, g, h, i)
 
-chosen_nothing : (p q r s t : Bool) → p ≡ false → q ≡ false → r ≡ false → s ≡ false → t ≡ false → choose p q r s t ≡ nothing
+chosen_nothing : (p q r s t : Bool) → p ≡ false → q ≡ false → r ≡ false → s ≡ false → t ≡ false
+    → choose p q r s t ≡ nothing
 chosen_nothing p q r s t e f g h i = rw (e, f, g, h, i)
 
 kind_blank : (b : ℕ) → is_blank b ≡ true → kind b ≡ blank
@@ -55,10 +57,12 @@ sign_cases b is = elim (cases_Bool (b == 35)) [ inl hash ↦ inl (eqb-true b 35 
 kind_comment : (b : ℕ) → is_comment_sign b ≡ true → kind b ≡ comment
 kind_comment b is = elim (sign_cases b is) [ inl e ↦ rw e | inr e ↦ rw e ]
 
-letter_facts : (b : ℕ) → is_ascii_alphabetic b ≡ true → (is_blank b ≡ false) × ((b == 10) ≡ false) × (is_comment_sign b ≡ false) × ((b == 91) ≡ false)
+letter_facts : (b : ℕ) → is_ascii_alphabetic b ≡ true
+    → (is_blank b ≡ false) × ((b == 10) ≡ false) × (is_comment_sign b ≡ false) × ((b == 91) ≡ false)
 letter_facts b is = (grind (arith, nat_tests), grind (arith, nat_tests), grind (arith, nat_tests), grind (arith, nat_tests))
 
-nothing_facts : (b : ℕ) → begins_item b ≡ false → (is_blank b ≡ false) × ((b == 10) ≡ false) × (is_comment_sign b ≡ false) × ((b == 91) ≡ false) × (is_ascii_alphabetic b ≡ false)
+nothing_facts : (b : ℕ) → begins_item b ≡ false
+    → (is_blank b ≡ false) × ((b == 10) ≡ false) × (is_comment_sign b ≡ false) × ((b == 91) ≡ false) × (is_ascii_alphabetic b ≡ false)
 nothing_facts b is = (grind (arith, nat_tests), grind (arith, nat_tests), grind (arith, nat_tests), grind (arith, nat_tests), grind (arith, nat_tests))
 
 kind_entry : (b : ℕ) → is_ascii_alphabetic b ≡ true → kind b ≡ entry
@@ -90,7 +94,8 @@ Turn section line b text left error header = (o : one_header.Outcome) × HeaderH
 Turn section line b text left error entry = (o : one_entry.Outcome) × is_ascii_alphabetic b ≡ true × EntryHas (b ∷ text) o × AfterEntry section line left error o
 Turn section line b text left error nothing = (left ≡ []) × (error ≡ Some (record { line = line; fault = fault_at (b ∷ text) }))
 
-turn : {section : Option Section} {line b : ℕ} {text : List ℕ} {left : List Entry} {error : Option Error} → Reads section line (b ∷ text) left error
+turn : {section : Option Section} {line b : ℕ} {text : List ℕ} {left : List Entry} {error : Option Error}
+    → Reads section line (b ∷ text) left error
     → (k : Kind) × (kind b ≡ k) × Turn section line b text left error k
 turn (file.blank {b = b} is h) = (blank, kind_blank b is, h)
 turn (file.line_end {b = b} is h) = (line_end, kind_line_end b is, h)
@@ -110,14 +115,16 @@ abbrev AreOne : ℕ → Type 0
 AreOne n = (section : Option Section) (line : ℕ) (text : List ℕ) (a b : List Entry) (e f : Option Error) → length text ≤ n
     → Reads section line text a e → Reads section line text b f → Same a b e f
 
-same_header : (n : ℕ) → AreOne n → (section : Option Section) (line : ℕ) (text : List ℕ) (a b : List Entry) (e f : Option Error) (o : one_header.Outcome) → length text ≤ n
+same_header : (n : ℕ) → AreOne n
+    → (section : Option Section) (line : ℕ) (text : List ℕ) (a b : List Entry) (e f : Option Error) (o : one_header.Outcome) → length text ≤ n
     → HeaderHas text o → AfterHeader section line a e o → AfterHeader section line b f o → Same a b e f
 same_header n below section line text a b e f (Ok p) room has first second =
     let shorter = header_shortens has in
     below (Some p.0) line p.1 a b e f (omega arith) first second
 same_header n below section line text a b e f (Err stop) room has (none, is) (also, so) = (none ∙ sym also, is ∙ sym so)
 
-same_entry : (n : ℕ) → AreOne n → (section : Option Section) (line c : ℕ) (text : List ℕ) (a b : List Entry) (e f : Option Error) (o : one_entry.Outcome) → length text ≤ n
+same_entry : (n : ℕ) → AreOne n
+    → (section : Option Section) (line c : ℕ) (text : List ℕ) (a b : List Entry) (e f : Option Error) (o : one_entry.Outcome) → length text ≤ n
     → is_ascii_alphabetic c ≡ true → EntryHas (c ∷ text) o → AfterEntry section line a e o → AfterEntry section line b f o → Same a b e f
 same_entry n below section line c text a b e f (Ok p) room letter has (later, first, is) (also, second, so) =
     let shorter = entry_shortens (c ∷ text) refl letter has in
@@ -125,7 +132,8 @@ same_entry n below section line c text a b e f (Ok p) room letter has (later, fi
     (is ∙ ap (λ x. record { section = section; key = p.0; value = p.1; line = line + p.2 } ∷ x) lefts ∙ sym so, errors)
 same_entry n below section line c text a b e f (Err stop) room letter has (none, is) (also, so) = (none ∙ sym also, is ∙ sym so)
 
-same_turn : (n : ℕ) → AreOne n → (section : Option Section) (line c : ℕ) (text : List ℕ) (a b : List Entry) (e f : Option Error) (k : Kind) → length text ≤ n
+same_turn : (n : ℕ) → AreOne n
+    → (section : Option Section) (line c : ℕ) (text : List ℕ) (a b : List Entry) (e f : Option Error) (k : Kind) → length text ≤ n
     → Turn section line c text a e k → Turn section line c text b f k → Same a b e f
 same_turn n below section line c text a b e f blank room first second = below section line text a b e f room first second
 same_turn n below section line c text a b e f line_end room first second = below section (line + 1) text a b e f room first second
@@ -141,7 +149,8 @@ same_turn n below section line c text a b e f entry room (o, letter, has, first)
     same_entry n below section line c text a b e f o room letter has first (subst (λ x. AfterEntry section line b f x) same second)
 same_turn n below section line c text a b e f nothing room (none, is) (also, so) = (none ∙ sym also, is ∙ sym so)
 
-empty_is : {section : Option Section} {line : ℕ} {a : List Entry} {e : Option Error} → Reads section line [] a e → (a ≡ []) × (e ≡ None)
+empty_is : {section : Option Section} {line : ℕ} {a : List Entry} {e : Option Error}
+    → Reads section line [] a e → (a ≡ []) × (e ≡ None)
 empty_is file.ends = (refl, refl)
 
 are_one : (n : ℕ) → AreOne n
@@ -161,7 +170,8 @@ none_is_not_some e = cc
 some_is : {r s : List ℕ} → Some r ≡ Some s → r ≡ s
 some_is e = cc
 
-mark_bytes : (a b c : ℕ) (text rest : List ℕ) → after_mark (a ∷ b ∷ c ∷ text) ≡ Some rest → (b ≡ 0xbb) × (c ≡ 0xbf)
+mark_bytes : (a b c : ℕ) (text rest : List ℕ) → after_mark (a ∷ b ∷ c ∷ text) ≡ Some rest
+    → (b ≡ 0xbb) × (c ≡ 0xbf)
 mark_bytes a b c text rest e =
     elim (cases_Bool ((a == 0xef && b == 0xbb) && c == 0xbf)) [
       | inl all ↦
@@ -197,7 +207,8 @@ begins_only (file.unmarked f h) (file.marked e) = absurd (none_is_not_some (sym 
 begins_only (file.unmarked e k) (file.part_of_mark h) = absurd (k h)
 begins_only (file.unmarked e h) (file.unmarked f k) = (refl, refl)
 
-pub one_reading : (text : List ℕ) (a b : List Entry) (e f : Option Error) → IsFile text a e → IsFile text b f → (a ≡ b) × (e ≡ f)
+pub one_reading : (text : List ℕ) (a b : List Entry) (e f : Option Error) → IsFile text a e
+    → IsFile text b f → (a ≡ b) × (e ≡ f)
 one_reading text a b e f first second =
     let (lines, rests) = begins_only first.begins second.begins in
     let moved : Reads None second.line first.rest a e = subst (λ x. Reads None x first.rest a e) lines first.reads in

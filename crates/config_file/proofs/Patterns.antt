@@ -32,14 +32,17 @@ item_shortens (byte is) = omega arith
 item_shortens (escaped e f) = omega arith
 item_shortens (set e stands) = let short = set_shortens stands in omega arith
 
-pub byte_item : {i : Bool} {b c : ℕ} {more : List ℕ} (pattern : List ℕ) → pattern ≡ c ∷ more → stands_for i c b ≡ true → Item i pattern b more
+pub byte_item : {i : Bool} {b c : ℕ} {more : List ℕ} (pattern : List ℕ) → pattern ≡ c ∷ more
+    → stands_for i c b ≡ true → Item i pattern b more
 byte_item pattern at is = rw at (byte is)
 
-pub escaped_item : {i : Bool} {b c : ℕ} {more rest : List ℕ} (pattern : List ℕ) → pattern ≡ c ∷ more → c ≡ backslash
+pub escaped_item : {i : Bool} {b c : ℕ} {more rest : List ℕ} (pattern : List ℕ) → pattern ≡ c ∷ more
+    → c ≡ backslash
     → more ≡ folded i b ∷ rest → Item i pattern b rest
 escaped_item pattern at is e = rw (at, e) (escaped is refl)
 
-pub set_item : {i : Bool} {b c : ℕ} {more rest : List ℕ} (pattern : List ℕ) → pattern ≡ c ∷ more → c ≡ left_bracket
+pub set_item : {i : Bool} {b c : ℕ} {more rest : List ℕ} (pattern : List ℕ) → pattern ≡ c ∷ more
+    → c ≡ left_bracket
     → StandsForByte i more b rest → Item i pattern b rest
 set_item pattern at is stands = rw at (set is stands)
 
@@ -49,53 +52,62 @@ empty_no_item item = let short = item_shortens item in omega arith
 pub no_item : {i : Bool} {b : ℕ} (pattern rest : List ℕ) → pattern ≡ [] → ¬ (Item i pattern b rest)
 no_item {i = i} {b = b} pattern rest at item = empty_no_item (subst (λ p. Item i p b rest) at item)
 
-byte_inv : {i : Bool} {b c : ℕ} {more rest : List ℕ} → Item i (c ∷ more) b rest → c ≢ backslash → c ≢ left_bracket
+byte_inv : {i : Bool} {b c : ℕ} {more rest : List ℕ} → Item i (c ∷ more) b rest → c ≢ backslash
+    → c ≢ left_bracket
     → stands_for i c b ≡ true
 byte_inv (byte is) plain closed = is
 byte_inv (escaped is e) plain closed = absurd (plain is)
 byte_inv (set is stands) plain closed = absurd (closed is)
 
-escape_inv : {i : Bool} {b c : ℕ} {more rest : List ℕ} → Item i (c ∷ more) b rest → c ≡ backslash → more ≡ folded i b ∷ rest
+escape_inv : {i : Bool} {b c : ℕ} {more rest : List ℕ} → Item i (c ∷ more) b rest → c ≡ backslash
+    → more ≡ folded i b ∷ rest
 escape_inv {i = i} {b = b} {c = c} (byte is) e = absurd (stands_for_backslash i c b e is)
 escape_inv (escaped {rest = rest} is e) f = ap (λ x. x ∷ rest) e
 escape_inv (set is stands) e = absurd (omega arith)
 
-set_inv : {i : Bool} {b c : ℕ} {more rest : List ℕ} → Item i (c ∷ more) b rest → c ≡ left_bracket → StandsForByte i more b rest
+set_inv : {i : Bool} {b c : ℕ} {more rest : List ℕ} → Item i (c ∷ more) b rest → c ≡ left_bracket
+    → StandsForByte i more b rest
 set_inv {i = i} {b = b} {c = c} (byte is) e = absurd (stands_for_bracket i c b e is)
 set_inv (escaped is e) f = absurd (omega arith)
 set_inv (set is stands) e = stands
 
-pub no_escaped_item : {i : Bool} {b c : ℕ} {more : List ℕ} (pattern rest : List ℕ) → pattern ≡ c ∷ more → c ≡ backslash
+pub no_escaped_item : {i : Bool} {b c : ℕ} {more : List ℕ} (pattern rest : List ℕ) → pattern ≡ c ∷ more
+    → c ≡ backslash
     → ((r : List ℕ) → more ≢ folded i b ∷ r) → ¬ (Item i pattern b rest)
 no_escaped_item {i = i} {b = b} pattern rest at is never item =
     never rest (escape_inv (subst (λ p. Item i p b rest) at item) is)
 
-pub no_set_item : {i : Bool} {b c : ℕ} {more : List ℕ} (pattern rest : List ℕ) → pattern ≡ c ∷ more → c ≡ left_bracket
+pub no_set_item : {i : Bool} {b c : ℕ} {more : List ℕ} (pattern rest : List ℕ) → pattern ≡ c ∷ more
+    → c ≡ left_bracket
     → ((r : List ℕ) → ¬ (StandsForByte i more b r)) → ¬ (Item i pattern b rest)
 no_set_item {i = i} {b = b} pattern rest at is never item =
     never rest (set_inv (subst (λ p. Item i p b rest) at item) is)
 
-pub no_byte_item : {i : Bool} {b c : ℕ} {more : List ℕ} (pattern rest : List ℕ) → pattern ≡ c ∷ more → c ≢ backslash
+pub no_byte_item : {i : Bool} {b c : ℕ} {more : List ℕ} (pattern rest : List ℕ) → pattern ≡ c ∷ more
+    → c ≢ backslash
     → c ≢ left_bracket → stands_for i c b ≡ false → ¬ (Item i pattern b rest)
 no_byte_item {i = i} {b = b} pattern rest at plain closed never item =
     true≢false (sym (byte_inv (subst (λ p. Item i p b rest) at item) plain closed) ∙ never)
 
 -- ---- patterns that do not begin with a star
 
-pub one_inv : {i starts : Bool} {b : ℕ} {pattern text : List ℕ} → Matches i starts pattern (b ∷ text) → LacksStar pattern
+pub one_inv : {i starts : Bool} {b : ℕ} {pattern text : List ℕ} → Matches i starts pattern (b ∷ text)
+    → LacksStar pattern
     → (rest : List ℕ) × Item i pattern b rest × Matches i (b == slash) rest text
 one_inv (one rest item more) lacks = (rest, item, more)
 one_inv (stars {pattern = pattern} more rest left is run passed match) lacks = absurd (lacks pattern (ap (λ x. x ∷ pattern) is))
 one_inv (no_directory {pattern = pattern} more rest is run crossing match) lacks = absurd (lacks pattern (ap (λ x. x ∷ pattern) is))
 
-pub end_inv : {i starts : Bool} {pattern : List ℕ} → Matches i starts pattern [] → LacksStar pattern → pattern ≡ []
+pub end_inv : {i starts : Bool} {pattern : List ℕ} → Matches i starts pattern [] → LacksStar pattern
+    → pattern ≡ []
 end_inv ends lacks = refl
 end_inv (stars {pattern = pattern} more rest left is run passed match) lacks = absurd (lacks pattern (ap (λ x. x ∷ pattern) is))
 end_inv (no_directory {pattern = pattern} more rest is run crossing match) lacks = absurd (lacks pattern (ap (λ x. x ∷ pattern) is))
 
 -- ---- stars
 
-pub stars_inv : {i starts : Bool} {pattern more rest text : List ℕ} → Run is_star pattern more rest → Matches i starts (star ∷ pattern) text
+pub stars_inv : {i starts : Bool} {pattern more rest text : List ℕ} → Run is_star pattern more rest
+    → Matches i starts (star ∷ pattern) text
     → MatchesNoDirectory i (crosses starts more rest) rest text ⊎ MatchesLater i (crosses starts more rest) rest text
 stars_inv run (one rest item match) = absurd (no_star_item item)
 stars_inv {pattern = pattern} {more = more} {rest = rest} run (stars more2 rest2 left is run2 passed match) =
@@ -105,7 +117,8 @@ stars_inv {pattern = pattern} {more = more} {rest = rest} run (no_directory more
     let same = run_only run run2 in
     rw (same.0, same.1) (inl (rest2, crossing, refl, match))
 
-pub stars_no_directory : {i starts : Bool} {pattern more text : List ℕ} (rest : List ℕ) → Run is_star pattern more rest
+pub stars_no_directory : {i starts : Bool} {pattern more text : List ℕ} (rest : List ℕ)
+    → Run is_star pattern more rest
     → MatchesNoDirectory i (crosses starts more rest) rest text → MatchesStars i starts pattern text
 stars_no_directory {i = i} {starts = starts} {pattern = pattern} {more = more} rest run (after, crossing, at, match) =
     no_directory more after refl (subst (λ r. Run is_star pattern more r) at run) (subst (λ r. crosses starts more r ≡ true) at crossing) match
@@ -116,10 +129,12 @@ stars_later {more = more} {rest = rest} run (left, passed, match) = stars more r
 
 -- ---- what stars pass
 
-pub later_here : {i crossing : Bool} {pattern at : List ℕ} → Matches i false pattern at → MatchesLater i crossing pattern at
+pub later_here : {i crossing : Bool} {pattern at : List ℕ} → Matches i false pattern at
+    → MatchesLater i crossing pattern at
 later_here {at = at} match = (at, no_more, match)
 
-pub later_step : {i crossing : Bool} {b : ℕ} {pattern rest : List ℕ} (at : List ℕ) → at ≡ b ∷ rest → is_passed crossing b ≡ true
+pub later_step : {i crossing : Bool} {b : ℕ} {pattern rest : List ℕ} (at : List ℕ) → at ≡ b ∷ rest
+    → is_passed crossing b ≡ true
     → MatchesLater i crossing pattern rest → MatchesLater i crossing pattern at
 later_step at e is (left, passed, match) = rw e (left, passes is passed, match)
 
@@ -131,7 +146,8 @@ passes_inv (passes is more) = inr (is, more)
 pub passes_none : {crossing : Bool} {left : List ℕ} → Passes crossing [] left → left ≡ []
 passes_none no_more = refl
 
-later_inv : {i crossing : Bool} {b : ℕ} {pattern rest : List ℕ} (at : List ℕ) → at ≡ b ∷ rest → ¬ (Matches i false pattern at)
+later_inv : {i crossing : Bool} {b : ℕ} {pattern rest : List ℕ} (at : List ℕ) → at ≡ b ∷ rest
+    → ¬ (Matches i false pattern at)
     → MatchesLater i crossing pattern at → (is_passed crossing b ≡ true) × MatchesLater i crossing pattern rest
 later_inv {i = i} {crossing = crossing} {pattern = pattern} at e never (left, passed, match) =
     elim (passes_inv (subst (λ x. Passes crossing x left) e passed)) [
@@ -139,15 +155,18 @@ later_inv {i = i} {crossing = crossing} {pattern = pattern} at e never (left, pa
       | inr more ↦ (more.0, (left, more.1, match))
     ]
 
-pub later_back : {i crossing : Bool} {b : ℕ} {pattern rest : List ℕ} (at : List ℕ) → at ≡ b ∷ rest → ¬ (Matches i false pattern at)
+pub later_back : {i crossing : Bool} {b : ℕ} {pattern rest : List ℕ} (at : List ℕ) → at ≡ b ∷ rest
+    → ¬ (Matches i false pattern at)
     → MatchesLater i crossing pattern at → MatchesLater i crossing pattern rest
 later_back at e never later = (later_inv at e never later).1
 
-pub later_stops : {i crossing : Bool} {b : ℕ} {pattern rest : List ℕ} (at : List ℕ) → at ≡ b ∷ rest → ¬ (Matches i false pattern at)
+pub later_stops : {i crossing : Bool} {b : ℕ} {pattern rest : List ℕ} (at : List ℕ) → at ≡ b ∷ rest
+    → ¬ (Matches i false pattern at)
     → is_passed crossing b ≡ false → ¬ (MatchesLater i crossing pattern at)
 later_stops at e never stops later = true≢false (sym ((later_inv at e never later).0) ∙ stops)
 
-pub later_ends : {i crossing : Bool} {pattern : List ℕ} (at : List ℕ) → at ≡ [] → ¬ (Matches i false pattern at)
+pub later_ends : {i crossing : Bool} {pattern : List ℕ} (at : List ℕ) → at ≡ []
+    → ¬ (Matches i false pattern at)
     → ¬ (MatchesLater i crossing pattern at)
 later_ends {i = i} {crossing = crossing} {pattern = pattern} at e never (left, passed, match) =
     let same = passes_none (subst (λ x. Passes crossing x left) e passed) in

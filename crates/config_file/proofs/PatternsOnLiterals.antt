@@ -1,6 +1,6 @@
 -- Whether a pattern matches a literal text: a function that computes it, with the proof. It gives no answer to a set
 -- that is not closed, that has a range before its end, or whose `[:` begins no class.
-use Rattle.std.proofs.Common.{◌≡◌, ◌≢◌, ℕ, zero, suc, Bool, true, false, not, ◌==◌, ◌||◌, ◌&&◌, List, [], ◌∷◌, ◌++◌, Option, Some, None, codes, length, drop, map, refl, sym, ap, subst, eqb-true, inl, inr, ◌⊎◌}
+use Rattle.std.proofs.Common.{◌≡◌, ◌≢◌, ℕ, zero, suc, Bool, true, false, ◌==◌, ◌||◌, List, [], ◌∷◌, ◌++◌, Option, Some, None, codes, length, drop, map, refl, sym, ap, subst, eqb-true, inl, inr, ◌⊎◌}
 use Rattle.std.proofs.lemmas.Bool.{true≢false}
 use Rattle.std.specs.List.{AllByRecursion}
 use Rattle.config_file.proofs.Pick.{cases}

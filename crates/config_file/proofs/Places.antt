@@ -37,7 +37,8 @@ item_lacks {i = i} {b = b} {rest = rest} item tail e = no_star_item (subst (λ p
 
 -- ---- items
 
-past_item : {i c starts : Bool} {b : ℕ} {pattern rest : List ℕ} (text : List ℕ) → Item i pattern b rest → is_passed c b ≡ true
+past_item : {i c starts : Bool} {b : ℕ} {pattern rest : List ℕ} (text : List ℕ) → Item i pattern b rest
+    → is_passed c b ≡ true
     → Matches i starts pattern text → Further i c (b == slash) rest text
 past_item {i = i} {b = b} {rest = rest} [] item is match =
     absurd (empty_no_item (subst (λ p. Item i p b rest) (end_inv match (item_lacks item)) item))
@@ -47,7 +48,8 @@ past_item {i = i} {c = c} {b = b} {pattern = pattern} {rest = rest} (e ∷ text)
     next (passed_same c b e (sym same.1) is) (λ t. test_slash e (same.1 ∙ t))
     (subst (λ s. Matches i s rest text) same.1 (subst (λ r. Matches i (e == slash) r text) same.0 more))
 
-further_item : {i c starts : Bool} {b : ℕ} {pattern rest text : List ℕ} → Item i pattern b rest → is_passed c b ≡ true
+further_item : {i c starts : Bool} {b : ℕ} {pattern rest text : List ℕ} → Item i pattern b rest
+    → is_passed c b ≡ true
     → Further i c starts pattern text → Further i c (b == slash) rest text
 further_item item is (next {text = text} passed slashes match) = beyond passed (past_item text item is match)
 further_item item is (beyond passed more) = beyond passed (further_item item is more)
@@ -89,65 +91,77 @@ stops_at_end {i = i} {starts = starts} {pattern = pattern} at e lacks = (
 
 -- ---- places of a star
 
-further_back : {i c starts : Bool} {b : ℕ} {pattern rest : List ℕ} → Further i c starts pattern (b ∷ rest) → FromHere i c starts pattern rest
+further_back : {i c starts : Bool} {b : ℕ} {pattern rest : List ℕ} → Further i c starts pattern (b ∷ rest)
+    → FromHere i c starts pattern rest
 further_back (next passed slashes match) = inl match
 further_back (beyond passed more) = inr more
 
-pub from_back : {i c starts : Bool} {b : ℕ} {pattern rest : List ℕ} (at : List ℕ) → at ≡ b ∷ rest → ¬ (Matches i starts pattern at)
+pub from_back : {i c starts : Bool} {b : ℕ} {pattern rest : List ℕ} (at : List ℕ) → at ≡ b ∷ rest
+    → ¬ (Matches i starts pattern at)
     → FromHere i c starts pattern at → FromHere i c starts pattern rest
 from_back {i = i} {c = c} {starts = starts} {b = b} {pattern = pattern} {rest = rest} at e none (inl m) = absurd (none m)
 from_back {i = i} {c = c} {starts = starts} {b = b} {pattern = pattern} {rest = rest} at e none (inr more) =
     further_back (subst (λ x. Further i c starts pattern x) e more)
 
 -- one more byte that is passed, if no name has to start there
-from_step : {i c : Bool} {b : ℕ} {pattern text : List ℕ} → is_passed c b ≡ true → FromHere i c false pattern text
+from_step : {i c : Bool} {b : ℕ} {pattern text : List ℕ} → is_passed c b ≡ true
+    → FromHere i c false pattern text
     → Further i c false pattern (b ∷ text)
 from_step is (inl m) = next is never m
 from_step is (inr more) = beyond is more
 
-from_passes : {i d c : Bool} {pattern text left : List ℕ} → ((b : ℕ) → is_passed d b ≡ true → is_passed c b ≡ true)
+from_passes : {i d c : Bool} {pattern text left : List ℕ}
+    → ((b : ℕ) → is_passed d b ≡ true → is_passed c b ≡ true)
     → Passes d text left → Matches i false pattern left → FromHere i c false pattern text
 from_passes weaker no_more match = inl match
 from_passes weaker (passes {b = b} is more) match = inr (from_step (weaker b is) (from_passes weaker more match))
 
-pub from_later : {i c : Bool} {pattern text : List ℕ} → MatchesLater i c pattern text → FromHere i c false pattern text
+pub from_later : {i c : Bool} {pattern text : List ℕ} → MatchesLater i c pattern text
+    → FromHere i c false pattern text
 from_later (left, passed, match) = from_passes (λ b is. is) passed match
 
-further_later : {i c starts : Bool} {pattern text : List ℕ} → starts ≡ false → Further i c starts pattern text → MatchesLater i c pattern text
+further_later : {i c starts : Bool} {pattern text : List ℕ} → starts ≡ false
+    → Further i c starts pattern text → MatchesLater i c pattern text
 further_later {i = i} {pattern = pattern} e (next {text = text} is slashes match) =
     (text, passes is no_more, subst (λ s. Matches i s pattern text) e match)
 further_later e (beyond is more) = let (left, passed, match) = further_later e more in (left, passes is passed, match)
 
-pub to_later : {i c : Bool} {pattern text : List ℕ} → FromHere i c false pattern text → MatchesLater i c pattern text
+pub to_later : {i c : Bool} {pattern text : List ℕ} → FromHere i c false pattern text
+    → MatchesLater i c pattern text
 to_later (inl m) = later_here m
 to_later (inr more) = further_later refl more
 
 -- ---- the next star: what matches from an earlier star's later places matches from this star too
 
-star_from : {i c starts : Bool} {pattern more rest text : List ℕ} → Run is_star pattern more rest → crosses starts more rest ≡ false
+star_from : {i c starts : Bool} {pattern more rest text : List ℕ} → Run is_star pattern more rest
+    → crosses starts more rest ≡ false
     → Matches i starts (star ∷ pattern) text → FromHere i c false rest text
 star_from {i = i} {c = c} {starts = starts} {more = more} {rest = rest} {text = text} run short match = elim (stars_inv run match) [
   | inl (after, crossing, at, m) ↦ absurd (true≢false (sym crossing ∙ short))
   | inr (left, passed, m) ↦ from_passes (λ b is. passed_any c b is) (subst (λ x. Passes x text left) short passed) m
 ]
 
-star_further : {i c starts : Bool} {pattern more rest text : List ℕ} → Run is_star pattern more rest → crosses starts more rest ≡ false
+star_further : {i c starts : Bool} {pattern more rest text : List ℕ} → Run is_star pattern more rest
+    → crosses starts more rest ≡ false
     → Further i c starts (star ∷ pattern) text → Further i c false rest text
 star_further run short (next is slashes match) = from_step is (star_from run short match)
 star_further run short (beyond is more) = beyond is (star_further run short more)
 
-pub star_all : {i c starts : Bool} {pattern more rest text : List ℕ} → Run is_star pattern more rest → crosses starts more rest ≡ false
+pub star_all : {i c starts : Bool} {pattern more rest text : List ℕ} → Run is_star pattern more rest
+    → crosses starts more rest ≡ false
     → FromHere i c starts (star ∷ pattern) text → FromHere i c false rest text
 star_all run short (inl m) = star_from run short m
 star_all run short (inr more) = inr (star_further run short more)
 
 -- ---- the next stars that cross directories
 
-slash_here : {i : Bool} {b : ℕ} {rest after text : List ℕ} → rest ≡ slash ∷ after → b ≡ slash → Matches i true after text
+slash_here : {i : Bool} {b : ℕ} {rest after text : List ℕ} → rest ≡ slash ∷ after → b ≡ slash
+    → Matches i true after text
     → Matches i false rest (b ∷ text)
 slash_here {i = i} {after = after} at e match = rw (at, e) (one after (byte (slash_stands i)) match)
 
-deep_further : {i starts : Bool} {pattern more rest text : List ℕ} → Run is_star pattern more rest → crosses starts more rest ≡ true
+deep_further : {i starts : Bool} {pattern more rest text : List ℕ} → Run is_star pattern more rest
+    → crosses starts more rest ≡ true
     → starts ≡ true → Further i true starts (star ∷ pattern) text → MatchesLater i true rest text
 deep_further {i = i} run long name (next {b = b} {text = text} is slashes match) = elim (stars_inv run match) [
   | inl (after, crossing, at, m) ↦ (b ∷ text, no_more, slash_here at (slashes name) m)
@@ -161,21 +175,24 @@ crosses_starts starts [] rest e = never e
 crosses_starts true (c ∷ more) rest e = refl
 crosses_starts false (c ∷ more) rest e = never e
 
-pub deep_all : {i starts : Bool} {pattern more rest text : List ℕ} → Run is_star pattern more rest → crosses starts more rest ≡ true
+pub deep_all : {i starts : Bool} {pattern more rest text : List ℕ} → Run is_star pattern more rest
+    → crosses starts more rest ≡ true
     → FromHere i true starts (star ∷ pattern) text → MatchesDeep i rest text
 deep_all {i = i} {rest = rest} {text = text} run long (inl m) =
     subst (λ x. MatchesNoDirectory i x rest text ⊎ MatchesLater i x rest text) long (stars_inv run m)
 deep_all {starts = starts} {more = more} {rest = rest} run long (inr further) =
     inr (deep_further run long (crosses_starts starts more rest long) further)
 
-pub deep_back : {i starts : Bool} {pattern more rest text : List ℕ} → Run is_star pattern more rest → crosses starts more rest ≡ true
+pub deep_back : {i starts : Bool} {pattern more rest text : List ℕ} → Run is_star pattern more rest
+    → crosses starts more rest ≡ true
     → MatchesDeep i rest text → MatchesStars i starts pattern text
 deep_back {i = i} {rest = rest} {text = text} run long (inl m) =
     stars_no_directory rest run (subst (λ x. MatchesNoDirectory i x rest text) (sym long) m)
 deep_back {i = i} {rest = rest} {text = text} run long (inr m) =
     stars_later run (subst (λ x. MatchesLater i x rest text) (sym long) m)
 
-pub short_back : {i starts : Bool} {pattern more rest text : List ℕ} → Run is_star pattern more rest → crosses starts more rest ≡ false
+pub short_back : {i starts : Bool} {pattern more rest text : List ℕ} → Run is_star pattern more rest
+    → crosses starts more rest ≡ false
     → MatchesLater i false rest text → MatchesStars i starts pattern text
 short_back {i = i} {rest = rest} {text = text} run short m =
     stars_later run (subst (λ x. MatchesLater i x rest text) (sym short) m)
@@ -185,7 +202,8 @@ short_back {i = i} {rest = rest} {text = text} run short m =
 slash_lacks : {after : List ℕ} → LacksStar (slash ∷ after)
 slash_lacks tail e = cc
 
-slash_further : {i : Bool} {after : List ℕ} (left : List ℕ) → Matches i false (slash ∷ after) left → Further i true true after left
+slash_further : {i : Bool} {after : List ℕ} (left : List ℕ) → Matches i false (slash ∷ after) left
+    → Further i true true after left
 slash_further [] m = cc (end_inv m slash_lacks)
 slash_further {i = i} {after = after} (b ∷ text) m =
     let (rest, item, more) = one_inv m slash_lacks in
@@ -193,42 +211,49 @@ slash_further {i = i} {after = after} (b ∷ text) m =
     next refl (λ t. test_slash b same.1)
     (subst (λ s. Matches i s after text) same.1 (subst (λ r. Matches i (b == slash) r text) same.0 more))
 
-slash_passes : {i : Bool} {after text left : List ℕ} → Passes true text left → Matches i false (slash ∷ after) left
+slash_passes : {i : Bool} {after text left : List ℕ} → Passes true text left
+    → Matches i false (slash ∷ after) left
     → Further i true true after text
 slash_passes {text = text} no_more m = slash_further text m
 slash_passes (passes is more) m = beyond is (slash_passes more m)
 
-pub slash_from : {i : Bool} {after text : List ℕ} (pattern : List ℕ) → pattern ≡ slash ∷ after → MatchesDeep i pattern text
+pub slash_from : {i : Bool} {after text : List ℕ} (pattern : List ℕ) → pattern ≡ slash ∷ after
+    → MatchesDeep i pattern text
     → FromHere i true true after text
 slash_from {i = i} {after = after} {text = text} pattern e (inl (rest, crossing, at, m)) =
     inl (subst (λ r. Matches i true r text) (cc) m)
 slash_from {i = i} {after = after} {text = text} pattern e (inr (left, passed, m)) =
     inr (slash_passes passed (subst (λ p. Matches i false p left) e m))
 
-pub slash_only : {i : Bool} {after text : List ℕ} (pattern : List ℕ) → pattern ≡ slash ∷ after → MatchesNoDirectory i true pattern text
+pub slash_only : {i : Bool} {after text : List ℕ} (pattern : List ℕ) → pattern ≡ slash ∷ after
+    → MatchesNoDirectory i true pattern text
     → Matches i true after text
 slash_only {i = i} {after = after} {text = text} pattern e (rest, crossing, at, m) = subst (λ r. Matches i true r text) (cc) m
 
 -- ---- what is found
 
-pub star_map : (i : Bool) {P Q : Type 0} {F G : Bool → Type 0} (found : Found) → (P → Q) → (Q → P) → ((c : Bool) → G c → F c)
+pub star_map : (i : Bool) {P Q : Type 0} {F G : Bool → Type 0} (found : Found) → (P → Q) → (Q → P)
+    → ((c : Bool) → G c → F c)
     → FindsStar i P F found → FindsStar i Q G found
 star_map i Whole there back from is = there is
 star_map i Nothing there back from is = λ q. is (back q)
 star_map i (Stars place) there back from is = (λ m. there (is.0 m), λ c g. is.1 c (from c g))
 
-pub deep_map : (i : Bool) {P Q F G : Type 0} (found : Found) → (P → Q) → (Q → P) → (G → F) → FindsDeep i P F found → FindsDeep i Q G found
+pub deep_map : (i : Bool) {P Q F G : Type 0} (found : Found) → (P → Q) → (Q → P) → (G → F)
+    → FindsDeep i P F found → FindsDeep i Q G found
 deep_map i Whole there back from is = there is
 deep_map i Nothing there back from is = λ q. is (back q)
 deep_map i (Stars place) there back from is = (λ m. there (is.0 m), λ g. is.1 (from g))
 
-pub star_found : (i : Bool) {P Q : Type 0} {F G : Bool → Type 0} (found : Found) → found ≢ Nothing → (P → Q) → ((c : Bool) → G c → F c)
+pub star_found : (i : Bool) {P Q : Type 0} {F G : Bool → Type 0} (found : Found) → found ≢ Nothing → (P → Q)
+    → ((c : Bool) → G c → F c)
     → FindsStar i P F found → FindsStar i Q G found
 star_found i Whole some there from is = there is
 star_found i Nothing some there from is = absurd (some refl)
 star_found i (Stars place) some there from is = (λ m. there (is.0 m), λ c g. is.1 c (from c g))
 
-pub deep_found : (i : Bool) {P Q F G : Type 0} (found : Found) → found ≢ Nothing → (P → Q) → (G → F) → FindsDeep i P F found
+pub deep_found : (i : Bool) {P Q F G : Type 0} (found : Found) → found ≢ Nothing → (P → Q) → (G → F)
+    → FindsDeep i P F found
     → FindsDeep i Q G found
 deep_found i Whole some there from is = there is
 deep_found i Nothing some there from is = absurd (some refl)
@@ -251,7 +276,8 @@ star_next i P F found place e is run short whole found2 is2 =
     star_map i found2 (λ m. both.0 (short_back run short m)) (λ p. to_later (star_all run short (both.1 false (whole p))))
     (λ c f. star_all run short (both.1 c f)) is2
 
-pub smaller : {more rest : List ℕ} (found found2 : Found) (place : Place) → found ≡ Stars place → Run is_star place.pattern.now more rest
+pub smaller : {more rest : List ℕ} (found found2 : Found) (place : Place) → found ≡ Stars place
+    → Run is_star place.pattern.now more rest
     → size found2 ≤ length rest → size found2 < size found
 smaller found found2 place e run short = let less = run_shortens run in rw e (omega arith)
 

@@ -23,7 +23,8 @@ passed_start {raw = raw} {blanks = blanks} {start = start} run =
           (ending, blanks, (λ some. absurd (some refl)), more);
     }
 
-pub passed_blank : {raw start rest : List ℕ} {count b : ℕ} (at : List ℕ) → PassedPlain raw start at count → at ≡ b ∷ rest → is_blank b ≡ true
+pub passed_blank : {raw start rest : List ℕ} {count b : ℕ} (at : List ℕ) → PassedPlain raw start at count
+    → at ≡ b ∷ rest → is_blank b ≡ true
     → PassedPlain raw start rest count
 passed_blank {rest = rest} {b = b} at passed e is =
     record {
@@ -38,7 +39,8 @@ passed_blank {rest = rest} {b = b} at passed e is =
           (o, held ++ b ∷ [], (λ some. ap (λ x. x ++ b ∷ []) (same some)), after_held (subst (λ x. Spells itself false passed.front held x spelled o) e more) is);
     }
 
-kept_is : (front gap start at held : List ℕ) → StopsRun is_blank start → start ≡ (front ++ gap) ++ at → list_all is_blank gap ≡ true
+kept_is : (front gap start at held : List ℕ) → StopsRun is_blank start → start ≡ (front ++ gap) ++ at
+    → list_all is_blank gap ≡ true
     → (front ≢ [] → held ≡ gap) → kept front held ≡ front ++ gap
 kept_is [] [] start at held begins joined blanks same = refl
 kept_is [] (g ∷ gap) start at held begins joined blanks same =
@@ -46,7 +48,8 @@ kept_is [] (g ∷ gap) start at held begins joined blanks same =
     absurd (true≢false (sym ((and_parts (is_blank g) (list_all is_blank gap) blanks).0) ∙ stops))
 kept_is (f ∷ front) gap start at held begins joined blanks same = ap (◌++◌ (f ∷ front)) (same (λ none. cc))
 
-pub passed_text : {raw start rest : List ℕ} {count b : ℕ} (at : List ℕ) → PassedPlain raw start at count → at ≡ b ∷ rest → is_blank b ≡ false
+pub passed_text : {raw start rest : List ℕ} {count b : ℕ} (at : List ℕ) → PassedPlain raw start at count
+    → at ≡ b ∷ rest → is_blank b ≡ false
     → b ≢ 34 → b ≢ 92 → PassedPlain raw start rest (length start - length rest)
 passed_text {start = start} {rest = rest} {b = b} at passed e is not_quote not_backslash =
     let whole : start ≡ ((passed.front ++ passed.gap) ++ b ∷ []) ++ rest = passed.joined ∙ rw e (simp append_assoc) in

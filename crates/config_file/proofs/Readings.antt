@@ -23,27 +23,32 @@ module _ {section : Option Section} {line : ℕ} (left : List Entry) (error : Op
       → Reads section (line + 1) rest left error → Reads section line at left error
   at_line_end at e is h = rw e (file.line_end is h)
 
-  pub at_comment : {b : ℕ} {rest comment after : List ℕ} (at : List ℕ) → at ≡ b ∷ rest → is_comment_sign b ≡ true → Run is_comment_byte rest comment after
+  pub at_comment : {b : ℕ} {rest comment after : List ℕ} (at : List ℕ) → at ≡ b ∷ rest
+      → is_comment_sign b ≡ true → Run is_comment_byte rest comment after
       → Reads section line after left error → Reads section line at left error
   at_comment at e is run h = rw e (file.comment is run h)
 
-  pub at_header : {b : ℕ} {next : Section} {rest after : List ℕ} (at : List ℕ) → at ≡ b ∷ rest → b ≡ 91 → Header rest next after
+  pub at_header : {b : ℕ} {next : Section} {rest after : List ℕ} (at : List ℕ) → at ≡ b ∷ rest → b ≡ 91
+      → Header rest next after
       → Reads (Some next) line after left error → Reads section line at left error
   at_header at e is taken h = rw e (file.header is taken h)
 
 -- a text that is refused with an error of this line and this fault is refused with an equal error
-refused_as : {section : Option Section} {line at_line : ℕ} {fault : Fault} {text : List ℕ} (error : Error) → error.line ≡ at_line → error.fault ≡ fault
+refused_as : {section : Option Section} {line at_line : ℕ} {fault : Fault} {text : List ℕ} (error : Error)
+    → error.line ≡ at_line → error.fault ≡ fault
     → Reads section line text [] (Some (record { line = at_line; fault = fault })) → Reads section line text [] (Some error)
 refused_as {section = section} {line = line} {fault = fault} {text = text} error same_line same_fault h =
     let first = subst (λ l. Reads section line text [] (Some (record { line = l; fault = fault }))) (sym same_line) h in
     subst (λ f. Reads section line text [] (Some (record { line = error.line; fault = f }))) (sym same_fault) first
 
 module _ {section : Option Section} {line : ℕ} (error : Error) where
-  pub header_refused : {b lines : ℕ} {fault : Fault} {rest : List ℕ} (at : List ℕ) → at ≡ b ∷ rest → b ≡ 91 → HeaderStops rest lines fault
+  pub header_refused : {b lines : ℕ} {fault : Fault} {rest : List ℕ} (at : List ℕ) → at ≡ b ∷ rest → b ≡ 91
+      → HeaderStops rest lines fault
       → error.line ≡ line + lines → error.fault ≡ fault → Reads section line at [] (Some error)
   header_refused at e is stops same_line same_fault = refused_as error same_line same_fault (rw e (file.header_refused is stops))
 
-  pub entry_refused : {b lines : ℕ} {fault : Fault} {rest : List ℕ} (at : List ℕ) → at ≡ b ∷ rest → is_ascii_alphabetic b ≡ true → EntryStops at lines fault
+  pub entry_refused : {b lines : ℕ} {fault : Fault} {rest : List ℕ} (at : List ℕ) → at ≡ b ∷ rest
+      → is_ascii_alphabetic b ≡ true → EntryStops at lines fault
       → error.line ≡ line + lines → error.fault ≡ fault → Reads section line at [] (Some error)
   entry_refused {lines = lines} {fault = fault} at e letter stops same_line same_fault =
       refused_as error same_line same_fault (rw e (file.entry_refused letter (subst (λ t. EntryStops t lines fault) e stops)))
@@ -71,5 +76,6 @@ gives_from old mid (Ok entry) new same gives = λ left error h. same (entry_of e
 gives_from old mid (Err error) new same gives = (same [] (Some error) gives.0, gives.1)
 
 -- a byte at which the code finds no item does not begin an item
-pub begins_none : (b : ℕ) → is_blank b ≡ false → b ≢ 10 → is_comment_sign b ≡ false → b ≢ 91 → is_ascii_alphabetic b ≡ false → begins_item b ≡ false
+pub begins_none : (b : ℕ) → is_blank b ≡ false → b ≢ 10 → is_comment_sign b ≡ false → b ≢ 91
+    → is_ascii_alphabetic b ≡ false → begins_item b ≡ false
 begins_none b not_blank not_line_end not_sign not_bracket not_letter = grind (arith, nat_tests)

@@ -6,7 +6,8 @@ use Rattle.std.specs.List.{prefix_len}
 use Rattle.config_file.specs.Runs.{Run}
 
 -- the bytes that `prefix_len` counts are the longest run at the start of the text
-pub run_split : (test : ℕ → Bool) (text : List ℕ) → Run test text (take (prefix_len test text) text) (drop (prefix_len test text) text)
+pub run_split : (test : ℕ → Bool) (text : List ℕ)
+    → Run test text (take (prefix_len test text) text) (drop (prefix_len test text) text)
 run_split test [] = record { joined = refl; pass = refl; longest = tt }
 run_split test (b ∷ text) =
     elim (cases_Bool (test b)) [

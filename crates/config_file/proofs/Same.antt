@@ -22,7 +22,8 @@ not_same false true e f = absurd (true≢false (sym f))
 folded_same : (c b b2 : ℕ) → (c == b) ≡ true → (c == b2) ≡ true → b ≡ b2
 folded_same c b b2 e f = grind arith
 
-stands_same : (i : Bool) (c b b2 : ℕ) → stands_for i c b ≡ true → stands_for i c b2 ≡ true → (b == slash) ≡ (b2 == slash)
+stands_same : (i : Bool) (c b b2 : ℕ) → stands_for i c b ≡ true → stands_for i c b2 ≡ true
+    → (b == slash) ≡ (b2 == slash)
 stands_same i c b b2 is is2 = elim (cases_Bool (c == question_mark)) [
   | inl e ↦ not_same (b == slash) (b2 == slash) (rw e at is) (rw e at is2)
   | inr f ↦ elim (cases_Bool ((c == star || c == left_bracket) || c == backslash)) [

@@ -20,7 +20,8 @@ use Rattle.config_file.specs.Set.{Class, alnum, alpha, blank, cntrl, digit, grap
 -- ---- classes
 
 -- the text after `[:` has the same next `]`
-inner_run : {text inner closing : List ℕ} (inside : List ℕ) → Run is_unclosed text inside closing → text ≡ codes "[:" ++ inner
+inner_run : {text inner closing : List ℕ} (inside : List ℕ) → Run is_unclosed text inside closing
+    → text ≡ codes "[:" ++ inner
     → (front : List ℕ) × Run is_unclosed inner front closing
 inner_run {inner = inner} {closing = closing} [] run e =
     absurd (true≢false (subst (λ x. StopsRun is_unclosed x) (sym run.joined ∙ e) run.longest))
@@ -34,16 +35,19 @@ inner_run {inner = inner} {closing = closing} (x ∷ y ∷ inside) run e =
 abbrev pub Closes : List ℕ → List ℕ → Type 0
 Closes text closing = (inside : List ℕ) × Run is_unclosed text inside closing
 
-pub inner_before : {text inner closing : List ℕ} → Closes text closing → text ≡ codes "[:" ++ inner → (front : List ℕ) × (inner ≡ front ++ closing)
+pub inner_before : {text inner closing : List ℕ} → Closes text closing
+    → text ≡ codes "[:" ++ inner → (front : List ℕ) × (inner ≡ front ++ closing)
 inner_before (inside, run) e = let (front, more) = inner_run inside run e in (front, more.joined)
 
-run_before : {text inner inside closing : List ℕ} → Closes text closing → text ≡ codes "[:" ++ inner → inner ≡ inside ++ closing
+run_before : {text inner inside closing : List ℕ} → Closes text closing
+    → text ≡ codes "[:" ++ inner → inner ≡ inside ++ closing
     → Run is_unclosed inner inside closing
 run_before {inner = inner} {inside = inside} {closing = closing} (all, run) opens joined =
     let (front, more) = inner_run all run opens in
     subst (λ x. Run is_unclosed inner x closing) (append_cancel_right front inside closing (sym more.joined ∙ joined)) more
 
-pub is_class : {text inner inside closing name rest : List ℕ} → Closes text closing → text ≡ codes "[:" ++ inner → inner ≡ inside ++ closing
+pub is_class : {text inner inside closing name rest : List ℕ} → Closes text closing
+    → text ≡ codes "[:" ++ inner → inner ≡ inside ++ closing
     → inside ≡ name ++ codes ":" → closing ≡ right_bracket ∷ rest → IsClass text name rest
 is_class {inner = inner} {inside = inside} {rest = rest} ahead opens joined ends closing = record {
   inner = inner;
@@ -52,7 +56,8 @@ is_class {inner = inner} {inside = inside} {rest = rest} ahead opens joined ends
       (subst (λ c. Run is_unclosed inner inside c) closing (run_before ahead opens joined));
 }
 
-same_run : {text inner inside closing name rest : List ℕ} → text ≡ codes "[:" ++ inner → Run is_unclosed inner inside closing
+same_run : {text inner inside closing name rest : List ℕ}
+    → text ≡ codes "[:" ++ inner → Run is_unclosed inner inside closing
     → IsClass text name rest → (inside ≡ name ++ codes ":") × (closing ≡ right_bracket ∷ rest)
 same_run {inner = inner} {inside = inside} {closing = closing} opens run is =
     let inners : inner ≡ is.inner = append_cancel_left (codes "[:") inner is.inner (sym opens ∙ is.opened) in
@@ -61,15 +66,18 @@ same_run {inner = inner} {inside = inside} {closing = closing} opens run is =
 pub not_opened : {text : List ℕ} → LacksFront (codes "[:") text → IsNoClass text
 not_opened lacks name rest is = lacks is.inner is.opened
 
-pub no_colon : {text inner inside closing : List ℕ} → Closes text closing → text ≡ codes "[:" ++ inner → inner ≡ inside ++ closing
+pub no_colon : {text inner inside closing : List ℕ} → Closes text closing
+    → text ≡ codes "[:" ++ inner → inner ≡ inside ++ closing
     → ((front : List ℕ) → inside ≢ front ++ codes ":") → IsNoClass text
 no_colon ahead opens joined never name rest is = never name ((same_run opens (run_before ahead opens joined) is).0)
 
-pub no_closing : {text inner closing : List ℕ} (inside : List ℕ) → Closes text closing → text ≡ codes "[:" ++ inner → inner ≡ inside ++ closing
+pub no_closing : {text inner closing : List ℕ} (inside : List ℕ) → Closes text closing
+    → text ≡ codes "[:" ++ inner → inner ≡ inside ++ closing
     → ((rest : List ℕ) → closing ≢ right_bracket ∷ rest) → IsNoClass text
 no_closing inside ahead opens joined never name rest is = never rest ((same_run opens (run_before ahead opens joined) is).1)
 
-pub class_unique : {text name name2 rest rest2 : List ℕ} → IsClass text name rest → IsClass text name2 rest2 → (name ≡ name2) × (rest ≡ rest2)
+pub class_unique : {text name name2 rest rest2 : List ℕ} → IsClass text name rest → IsClass text name2 rest2
+    → (name ≡ name2) × (rest ≡ rest2)
 class_unique {name = name} {name2 = name2} one other =
     let (names, rests) = same_run one.opened one.closed other in
     (append_cancel_right name name2 (codes ":") names, ap (λ l. drop 1 l) rests)
@@ -118,12 +126,14 @@ class_row (spaces e f) = rw e (ap Some (sym f))
 class_row (upper e f) = rw e (ap Some (sym f))
 class_row (xdigit e f) = rw e (ap Some (sym f))
 
-class_only : {i : Bool} {b : ℕ} {name name2 : List ℕ} {h h2 : Bool} → Class i b name h → Class i b name2 h2 → name ≡ name2 → h ≡ h2
+class_only : {i : Bool} {b : ℕ} {name name2 : List ℕ} {h h2 : Bool} → Class i b name h → Class i b name2 h2
+    → name ≡ name2 → h ≡ h2
 class_only {i = i} {b = b} one other e = same_Some _ _ (sym (class_row one) ∙ ap (row_of (rows i b)) e ∙ class_row other)
 
 -- ---- members
 
-byte_unique : {starts : Bool} {text r r2 : List ℕ} {c c2 : ℕ} → SetByte starts text c r → SetByte starts text c2 r2 → (c ≡ c2) × (r ≡ r2)
+byte_unique : {starts : Bool} {text r r2 : List ℕ} {c c2 : ℕ} → SetByte starts text c r
+    → SetByte starts text c2 r2 → (c ≡ c2) × (r ≡ r2)
 byte_unique (bare other first) (bare other2 first2) = (refl, refl)
 byte_unique (bare other first) (after_backslash e) = absurd (other e)
 byte_unique (after_backslash e) (bare other first) = absurd (other e)
@@ -145,7 +155,8 @@ no_end_member i b c rest here after e (class name is known) =
 no_end_member i b c rest here after e (single d none is alone found) = no_end_byte e is
 no_end_member i b c rest here after e (range first last mid none is more found) = no_end_byte e is
 
-escapes_none : {starts : Bool} {c d : ℕ} {after : List ℕ} → c ≡ backslash → SetByte starts (c ∷ []) d after → ⊥
+escapes_none : {starts : Bool} {c d : ℕ} {after : List ℕ} → c ≡ backslash → SetByte starts (c ∷ []) d after
+    → ⊥
 escapes_none is (bare other first) = other is
 
 range_byte : {c last : ℕ} {mid rest : List ℕ} → RangeEnd (c ∷ mid) last rest → SetByte false mid last rest
@@ -161,11 +172,13 @@ pub is_no_first : (c d : ℕ) (more : Bool) → c ≢ d → more ≡ ((c == d) |
 is_no_first c d more apart = let other : (c == d) ≡ false = grind (arith, nat_tests) in sym (ap (λ x. x || more) other)
 
 -- the next byte of a set
-pub bare_here : {starts : Bool} {text rest : List ℕ} {c : ℕ} → text ≡ c ∷ rest → c ≢ backslash → (c ≡ right_bracket → starts ≡ true)
+pub bare_here : {starts : Bool} {text rest : List ℕ} {c : ℕ} → text ≡ c ∷ rest → c ≢ backslash
+    → (c ≡ right_bracket → starts ≡ true)
     → SetByte starts text c rest
 bare_here e other first = rw e (bare other first)
 
-pub escaped_here : {starts : Bool} {text rest after : List ℕ} {c d : ℕ} → text ≡ c ∷ rest → c ≡ backslash → rest ≡ d ∷ after
+pub escaped_here : {starts : Bool} {text rest after : List ℕ} {c d : ℕ} → text ≡ c ∷ rest → c ≡ backslash
+    → rest ≡ d ∷ after
     → SetByte starts text d after
 escaped_here e is f = rw (e, f) (after_backslash is)
 
@@ -174,10 +187,12 @@ pub no_escaped : {starts : Bool} {text rest : List ℕ} {c : ℕ} → text ≡ c
 no_escaped {starts = starts} {c = c} e is none d after here =
     escapes_none is (subst (λ x. SetByte starts (c ∷ x) d after) none (subst (λ x. SetByte starts x d after) e here))
 
-pub range_here : {text mid rest : List ℕ} {last : ℕ} → text ≡ dash ∷ mid → SetByte false mid last rest → RangeEnd text last rest
+pub range_here : {text mid rest : List ℕ} {last : ℕ} → text ≡ dash ∷ mid → SetByte false mid last rest
+    → RangeEnd text last rest
 range_here e is = rw e (to refl is)
 
-pub no_range_byte : {text mid : List ℕ} → text ≡ dash ∷ mid → ((c : ℕ) (rest : List ℕ) → ¬ (SetByte false mid c rest)) → IsNoRange text
+pub no_range_byte : {text mid : List ℕ} → text ≡ dash ∷ mid
+    → ((c : ℕ) (rest : List ℕ) → ¬ (SetByte false mid c rest)) → IsNoRange text
 no_range_byte e none last rest here = none last rest (range_byte (subst (λ x. RangeEnd x last rest) e here))
 
 pub of_no_class : {i : Bool} {b : ℕ} {starts : Bool} {text name after : List ℕ} → IsClass text name after
@@ -194,7 +209,8 @@ of_no_byte none nothing here rest (single c none2 byte alone found) = nothing c 
 of_no_byte none nothing here rest (range first last mid none2 byte more found) = nothing first mid byte
 
 -- what follows a member does not depend on the byte that is sought
-pub member_same : {i : Bool} {b b2 : ℕ} {starts h h2 : Bool} {text r r2 : List ℕ} → Member i b starts text h r → Member i b2 starts text h2 r2
+pub member_same : {i : Bool} {b b2 : ℕ} {starts h h2 : Bool} {text r r2 : List ℕ}
+    → Member i b starts text h r → Member i b2 starts text h2 r2
     → (r ≡ r2) × (b ≡ b2 → h ≡ h2)
 member_same {i = i} {b2 = b2} {h2 = h2} (class name is known) (class name2 is2 known2) =
     let (names, rests) = class_unique is is2 in
@@ -241,27 +257,31 @@ class_rest : {text name rest : List ℕ} → IsClass text name rest → (front :
 class_rest {name = name} {rest = rest} is =
     (codes "[:" ++ ((name ++ codes ":") ++ right_bracket ∷ []), is.opened ∙ ap (λ x. codes "[:" ++ x) (is.closed.joined ∙ simp append_assoc))
 
-byte_rest : {starts : Bool} {text rest : List ℕ} {c : ℕ} → SetByte starts text c rest → (front : List ℕ) × (text ≡ front ++ rest)
+byte_rest : {starts : Bool} {text rest : List ℕ} {c : ℕ} → SetByte starts text c rest
+    → (front : List ℕ) × (text ≡ front ++ rest)
 byte_rest (bare {c = c} other first) = (c ∷ [], refl)
 byte_rest (after_backslash {c = c} {e = e} is) = (c ∷ e ∷ [], refl)
 
 range_rest : {text rest : List ℕ} {c : ℕ} → RangeEnd text c rest → (front : List ℕ) × (text ≡ front ++ rest)
 range_rest (to {c = c} e is) = let (front, f) = byte_rest is in (c ∷ front, ap (◌∷◌ c) f)
 
-byte_shortens : {starts : Bool} {text rest : List ℕ} {c : ℕ} → SetByte starts text c rest → length rest < length text
+byte_shortens : {starts : Bool} {text rest : List ℕ} {c : ℕ} → SetByte starts text c rest
+    → length rest < length text
 byte_shortens (bare other first) = omega arith
 byte_shortens (after_backslash e) = omega arith
 
 range_shortens : {text rest : List ℕ} {c : ℕ} → RangeEnd text c rest → length rest < length text
 range_shortens (to e is) = let short = byte_shortens is in omega arith
 
-pub member_shortens : {i : Bool} {b : ℕ} {starts here : Bool} {text after : List ℕ} → Member i b starts text here after
+pub member_shortens : {i : Bool} {b : ℕ} {starts here : Bool} {text after : List ℕ}
+    → Member i b starts text here after
     → length after < length text
 member_shortens (class name is known) = class_shortens is
 member_shortens (single c none byte alone found) = byte_shortens byte
 member_shortens (range first last mid none byte more found) = let short = byte_shortens byte in let shorter = range_shortens more in omega arith
 
-has_shortens : {i : Bool} {b : ℕ} {starts f : Bool} {text r : List ℕ} → SetHas i b starts text f r → length r < length text
+has_shortens : {i : Bool} {b : ℕ} {starts f : Bool} {text r : List ℕ} → SetHas i b starts text f r
+    → length r < length text
 has_shortens (closes e) = omega arith
 has_shortens (has here found after is more all) =
     let short = member_shortens is in
@@ -280,7 +300,8 @@ set_shortens {text = text} stands =
 
 -- ---- the next `]`
 
-member_rest : {i : Bool} {b : ℕ} {starts here : Bool} {text after : List ℕ} → Member i b starts text here after
+member_rest : {i : Bool} {b : ℕ} {starts here : Bool} {text after : List ℕ}
+    → Member i b starts text here after
     → (front : List ℕ) × (text ≡ front ++ after)
 member_rest (class name is known) = class_rest is
 member_rest (single c none byte alone found) = byte_rest byte
@@ -290,7 +311,8 @@ member_rest (range first last mid none byte more found) =
     (front ++ ends, e ∙ ap (◌++◌ front) f ∙ sym (append_assoc front ends _))
 
 -- either the first `]` is still ahead, or it has been passed
-passed : (front inside after closing : List ℕ) → list_all is_unclosed inside ≡ true → front ++ after ≡ inside ++ closing
+passed : (front inside after closing : List ℕ) → list_all is_unclosed inside ≡ true
+    → front ++ after ≡ inside ++ closing
     → ((more : List ℕ) × (after ≡ more ++ closing) × (list_all is_unclosed more ≡ true)) ⊎ (length after < length closing)
 passed [] inside after closing all e = inl (inside, e, all)
 passed (f ∷ front) [] after closing all e =
@@ -323,7 +345,8 @@ goes_on_first {here = here} {after = after} is = (
   λ g r whole. let (found, more, all) = has_inv here after is whole in (found, more),
 )
 
-goes_on_more : {i : Bool} {b : ℕ} {here : Bool} {text rest after : List ℕ} (found : Bool) → GoesOn i b text found rest
+goes_on_more : {i : Bool} {b : ℕ} {here : Bool} {text rest after : List ℕ} (found : Bool)
+    → GoesOn i b text found rest
     → Member i b false rest here after → GoesOn i b text (found || here) after
 goes_on_more {here = here} {after = after} found on is = (
   λ f g r more all. on.0 (here || f) g r (has here f after is more refl) (all ∙ or_assoc found here f),
@@ -338,12 +361,14 @@ or_else : (x y : Bool) → x ≡ false → (x || y) ≡ y
 or_else true y e = absurd (true≢false e)
 or_else false y e = refl
 
-pub goes_on_found : {i : Bool} {b : ℕ} {here : Bool} {text rest after : List ℕ} (found : Bool) → found ≡ true → GoesOn i b text found rest
+pub goes_on_found : {i : Bool} {b : ℕ} {here : Bool} {text rest after : List ℕ} (found : Bool)
+    → found ≡ true → GoesOn i b text found rest
     → Member i b false rest here after → GoesOn i b text found after
 goes_on_found {i = i} {b = b} {here = here} {text = text} {after = after} found e on is =
     subst (λ x. GoesOn i b text x after) (or_true found here e) (goes_on_more found on is)
 
-pub goes_on_here : {i : Bool} {b : ℕ} {here : Bool} {text rest after : List ℕ} (found : Bool) → found ≡ false → GoesOn i b text found rest
+pub goes_on_here : {i : Bool} {b : ℕ} {here : Bool} {text rest after : List ℕ} (found : Bool)
+    → found ≡ false → GoesOn i b text found rest
     → Member i b false rest here after → GoesOn i b text here after
 goes_on_here {i = i} {b = b} {here = here} {text = text} {after = after} found e on is =
     subst (λ x. GoesOn i b text x after) (or_else found here e) (goes_on_more found on is)
@@ -352,7 +377,8 @@ or_false : (x : Bool) → x ≡ (x || false)
 or_false true = refl
 or_false false = refl
 
-pub set_closed : {i : Bool} {b : ℕ} {found : Bool} {text after : List ℕ} (rest : List ℕ) → GoesOn i b text found rest
+pub set_closed : {i : Bool} {b : ℕ} {found : Bool} {text after : List ℕ} (rest : List ℕ)
+    → GoesOn i b text found rest
     → rest ≡ right_bracket ∷ after → SetHas i b true text found after
 set_closed {found = found} {after = after} rest on e = on.0 false found after (rw e (closes refl)) (or_false found)
 
@@ -360,23 +386,27 @@ no_start : {i : Bool} {b : ℕ} {g : Bool} {text r : List ℕ} → SetHas i b tr
     → ((here : Bool) (after : List ℕ) → ¬ (Member i b true text here after)) → ⊥
 no_start (has here found after is more all) none = none here after is
 
-pub no_first : {i : Bool} {b : ℕ} (text : List ℕ) → ((here : Bool) (after : List ℕ) → ¬ (Member i b true text here after))
+pub no_first : {i : Bool} {b : ℕ} (text : List ℕ)
+    → ((here : Bool) (after : List ℕ) → ¬ (Member i b true text here after))
     → (g : Bool) (r : List ℕ) → ¬ (SetHas i b true text g r)
 no_first text none g r whole = no_start whole none
 
-no_more : {i : Bool} {b : ℕ} {f : Bool} {rest r : List ℕ} → SetHas i b false rest f r → ((r : List ℕ) → rest ≢ right_bracket ∷ r)
+no_more : {i : Bool} {b : ℕ} {f : Bool} {rest r : List ℕ} → SetHas i b false rest f r
+    → ((r : List ℕ) → rest ≢ right_bracket ∷ r)
     → ((here : Bool) (after : List ℕ) → ¬ (Member i b false rest here after)) → ⊥
 no_more (closes {rest = rest} e) never none = never rest (ap (λ x. x ∷ rest) e)
 no_more (has here found after is more all) never none = none here after is
 
-pub not_closed : {i : Bool} {b : ℕ} {text : List ℕ} (found : Bool) (rest : List ℕ) → GoesOn i b text found rest
+pub not_closed : {i : Bool} {b : ℕ} {text : List ℕ} (found : Bool) (rest : List ℕ)
+    → GoesOn i b text found rest
     → ((r : List ℕ) → rest ≢ right_bracket ∷ r) → ((here : Bool) (after : List ℕ) → ¬ (Member i b false rest here after))
     → (g : Bool) (r : List ℕ) → ¬ (SetHas i b true text g r)
 not_closed found rest on never none g r whole = let (f, more) = on.1 g r whole in no_more more never none
 
 -- ---- sets that match a byte
 
-pub stands : {i : Bool} {b : ℕ} {negated found : Bool} {text inner rest : List ℕ} → (negated, inner) ≡ opened text
+pub stands : {i : Bool} {b : ℕ} {negated found : Bool} {text inner rest : List ℕ}
+    → (negated, inner) ≡ opened text
     → SetHas i b true inner found rest → is_wanted found negated ≡ true → b ≢ 47 → StandsForByte i text b rest
 stands {i = i} {b = b} {found = found} {rest = rest} e whole wanted apart = record {
   found = found;
@@ -390,7 +420,8 @@ pub stands_not : {i : Bool} {b : ℕ} {negated : Bool} {text inner : List ℕ} �
 stands_not {i = i} {b = b} e never rest is =
     never is.found rest (subst (λ x. SetHas i b true x is.found rest) (sym (ap (λ p. p.1) e)) is.members)
 
-pub stands_unwanted : {i : Bool} {b : ℕ} {negated found : Bool} {text inner after : List ℕ} → (negated, inner) ≡ opened text
+pub stands_unwanted : {i : Bool} {b : ℕ} {negated found : Bool} {text inner after : List ℕ}
+    → (negated, inner) ≡ opened text
     → SetHas i b true inner found after → is_wanted found negated ≡ false → (rest : List ℕ) → ¬ (StandsForByte i text b rest)
 stands_unwanted {i = i} {b = b} {negated = negated} e whole unwanted rest is =
     let members = subst (λ x. SetHas i b true x is.found rest) (sym (ap (λ p. p.1) e)) is.members in
@@ -398,5 +429,6 @@ stands_unwanted {i = i} {b = b} {negated = negated} e whole unwanted rest is =
     let same = subst (λ f. is_wanted f negated ≡ false) ((set_same whole members).1 refl) unwanted in
     true≢false (sym wanted ∙ same)
 
-pub stands_for_no_slash : {i : Bool} {b : ℕ} {text : List ℕ} → b ≡ 47 → (rest : List ℕ) → ¬ (StandsForByte i text b rest)
+pub stands_for_no_slash : {i : Bool} {b : ℕ} {text : List ℕ} → b ≡ 47 → (rest : List ℕ)
+    → ¬ (StandsForByte i text b rest)
 stands_for_no_slash e rest is = is.no_slash e

@@ -61,7 +61,8 @@ abbrev lead : List ℕ → ℕ → List ℕ
 lead [] held = []
 lead (b ∷ value) held = replicate held 32
 
-kept_lead : (value blanks : List ℕ) (held : ℕ) → blanks ≡ replicate held 32 → kept value blanks ≡ value ++ lead value held
+kept_lead : (value blanks : List ℕ) (held : ℕ) → blanks ≡ replicate held 32
+    → kept value blanks ≡ value ++ lead value held
 kept_lead [] blanks held is = refl
 kept_lead (b ∷ value) blanks held is = ap (λ x. (b ∷ value) ++ x) is
 
@@ -73,11 +74,13 @@ lead_cost : (q : Bool) (value : List ℕ) (held : ℕ) → cost q (lead value he
 lead_cost q [] held = omega arith
 lead_cost q (b ∷ value) held = let e = spaces_cost q held in omega arith
 
-spaces_found : (held : ℕ) (left : List ℕ) → list_any is_lost (replicate held 32 ++ left) ≡ list_any is_lost left
+spaces_found : (held : ℕ) (left : List ℕ)
+    → list_any is_lost (replicate held 32 ++ left) ≡ list_any is_lost left
 spaces_found zero left = refl
 spaces_found (suc held) left = spaces_found held left
 
-lead_found : (value : List ℕ) (held : ℕ) (left : List ℕ) → list_any is_lost (lead value held ++ left) ≡ list_any is_lost left
+lead_found : (value : List ℕ) (held : ℕ) (left : List ℕ)
+    → list_any is_lost (lead value held ++ left) ≡ list_any is_lost left
 lead_found [] held left = refl
 lead_found (b ∷ value) held left = spaces_found held left
 
@@ -89,15 +92,18 @@ spaces_some : (held c : ℕ) (left : List ℕ) → replicate held 32 ++ c ∷ le
 spaces_some zero c left e = cc
 spaces_some (suc held) c left e = cc
 
-spaces_last : (held c : ℕ) (left : List ℕ) → ends_with_space (replicate held 32 ++ c ∷ left) ≡ ends_with_space (c ∷ left)
+spaces_last : (held c : ℕ) (left : List ℕ)
+    → ends_with_space (replicate held 32 ++ c ∷ left) ≡ ends_with_space (c ∷ left)
 spaces_last zero c left = refl
 spaces_last (suc held) c left = cons_last 32 (replicate held 32 ++ c ∷ left) (spaces_some held c left) ∙ spaces_last held c left
 
-lead_last : (value : List ℕ) (held c : ℕ) (left : List ℕ) → ends_with_space (lead value held ++ c ∷ left) ≡ ends_with_space (c ∷ left)
+lead_last : (value : List ℕ) (held c : ℕ) (left : List ℕ)
+    → ends_with_space (lead value held ++ c ∷ left) ≡ ends_with_space (c ∷ left)
 lead_last [] held c left = refl
 lead_last (b ∷ value) held c left = spaces_last held c left
 
-lead_first : (value : List ℕ) (held c : ℕ) (left : List ℕ) → c ≢ 32 → value ≡ [] → begins_with_space (lead value held ++ c ∷ left) ≡ false
+lead_first : (value : List ℕ) (held c : ℕ) (left : List ℕ) → c ≢ 32 → value ≡ []
+    → begins_with_space (lead value held ++ c ∷ left) ≡ false
 lead_first [] held c left other none = grind (arith, nat_tests)
 lead_first (b ∷ value) held c left other none = cc
 
@@ -121,12 +127,14 @@ least_of : (q : Bool) (value left : List ℕ) (bytes : ℕ) → Costs q value le
 least_of true value left bytes h = omega arith
 least_of false value left bytes h = least value left bytes h
 
-last_of_two : (c : ℕ) (left : List ℕ) → c ≢ 32 → ends_with_space left ≡ false → ends_with_space (c ∷ left) ≡ false
+last_of_two : (c : ℕ) (left : List ℕ) → c ≢ 32 → ends_with_space left ≡ false
+    → ends_with_space (c ∷ left) ≡ false
 last_of_two c [] other last = grind (arith, nat_tests)
 last_of_two c (d ∷ left) other last = last
 
 -- n bytes are enough for a byte of the value
-byte_costs : (q : Bool) (value before left : List ℕ) (held c n m : ℕ) → length (spelled_byte true c) ≤ n → (q ≡ false → length (spelled_byte false c) ≤ n)
+byte_costs : (q : Bool) (value before left : List ℕ) (held c n m : ℕ) → length (spelled_byte true c) ≤ n
+    → (q ≡ false → length (spelled_byte false c) ≤ n)
     → (q ≡ false → (is_lost c ≡ false) × (c ≢ 32)) → Costs q before left m → Costs q value (lead value held ++ c ∷ left) (n + m + held)
 byte_costs true value before left held c n m fits fits_outside bare h =
     let e = cost_append true (lead value held) (c ∷ left) in let f = cost_cons true c left in let g = lead_cost true value held in omega arith
@@ -146,16 +154,19 @@ byte_costs false value before left held c n m fits fits_outside bare (inr h) =
     let e = cost_append true (lead value held) (c ∷ left) in let f = cost_cons true c left in let g = lead_cost true value held in inr (omega arith)
 
 -- one byte is enough for a quote
-opening_costs : (value left : List ℕ) (held m : ℕ) → cost true left + 1 ≤ m → cost true (lead value held ++ left) + 2 ≤ 1 + m + held
+opening_costs : (value left : List ℕ) (held m : ℕ) → cost true left + 1 ≤ m
+    → cost true (lead value held ++ left) + 2 ≤ 1 + m + held
 opening_costs value left held m h = let e = cost_append true (lead value held) left in let g = lead_cost true value held in omega arith
 
-quote_costs : (q : Bool) (value before left : List ℕ) (held m : ℕ) → Costs (not q) before left m → Costs q value (lead value held ++ left) (1 + m + held)
+quote_costs : (q : Bool) (value before left : List ℕ) (held m : ℕ) → Costs (not q) before left m
+    → Costs q value (lead value held ++ left) (1 + m + held)
 quote_costs true value before left held m h =
     let e = cost_append true (lead value held) left in let g = lead_cost true value held in let f = least before left m h in omega arith
 quote_costs false value before left held m h = inr (opening_costs value left held m h)
 
 -- two bytes or more are enough for a line end over which a value is continued
-continued_costs : (q : Bool) (value before left : List ℕ) (held n m : ℕ) → 2 ≤ n → Costs q before left m → Costs q value (lead value held ++ left) (n + m + held)
+continued_costs : (q : Bool) (value before left : List ℕ) (held n m : ℕ) → 2 ≤ n → Costs q before left m
+    → Costs q value (lead value held ++ left) (n + m + held)
 continued_costs true value before left held n m two h =
     let e = cost_append true (lead value held) left in let g = lead_cost true value held in omega arith
 continued_costs false value before left held n m two h =
@@ -170,7 +181,8 @@ escaped_is_kept e c l = (grind (arith, nat_tests), grind (arith, nat_tests))
 plain_is_kept : (b : ℕ) → is_plain false b ≡ true → (is_lost b ≡ false) × (b ≢ 32)
 plain_is_kept b is = (grind (arith, nat_tests), grind (arith, nat_tests))
 
-plain_fits : (q : Bool) (b : ℕ) → is_plain q b ≡ true → (length (spelled_byte true b) ≤ 1) × (q ≡ false → length (spelled_byte false b) ≤ 1)
+plain_fits : (q : Bool) (b : ℕ) → is_plain q b ≡ true
+    → (length (spelled_byte true b) ≤ 1) × (q ≡ false → length (spelled_byte false b) ≤ 1)
 plain_fits true b is = (plain_byte true b (no_letter true b is), λ e. cc)
 plain_fits false b is = (plain_byte true b (no_letter_in_quotes b is), λ e. plain_byte false b (no_letter false b is))
 
@@ -189,7 +201,8 @@ left_of_byte value blanks left text held c is e =
     left_of value blanks (c ∷ left) text held is (e ∙ append_assoc (kept value blanks) (c ∷ []) left)
 
 -- before Git 2.45, when each blank was read as a space
-costs : {q : Bool} {value blanks raw text : List ℕ} {ending : Ending} → Spells as_space q value blanks raw text ending → ending ≡ outside
+costs : {q : Bool} {value blanks raw text : List ℕ} {ending : Ending}
+    → Spells as_space q value blanks raw text ending → ending ≡ outside
     → (held : ℕ) → blanks ≡ replicate held 32 → (left : List ℕ) × (text ≡ value ++ left) × Costs q value left (length raw + held)
 costs (ends_outside {value = value}) e held all =
     ([], sym (append-nil value), inl (record { found = refl; last = refl; first = λ none. refl; fits = omega arith }))
@@ -233,10 +246,12 @@ costs (plain {quoted = q} {b = b} {value = value} {held = blanks} {raw = raw} {t
     )
 
 -- the spelling of a value costs at most as much as any other
-few_tabs : (value : List ℕ) → nat_lt 2 (count_by (λ b. b == 9) value) ≡ false → count_by (λ b. b == 9) value ≤ 2
+few_tabs : (value : List ℕ) → nat_lt 2 (count_by (λ b. b == 9) value) ≡ false
+    → count_by (λ b. b == 9) value ≤ 2
 few_tabs value e = grind (arith, nat_tests)
 
-many_tabs : (value : List ℕ) → nat_lt 2 (count_by (λ b. b == 9) value) ≡ true → 2 < count_by (λ b. b == 9) value
+many_tabs : (value : List ℕ) → nat_lt 2 (count_by (λ b. b == 9) value) ≡ true
+    → 2 < count_by (λ b. b == 9) value
 many_tabs value e = grind (arith, nat_tests)
 
 or_right : (a b : Bool) → (a || b) ≡ false → b ≡ false

@@ -35,7 +35,8 @@ held_is_no_backslash : (q : Bool) (b : ℕ) → is_held_back q b ≡ true → b 
 held_is_no_backslash true b held e = cc
 held_is_no_backslash false b held e = blank_is_no_backslash b held e
 
-pub after_held : {w : ℕ → ℕ} {q : Bool} {o : Ending} {b : ℕ} {value held rest spelled : List ℕ} → Spells w q value held (b ∷ rest) spelled o → is_held_back q b ≡ true
+pub after_held : {w : ℕ → ℕ} {q : Bool} {o : Ending} {b : ℕ} {value held rest spelled : List ℕ}
+    → Spells w q value held (b ∷ rest) spelled o → is_held_back q b ≡ true
     → Spells w q value (held ++ w b ∷ []) rest spelled o
 after_held (ends_at_backslash {b = b} e) is = absurd (held_is_no_backslash false b is e)
 after_held (quote {quoted = q} {b = b} e s) is = absurd (held_is_no_quote q b is e)
@@ -45,7 +46,8 @@ after_held (continued_after_return {quoted = q} {b = b} e l n s) is = absurd (he
 after_held (blank e s) is = s
 after_held (plain {quoted = q} {b = b} e s) is = absurd (plain_is_not_held q b e is)
 
-after_quote : {w : ℕ → ℕ} {q : Bool} {o : Ending} {b : ℕ} {value held rest spelled : List ℕ} → Spells w q value held (b ∷ rest) spelled o → b ≡ 34
+after_quote : {w : ℕ → ℕ} {q : Bool} {o : Ending} {b : ℕ} {value held rest spelled : List ℕ}
+    → Spells w q value held (b ∷ rest) spelled o → b ≡ 34
     → Spells w (not q) (kept value held) [] rest spelled o
 after_quote (ends_at_backslash e) is = absurd (omega arith)
 after_quote (quote e s) is = s
@@ -55,7 +57,8 @@ after_quote (continued_after_return e l n s) is = absurd (omega arith)
 after_quote (blank {b = b} e s) is = absurd (blank_is_no_quote b e is)
 after_quote (plain {quoted = q} {b = b} e s) is = absurd (plain_is_no_quote q b e is)
 
-pub after_plain : {w : ℕ → ℕ} {q : Bool} {o : Ending} {b : ℕ} {value held rest spelled : List ℕ} → Spells w q value held (b ∷ rest) spelled o → is_held_back q b ≡ false → b ≢ 34 → b ≢ 92
+pub after_plain : {w : ℕ → ℕ} {q : Bool} {o : Ending} {b : ℕ} {value held rest spelled : List ℕ}
+    → Spells w q value held (b ∷ rest) spelled o → is_held_back q b ≡ false → b ≢ 34 → b ≢ 92
     → Spells w q (kept value held ++ b ∷ []) [] rest spelled o
 after_plain (ends_at_backslash e) is not_quote not_backslash = absurd (not_backslash e)
 after_plain (quote e s) is not_quote not_backslash = absurd (not_quote e)
@@ -65,7 +68,8 @@ after_plain (continued_after_return e l n s) is not_quote not_backslash = absurd
 after_plain (blank e s) is not_quote not_backslash = absurd (true≢false (sym e ∙ is))
 after_plain (plain e s) is not_quote not_backslash = s
 
-after_backslash : {w : ℕ → ℕ} {q : Bool} {o : Ending} {b : ℕ} {value held rest spelled : List ℕ} → Spells w q value held (b ∷ rest) spelled o → b ≡ 92
+after_backslash : {w : ℕ → ℕ} {q : Bool} {o : Ending} {b : ℕ} {value held rest spelled : List ℕ}
+    → Spells w q value held (b ∷ rest) spelled o → b ≡ 92
     → (ending : Ending) × Spells w q (append_some (kept value held) (unescape rest).0) [] (unescape rest).1 spelled ending
 after_backslash (ends_at_backslash e) is = (outside, ends_outside)
 after_backslash (quote e s) is = absurd (omega arith)
@@ -76,7 +80,8 @@ after_backslash (blank {b = b} e s) is = absurd (blank_is_no_backslash b e is)
 after_backslash (plain {quoted = q} {b = b} e s) is = absurd (plain_is_no_backslash q b e is)
 
 -- a run of blanks outside quotes is held back
-pub after_blanks : {value spelled : List ℕ} {e : Ending} (held blanks rest : List ℕ) → list_all is_blank blanks ≡ true
+pub after_blanks : {value spelled : List ℕ} {e : Ending} (held blanks rest : List ℕ)
+    → list_all is_blank blanks ≡ true
     → Spells itself false value held (blanks ++ rest) spelled e → Spells itself false value (held ++ blanks) rest spelled e
 after_blanks {value = value} {spelled = spelled} {e = e} held [] rest all s =
     subst (λ h. Spells itself false value h rest spelled e) (sym (append-nil held)) s
@@ -99,16 +104,19 @@ blanks_next {q = false} {b = b} at e is (inr stops) run s =
 
 -- the same, in the form that the loop needs
 module _ {w : ℕ → ℕ} {q : Bool} {b : ℕ} {value held rest : List ℕ} (at : List ℕ) (e : at ≡ b ∷ rest) where
-  pub quote_next : {spelled text : List ℕ} {o : Ending} → b ≡ 34 → text ≡ kept value held → Spells w q value held at spelled o
+  pub quote_next : {spelled text : List ℕ} {o : Ending} → b ≡ 34 → text ≡ kept value held
+      → Spells w q value held at spelled o
       → (ending : Ending) × Spells w (not q) text [] rest spelled ending
   quote_next {spelled = spelled} {o = o} is same s = (o, rw same (after_quote (subst (λ x. Spells w q value held x spelled o) e s) is))
 
-  pub plain_next : {spelled kept_text text : List ℕ} {o : Ending} → is_held_back q b ≡ false → b ≢ 34 → b ≢ 92 → kept_text ≡ kept value held → text ≡ kept_text ++ b ∷ []
+  pub plain_next : {spelled kept_text text : List ℕ} {o : Ending} → is_held_back q b ≡ false → b ≢ 34
+      → b ≢ 92 → kept_text ≡ kept value held → text ≡ kept_text ++ b ∷ []
       → Spells w q value held at spelled o → (ending : Ending) × Spells w q text [] rest spelled ending
   plain_next {spelled = spelled} {o = o} is not_quote not_backslash same same_text s =
       (o, rw (same_text, same) (after_plain (subst (λ x. Spells w q value held x spelled o) e s) is not_quote not_backslash))
 
-  pub backslash_next : {spelled kept_text text after : List ℕ} {o : Ending} (escaped_byte : Option ℕ) → b ≡ 92 → kept_text ≡ kept value held
+  pub backslash_next : {spelled kept_text text after : List ℕ} {o : Ending} (escaped_byte : Option ℕ)
+      → b ≡ 92 → kept_text ≡ kept value held
       → (escaped_byte, after) ≡ unescape rest → text ≡ append_some kept_text escaped_byte
       → Spells w q value held at spelled o → (ending : Ending) × Spells w q text [] after spelled ending
   backslash_next {spelled = spelled} {o = o} escaped_byte is same unescaped same_text s =

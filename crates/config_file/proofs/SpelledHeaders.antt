@@ -15,10 +15,12 @@ use Rattle.config_file.specs.Reading.Spellings.{spelled_in_subsection, spelled_s
 plain_in_quotes_is_text : (b : ℕ) → is_plain_in_quotes b ≡ true → is_text_byte b ≡ true
 plain_in_quotes_is_text b is = grind (arith, nat_tests)
 
-text_is_plain_in_quotes : (b : ℕ) → is_text_byte b ≡ true → (b == 34 || b == 92) ≡ false → is_plain_in_quotes b ≡ true
+text_is_plain_in_quotes : (b : ℕ) → is_text_byte b ≡ true → (b == 34 || b == 92) ≡ false
+    → is_plain_in_quotes b ≡ true
 text_is_plain_in_quotes b is other = grind (arith, nat_tests)
 
-subsection_spelled : (text : List ℕ) → list_all is_text_byte text ≡ true → SpellsSubsection (spelled_subsection text) text
+subsection_spelled : (text : List ℕ) → list_all is_text_byte text ≡ true
+    → SpellsSubsection (spelled_subsection text) text
 subsection_spelled [] all = sub.ends
 subsection_spelled (b ∷ text) all =
     let first : is_text_byte b ≡ true = grind (arith, nat_tests) in
@@ -41,7 +43,8 @@ some_name (b ∷ name) some = grind (arith, nat_tests)
 plain_named : (name : List ℕ) → name ≢ [] → list_all is_name_byte name ≡ true → is_section name None ≡ true
 plain_named name some pass = rw (some_name name some, pass)
 
-header_is_section : {text rest : List ℕ} {section : Section} (name : List ℕ) (text_of : Option (List ℕ)) → Header text section rest → Names section name text_of
+header_is_section : {text rest : List ℕ} {section : Section} (name : List ℕ) (text_of : Option (List ℕ))
+    → Header text section rest → Names section name text_of
     → is_section name text_of ≡ true
 header_is_section name None (plain run some e) (same, h) = rw same at (plain_named _ some run.pass)
 header_is_section name (Some t) (plain run some e) (same, h) = absurd h
@@ -49,14 +52,16 @@ header_is_section name None (quoted opens c) (same, h) = absurd h
 header_is_section name (Some t) (quoted opens c) (same, h) =
     let pass = rw same at opens.name_run.pass in rw (pass, subsection_is_text h)
 
-pub no_header : (name : List ℕ) (text : Option (List ℕ)) → is_section name text ≡ false → HasNoHeader name text
+pub no_header : (name : List ℕ) (text : Option (List ℕ)) → is_section name text ≡ false
+    → HasNoHeader name text
 no_header name text refused t rest section names h = true≢false (sym (header_is_section name text h names) ∙ refused)
 
 name_some : (name : List ℕ) → is_section name None ≡ true → name ≢ []
 name_some [] is none = cc
 name_some (b ∷ name) is none = cc
 
-pub header_spelled : (name : List ℕ) (text : Option (List ℕ)) → is_section name text ≡ true → IsHeader (91 ∷ spelled_section name text) name text
+pub header_spelled : (name : List ℕ) (text : Option (List ℕ)) → is_section name text ≡ true
+    → IsHeader (91 ∷ spelled_section name text) name text
 header_spelled name None is =
     let pass : list_all is_name_byte name ≡ true = grind (arith, nat_tests) in
     let names : Names (name, None) name None = (refl, tt) in (
@@ -110,7 +115,8 @@ subsection_byte_fits b = elim (cases_Bool (b == 34 || b == 92)) [ inl is ↦ rw 
 plain_byte_fits : (b : ℕ) → is_plain_in_quotes b ≡ true → length (spelled_in_subsection b) ≤ 1
 plain_byte_fits b is = let other : (b == 34 || b == 92) ≡ false = grind (arith, nat_tests) in rw other (omega arith)
 
-subsection_fits : {raw text : List ℕ} → SpellsSubsection raw text → length (spelled_subsection text) ≤ length raw
+subsection_fits : {raw text : List ℕ} → SpellsSubsection raw text
+    → length (spelled_subsection text) ≤ length raw
 subsection_fits sub.ends = omega arith
 subsection_fits (sub.escaped {e = e} {raw = raw} {text = text} b t s) =
     let more = subsection_fits s in
@@ -127,7 +133,8 @@ some_length : (bytes : List ℕ) → bytes ≢ [] → 1 ≤ length bytes
 some_length [] some = absurd (some refl)
 some_length (b ∷ bytes) some = omega arith
 
-header_fits : {inner rest : List ℕ} {section : Section} (name : List ℕ) (text : Option (List ℕ)) → Header inner section rest → Names section name text
+header_fits : {inner rest : List ℕ} {section : Section} (name : List ℕ) (text : Option (List ℕ))
+    → Header inner section rest → Names section name text
     → length (spelled_section name text) + length rest ≤ length inner
 header_fits name None (plain {b = b} {name = same_name} {rest = rest} run some e) (same, h) =
     let joined = ap length run.joined ∙ length-append same_name (b ∷ rest) in
@@ -147,7 +154,8 @@ header_fits name (Some t) (quoted {name = same_name} {inner = inner} opens (clos
     let lengths = ap length same in
     omega arith
 
-pub shortest_header : (name : List ℕ) (text : Option (List ℕ)) → is_section name text ≡ true → IsShortestHeader (91 ∷ spelled_section name text) name text
+pub shortest_header : (name : List ℕ) (text : Option (List ℕ)) → is_section name text ≡ true
+    → IsShortestHeader (91 ∷ spelled_section name text) name text
 shortest_header name text is =
     record {
       is_header = header_spelled name text is;

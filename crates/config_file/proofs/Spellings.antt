@@ -10,7 +10,8 @@ use Rattle.config_file.specs.Value.{Ending, outside, Spells, itself, as_space, e
 use Rattle.config_file.specs.Spelling.{IsSpelling, HasNoSpelling}
 use Rattle.config_file.specs.Reading.Spellings.{letter_of, after_backslash, spelled_byte, is_lost, begins_with_space, ends_with_space, is_quoted, spelled_value, is_spellable}
 
-pub ends_with_space_at : (value : List ℕ) → 1 ≤ length value → nat_eq (slice_index_or value (length value - 1) 0) 32 ≡ ends_with_space value
+pub ends_with_space_at : (value : List ℕ) → 1 ≤ length value
+    → nat_eq (slice_index_or value (length value - 1) 0) 32 ≡ ends_with_space value
 ends_with_space_at [] some = cc
 ends_with_space_at (b ∷ []) some = refl
 ends_with_space_at (b ∷ c ∷ rest) some =
@@ -28,11 +29,13 @@ letter_escapes false b l e = grind (arith, nat_tests)
 plain_in_quotes : (b : ℕ) → letter_of true b ≡ None → b ≢ 0 → is_plain true b ≡ true
 plain_in_quotes b e some = grind (arith, nat_tests)
 
-plain_outside : (b : ℕ) → letter_of false b ≡ None → b ≢ 0 → is_lost b ≡ false → b ≢ 32 → is_plain false b ≡ true
+plain_outside : (b : ℕ) → letter_of false b ≡ None → b ≢ 0 → is_lost b ≡ false → b ≢ 32
+    → is_plain false b ≡ true
 plain_outside b e some found other = grind (arith, nat_tests)
 
 -- a spelled byte, before bytes that spell the rest of a value, adds that byte to the value
-spelled_next : {w : ℕ → ℕ} {q : Bool} {value held raw text : List ℕ} {e : Ending} (b : ℕ) (o : Option ℕ) → letter_of q b ≡ o
+spelled_next : {w : ℕ → ℕ} {q : Bool} {value held raw text : List ℕ} {e : Ending} (b : ℕ) (o : Option ℕ)
+    → letter_of q b ≡ o
     → (letter_of q b ≡ None → is_plain q b ≡ true)
     → Spells w q (kept value held ++ b ∷ []) [] raw text e → Spells w q value held (after_backslash b o ++ raw) text e
 spelled_next {q = q} b (Some l) is no_letter h = escaped refl (letter_escapes q b l is) h
@@ -71,7 +74,8 @@ module _ (w : ℕ → ℕ) (reads : w 32 ≡ 32) where
       subst (λ x. Spells w false (first ∷ before) (held ++ 32 ∷ []) raw x outside) (pushed_before (first ∷ before) held rest 32) h in
       blank refl (subst (λ c. Spells w false (first ∷ before) (held ++ c ∷ []) raw text outside) (sym reads) more)
 
-  spelled_after : (value before held : List ℕ) (first : ℕ) → is_spellable value ≡ true → list_any is_lost value ≡ false
+  spelled_after : (value before held : List ℕ) (first : ℕ) → is_spellable value ≡ true
+      → list_any is_lost value ≡ false
       → ends_with_space value ≡ false → (value ≡ [] → held ≡ [])
       → Spells w false (first ∷ before) held (flat_map (spelled_byte false) value) (kept (first ∷ before) held ++ value) outside
   spelled_after [] before held first all found last none =
@@ -118,7 +122,8 @@ or_right : (a b : Bool) → (a || b) ≡ false → b ≡ false
 or_right true b e = absurd (true≢false e)
 or_right false b e = e
 
-spelled : (w : ℕ → ℕ) → w 32 ≡ 32 → (value : List ℕ) → is_spellable value ≡ true → Spells w false [] [] (spelled_value value) value outside
+spelled : (w : ℕ → ℕ) → w 32 ≡ 32 → (value : List ℕ) → is_spellable value ≡ true
+    → Spells w false [] [] (spelled_value value) value outside
 spelled w reads value all =
     elim (cases_Bool (is_quoted value)) [
       | inl is ↦ rw is (quote refl (spelled_quoted w value [] all))
@@ -135,11 +140,13 @@ pub value_spelled : (value : List ℕ) → is_spellable value ≡ true → IsSpe
 value_spelled value all = (spelled itself refl value all, spelled as_space refl value all)
 
 -- no bytes spell a value with a NUL
-kept_spellable : (value held : List ℕ) → is_spellable value ≡ true → is_spellable held ≡ true → is_spellable (kept value held) ≡ true
+kept_spellable : (value held : List ℕ) → is_spellable value ≡ true → is_spellable held ≡ true
+    → is_spellable (kept value held) ≡ true
 kept_spellable [] held all blanks = refl
 kept_spellable (b ∷ value) held all blanks = rw (list_all-append (λ c. not (c == 0)) (b ∷ value) held, all, blanks)
 
-pushed_spellable : (value : List ℕ) (b : ℕ) → is_spellable value ≡ true → b ≢ 0 → is_spellable (value ++ b ∷ []) ≡ true
+pushed_spellable : (value : List ℕ) (b : ℕ) → is_spellable value ≡ true → b ≢ 0
+    → is_spellable (value ++ b ∷ []) ≡ true
 pushed_spellable value b all some =
     let this : not (b == 0) ≡ true = grind (arith, nat_tests) in rw (list_all-append (λ c. not (c == 0)) value (b ∷ []), all, this)
 
@@ -153,7 +160,8 @@ plain_is_some false b is none = grind (arith, nat_tests)
 blank_is_some : (b : ℕ) → is_blank b ≡ true → b ≢ 0
 blank_is_some b is none = grind (arith, nat_tests)
 
-spelled_spellable : {q : Bool} {value held raw text : List ℕ} {e : Ending} → Spells itself q value held raw text e
+spelled_spellable : {q : Bool} {value held raw text : List ℕ} {e : Ending}
+    → Spells itself q value held raw text e
     → is_spellable value ≡ true → is_spellable held ≡ true → is_spellable text ≡ true
 spelled_spellable ends_outside all blanks = all
 spelled_spellable ends_inside all blanks = all

@@ -9,7 +9,8 @@ use Rattle.config_file.specs.Reading.Scans.{PassedSubsection}
 pub passed_none : (text : List ℕ) → PassedSubsection text text
 passed_none text = record { raw = []; joined = refl; extends = λ more spelled h. (spelled, h) }
 
-pub passed_plain : {text rest : List ℕ} {b : ℕ} (at : List ℕ) → PassedSubsection text at → at ≡ b ∷ rest → is_plain_in_quotes b ≡ true → PassedSubsection text rest
+pub passed_plain : {text rest : List ℕ} {b : ℕ} (at : List ℕ) → PassedSubsection text at → at ≡ b ∷ rest
+    → is_plain_in_quotes b ≡ true → PassedSubsection text rest
 passed_plain {rest = rest} {b = b} at passed e is_plain =
     record {
       raw = passed.raw ++ b ∷ [];
@@ -17,7 +18,8 @@ passed_plain {rest = rest} {b = b} at passed e is_plain =
       extends = λ more spelled h. rw (append_assoc passed.raw (b ∷ []) more) (passed.extends (b ∷ more) (b ∷ spelled) (plain is_plain h));
     }
 
-pub passed_escaped : {text rest after : List ℕ} {b e : ℕ} (at : List ℕ) → PassedSubsection text at → at ≡ b ∷ rest → rest ≡ e ∷ after → b ≡ 92 → is_text_byte e ≡ true → PassedSubsection text after
+pub passed_escaped : {text rest after : List ℕ} {b e : ℕ} (at : List ℕ) → PassedSubsection text at
+    → at ≡ b ∷ rest → rest ≡ e ∷ after → b ≡ 92 → is_text_byte e ≡ true → PassedSubsection text after
 passed_escaped {after = after} {b = b} {e = e} at passed p q is_backslash is_text =
     record {
       raw = passed.raw ++ b ∷ e ∷ [];
@@ -28,15 +30,18 @@ passed_escaped {after = after} {b = b} {e = e} at passed p q is_backslash is_tex
 pub passed_is_subsection : {text at : List ℕ} → (passed : PassedSubsection text at) → IsSubsection passed.raw
 passed_is_subsection passed = rw (append-nil passed.raw) at (passed.extends [] [] ends)
 
-pub takes : {text rest : List ℕ} {b : ℕ} (at raw : List ℕ) → PassedSubsection text at → at ≡ b ∷ rest → b ≡ 34 → text ≡ raw ++ at → TakesSubsection text raw rest
+pub takes : {text rest : List ℕ} {b : ℕ} (at raw : List ℕ) → PassedSubsection text at → at ≡ b ∷ rest
+    → b ≡ 34 → text ≡ raw ++ at → TakesSubsection text raw rest
 takes {rest = rest} at raw passed e is_quote joined =
     let same : passed.raw ≡ raw = append_cancel_right passed.raw raw at (sym passed.joined ∙ joined) in
     record { is_subsection = rw same at (passed_is_subsection passed); joined = joined ∙ rw (e, is_quote) }
 
-pub stops_here : {text : List ℕ} (at : List ℕ) → PassedSubsection text at → EndsText at → StopsInSubsection text at
+pub stops_here : {text : List ℕ} (at : List ℕ) → PassedSubsection text at → EndsText at
+    → StopsInSubsection text at
 stops_here at passed h = stops (passed_is_subsection passed) passed.joined h
 
-pub stops_after_backslash : {text rest : List ℕ} {b : ℕ} (at : List ℕ) → PassedSubsection text at → at ≡ b ∷ rest → b ≡ 92 → EndsText rest → StopsInSubsection text rest
+pub stops_after_backslash : {text rest : List ℕ} {b : ℕ} (at : List ℕ) → PassedSubsection text at
+    → at ≡ b ∷ rest → b ≡ 92 → EndsText rest → StopsInSubsection text rest
 stops_after_backslash {rest = rest} at passed e is_backslash h = stops_escaped (passed_is_subsection passed) (passed.joined ∙ rw e) is_backslash h
 
 -- a byte other than LF, NUL, a quote and a backslash spells itself

@@ -14,7 +14,8 @@ pub passed_none : (text : List ℕ) → PassedValue text false text
 passed_none text = record { raw = []; value = []; held = []; joined = refl; extends = λ more spelled o h. h }
 
 -- if the scan has passed these bytes too, it goes on with this value and this many held blanks
-pub passed_more : {text at rest : List ℕ} {q r : Bool} (piece value held : List ℕ) → (passed : PassedValue text q at) → at ≡ piece ++ rest
+pub passed_more : {text at rest : List ℕ} {q r : Bool} (piece value held : List ℕ)
+    → (passed : PassedValue text q at) → at ≡ piece ++ rest
     → ((more spelled : List ℕ) (o : Ending) → Spells itself r value held more spelled o → Spells itself q passed.value passed.held (piece ++ more) spelled o)
     → PassedValue text r rest
 passed_more {rest = rest} piece value held passed e spells =
@@ -26,11 +27,13 @@ passed_more {rest = rest} piece value held passed e spells =
       extends = λ more spelled o h. rw (append_assoc passed.raw piece more) (passed.extends (piece ++ more) spelled o (spells more spelled o h));
     }
 
-pub passed_quote : {text rest : List ℕ} {q : Bool} {b : ℕ} (at : List ℕ) → PassedValue text q at → at ≡ b ∷ rest → b ≡ 34 → PassedValue text (not q) rest
+pub passed_quote : {text rest : List ℕ} {q : Bool} {b : ℕ} (at : List ℕ) → PassedValue text q at
+    → at ≡ b ∷ rest → b ≡ 34 → PassedValue text (not q) rest
 passed_quote {b = b} at passed e is_quote =
     passed_more (b ∷ []) (kept passed.value passed.held) [] passed e (λ more spelled o h. quote is_quote h)
 
-pub passed_escape : {text rest after : List ℕ} {q : Bool} {b : ℕ} (at : List ℕ) → PassedValue text q at → at ≡ b ∷ rest → b ≡ 92
+pub passed_escape : {text rest after : List ℕ} {q : Bool} {b : ℕ} (at : List ℕ) → PassedValue text q at
+    → at ≡ b ∷ rest → b ≡ 92
     → Escapes rest after → PassedValue text q after
 passed_escape {b = b} at passed e is_backslash (letter {e = l} {c = c} s is) =
     passed_more (b ∷ l ∷ []) (kept passed.value passed.held ++ c ∷ []) [] passed (e ∙ ap (◌∷◌ b) s) (λ more spelled o h. escaped is_backslash is h)
@@ -43,10 +46,12 @@ passed_escape {b = b} at passed e is_backslash (line_after_return {e = l} {f = f
 plain_quoted : (b : ℕ) → goes_on true b ≡ true → b ≢ 34 → b ≢ 92 → is_plain true b ≡ true
 plain_quoted b on not_quote not_backslash = grind (arith, nat_tests)
 
-plain_unquoted : (b : ℕ) → goes_on false b ≡ true → b ≢ 34 → b ≢ 92 → is_blank b ≡ false → is_plain false b ≡ true
+plain_unquoted : (b : ℕ) → goes_on false b ≡ true → b ≢ 34 → b ≢ 92 → is_blank b ≡ false
+    → is_plain false b ≡ true
 plain_unquoted b on not_quote not_backslash not_blank = grind (arith, nat_tests)
 
-pub passed_byte : {text rest : List ℕ} {b : ℕ} (q : Bool) (at : List ℕ) → PassedValue text q at → at ≡ b ∷ rest → goes_on q b ≡ true → b ≢ 34 → b ≢ 92 → PassedValue text q rest
+pub passed_byte : {text rest : List ℕ} {b : ℕ} (q : Bool) (at : List ℕ) → PassedValue text q at
+    → at ≡ b ∷ rest → goes_on q b ≡ true → b ≢ 34 → b ≢ 92 → PassedValue text q rest
 passed_byte {b = b} true at passed e on not_quote not_backslash =
     passed_more (b ∷ []) (kept passed.value passed.held ++ b ∷ []) [] passed e
     (λ more spelled o h. plain (plain_quoted b on not_quote not_backslash) h)
@@ -62,7 +67,8 @@ passed_part true passed = (passed.value, rw (append-nil passed.raw) at (passed.e
 passed_part false passed = (passed.value, rw (append-nil passed.raw) at (passed.extends [] _ outside ends_outside))
 
 -- the bytes that `before` returns are those that the scan has passed
-pub part : {text at : List ℕ} (q : Bool) (raw : List ℕ) → PassedValue text q at → text ≡ raw ++ at → IsPart q raw
+pub part : {text at : List ℕ} (q : Bool) (raw : List ℕ) → PassedValue text q at → text ≡ raw ++ at
+    → IsPart q raw
 part {at = at} q raw passed joined =
     let same : passed.raw ≡ raw = append_cancel_right passed.raw raw at (sym passed.joined ∙ joined) in
     subst (λ x. IsPart q x) same (passed_part q passed)
@@ -71,7 +77,8 @@ ends_text : (at : List ℕ) → EndsScan true at → EndsText at
 ends_text [] h = tt
 ends_text (b ∷ rest) h = h
 
-pub ends_in_quotes : {text at : List ℕ} (q : Bool) (raw : List ℕ) → PassedValue text q at → EndsScan q at → q ≡ true → text ≡ raw ++ at
+pub ends_in_quotes : {text at : List ℕ} (q : Bool) (raw : List ℕ) → PassedValue text q at → EndsScan q at
+    → q ≡ true → text ≡ raw ++ at
     → ValueStops text (line_feeds raw) (fault_at at)
 ends_in_quotes {at = at} true raw passed h e joined = unclosed raw at joined (part true raw passed joined) (ends_text at h)
 ends_in_quotes false raw passed h e joined = cc
@@ -79,7 +86,8 @@ ends_in_quotes false raw passed h e joined = cc
 nul_byte : (b : ℕ) (rest : List ℕ) → fault_at (b ∷ rest) ≡ Nul → b ≡ 0
 nul_byte b rest e = elim (cases_Bool (b == 0)) [ inl is ↦ grind (arith, nat_tests) | inr other ↦ let no : BadLine ≡ Nul = rw other at e in cc ]
 
-pub ends_at_nul : {text : List ℕ} (q : Bool) (at raw : List ℕ) → PassedValue text q at → q ≡ false → fault_at at ≡ Nul → text ≡ raw ++ at
+pub ends_at_nul : {text : List ℕ} (q : Bool) (at raw : List ℕ) → PassedValue text q at → q ≡ false
+    → fault_at at ≡ Nul → text ≡ raw ++ at
     → ValueStops text (line_feeds raw) Nul
 ends_at_nul true at raw passed off e joined = cc
 ends_at_nul false [] raw passed off e joined = cc
@@ -96,23 +104,27 @@ ends_value : (at : List ℕ) → EndsScan false at → fault_at at ≡ BadLine �
 ends_value [] h e = tt
 ends_value (b ∷ rest) h e = ends_byte b h (not_nul b rest e)
 
-pub ends_closed : {text : List ℕ} (q : Bool) (at raw : List ℕ) → PassedValue text q at → EndsScan q at → q ≡ false → fault_at at ≡ BadLine → text ≡ raw ++ at
+pub ends_closed : {text : List ℕ} (q : Bool) (at raw : List ℕ) → PassedValue text q at → EndsScan q at
+    → q ≡ false → fault_at at ≡ BadLine → text ≡ raw ++ at
     → TakesValue text raw (line_feeds raw) at
 ends_closed true at raw passed h off e joined = cc
 ends_closed false at raw passed h off e joined =
     let (value, spells) = part false raw passed joined in
     closed joined spells (ends_value at h e)
 
-pub stops_after_backslash : {text rest : List ℕ} (q : Bool) (at raw : List ℕ) → PassedValue text q at → at ≡ 92 ∷ rest → IsNoEscape rest → text ≡ raw ++ at
+pub stops_after_backslash : {text rest : List ℕ} (q : Bool) (at raw : List ℕ) → PassedValue text q at
+    → at ≡ 92 ∷ rest → IsNoEscape rest → text ≡ raw ++ at
     → ValueStops text (line_feeds raw) (fault_at rest)
 stops_after_backslash {rest = rest} q at raw passed e is_none joined = no_escape q raw rest (joined ∙ ap (◌++◌ raw) e) (part q raw passed joined) refl is_none
 
-pub stops_at_open_end : {text rest : List ℕ} (q : Bool) (at raw : List ℕ) → PassedValue text q at → q ≡ true → at ≡ 92 ∷ rest → rest ≡ [] → text ≡ raw ++ at
+pub stops_at_open_end : {text rest : List ℕ} (q : Bool) (at raw : List ℕ) → PassedValue text q at → q ≡ true
+    → at ≡ 92 ∷ rest → rest ≡ [] → text ≡ raw ++ at
     → ValueStops text (line_feeds raw + 1) BadLine
 stops_at_open_end true at raw passed on e none joined = unclosed_open_end raw (joined ∙ ap (◌++◌ raw) (e ∙ ap (◌∷◌ 92) none)) (part true raw passed joined) refl
 stops_at_open_end false at raw passed on e none joined = cc
 
-pub ends_open_here : {text rest : List ℕ} (q : Bool) (at : List ℕ) → PassedValue text q at → q ≡ false → at ≡ 92 ∷ rest → rest ≡ []
+pub ends_open_here : {text rest : List ℕ} (q : Bool) (at : List ℕ) → PassedValue text q at → q ≡ false
+    → at ≡ 92 ∷ rest → rest ≡ []
     → TakesValue text text (line_feeds text + 1) rest
 ends_open_here true at passed off e none = cc
 ends_open_here {text = text} false at passed off e none =
@@ -123,8 +135,10 @@ some_from : (o : Option ℕ) → is_some o ≡ true → (c : ℕ) × (o ≡ Some
 some_from None h = cc
 some_from (Some c) h = (c, refl)
 
-pub escape_some : {e : ℕ} {text rest : List ℕ} → text ≡ e ∷ rest → is_some (escape e) ≡ true → Escapes text rest
+pub escape_some : {e : ℕ} {text rest : List ℕ} → text ≡ e ∷ rest → is_some (escape e) ≡ true
+    → Escapes text rest
 escape_some {e = e} s some = let (c, is) = some_from (escape e) some in letter s is
 
-pub line_end_after_return : {e f : ℕ} {text rest after : List ℕ} → text ≡ e ∷ rest → rest ≡ f ∷ after → e ≡ 13 → f ≡ 10 → Escapes text after
+pub line_end_after_return : {e f : ℕ} {text rest after : List ℕ} → text ≡ e ∷ rest → rest ≡ f ∷ after
+    → e ≡ 13 → f ≡ 10 → Escapes text after
 line_end_after_return {e = e} s t is next = line_after_return (s ∙ ap (◌∷◌ e) t) is next

@@ -51,14 +51,17 @@ named_walked known depth less place line name shown file t added (Err error) sam
     λ text walked entry e reaches includes.
     inside entry less name file t reaches includes (subst (λ n. HasFile known.files.now n file) same has) is deep stops
 
-pub follows_listed : (r : Option Repository) (dir key listed : List ℕ) (b : Bool) → key ≡ listed → b ≡ true → Follows r dir key b
+pub follows_listed : (r : Option Repository) (dir key listed : List ℕ) (b : Bool) → key ≡ listed → b ≡ true
+    → Follows r dir key b
     → IsFollowed r dir listed
 follows_listed r dir key listed b same is follows = subst (λ k. IsFollowed r dir k) same (subst (λ x. Follows r dir key x) is follows)
 
-pub name_of_text : (known : Known) (file value text name : List ℕ) → value ≡ text → IsNameOf known file value name → IsNameOf known file text name
+pub name_of_text : (known : Known) (file value text name : List ℕ) → value ≡ text
+    → IsNameOf known file value name → IsNameOf known file text name
 name_of_text known file value text name same is = subst (λ v. IsNameOf known file v name) same is
 
-pub unknown_text : (home install : Option (List ℕ)) (value text : List ℕ) → value ≡ text → BeginsUnknown home install value → BeginsUnknown home install text
+pub unknown_text : (home install : Option (List ℕ)) (value text : List ℕ) → value ≡ text
+    → BeginsUnknown home install value → BeginsUnknown home install text
 unknown_text home install value text same is = subst (λ v. BeginsUnknown home install v) same is
 
 pub adds_none : (old : List Walked) → Adds old old []
@@ -71,12 +74,14 @@ map_push (x ∷ xs) w = ap (λ s. view x ∷ s) (map_push xs w)
 pub adds_one : (old new : List Walked) (w : Walked) → new ≡ old ++ w ∷ [] → Adds old new (view w ∷ [])
 adds_one old new w e = rw e (map_push old w)
 
-pub adds_both : (old new newer : List Walked) (added more : List (List ℕ × Entry)) → Adds old new added → Adds new newer more
+pub adds_both : (old new newer : List Walked) (added more : List (List ℕ × Entry)) → Adds old new added
+    → Adds new newer more
     → Adds old newer (added ++ more)
 adds_both old new newer added more first second =
     second ∙ ap (λ s. s ++ more) first ∙ append_assoc (map view old) added more
 
-pub file_begins : (reader : Entries) (text : List ℕ) (left : List Entry) (error : Option Error) → reader.section ≡ None
+pub file_begins : (reader : Entries) (text : List ℕ) (left : List Entry) (error : Option Error)
+    → reader.section ≡ None
     → Begins text reader.line reader.rest.now → HasLeft reader left error → IsFile text left error
 file_begins reader text left error none begins has = record {
   line = reader.line;

@@ -120,8 +120,8 @@ pub struct Repository {
     pub real_git_dir: String,
     /// The absolute path of the git directory, with its links kept.
     pub git_dir: String,
-    /// The name of the branch without `refs/heads/`, or `None` if HEAD names no branch, as in a repository whose
-    /// references are in a reftable.
+    /// The name of the branch without `refs/heads/`, or `None` if HEAD names no branch, as in a repository
+    /// whose references are in a reftable.
     pub branch: Option<String>,
 }
 
@@ -147,8 +147,8 @@ fn current_folder(rt: &HostRuntime) -> io::Result<String> {
     Ok(format!(in rt.alloc(); "{real}")?)
 }
 
-/// The branch that HEAD of a git directory names, without `refs/heads/`, or `None` if it names no branch. Where
-/// references are in a reftable, HEAD names `.invalid`, which no branch is called.
+/// The branch that HEAD of a git directory names, without `refs/heads/`, or `None` if it names no branch.
+/// If references are in a reftable, HEAD names `.invalid`, which no branch is called.
 fn branch_of(rt: &HostRuntime, git_dir: &str) -> io::Result<Option<String>> {
     let alloc = rt.alloc();
     let Some(line) = line_of(rt, &inside(alloc, git_dir, "HEAD")?)? else {

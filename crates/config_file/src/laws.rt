@@ -1,7 +1,8 @@
 //! Laws of configuration files, in addition to the contracts of calls.
-ghost use Rattle.std.specs.Prelude.{◌≡◌, ℕ, List, Option};
+ghost use Rattle.std.specs.Prelude.{◌≡◌, ℕ, List, Option, map, codes};
 ghost use Rattle.config_file.specs.declared.errors.Error.{Error};
 ghost use Rattle.config_file.specs.File.{Entry, IsFile};
+ghost use Rattle.config_file.specs.Value.{escape};
 
 pub mod equality;
 
@@ -15,4 +16,10 @@ pub fn one_reading()
 /// Each text has a reading: it is a configuration file, or it is refused on a line.
 pub fn each_is_read()
     ensures { (text : List ℕ) → (entries : List Entry) × (error : Option Error) × IsFile text entries error }
+{}
+
+/// The escapes of values are those of git-config(1): `\n`, `\t` and `\b` are LF, TAB and backspace, and `\"` and
+/// `\\` are the byte after the backslash.
+pub fn escapes()
+    ensures { map escape (codes "ntb\"\\") ≡ map (λ b. Some b) (codes "\n\t\u{8}\"\\") }
 {}

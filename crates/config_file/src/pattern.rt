@@ -1,11 +1,13 @@
 //! Patterns of paths, as in Git's conditions of includes.
-ghost use Rattle.std.specs.Prelude.{◌≡◌, ◌≢◌, ◌↔◌, IsTrue, MatchOption, List, ℕ, [], ◌∷◌, ◌<◌, ◌≤◌, length, true, false};
+ghost use Rattle.std.specs.Prelude.{◌≡◌, ◌≢◌, ◌↔◌, IsTrue, MatchOption, List, ℕ, [], ◌∷◌, ◌<◌, ◌≤◌, length};
+ghost use Rattle.std.specs.Prelude.{true, false};
 ghost use Rattle.std.specs.List.{prefix_len};
 ghost use Rattle.config_file.specs.Runs.{Run};
 ghost use Rattle.config_file.specs.Pattern as spec;
 ghost use Rattle.config_file.specs.Pattern.{Item, Matches, MatchesText, MatchesLater, LacksStar};
 ghost use Rattle.config_file.specs.Pattern.{MatchesNoDirectory, is_star};
-ghost use Rattle.config_file.specs.Reading.Places.{Follows, FromHere, FindsStar, FindsDeep, MatchesDeep, size};
+ghost use Rattle.config_file.specs.Reading.Places.{Follows, FromHere, FindsStar, FindsDeep, MatchesDeep};
+ghost use Rattle.config_file.specs.Reading.Places.{size};
 
 use crate::bytes::{after_byte, split};
 use crate::set::{after_set, folded};
@@ -97,7 +99,8 @@ enum Found<'t> {
 /// The place after the items at the front of the pattern, up to a star or the first item that does not match.
 #[tactic(auto, using(crate::proofs::Patterns::item_shortens))]
 fn after_items<'t>(pattern: &'t [u8], text: &'t [u8], starts: bool, ignores_case: bool) -> Place<'t>
-    ensures follows { Follows ignores_case starts pattern.now text.now result.starts result.pattern.now result.text.now }
+    ensures follows { Follows ignores_case starts pattern.now text.now
+        result.starts result.pattern.now result.text.now }
     ensures within { length result.pattern.now ≤ length pattern.now }
     ensures stops { LacksStar result.pattern.now
         → (Matches ignores_case result.starts result.pattern.now result.text.now)
@@ -203,8 +206,8 @@ fn found_no_directory<'t>(pattern: &'t [u8], text: &'t [u8], ignores_case: bool)
     }
 }
 
-/// Whether stars that cross directories and then this pattern match the text, up to the next such stars. The stars
-/// match each byte before the pattern.
+/// Whether stars that cross directories and then this pattern match the text, up to the next such stars. The
+/// stars match each byte before the pattern.
 fn found_below<'t>(pattern: &'t [u8], text: &'t [u8], ignores_case: bool) -> Found<'t>
     ensures is { FindsDeep ignores_case (MatchesLater ignores_case true pattern.now text.now)
         (MatchesLater ignores_case true pattern.now text.now) result }
@@ -239,7 +242,8 @@ fn found_after_deep<'t>(pattern: &'t [u8], text: &'t [u8], ignores_case: bool) -
 /// Whether the pattern matches the whole text. Stars and `?` do not match `/`, except for two or more stars
 /// that are a whole name: `**/`, `/**/` and `/**`.
 ///
-/// It takes no memory, and at most as much time as the length of the pattern times the square of that of the text.
+/// It takes no memory, and at most as much time as the length of the pattern times the square of that of the
+/// text. An earlier star is not tried again, since what would match from there matches from the last star too.
 pub fn matches(pattern: &[u8], text: &[u8], ignores_case: bool) -> bool
     ensures { IsTrue result ↔ (MatchesText ignores_case pattern.now text.now) }
 {

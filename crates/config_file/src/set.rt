@@ -5,8 +5,8 @@ ghost use Rattle.std.specs.Int.{is_in_range};
 ghost use Rattle.std.specs.List.{prefix_len};
 ghost use Rattle.config_file.specs.Runs.{Run};
 ghost use Rattle.config_file.specs.Set as spec;
-ghost use Rattle.config_file.specs.Set.{Class, IsClass, IsNoClass, IsNoRange, Member, RangeEnd, SetByte, SetHas};
-ghost use Rattle.config_file.specs.Set.{StandsForByte, is_unclosed};
+ghost use Rattle.config_file.specs.Set.{Class, IsClass, IsNoClass, IsNoRange, Member, RangeEnd, SetByte};
+ghost use Rattle.config_file.specs.Set.{SetHas, StandsForByte, is_unclosed};
 ghost use Rattle.config_file.specs.Reading.Places.{Closing};
 
 use crate::bytes::{after_byte, before, is_blank, split, strip, strip_end};
@@ -148,7 +148,7 @@ fn unclosed(text: &[u8]) -> (&[u8], &[u8])
     text.split_at(unclosed_count(text))
 }
 
-/// What begins with the next `]` of the set, which is at `closing` or, if the set went on past that, further on.
+/// What begins with the next `]` of the set. It is at `closing`, unless the set went on past that.
 fn next_closing<'t>(text: &'t [u8], closing: &'t [u8]) -> &'t [u8]
     requires { Closing text.now closing.now }
     ensures { (inside : List ℕ) × Run is_unclosed text.now inside result.now }
