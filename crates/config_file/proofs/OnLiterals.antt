@@ -19,7 +19,8 @@ use Rattle.config_file.specs.Listing.{IsListedSection, IsListed}
 abbrev pub Known : {A : Type 0} → (A → Type 0) → Type 0
 Known {A} P = Option ((a : A) × P a)
 
-abbrev pub carry : {A B : Type 0} {P : A → Type 0} {Q : B → Type 0} (f : A → B) → ((a : A) → P a → Q (f a)) → Known P → Known Q
+abbrev pub carry : {A B : Type 0} {P : A → Type 0} {Q : B → Type 0} (f : A → B) → ((a : A) → P a → Q (f a))
+    → Known P → Known Q
 carry f more None = None
 carry f more (Some found) = Some (f found.0, more found.0 found.1)
 
@@ -56,14 +57,16 @@ spell_escape go q v held b (e ∷ raw) is =
       ]
     ]
 
-abbrev spell_plain : Speller → (q : Bool) (so_far held : List ℕ) (b : ℕ) (raw : List ℕ) → Spelling q so_far held (b ∷ raw)
+abbrev spell_plain : Speller → (q : Bool) (so_far held : List ℕ) (b : ℕ) (raw : List ℕ)
+    → Spelling q so_far held (b ∷ raw)
 spell_plain go q v held b raw =
     elim (cases (is_plain q b)) [
       | inl is ↦ carry (λ x. x) (λ x s. value.plain is s) (go q (kept v held ++ b ∷ []) [] raw)
       | inr other ↦ None
     ]
 
-abbrev spell_byte : Speller → (q : Bool) (so_far held : List ℕ) (b : ℕ) (raw : List ℕ) → Spelling q so_far held (b ∷ raw)
+abbrev spell_byte : Speller → (q : Bool) (so_far held : List ℕ) (b : ℕ) (raw : List ℕ)
+    → Spelling q so_far held (b ∷ raw)
 spell_byte go true v held b raw = spell_plain go true v held b raw
 spell_byte go false v held b raw =
     elim (cases (is_blank b)) [
@@ -106,7 +109,8 @@ abbrev text_of : (raw : Option (List ℕ)) → Known (IsText raw)
 text_of None = Some (None, tt)
 text_of (Some raw) = carry (λ x. Some x.0) (λ x s. (x.1, s)) (spell (length raw) false [] [] raw)
 
-abbrev escaped_of : ((raw : List ℕ) → Known (SpellsSubsection raw)) → (b : ℕ) (raw : List ℕ) → b ≡ 92 → Known (SpellsSubsection (b ∷ raw))
+abbrev escaped_of : ((raw : List ℕ) → Known (SpellsSubsection raw)) → (b : ℕ) (raw : List ℕ) → b ≡ 92
+    → Known (SpellsSubsection (b ∷ raw))
 escaped_of go b [] is = None
 escaped_of go b (e ∷ raw) is =
     elim (cases (is_text_byte e)) [ inl text ↦ carry (λ t. e ∷ t) (λ t s. sub.escaped is text s) (go raw) | inr other ↦ None ]
@@ -162,18 +166,21 @@ abbrev shown : {text : List ℕ} → Listing text → Option (List Row × Option
 shown None = None
 shown (Some found) = Some found.0
 
-told : {text : List ℕ} (found : Listing text) (rows : List Row) (error : Option Error) → shown found ≡ Some (rows, error) → Lists text rows error
+told : {text : List ℕ} (found : Listing text) (rows : List Row) (error : Option Error)
+    → shown found ≡ Some (rows, error) → Lists text rows error
 told None rows error e = cc
 told {text = text} (Some found) rows error e = let same : found.0 ≡ (rows, error) = cc in subst (λ (l : List Row × Option Error). Lists text l.0 l.1) same found.1
 
-pub lists : (text : List ℕ) (rows : List Row) (error : Option Error) → shown (listing text) ≡ Some (rows, error) → Lists text rows error
+pub lists : (text : List ℕ) (rows : List Row) (error : Option Error)
+    → shown (listing text) ≡ Some (rows, error) → Lists text rows error
 lists text rows error e = told (listing text) rows error e
 
 -- each text is listed in its rows
 abbrev pub AreListed : List (List ℕ × List Row × Option Error) → Type 0
 AreListed table = AllByRecursion (λ (row : List ℕ × List Row × Option Error). Lists row.0 row.1 row.2) table
 
-pub all_listed : (table : List (List ℕ × List Row × Option Error)) → map (λ row. shown (listing row.0)) table ≡ map (λ row. Some (row.1, row.2)) table
+pub all_listed : (table : List (List ℕ × List Row × Option Error))
+    → map (λ row. shown (listing row.0)) table ≡ map (λ row. Some (row.1, row.2)) table
     → AreListed table
 all_listed [] e = tt
 all_listed (row ∷ table) e = (lists row.0 row.1 row.2 (cc (e)), all_listed table (cc (e)))

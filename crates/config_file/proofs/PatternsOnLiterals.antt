@@ -40,7 +40,8 @@ same (x ∷ a) (y ∷ b) =
       | inr other ↦ None
     ]
 
-abbrev or_class : {i : Bool} {b : ℕ} {name : List ℕ} (word : List ℕ) (has : Bool) → (name ≡ word → has ≡ has → Class i b name has)
+abbrev or_class : {i : Bool} {b : ℕ} {name : List ℕ} (word : List ℕ) (has : Bool)
+    → (name ≡ word → has ≡ has → Class i b name has)
     → Known (Class i b name) → Known (Class i b name)
 or_class {name = name} word has makes others = elim (same name word) [ None ↦ others | Some e ↦ Some (has, makes e refl) ]
 
@@ -79,7 +80,8 @@ abbrev Has : Bool → ℕ → Bool → List ℕ → Type 0
 Has i b starts text = Known (λ (p : Bool × List ℕ). Member i b starts text p.0 p.1)
 
 -- the member that begins with this byte of a set
-abbrev after_byte : (i : Bool) (b : ℕ) (starts : Bool) (text : List ℕ) → IsNoClass text → (c : ℕ) (rest : List ℕ) → SetByte starts text c rest → Has i b starts text
+abbrev after_byte : (i : Bool) (b : ℕ) (starts : Bool) (text : List ℕ) → IsNoClass text
+    → (c : ℕ) (rest : List ℕ) → SetByte starts text c rest → Has i b starts text
 after_byte i b starts text none c [] byte = Some (_, set.single c none byte (λ last rest. no_end) refl)
 after_byte i b starts text none c (d ∷ rest) byte =
     elim (cases (d == 45)) [
@@ -88,13 +90,15 @@ after_byte i b starts text none c (d ∷ rest) byte =
       | inr other ↦ Some (_, set.single c none byte (λ last rest. no_dash (test_not d 45 other)) refl)
     ]
 
-pub closed_run : {c : ℕ} {inner inside front rest : List ℕ} → c ≡ 93 → inside ≡ front → Run is_unclosed inner inside (c ∷ rest)
+pub closed_run : {c : ℕ} {inner inside front rest : List ℕ} → c ≡ 93 → inside ≡ front
+    → Run is_unclosed inner inside (c ∷ rest)
     → Run is_unclosed inner front (93 ∷ rest)
 closed_run {c = c} {inner = inner} {inside = inside} {rest = rest} is e run =
     subst (λ f. Run is_unclosed inner f (93 ∷ rest)) e (subst (λ x. Run is_unclosed inner inside (x ∷ rest)) is run)
 
 -- the text after `[:`, whose run before the next `]` is this one
-abbrev class_in : (i : Bool) (b : ℕ) (starts : Bool) (inner inside closing : List ℕ) → Run is_unclosed inner inside closing → Has i b starts (codes "[:" ++ inner)
+abbrev class_in : (i : Bool) (b : ℕ) (starts : Bool) (inner inside closing : List ℕ)
+    → Run is_unclosed inner inside closing → Has i b starts (codes "[:" ++ inner)
 class_in i b starts inner inside [] run = None
 class_in i b starts inner inside (c ∷ rest) run =
     let name = before inside (58 ∷ []) in
@@ -123,7 +127,8 @@ member_at i b starts text =
 abbrev All : Bool → ℕ → Bool → List ℕ → Type 0
 All i b starts text = Known (λ (p : Bool × List ℕ). SetHas i b starts text p.0 p.1)
 
-abbrev and_more : (i : Bool) (b : ℕ) (starts : Bool) (text : List ℕ) → ((text : List ℕ) → All i b false text) → Has i b starts text → All i b starts text
+abbrev and_more : (i : Bool) (b : ℕ) (starts : Bool) (text : List ℕ)
+    → ((text : List ℕ) → All i b false text) → Has i b starts text → All i b starts text
 and_more i b starts text go None = None
 and_more i b starts text go (Some m) =
     carry (λ p. (m.0.0 || p.0, p.1)) (λ p more. set.has m.0.0 p.0 m.0.1 m.1 more refl) (go m.0.1)
@@ -194,7 +199,8 @@ item_at i (c ∷ more) b =
 abbrev Decides : Bool → Type 0
 Decides i = (starts : Bool) (pattern text : List ℕ) → Answer (Matches i starts pattern text)
 
-abbrev later_at : (i crossing : Bool) → Decides i → (pattern text : List ℕ) → Answer (MatchesLater i crossing pattern text)
+abbrev later_at : (i crossing : Bool) → Decides i → (pattern text : List ℕ)
+    → Answer (MatchesLater i crossing pattern text)
 later_at i crossing go pattern [] =
     elim (go false pattern []) [
       | None ↦ None
@@ -221,13 +227,16 @@ later_at i crossing go pattern (b ∷ text) =
 pub not_crossing : {i : Bool} {pattern text : List ℕ} → MatchesNoDirectory i false pattern text → ⊥
 not_crossing (rest, crossing, at, match) = true≢false (sym crossing)
 
-pub no_slash : {i crossing : Bool} {pattern text : List ℕ} → ((rest : List ℕ) → pattern ≢ slash ∷ rest) → MatchesNoDirectory i crossing pattern text → ⊥
+pub no_slash : {i crossing : Bool} {pattern text : List ℕ} → ((rest : List ℕ) → pattern ≢ slash ∷ rest)
+    → MatchesNoDirectory i crossing pattern text → ⊥
 no_slash never (rest, crossing, at, match) = never rest at
 
-pub past_slash : {i crossing : Bool} {c : ℕ} {pattern text : List ℕ} → (Matches i true pattern text → ⊥) → MatchesNoDirectory i crossing (c ∷ pattern) text → ⊥
+pub past_slash : {i crossing : Bool} {c : ℕ} {pattern text : List ℕ} → (Matches i true pattern text → ⊥)
+    → MatchesNoDirectory i crossing (c ∷ pattern) text → ⊥
 past_slash {i = i} {text = text} never (rest, crossing, at, match) = never (subst (λ x. Matches i true x text) (sym (ap (drop 1) at)) match)
 
-abbrev no_directory_at : (i crossing : Bool) → Decides i → (pattern text : List ℕ) → Answer (MatchesNoDirectory i crossing pattern text)
+abbrev no_directory_at : (i crossing : Bool) → Decides i → (pattern text : List ℕ)
+    → Answer (MatchesNoDirectory i crossing pattern text)
 no_directory_at i false go pattern text = Some (inr not_crossing)
 no_directory_at i true go [] text = Some (inr (no_slash (λ rest. no_cons)))
 no_directory_at i true go (c ∷ pattern) text =
@@ -243,17 +252,21 @@ no_directory_at i true go (c ∷ pattern) text =
     ]
 
 pub no_stars : {i starts : Bool} {pattern more rest text : List ℕ} → Run is_star pattern more rest
-    → (MatchesNoDirectory i (crosses starts more rest) rest text → ⊥) → (MatchesLater i (crosses starts more rest) rest text → ⊥)
+    → (MatchesNoDirectory i (crosses starts more rest) rest text → ⊥)
+    → (MatchesLater i (crosses starts more rest) rest text → ⊥)
     → Matches i starts (42 ∷ pattern) text → ⊥
 no_stars run none never h = elim (stars_inv run h) [ inl direct ↦ none direct | inr later ↦ never later ]
 
-pub as_star : {i starts : Bool} {c : ℕ} {pattern text : List ℕ} → c ≡ 42 → Matches i starts (42 ∷ pattern) text → Matches i starts (c ∷ pattern) text
+pub as_star : {i starts : Bool} {c : ℕ} {pattern text : List ℕ} → c ≡ 42
+    → Matches i starts (42 ∷ pattern) text → Matches i starts (c ∷ pattern) text
 as_star is match = rw is match
 
-pub from_star : {i starts : Bool} {c : ℕ} {pattern text : List ℕ} → c ≡ 42 → Matches i starts (c ∷ pattern) text → Matches i starts (42 ∷ pattern) text
+pub from_star : {i starts : Bool} {c : ℕ} {pattern text : List ℕ} → c ≡ 42
+    → Matches i starts (c ∷ pattern) text → Matches i starts (42 ∷ pattern) text
 from_star {i = i} {starts = starts} {pattern = pattern} {text = text} is match = subst (λ x. Matches i starts (x ∷ pattern) text) is match
 
-abbrev stars_of : (i starts : Bool) → Decides i → (c : ℕ) → c ≡ 42 → (pattern text more rest : List ℕ) → Run is_star pattern more rest
+abbrev stars_of : (i starts : Bool) → Decides i → (c : ℕ) → c ≡ 42 → (pattern text more rest : List ℕ)
+    → Run is_star pattern more rest
     → Answer (Matches i starts (c ∷ pattern) text)
 stars_of i starts go c is pattern text more rest run =
     elim (no_directory_at i (crosses starts more rest) go rest text) [
@@ -273,23 +286,27 @@ stars_of i starts go c is pattern text more rest run =
 pub no_star : {c : ℕ} {pattern : List ℕ} → c ≢ 42 → LacksStar (c ∷ pattern)
 no_star other rest e = other (cc (e))
 
-pub no_one : {i starts : Bool} {b : ℕ} {pattern rest text : List ℕ} → LacksStar pattern → Item i pattern b rest
+pub no_one : {i starts : Bool} {b : ℕ} {pattern rest text : List ℕ} → LacksStar pattern
+    → Item i pattern b rest
     → (Matches i (b == 47) rest text → ⊥) → Matches i starts pattern (b ∷ text) → ⊥
 no_one {i = i} {b = b} {text = text} lacks item never match =
     let (rest, also, more) = one_inv match lacks in
     never (subst (λ x. Matches i (b == 47) x text) (item_same also item).0 more)
 
-pub not_one : {i starts : Bool} {b : ℕ} {pattern text : List ℕ} → LacksStar pattern → ((rest : List ℕ) → Item i pattern b rest → ⊥)
+pub not_one : {i starts : Bool} {b : ℕ} {pattern text : List ℕ} → LacksStar pattern
+    → ((rest : List ℕ) → Item i pattern b rest → ⊥)
     → Matches i starts pattern (b ∷ text) → ⊥
 not_one lacks never match = let (rest, item, more) = one_inv match lacks in never rest item
 
-pub not_at_end : {i starts : Bool} {c : ℕ} {pattern : List ℕ} → LacksStar (c ∷ pattern) → Matches i starts (c ∷ pattern) [] → ⊥
+pub not_at_end : {i starts : Bool} {c : ℕ} {pattern : List ℕ} → LacksStar (c ∷ pattern)
+    → Matches i starts (c ∷ pattern) [] → ⊥
 not_at_end lacks match = let e = end_inv match lacks in cc
 
 pub empty_lacks : LacksStar []
 empty_lacks rest e = cc
 
-abbrev one_of : (i starts : Bool) → Decides i → (pattern : List ℕ) → LacksStar pattern → (b : ℕ) (text : List ℕ) → Answer (Matches i starts pattern (b ∷ text))
+abbrev one_of : (i starts : Bool) → Decides i → (pattern : List ℕ) → LacksStar pattern
+    → (b : ℕ) (text : List ℕ) → Answer (Matches i starts pattern (b ∷ text))
 one_of i starts go pattern lacks b text =
     elim (item_at i pattern b) [
       | None ↦ None
@@ -331,7 +348,8 @@ said None = None
 said (Some (inl is)) = Some true
 said (Some (inr never)) = Some false
 
-told : (says i : Bool) (pattern text : List ℕ) (answer : Answer (MatchesText i pattern text)) → said answer ≡ Some says → Says says i pattern text
+told : (says i : Bool) (pattern text : List ℕ) (answer : Answer (MatchesText i pattern text))
+    → said answer ≡ Some says → Says says i pattern text
 told true i pattern text (Some (inl is)) e = is
 told false i pattern text (Some (inl is)) e = cc
 told true i pattern text (Some (inr never)) e = cc
@@ -342,6 +360,7 @@ abbrev pub AreMatched : Bool → Bool → List (List ℕ × List ℕ) → Type 0
 AreMatched says i rows = AllByRecursion (λ (row : List ℕ × List ℕ). Says says i row.0 row.1) rows
 
 pub all_matched : (says i : Bool) (rows : List (List ℕ × List ℕ))
-    → map (λ row. said (decide (length row.0) i true row.0 row.1)) rows ≡ map (λ row. Some says) rows → AreMatched says i rows
+    → map (λ row. said (decide (length row.0) i true row.0 row.1)) rows ≡ map (λ row. Some says) rows
+    → AreMatched says i rows
 all_matched says i [] e = tt
 all_matched says i (row ∷ rows) e = (told says i row.0 row.1 (decide (length row.0) i true row.0 row.1) (cc (e)), all_matched says i rows (cc (e)))

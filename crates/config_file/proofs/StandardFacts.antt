@@ -201,7 +201,8 @@ conditions_are_named = ((_, refl, refl), (_, refl, refl), (_, refl, refl), (_, r
 abbrev keywords : List (List ℕ)
 keywords = codes "gitdir:" ∷ codes "gitdir/i:" ∷ codes "onbranch:" ∷ codes "hasconfig:remote.*.url:" ∷ []
 
-unknown : (text : String) → map (λ k. is_front k (codes text)) keywords ≡ map (λ k. false) keywords → Names (codes text) Unknown
+unknown : (text : String) → map (λ k. is_front k (codes text)) keywords ≡ map (λ k. false) keywords
+    → Names (codes text) Unknown
 unknown text e = (
   lacks (codes "gitdir:") (codes text) (cc (e)),
   lacks (codes "gitdir/i:") (codes text) (cc (e)),
@@ -228,7 +229,8 @@ no_condition_is_none = (λ e. cc, λ text e. omega (arith, ap length e, length-a
 abbrev IsExpanded : String → String → Type 0
 IsExpanded value path = Expands (Some (codes "/home/user")) (Some (codes "/usr")) (codes value) (codes path)
 
-literal : (value : String) → is_front (codes "~") (codes value) ≡ false → is_front (codes "%(prefix)/") (codes value) ≡ false
+literal : (value : String) → is_front (codes "~") (codes value) ≡ false
+    → is_front (codes "%(prefix)/") (codes value) ≡ false
     → IsExpanded value value
 literal value a b = other (lacks (codes "~") (codes value) a) (lacks (codes "%(prefix)/") (codes value) b) refl
 
@@ -278,14 +280,17 @@ pairs rows = map (λ row. (codes row.0, codes row.1)) rows
 abbrev matched : List (String × String)
 matched =
     ("foo", "foo") ∷ ("f?o", "foo") ∷ ("*", "foo") ∷ ("f*", "foo") ∷ ("*o*a*", "foobar") ∷ ("*ab", "aab")
-    ∷ ("**/foo", "foo") ∷ ("**/foo", "a/b/foo") ∷ ("abc/**", "abc/a/b") ∷ ("a/**/b", "a/b") ∷ ("a/**/b", "a/x/b") ∷ ("a/**/b", "a/x/y/b")
+    ∷ ("**/foo", "foo") ∷ ("**/foo", "a/b/foo") ∷ ("abc/**", "abc/a/b") ∷ ("a/**/b", "a/b")
+    ∷ ("a/**/b", "a/x/b") ∷ ("a/**/b", "a/x/y/b")
     ∷ ("[a-c]t", "bt") ∷ ("[!a]b", "cb") ∷ ("[^a]b", "cb") ∷ ("[]a]", "]") ∷ ("[\\]]", "]") ∷ ("[[:alpha:]]", "A") ∷ ("[[:digit:][:upper:]]", "7")
     ∷ ("\\*", "*") ∷ ("\\f", "f") ∷ []
 
 abbrev not_matched : List (String × String)
 not_matched =
-    ("foo", "Foo") ∷ ("f?o", "f/o") ∷ ("?", "") ∷ ("*", "a/b") ∷ ("a*", "a/b") ∷ ("a**b", "a/b") ∷ ("**/foo", "afoo") ∷ ("abc/**", "abc")
-    ∷ ("a/**/b", "a/xb") ∷ ("[a-c]t", "dt") ∷ ("[!a]b", "ab") ∷ ("[!a]b", "/b") ∷ ("[[:alpha:]]", "1") ∷ ("\\*", "a") ∷ []
+    ("foo", "Foo") ∷ ("f?o", "f/o") ∷ ("?", "") ∷ ("*", "a/b") ∷ ("a*", "a/b") ∷ ("a**b", "a/b")
+    ∷ ("**/foo", "afoo") ∷ ("abc/**", "abc")
+    ∷ ("a/**/b", "a/xb") ∷ ("[a-c]t", "dt") ∷ ("[!a]b", "ab") ∷ ("[!a]b", "/b") ∷ ("[[:alpha:]]", "1")
+    ∷ ("\\*", "a") ∷ []
 
 pub patterns_match : AreMatched true false (pairs matched)
 patterns_match = all_matched true false (pairs matched) refl
