@@ -47,10 +47,18 @@ or_class {name = name} word has makes others = elim (same name word) [ None ↦ 
 
 abbrev class_at : (i : Bool) (b : ℕ) (name : List ℕ) → Known (Class i b name)
 class_at i b name =
-    or_class (codes "alpha") _ set.alpha
+    or_class (codes "alnum") _ set.alnum
+    (or_class (codes "alpha") _ set.alpha
+    (or_class (codes "blank") _ set.blank
+    (or_class (codes "cntrl") _ set.cntrl
     (or_class (codes "digit") _ set.digit
+    (or_class (codes "graph") _ set.graph
+    (or_class (codes "lower") _ set.lower
+    (or_class (codes "print") _ set.print
+    (or_class (codes "punct") _ set.punct
     (or_class (codes "space") _ set.spaces
-    (or_class (codes "upper") _ set.upper None)))
+    (or_class (codes "upper") _ set.upper
+    (or_class (codes "xdigit") _ set.xdigit None)))))))))))
 
 abbrev Byte : Bool → List ℕ → Type 0
 Byte starts text = Known (λ (p : ℕ × List ℕ). SetByte starts text p.0 p.1)

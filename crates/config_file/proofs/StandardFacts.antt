@@ -298,6 +298,25 @@ patterns_match = all_matched true false (pairs matched) refl
 pub patterns_do_not_match : AreMatched false false (pairs not_matched)
 patterns_do_not_match = all_matched false false (pairs not_matched) refl
 
+-- a byte of each class, and one that it lacks: white space is Git's, which has no vertical tab
+abbrev in_classes : List (String × String)
+in_classes =
+    ("[[:alnum:]]", "7") ∷ ("[[:alpha:]]", "A") ∷ ("[[:blank:]]", "\t") ∷ ("[[:cntrl:]]", "\u{7f}") ∷ ("[[:digit:]]", "9")
+    ∷ ("[[:graph:]]", "~") ∷ ("[[:lower:]]", "z") ∷ ("[[:print:]]", " ") ∷ ("[[:punct:]]", "~") ∷ ("[[:space:]]", "\r")
+    ∷ ("[[:upper:]]", "Z") ∷ ("[[:xdigit:]]", "F") ∷ []
+
+abbrev in_no_classes : List (String × String)
+in_no_classes =
+    ("[[:alnum:]]", "-") ∷ ("[[:alpha:]]", "1") ∷ ("[[:blank:]]", "\n") ∷ ("[[:cntrl:]]", " ") ∷ ("[[:digit:]]", "a")
+    ∷ ("[[:graph:]]", " ") ∷ ("[[:lower:]]", "Z") ∷ ("[[:print:]]", "\u{7f}") ∷ ("[[:punct:]]", "a") ∷ ("[[:space:]]", "\u{b}")
+    ∷ ("[[:upper:]]", "z") ∷ ("[[:xdigit:]]", "g") ∷ []
+
+pub classes_match : AreMatched true false (pairs in_classes)
+classes_match = all_matched true false (pairs in_classes) refl
+
+pub classes_do_not_match : AreMatched false false (pairs in_no_classes)
+classes_do_not_match = all_matched false false (pairs in_no_classes) refl
+
 -- ignoring case, for gitdir/i
 abbrev matched_in_any_case : List (String × String)
 matched_in_any_case = ("foo", "FOO") ∷ ("FOO", "foo") ∷ ("[a-c]", "B") ∷ ("[A-C]", "b") ∷ ("[[:upper:]]", "a") ∷ []
