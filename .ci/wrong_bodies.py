@@ -99,9 +99,10 @@ def tried(name):
     with tempfile.TemporaryDirectory() as room:
         crate = Crate(name, room)
         edits = [edit_of(file) for file in sorted((crate.folder / "wrong_bodies").glob("*.edit"))]
-        # a changed definition is checked anew wherever it is cited, so these edits are tried after the others
-        of_specs = [edit for edit in edits if any(path.startswith("specs/") for path, *_ in edit.pairs)]
-        parts = [edit for edit in edits if edit not in of_specs], of_specs
+        # what cites a changed definition is checked anew: such an edit is tried later, if functions alone refuse it
+        later = [edit for edit in edits if any(path.startswith("specs/") for path, *_ in edit.pairs)
+                 and all("::" in function for function, _ in edit.expected)]
+        parts = [edit for edit in edits if edit not in later], later
         return {name: why for part in parts if part for name, why in crate.faults(part).items()}
 
 
