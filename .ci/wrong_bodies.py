@@ -1,8 +1,9 @@
 """Tries the wrong bodies: the prover has to refuse each, at the clauses that it names. wrong_bodies.py [CRATE..]
 
 CONTRIBUTING.md has the form of their files. Those of a crate are put into one copy of it, and the functions that they
-name are checked once, over the libraries that `rt check` or `rt ci` left. If that opens other goals, or two are for the
-same function, each is tried by itself, and the goals that it opens are printed. The last line is 'N passed, M failed'.
+name are checked once, over the libraries that `rt check` or `rt ci` left; those that change a definition follow in a
+second check. If that opens other goals, or two are for the same function, each is tried by itself, and the goals that
+it opens are printed. The last line is 'N passed, M failed'.
 """
 import collections
 import concurrent.futures
