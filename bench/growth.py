@@ -4,8 +4,8 @@ Each input is measured in turn at its size and at twice that size. The result is
 minus that of an empty input. A ratio near 2 says that the time grows as the input does. A long line takes less time
 than the start of a process, so its input repeats it as often as the table says.
 
-In the last rows the pattern of a condition and the name of the branch are doubled both: a ratio near 4 says that the
-time grows as their product.
+The rows of includes double the number of the files that a file includes. In the last rows the pattern of a condition
+and the name of the branch are doubled both: a ratio near 4 says that the time grows as their product.
 """
 import argparse
 import os
@@ -36,6 +36,18 @@ class Condition:
         pathlib.Path(self.folder, "config").write_text(f'[includeIf "onbranch:{pattern}"]path=none\n', "ascii")
 
 
+class Includes:
+    """A file that includes this many files, each with as many entries."""
+
+    def __init__(self, count, entries):
+        self.made, self.file = tempfile.TemporaryDirectory(), tempfile.TemporaryFile()
+        self.words, self.folder = ["--file", "config", "--includes"], self.made.name
+        text = "".join(f"\tpath = {number}\n" for number in range(count))
+        pathlib.Path(self.folder, "config").write_text("[include]\n" + text, "ascii")
+        for number in range(count):
+            pathlib.Path(self.folder, str(number)).write_text("[a]\n" + "\tb = 1\n" * entries, "ascii")
+
+
 def often(times, front, repeated, back=b""):
     """Makes this many lines, in each of which a part is repeated."""
     return lambda size: Lines((front + repeated * size + back + b"\n") * times)
@@ -62,6 +74,8 @@ INPUTS = [
     ("one line of 25 and 50 MB, digits", 25_000_000, lambda size: Lines(b"integer " + b"9" * size + b"\n")),
     ("one line of 25 and 50 MB, zeros", 25_000_000, lambda size: Lines(b"integer 0x" + b"0" * size + b"7\n")),
     ("one line of 25 and 50 MB, `ul `", 25_000_000, lambda size: Lines(b"color " + b"ul " * (size // 3) + b"\n")),
+    ("included files of 100 entries", 400, lambda size: Includes(size, 100)),
+    ("included files of one entry", 3_000, lambda size: Includes(size, 1)),
     ("`*a` for each letter", 50_000, lambda size: Condition("*a" * size, "a" * size)),
     ("`*a` for each letter, then `b`", 50_000, lambda size: Condition("*a" * size + "b", "a" * size)),
     ("`*`, half the letters, `b`", 5_000, lambda size: Condition("*" + "a" * (size // 2) + "b", "a" * size)),

@@ -1,8 +1,9 @@
 #!/usr/bin/env python3
 """Prints what a claim rests on: each word that its clauses cite, those that these cite, and so on, std's included.
 
-    python3 docs/words.py               the lines of the headline, and of each kind's grammar and canonical texts
+    python3 docs/words.py               the lines of the headlines, and of each kind's grammar and canonical texts
     python3 docs/words.py headline      the clauses of the headline, and the text of each word; `joined`: for colors
+    python3 docs/words.py setting       the same for the headline of settings in files
     python3 docs/words.py Boolean       the same for a kind, here its two members of `impl Value`
     python3 docs/words.py value::normalize_as Value::read kind::normalize     for calls: MODULE::CALL, or TYPE::CALL
     python3 docs/words.py IntegerText   for a definition
@@ -21,8 +22,9 @@ import sys
 ROOT = pathlib.Path(__file__).resolve().parent.parent
 CRATES = ROOT / "crates"
 KINDS = ("Suffix", "Integer", "Amount", "Boolean", "Name", "Attribute", "Color")
-# the calls whose clauses are the sentence of docs/READING.md, for any kind and for colors
-SENTENCE = {"headline": ("value::meaning", "value::one_meaning"), "joined": ("colors::joined",)}
+# the calls whose clauses are the sentences of docs/READING.md: for any kind, for colors, and for settings in files
+SENTENCE = {"headline": ("value::meaning", "value::one_meaning"), "joined": ("colors::joined",),
+            "setting": ("setting_headline::value_of",)}
 # where the libraries are to which `lib.`, `mathlib.` and the like lead; all others are folders of the logic
 PLACES = {"mathlib": "antt/port/mathlib/src", "seplogic": "antt/port/seplogic/src", "native": "antt/lib/native/src",
           "text": "antt/lib/native-text/src"}

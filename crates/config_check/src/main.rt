@@ -1,9 +1,8 @@
 //! Reports wrong values, unknown keys and invalid lines in Git configuration files.
 #![tactic(auto)]
 
-mod here;
-
-use crate::here::{File, STDIN};
+use bstr::BStr;
+use bumpalo::Bump;
 use clap::{Arg, ArgAction, ArgMatches, Command};
 use config_checks::check::{CheckError, check_file};
 use config_checks::finding::push_shown;
@@ -13,11 +12,15 @@ use config_checks::outcome::Outcome;
 use config_checks::reason::Severity;
 use config_checks::row::Row;
 use config_checks::table::{BadRow, read_rows};
+use config_file::{Content, Files, Include, Place, Step, Walk};
+use config_host::surroundings::Followed;
+use config_host::{ArgumentError, Disk, HostError, Surroundings, arguments, places};
 use std::alloc::{AllocError, Global};
+use std::collections::BTreeSet;
 use std::env::VarError;
-use std::io::{self, BufWriter, ErrorKind, IsTerminal, Read, Write};
+use std::io::{self, BufWriter, ErrorKind, IsTerminal, Write};
 use std::process::ExitCode;
-use std::{env, fs};
+use std::{env, fmt, fs};
 use thiserror::Error;
 
 /// An argument without a value.
@@ -88,22 +91,25 @@ fn command<'a>(alloc: Global) -> Result<Command<'a>, AllocError> {
 #[derive(Debug, Drop, Error)]
 enum Failure<'m> {
     #[error("cannot read the arguments: {0}")]
-    Arguments(io::Error),
+    Arguments(ArgumentError),
     #[error("cannot read {file}: {error}")]
     File { file: &'m str, error: io::Error },
     #[error("{file}:{}: {}", .bad.line, .bad.fault)]
     Row { file: &'m str, bad: BadRow },
     #[error("cannot find the files that Git reads here: {0}")]
-    Here(io::Error),
+    Here(#[from] HostError),
     #[error("cannot write: {0}")]
     Write(io::Error),
     #[error("no memory")]
-    Memory(AllocError),
+    Memory(#[from] AllocError),
     #[error("Git reads no file here: name one")]
     NoFile,
     #[error("standard input is a terminal: name a file, or redirect one: config_check - < FILE")]
     Terminal,
 }
+
+/// The file name that means standard input.
+const STDIN: &[u8] = b"-";
 
 impl Failure<'_> {
     /// Whether the failure is printed. It is not printed if nothing reads the output anymore.
@@ -152,101 +158,176 @@ fn all_rows<'m, 't>(
     Ok(rows)
 }
 
-/// The text of a file, or of standard input.
-fn read_text(rt: &HostRuntime, file: &str) -> io::Result<Vec<u8>> {
-    if file != STDIN {
-        return fs::read(rt, file);
+/// Adds the name of a file.
+fn add(names: &mut Vec<Vec<u8>>, name: Vec<u8>) -> Result<(), AllocError> {
+    match names.push(name) {
+        Ok(()) => Ok(()),
+        Err(_) => Err(AllocError),
     }
-    let mut text = Vec::new(rt.alloc());
-    rt.stdin().read_to_end(&mut text)?;
-    Ok(text)
 }
 
-/// What the check of each file needs: the runtime, the rows and the options.
-#[derive(Clone, Copy)]
-struct Checker<'c, 't> {
-    rt: &'c HostRuntime,
-    rows: &'c [Row<'t>],
+/// A run over files, each of which is checked once.
+#[derive(Drop)]
+struct Checking<'c, 't> {
+    rt: &'t HostRuntime,
+    rows: &'c [Row<'c>],
     options: Options,
+    disk: Disk<'t, HostRuntime>,
+    surroundings: Surroundings,
+    /// The real names of the files that are checked, or named and checked later.
+    seen: BTreeSet<Vec<u8>>,
+    outcome: Outcome,
 }
 
-impl Checker<'_, '_> {
-    /// Checks a file and adds its counts. Returns its text, or reports a failed read and returns `None`.
-    fn check(
-        &self,
-        file: &str,
-        outcome: &mut Outcome,
-    ) -> Result<Option<Vec<u8>>, Failure<'static>> {
-        let text = match read_text(self.rt, file) {
-            Ok(text) => text,
-            Err(error) => {
-                outcome.is_unread = true;
-                tell(
-                    self.rt,
-                    format!(in self.rt.alloc(); "config_check: {file}: {error}"),
-                );
-                return Ok(None);
+impl<'t> Checking<'_, 't> {
+    /// Reports a file that cannot be read.
+    fn refuse<E: fmt::Display + Drop>(&mut self, error: E) {
+        self.outcome.is_unread = true;
+        tell(
+            self.rt,
+            format!(in self.rt.alloc(); "config_check: {error}"),
+        );
+    }
+
+    /// The text of a file, or of standard input, and its place. Reports a failed read.
+    fn read(&mut self, name: &[u8]) -> Result<Option<(Place<'t>, &'t [u8])>, Failure<'static>> {
+        let found = if name == STDIN {
+            let place = Place {
+                name: STDIN,
+                real_dir: b"",
+            };
+            match self.disk.text(self.rt.stdin(), None) {
+                Ok(text) => Ok((place, text)),
+                Err(error) => Err(error),
             }
+        } else {
+            self.disk.first(name)
+        };
+        match found {
+            Ok(found) => Ok(Some(found)),
+            Err(error) if error.is_memory() => Err(Failure::Memory(AllocError)),
+            Err(error) => {
+                self.refuse(format_args!("{}: {error}", BStr::new(name)));
+                Ok(None)
+            }
+        }
+    }
+
+    /// Checks the text of a file and adds its counts.
+    fn check(&mut self, name: &[u8], text: &[u8]) -> Result<(), Failure<'static>> {
+        let Ok(name) = str::from_utf8(name) else {
+            return Ok(());
         };
         let alloc = self.rt.alloc();
         let mut writer = match BufWriter::new(alloc, self.rt.stdout()) {
             Ok(writer) => writer,
             Err(error) => return Err(Failure::Write(error)),
         };
-        match check_file(alloc, self.rows, &self.options, file, &text, &mut writer) {
-            Ok(counts) => outcome.add(counts),
+        match check_file(alloc, self.rows, &self.options, name, text, &mut writer) {
+            Ok(counts) => self.outcome.add(counts),
             Err(CheckError::Write(error)) => return Err(Failure::Write(error)),
             Err(CheckError::Memory(error)) => return Err(Failure::Memory(error)),
         }
-        Ok(Some(text))
+        Ok(())
     }
-}
 
-/// Checks files, and the files that they include.
-fn check_files(
-    checker: &Checker<'_, '_>,
-    files: &mut Vec<File>,
-    outcome: &mut Outcome,
-) -> Result<(), Failure<'static>> {
-    for next in 0..usize::MAX {
-        let Some(file) = files.get(next) else {
-            break;
-        };
-        let text = checker.check(&file.name, outcome)?;
-        if let Some(text) = text {
-            if let Err(error) = here::add_included(checker.rt, files, next, &text) {
-                return Err(Failure::Here(error));
+    /// Checks the file of this name, which the file at this place includes, and goes on in it. Passes a file
+    /// that is missing, that is too deep, or that is checked already, and relative names of standard input.
+    fn include(
+        &mut self,
+        walk: &mut Walk<'t>,
+        place: Place<'t>,
+        name: Vec<u8>,
+    ) -> Result<(), Failure<'static>> {
+        let is_stdin = place.name == STDIN && place.real_dir.is_empty();
+        let real = self.disk.real_name(&name)?;
+        if is_stdin && !name.starts_with(b"/") || self.seen.contains(&real) {
+            return Ok(());
+        }
+        match self.disk.read(self.rt.alloc(), &name)? {
+            Content::Missing => return Ok(()),
+            Content::Unreadable(why) => self.refuse(why),
+            Content::Text(place, text) => {
+                if !walk.enter(place, text) {
+                    return Ok(());
+                }
+                self.check(place.name, text)?;
             }
         }
+        self.remember(real)?;
+        Ok(())
     }
-    Ok(())
-}
 
-/// The files that are named, or those that Git reads in the current folder.
-fn first_files(rt: &HostRuntime, names: Option<&[&str]>) -> Result<Vec<File>, Failure<'static>> {
-    let found = match names {
-        Some(names) => here::named(rt, names),
-        None => here::files(rt),
-    };
-    match found {
-        Ok(files) if files.is_empty() => Err(Failure::NoFile),
-        Ok(files) if here::has_stdin(&files) && rt.stdin().is_terminal() => Err(Failure::Terminal),
-        Ok(files) => Ok(files),
-        Err(error) => Err(Failure::Here(error)),
+    /// Remembers the real name of a file, and returns whether it is new.
+    fn remember(&mut self, real: Vec<u8>) -> Result<bool, Failure<'static>> {
+        match self.seen.insert(real) {
+            Ok(is_new) => Ok(is_new),
+            Err(_) => Err(Failure::Memory(AllocError)),
+        }
+    }
+
+    /// Checks a file, and the files that it includes, in the order in which a walk comes to them.
+    fn file(&mut self, name: &[u8]) -> Result<(), Failure<'static>> {
+        let Some((place, text)) = self.read(name)? else {
+            return Ok(());
+        };
+        self.check(name, text)?;
+        let mut walk = Walk::new(place, text);
+        for _ in 0..u64::MAX {
+            match walk.next(self.rt.alloc(), &self.surroundings.known())? {
+                Step::Entry(place, _, Include::Named(name)) => {
+                    self.include(&mut walk, place, name)?;
+                }
+                Step::Ends => break,
+                _ => {}
+            }
+        }
+        Ok(())
+    }
+
+    /// The files that are named, or those that Git reads in the current folder, each once.
+    fn first_files(&mut self, names: Option<&[&str]>) -> Result<Vec<Vec<u8>>, Failure<'static>> {
+        let alloc = self.rt.alloc();
+        let mut found = Vec::new(alloc);
+        match names {
+            Some(names) => {
+                for name in names {
+                    add(&mut found, name.as_bytes().to_vec(alloc)?)?;
+                }
+            }
+            None => found = places::files(self.rt, &self.disk)?,
+        }
+        let mut files = Vec::new(alloc);
+        for name in found {
+            let real = self.disk.real_name(&name)?;
+            if self.remember(real)? {
+                add(&mut files, name)?;
+            }
+        }
+        Ok(files)
     }
 }
 
 /// Checks the files that are named, or those that Git reads in the current folder, and prints the counts.
 /// Returns the exit status.
 fn check_all(
-    checker: &Checker<'_, '_>,
+    checking: &mut Checking<'_, '_>,
     names: Option<&[&str]>,
     fails_on: Severity,
 ) -> Result<u8, Failure<'static>> {
-    let mut outcome = Outcome::default();
-    let mut files = first_files(checker.rt, names)?;
-    check_files(checker, &mut files, &mut outcome)?;
-    match eprintln!(checker.rt; "config_check: {}", outcome.counts) {
+    let files = checking.first_files(names)?;
+    if files.is_empty() {
+        return Err(Failure::NoFile);
+    }
+    let has_stdin = files.iter().any(|name| name.as_slice() == STDIN);
+    if has_stdin && checking.rt.stdin().is_terminal() {
+        return Err(Failure::Terminal);
+    }
+    for file in &files {
+        checking.file(file)?;
+    }
+    let outcome = checking.outcome;
+    match eprintln!(checking.rt; "config_check: {}", outcome.counts) {
         Ok(()) => Ok(outcome.status(fails_on)),
         Err(error) => Err(Failure::Write(error)),
     }
@@ -293,12 +374,17 @@ fn run<'m>(rt: &HostRuntime, matches: &ArgMatches<'m>) -> Result<u8, Failure<'m>
         format: format_of(matches),
         color: wants_color(rt),
     };
-    let checker = Checker {
+    let texts = Bump::new(alloc);
+    let mut checking = Checking {
         rt,
         rows: &rows,
         options,
+        disk: Disk::new(rt, &texts),
+        surroundings: Surroundings::new(rt, Followed::Everything)?,
+        seen: BTreeSet::new(alloc),
+        outcome: Outcome::default(),
     };
-    check_all(&checker, matches.get_strs("file"), fails_on(matches))
+    check_all(&mut checking, matches.get_strs("file"), fails_on(matches))
 }
 
 /// A text as a line, with its control characters shown safely.
@@ -330,18 +416,6 @@ fn status(rt: &HostRuntime, outcome: Result<u8, Failure<'_>>) -> ExitCode {
     }
 }
 
-/// The arguments of the command line, which begin with the name of the program.
-fn arguments(rt: &HostRuntime) -> Result<Vec<String>, Failure<'static>> {
-    let arguments = match env::args(rt) {
-        Ok(arguments) => arguments,
-        Err(error) => return Err(Failure::Arguments(error)),
-    };
-    match arguments.collect(rt.alloc()) {
-        Ok(arguments) => Ok(arguments),
-        Err(error) => Err(Failure::Memory(error)),
-    }
-}
-
 /// Prints the usage, the version, or what is wrong with the arguments.
 fn print_usage(rt: &HostRuntime, error: &clap::Error) -> Result<u8, Failure<'static>> {
     match error.print(rt) {
@@ -353,7 +427,7 @@ fn print_usage(rt: &HostRuntime, error: &clap::Error) -> Result<u8, Failure<'sta
 fn main(rt: HostRuntime) -> ExitCode {
     let arguments = match arguments(&rt) {
         Ok(arguments) => arguments,
-        Err(failure) => return status(&rt, Err(failure)),
+        Err(error) => return status(&rt, Err(Failure::Arguments(error))),
     };
     let command = match command(rt.alloc()) {
         Ok(command) => command,

@@ -77,7 +77,7 @@ def memory(group, program, how):
         entries.write(FINDING + b"1" * LONG)
         entries.seek(0)
         came = program.run(how, stdin=entries, preexec_fn=starve)
-    expect_cannot(group, "no memory", came, UNREAD)
+    group.expect("no memory", Ended(2, b"", b"config_check: no memory\n"), came)
     came = program.run(how, FINDING, preexec_fn=starve)
     line = finding(1, b"test.bool", b"maybe", rows.BOOLEAN_FAULT)
     group.expect("memory enough", Ended(1, line, summary((1, 1, 0, 1))), came)

@@ -61,7 +61,9 @@ def spoil(home):
 
 
 def included(group, program, home, known):
-    """Included files are read once, whatever the condition: a cycle, a missing file, no value, and the depth."""
+    """Included files are read once, whatever the condition: a cycle, a missing file, no value, and the depth.
+
+    They come in the order in which Git comes to them, behind the file that includes them."""
     folder = home / "includes"
     folder.mkdir()
     deep = [f"deep-{number}" for number in range(12)]
@@ -75,14 +77,15 @@ def included(group, program, home, known):
     known = {**known, "GIT_CONFIG_NOSYSTEM": "1", "GIT_CONFIG_GLOBAL": str(folder / "first")}
     wanted = [str(folder / name) for name in ("first", "a", "../home/b", "c", *deep[:10])]
     group.expect("included files", list(map(os.path.realpath, wanted)), by_program(program, home / "plain", known))
-    came = by_program(program, folder, known, ["first"])
+    came = by_program(program, folder, known, ["first", "./first"])
     group.expect("what a named file includes", list(map(os.path.realpath, wanted)), came)
     (folder / "loop").write_text(WRONG + PATH % "../includes/loop" + PATH % "./loop")
     group.expect("a file that includes itself", [str(folder / "loop")], by_program(program, folder, known, ["loop"]))
     data = (WRONG + PATH % "deep-11" + PATH % f"{folder}/c" + PATH % "~/b").encode()
     came = run([program.path, "-"], data, cwd=folder, env=known)
     names = [line.split(":")[0] for line in came.output.decode().splitlines()]
-    wanted = ["-", f"{folder}/c", f"{home}/home/b", *(f"{folder}/{name}" for name in ("a", "first", *deep[:7]))]
+    wanted = ["-", *(f"{folder}/{name}" for name in ("c", "a", "first")), f"{home}/home/b"]
+    wanted += [f"{folder}/{name}" for name in deep[:7]]
     group.expect("what standard input includes", wanted, names)
 
 

@@ -1,24 +1,26 @@
 -- A check, setting by setting.
 use Rattle.std.proofs.Common.{◌≡◌, ◌+◌, ◌^◌, ◌≤◌, ◌<◌, ℕ, List, [], ◌∷◌, ◌++◌, Option, None, Some, refl, sym, inl, inr}
 use Rattle.std.proofs.Common.{ap, subst, ◌∙◌, append_assoc, append-nil, arith, Result, Ok, Err, length}
-use Rattle.std.proofs.Common.{IfErr, OnOk, OnErr, is_ok, IsErrAnd}
+use Rattle.std.proofs.Common.{IfErr, OnOk, IsErrAnd}
 use Rattle.std.specs.declared.alloc.AllocError.{AllocError}
 use Rattle.std.specs.Io.KnownBytes.{Appends, Keeps}
 use Rattle.std.proofs.KnownBytes.{Appends-nil, Appends-trans, Appends-kept}
 use Rattle.config_file.specs.declared.errors.Error as errors
-use Rattle.config_file.specs.declared.settings.Setting.{Setting}
 use Rattle.config_checks.specs.declared.options.Options.{Options}
 use Rattle.config_checks.specs.declared.row.Row.{Row}
+use Rattle.config_checks.specs.declared.setting.Setting.{Setting}
 use Rattle.config_checks.specs.declared.suggestion.UnknownKey.{UnknownKey}
 use Rattle.config_checks.specs.Suggestions.{IsUnknownKey}
 use Rattle.config_checks.specs.declared.check.Counts.{Counts}
 use Rattle.config_checks.specs.declared.check.CheckError.{CheckError}
 use Rattle.config_checks.specs.declared.check.CheckError.TheVariants.{Write, Memory}
-use Rattle.config_checks.specs.Report.{finding_line, value_of, unknown_line, unknown, misspelled, right, found, nothing, next}
+use Rattle.config_checks.specs.Report.{finding_line, unknown_line}
+use Rattle.config_checks.specs.Report.{unknown, misspelled, right, found, nothing, next}
 use Rattle.config_checks.specs.Report.{HasSettings, HasFirst, Completes, Fails, counted, no_counts}
 use Rattle.config_checks.specs.Reading.Steps.{Reports, ReportsPart, ReportsAll, ReportsEntries, Tells, TellsPart}
 use Rattle.config_checks.specs.Reading.Steps.{WritesPart, IsWrite, AreWithin, HasRoomForFinding}
 use Rattle.config_checks.specs.Rows.{Decides}
+use Rattle.config_checks.specs.Settings.{IsSettingOf, value_of}
 use Rattle.config_checks.specs.Reasons.{HasFinding, severity_of}
 use Rattle.config_checks.specs.declared.reason.Reason.{Reason}
 use Rattle.config_checks.specs.declared.reason.Severity.{Severity}
@@ -27,12 +29,11 @@ use Rattle.config_file.specs.declared.entry.Entry as code
 use Rattle.config_file.specs.declared.reader.Entries.{Entries}
 use Rattle.config_file.specs.File.{Entry, IsFile, Begins}
 use Rattle.config_file.specs.Left.{GivesEntry, HasLeft}
-use Rattle.config_file.specs.Settings.{IsSettingOf}
 use Rattle.config_file.specs.Views.{entry_of}
 use Rattle.std.specs.List.{AllZip}
-use Rattle.config_file.proofs.Adding.{zip_push, file_more, file_end, first_of}
 use Rattle.config_file.proofs.EachReading.{each_is_read}
-use Rattle.config_file.proofs.Walks.{file_begins}
+use Rattle.config_file.proofs.Steps.{file_begins}
+use Rattle.config_checks.proofs.ReadLemmas.{HasRead, zip_push, file_more, file_end, first_of}
 
 -- ---- counts
 
@@ -96,11 +97,6 @@ pub are_none : (s : Counts) → s.entries ≡ 0 → s.unknown ≡ 0 → s.findin
 are_none s a b c d e i = record { entries = a i; unknown = b i; findings = c i; errors = d i; warnings = e i }
 
 -- ---- a file
-
--- these entries of the file were read, and the reader still has the others
-abbrev pub HasRead : List ℕ → List Entry → Entries → Type 0
-HasRead text entries reader =
-    (left : List Entry) (error : Option errors.Error) → HasLeft reader left error → IsFile text (entries ++ left) error
 
 module _ (rows : List Row) (options : Options) (file text : List ℕ) where
   all_first : (settings : List Setting) (error : Option errors.Error) → HasSettings file text settings error
@@ -352,24 +348,6 @@ pub passed_on : {T E : Type 0} (Q : E → Type 0) (r : Result T E) (e : E) → I
     → IfErr r Q
 passed_on Q (Ok v) e is q = tt
 passed_on Q (Err d) e is q = subst Q (sym is) q
-
--- what holds if a result is an error also holds for another result with the same outcome
-pub err_mapped : {T D E P R : Type 0} (r : Result T E) (m : Result T D) → is_ok m ≡ is_ok r → OnErr r P
-    → (P → R)
-    → OnErr m R
-err_mapped (Err e) (Err d) same p so = so p
-err_mapped (Ok v) (Err d) same p so = absurd (cc (same))
-err_mapped r (Ok w) same p so = tt
-
-pub any_err : {T E : Type 0} (r : Result T E) (P : Type 0) → P → OnErr r P
-any_err (Ok v) P p = tt
-any_err (Err e) P p = p
-
--- what follows for an error from a fact that holds after any error and from a fact about this one
-pub err_with : {T E P : Type 0} {Q R : E → Type 0} (r : Result T E) → OnErr r P → IfErr r Q
-    → (P → (e : E) → Q e → R e) → IfErr r R
-err_with (Ok v) p q so = tt
-err_with (Err e) p q so = so p e q
 
 -- ---- a wrong value
 

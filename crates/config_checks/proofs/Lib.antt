@@ -5,6 +5,7 @@ mod WordLemmas
 mod ShownLemmas
 mod SuggestionLemmas
 mod WriteLemmas
+mod ReadLemmas
 mod CheckLemmas
 mod TableLemmas
 mod OneFinding

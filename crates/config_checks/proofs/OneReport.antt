@@ -5,7 +5,6 @@ use Rattle.std.specs.Bool.{⊤}
 use Rattle.std.specs.Char.{to_ascii_lowercase}
 use Rattle.std.specs.List.{AllByRecursion, AllZip}
 use Rattle.config_file.specs.declared.errors.Error as errors
-use Rattle.config_file.specs.declared.settings.Setting.{Setting}
 use Rattle.config_file.specs.Header as header
 use Rattle.config_file.specs.Header.{Section, Header}
 use Rattle.config_file.specs.Value as value
@@ -14,10 +13,10 @@ use Rattle.config_file.specs.Listing as listing
 use Rattle.config_file.specs.Listing.{IsListed}
 use Rattle.config_file.specs.File as file
 use Rattle.config_file.specs.File.{Entry, TakesEntry, Reads}
-use Rattle.config_file.specs.Settings.{IsSettingOf, IsValueOf}
 use Rattle.config_file.proofs.OneReading.{one_reading}
 use Rattle.config_checks.specs.declared.options.Options.{Options}
 use Rattle.config_checks.specs.declared.row.Row.{Row}
+use Rattle.config_checks.specs.declared.setting.Setting.{Setting}
 use Rattle.config_checks.specs.declared.reason.Reason.{Reason}
 use Rattle.config_checks.specs.declared.reason.Reason.TheVariants.{NotCanonical, NoWord}
 use Rattle.config_checks.specs.declared.reason.Severity.{Severity}
@@ -25,10 +24,11 @@ use Rattle.config_checks.specs.declared.reason.Severity.TheVariants.{Note, Warni
 use Rattle.config_checks.specs.declared.check.Counts.{Counts}
 use Rattle.config_checks.specs.declared.check.CheckError.{CheckError}
 use Rattle.config_checks.specs.Rows.{Decides, IsUnknown}
+use Rattle.config_checks.specs.Settings.{IsSettingOf, IsValueOf, value_of}
 use Rattle.config_checks.specs.Suggestions.{IsPassed, IsUnknownKey, unknown_text}
 use Rattle.config_checks.specs.Reasons.{HasFinding, IsSameFinding, severity_of}
 use Rattle.config_checks.specs.Findings.{reason_text, no_word_text}
-use Rattle.config_checks.specs.Report.{line_of, value_of, suggestion_of, key_meant, counted, finding_line}
+use Rattle.config_checks.specs.Report.{line_of, suggestion_of, key_meant, counted, finding_line}
 use Rattle.config_checks.specs.Report.{ReportsSetting, unknown, misspelled, right, found}
 use Rattle.config_checks.specs.Report.{Report, nothing, next, EndsReport, HasSettings, IsReport, BeginsReport}
 use Rattle.config_checks.proofs.OneFinding.{finding_once}

@@ -1,14 +1,9 @@
 -- Texts shown piece by piece.
 use Rattle.std.proofs.Common.{◌≡◌, ◌-◌, ◌<◌, ◌≤◌, ℕ, zero, suc, List, [], ◌∷◌, ◌++◌, length, take, drop, refl}
-use Rattle.std.proofs.Common.{sym, ap, ◌∙◌, arith, length-drop, false, ◌==◌}
+use Rattle.std.proofs.Common.{ap, ◌∙◌, arith, length-drop, false, ◌==◌}
 use Rattle.bstr.specs.Utf8.{decoded}
 use Rattle.bstr.proofs.lemmas.PieceLemmas.{piece-bounds}
-use Rattle.std.proofs.Common.{Bor, Some, get_or}
-use Rattle.std.proofs.lemmas.List.{take_rest}
-use Rattle.config_checks.specs.declared.kind.WordList.{WordList}
-use Rattle.config_checks.specs.Findings.{AppendsPart, piece_shown, shown_past, shown, listed, words_text, no_word_front}
-use Rattle.config_checks.specs.Findings.{list_text}
-use Rattle.config_checks.proofs.WriteLemmas.{part_after}
+use Rattle.config_checks.specs.Findings.{piece_shown, shown_past, shown}
 
 -- showing a text past its first `n` bytes is showing what follows these bytes
 shown_past_drop : (n : ℕ) (t : List ℕ) → shown_past n t ≡ shown (drop n t)
@@ -44,16 +39,3 @@ not_empty (b ∷ bs) none = omega arith
 pub none_shown : (t : List ℕ) → t ≡ [] → shown t ≡ []
 unfolding shown_past
 none_shown t none = rw none refl
-
--- words are shown as the first word, followed by the others
-pub words_cut : (words : List (Bor (List ℕ))) (d : Bor (List ℕ)) → 1 ≤ length words
-    → words_text words ≡ shown (get_or words 0 d).now ++ listed (take (length words - 1) (drop 1 words))
-words_cut [] d some = absurd (omega arith)
-words_cut (w ∷ ws) d some = ap (λ l. shown w.now ++ listed l) (sym (take_rest (w ∷ ws) 1))
-
--- a part of the words of a list, after the text that precedes them
-pub list_part : (old mid new : List ℕ) (list : WordList) (words : List (Bor (List ℕ)))
-    → words ≡ list.words.items → mid ≡ old ++ no_word_front list.form
-    → AppendsPart (Some mid) (Some new) (words_text words) → AppendsPart (Some old) (Some new) (list_text list)
-list_part old mid new list words same front part =
-    part_after (Some old) (Some mid) (Some new) (no_word_front list.form) (words_text list.words.items) front (rw same at part)

@@ -1,11 +1,10 @@
 -- A finding, and its line of text.
-use Rattle.std.specs.Prelude.{◌≡◌, ℕ, zero, suc, ◌-◌, ◌/◌, ◌%◌, ◌==◌, ◌&&◌, ◌||◌, nat_lt, List, [], ◌∷◌, ◌++◌}
+use Rattle.std.specs.Prelude.{ℕ, zero, suc, ◌-◌, ◌/◌, ◌%◌, ◌==◌, ◌&&◌, ◌||◌, nat_lt, List, [], ◌∷◌, ◌++◌}
 use Rattle.std.specs.Prelude.{take, flat_map}
 use Rattle.std.specs.Prelude.{option_copied}
 use Rattle.std.specs.Fmt.{decimal, signed_decimal}
 use Rattle.std.specs.Prelude.{codes, Bool, true, false, Option, None, Some, if◌then◌else◌}
 use Rattle.std.specs.Char.{digit_char}
-use Rattle.std.specs.Io.KnownBytes.{Appends}
 use denote.Ref.{Bor}
 use Rattle.bstr.specs.Utf8.{decoded}
 use Rattle.config_text.specs.Faults.{fault_text}
@@ -19,15 +18,6 @@ use Rattle.config_checks.specs.declared.reason.Reason.TheVariants.{NoValue, Refu
 use Rattle.config_checks.specs.declared.reason.Reason.TheVariants.{NotCanonical, OtherCase}
 use Rattle.config_checks.specs.declared.reason.Severity.{Severity}
 use Rattle.config_checks.specs.declared.reason.Severity.TheVariants.{Error, Warning, Note}
-
--- ---- what is written of a text before an error
-
--- what was held is kept, and a prefix of the text is appended, which may be empty or the whole text
-pub record AppendsPart (held holds : Option (List ℕ)) (text : List ℕ) : Type 0 where
-  pub written : List ℕ
-  pub missing : List ℕ
-  pub appended : Appends held holds written
-  pub parts : text ≡ written ++ missing
 
 -- ---- texts shown safely
 

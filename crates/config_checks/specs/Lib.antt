@@ -5,6 +5,7 @@ pub mod Reasons
 pub mod Rows
 pub mod Findings
 pub mod Json
+pub mod Settings
 pub mod Report
 pub mod Outcome
 pub mod Suggestions

@@ -6,14 +6,13 @@ use Rattle.std.specs.Io.KnownBytes.{Appends}
 use Rattle.config_file.specs.declared.errors.Error as errors
 use Rattle.config_file.specs.declared.errors.Fault.{Fault}
 use Rattle.config_file.specs.declared.errors.Fault.TheVariants.{BadLine, Nul}
-use Rattle.config_file.specs.declared.settings.Setting.{Setting}
 use Rattle.config_file.specs.File.{Entry, IsFile}
-use Rattle.config_file.specs.Settings.{IsSettingOf}
 use Rattle.config_checks.specs.declared.key.Key.{Key}
 use Rattle.config_checks.specs.declared.options.Format.{Format}
 use Rattle.config_checks.specs.declared.options.Format.TheVariants.{Text, Json}
 use Rattle.config_checks.specs.declared.options.Options.{Options}
 use Rattle.config_checks.specs.declared.row.Row.{Row}
+use Rattle.config_checks.specs.declared.setting.Setting.{Setting}
 use Rattle.config_checks.specs.declared.reason.Reason.{Reason}
 use Rattle.config_checks.specs.declared.reason.Reason.TheVariants.{NoWord, NotCanonical, OtherCase}
 use Rattle.config_checks.specs.declared.reason.Severity.{Severity}
@@ -24,6 +23,7 @@ use Rattle.config_checks.specs.declared.check.CheckError.{CheckError}
 use Rattle.config_checks.specs.declared.check.CheckError.TheVariants.{Write, Memory}
 use Rattle.config_checks.specs.Keys.{dot, between_text}
 use Rattle.config_checks.specs.Rows.{Decides, IsUnknown}
+use Rattle.config_checks.specs.Settings.{IsSettingOf, value_of}
 use Rattle.config_checks.specs.Reasons.{HasFinding, severity_of}
 use Rattle.config_checks.specs.Findings.{Finding, text_line, reason_text}
 use Rattle.config_checks.specs.Json.{json_line}
@@ -38,10 +38,6 @@ line_in Json color f = json_line f
 -- the line of a finding, in the format of the options
 abbrev pub line_of : Options → Finding → List ℕ
 line_of options f = line_in options.format options.color f
-
--- the value of a setting, if it has one
-abbrev pub value_of : Setting → Option (List ℕ)
-value_of setting = option_map (λ value. value.items) setting.value
 
 -- the text that is suggested in place of the value, if there is one
 abbrev pub suggestion_of : Reason → Option (List ℕ)

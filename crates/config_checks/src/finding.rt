@@ -1,27 +1,28 @@
 //! A finding, and the line that is written for it.
 ghost use Rattle.std.specs.Prelude.{◌≡◌, ◌<◌, ◌++◌, [], length, flat_map, option_copied, option_map};
-ghost use Rattle.std.specs.Prelude.{OnOk, OnErr, IfOk, MatchOption, IfSome, Some, codes};
+ghost use Rattle.std.specs.Prelude.{OnOk, IfOk, MatchOption, IfSome, Some, codes};
 ghost use Rattle.std.specs.Char.{digit_char};
 ghost use Rattle.std.specs.Fmt.{signed_decimal};
 ghost use Rattle.config_checks.specs.Findings.{hex, is_control, piece_shown, shown, value_shown};
 ghost use Rattle.config_checks.specs.Findings.{range_text, words_text, no_word_front, list_text, word_asked};
 ghost use Rattle.config_checks.specs.Findings.{meant_text, no_word_text};
 ghost use Rattle.config_checks.specs.Findings.{reason_text, severity_text, painted};
-ghost use Rattle.config_checks.specs.Findings.{AppendsPart, place, key_part, setting_shown, text_line};
+ghost use Rattle.config_checks.specs.Findings.{place, key_part, setting_shown, text_line};
 ghost use Rattle.config_checks.specs.Findings.{finding_of};
-ghost use Rattle.config_checks.specs.Report.{line_of, value_of, suggestion_of, key_text, key_meant};
+ghost use Rattle.config_checks.specs.Report.{line_of, suggestion_of, key_text, key_meant};
 ghost use Rattle.config_checks.specs.Report.{finding_line, unknown_line};
 ghost use Rattle.config_checks.specs.Report.{fault_text, refused_line};
+ghost use Rattle.config_checks.specs.Settings.{value_of};
 
 use crate::json_line::push_json;
 use crate::key::Key;
 use crate::kind::{Form, WordList};
 use crate::options::{Format, Options};
 use crate::reason::{Reason, Severity};
+use crate::setting::Setting;
 use crate::suggestion::{UnknownKey, push_unknown};
 use bstr::decode_utf8;
 use config_file::errors::{Error, Fault};
-use config_file::settings::Setting;
 use gix_config_value::integer::Amount;
 use itoa::Buffer;
 use std::alloc::{AllocError, Global};
@@ -40,9 +41,7 @@ fn digit(number: u8) -> u8
 
 /// Appends each byte as `\xNN`.
 fn push_hex(out: &mut Vec<u8>, bytes: &[u8]) -> Result<(), AllocError>
-    ensures ok { OnOk result (out.new.items ≡ out.old.items ++ flat_map hex bytes.now) }
-    ensures err { OnErr result
-        (AppendsPart (Some out.old.items) (Some out.new.items) (flat_map hex bytes.now)) }
+    ensures { OnOk result (out.new.items ≡ out.old.items ++ flat_map hex bytes.now) }
 {
     for byte in bytes {
         out.extend_from_slice(&[b'\\', b'x', digit(*byte / 16), digit(*byte % 16)])?;
@@ -59,9 +58,7 @@ fn is_control(character: char) -> bool
 
 /// Appends a character as it is shown, or bytes that are not a character.
 fn push_piece(out: &mut Vec<u8>, character: Option<char>, bytes: &[u8]) -> Result<(), AllocError>
-    ensures ok { OnOk result (out.new.items ≡ out.old.items ++ piece_shown character bytes.now) }
-    ensures err { OnErr result
-        (AppendsPart (Some out.old.items) (Some out.new.items) (piece_shown character bytes.now)) }
+    ensures { OnOk result (out.new.items ≡ out.old.items ++ piece_shown character bytes.now) }
 {
     match character {
         None => push_hex(out, bytes),
@@ -86,12 +83,9 @@ fn first_piece(text: &[u8]) -> Option<(Option<char>, &[u8], &[u8])>
     Some((character, bytes, rest))
 }
 
-/// Appends a text: control characters and invalid UTF-8 as `\xNN`, and a backslash twice. If there is no
-/// memory for all of it, `out` keeps what it had, and a prefix of the shown text may follow.
+/// Appends a text: control characters and invalid UTF-8 as `\xNN`, and a backslash twice.
 pub fn push_shown(out: &mut Vec<u8>, text: &[u8]) -> Result<(), AllocError>
-    ensures ok { OnOk result (out.new.items ≡ out.old.items ++ shown text.now) }
-    ensures err { OnErr result
-        (AppendsPart (Some out.old.items) (Some out.new.items) (shown text.now)) }
+    ensures { OnOk result (out.new.items ≡ out.old.items ++ shown text.now) }
 {
     let mut rest = text;
     while let Some((character, bytes, tail)) = first_piece(rest) {
@@ -103,9 +97,7 @@ pub fn push_shown(out: &mut Vec<u8>, text: &[u8]) -> Result<(), AllocError>
 
 /// Appends a text and a number.
 fn push_number(out: &mut Vec<u8>, front: &str, number: Amount) -> Result<(), AllocError>
-    ensures ok { OnOk result (out.new.items ≡ out.old.items ++ (front.now ++ signed_decimal number.0)) }
-    ensures err { OnErr result
-        (AppendsPart (Some out.old.items) (Some out.new.items) (front.now ++ signed_decimal number.0)) }
+    ensures { OnOk result (out.new.items ≡ out.old.items ++ (front.now ++ signed_decimal number.0)) }
 {
     out.extend_from_slice(front.as_bytes())?;
     out.extend_from_slice(Buffer::new().format(number.0).as_bytes())
@@ -113,9 +105,7 @@ fn push_number(out: &mut Vec<u8>, front: &str, number: Amount) -> Result<(), All
 
 /// Appends the reason that a number is out of range.
 fn push_range(out: &mut Vec<u8>, low: Amount, high: Amount) -> Result<(), AllocError>
-    ensures ok { OnOk result (out.new.items ≡ out.old.items ++ range_text low high) }
-    ensures err { OnErr result
-        (AppendsPart (Some out.old.items) (Some out.new.items) (range_text low high)) }
+    ensures { OnOk result (out.new.items ≡ out.old.items ++ range_text low high) }
 {
     push_number(out, "out of range: not from ", low)?;
     push_number(out, " to ", high)
@@ -123,9 +113,7 @@ fn push_range(out: &mut Vec<u8>, low: Amount, high: Amount) -> Result<(), AllocE
 
 /// Appends words, with `, ` between them.
 fn push_words(out: &mut Vec<u8>, words: &[&[u8]]) -> Result<(), AllocError>
-    ensures ok { OnOk result (out.new.items ≡ out.old.items ++ words_text words.now) }
-    ensures err { OnErr result
-        (AppendsPart (Some out.old.items) (Some out.new.items) (words_text words.now)) }
+    ensures { OnOk result (out.new.items ≡ out.old.items ++ words_text words.now) }
 {
     let [first, rest @ ..] = words else {
         return Ok(());
@@ -154,9 +142,7 @@ fn no_word_front(form: Form) -> &'static str
 
 /// Appends the reason that a text is wrong according to a list, with the words of the list.
 fn push_list(out: &mut Vec<u8>, list: &WordList<'_>) -> Result<(), AllocError>
-    ensures ok { OnOk result (out.new.items ≡ out.old.items ++ list_text list.now) }
-    ensures err { OnErr result
-        (AppendsPart (Some out.old.items) (Some out.new.items) (list_text list.now)) }
+    ensures { OnOk result (out.new.items ≡ out.old.items ++ list_text list.now) }
 {
     out.extend_from_slice(no_word_front(list.form).as_bytes())?;
     push_words(out, &list.words)
@@ -164,9 +150,7 @@ fn push_list(out: &mut Vec<u8>, list: &WordList<'_>) -> Result<(), AllocError>
 
 /// Appends a word and a question mark.
 fn push_asked(out: &mut Vec<u8>, word: &[u8]) -> Result<(), AllocError>
-    ensures ok { OnOk result (out.new.items ≡ out.old.items ++ word_asked word.now) }
-    ensures err { OnErr result
-        (AppendsPart (Some out.old.items) (Some out.new.items) (word_asked word.now)) }
+    ensures { OnOk result (out.new.items ≡ out.old.items ++ word_asked word.now) }
 {
     push_shown(out, word)?;
     out.extend_from_slice(b"?")
@@ -174,10 +158,8 @@ fn push_asked(out: &mut Vec<u8>, word: &[u8]) -> Result<(), AllocError>
 
 /// Appends the suggestion of a word.
 fn push_word_meant(out: &mut Vec<u8>, word: &[u8]) -> Result<(), AllocError>
-    ensures ok { OnOk result (out.new.items ≡ out.old.items
+    ensures { OnOk result (out.new.items ≡ out.old.items
         ++ (codes "; did you mean " ++ word_asked word.now)) }
-    ensures err { OnErr result (AppendsPart (Some out.old.items) (Some out.new.items)
-        (codes "; did you mean " ++ word_asked word.now)) }
 {
     out.extend_from_slice(b"; did you mean ")?;
     push_asked(out, word)
@@ -185,9 +167,7 @@ fn push_word_meant(out: &mut Vec<u8>, word: &[u8]) -> Result<(), AllocError>
 
 /// Appends the suggestion of a word, if there is one.
 fn push_meant(out: &mut Vec<u8>, meant: Option<&[u8]>) -> Result<(), AllocError>
-    ensures ok { OnOk result (out.new.items ≡ out.old.items ++ meant_text meant.entry) }
-    ensures err { OnErr result
-        (AppendsPart (Some out.old.items) (Some out.new.items) (meant_text meant.entry)) }
+    ensures { OnOk result (out.new.items ≡ out.old.items ++ meant_text meant.entry) }
 {
     match meant {
         Some(word) => push_word_meant(out, word),
@@ -201,20 +181,15 @@ fn push_no_word(
     list: &WordList<'_>,
     meant: Option<&[u8]>,
 ) -> Result<(), AllocError>
-    ensures ok { OnOk result (out.new.items ≡ out.old.items ++ no_word_text list.now meant.entry) }
-    ensures err { OnErr result
-        (AppendsPart (Some out.old.items) (Some out.new.items) (no_word_text list.now meant.entry)) }
+    ensures { OnOk result (out.new.items ≡ out.old.items ++ no_word_text list.now meant.entry) }
 {
     push_list(out, list)?;
     push_meant(out, meant)
 }
 
-/// Appends the text of a reason. If there is no memory for all of it, `out` keeps what it had, and a prefix
-/// of the text may follow.
+/// Appends the text of a reason.
 pub fn push_reason(out: &mut Vec<u8>, reason: &Reason<'_, '_>) -> Result<(), AllocError>
-    ensures ok { OnOk result (out.new.items ≡ out.old.items ++ reason_text reason.now) }
-    ensures err { OnErr result
-        (AppendsPart (Some out.old.items) (Some out.new.items) (reason_text reason.now)) }
+    ensures { OnOk result (out.new.items ≡ out.old.items ++ reason_text reason.now) }
 {
     match reason {
         Reason::NoValue => out.extend_from_slice(b"no value"),

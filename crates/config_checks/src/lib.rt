@@ -14,5 +14,6 @@ pub mod options;
 pub mod outcome;
 pub mod reason;
 pub mod row;
+pub mod setting;
 pub mod suggestion;
 pub mod table;

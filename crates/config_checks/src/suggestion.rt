@@ -1,7 +1,6 @@
 //! Keys that no row covers, and the nearest keys of the rows.
-ghost use Rattle.std.specs.Prelude.{◌≡◌, ◌⊎◌, ◌++◌, ◌↔◌, IsTrue, MatchOption, IfOk, OnOk, OnErr, Some};
+ghost use Rattle.std.specs.Prelude.{◌≡◌, ◌⊎◌, ◌++◌, ◌↔◌, IsTrue, MatchOption, IfOk, OnOk, Some};
 ghost use Rattle.config_text.specs.SameWord.{SameWord};
-ghost use Rattle.config_checks.specs.Findings.{AppendsPart};
 ghost use Rattle.config_checks.specs.Nearest.{LacksWord, AreFar, IsNearest};
 ghost use Rattle.config_checks.specs.Suggestions.{BetweenEdits, CoversLast, LastEdits, EditsAfter};
 ghost use Rattle.config_checks.specs.Suggestions.{OnePartEdits, RowEdits, Fills, FillsBetween};
@@ -228,8 +227,7 @@ pub(crate) fn unknown_key<'k>(
 
 /// Appends a part of a key and a dot.
 fn push_dotted(out: &mut Vec<u8>, part: &[u8]) -> Result<(), AllocError>
-    ensures ok { OnOk result (out.new.items ≡ out.old.items ++ dotted part.now) }
-    ensures err { OnErr result (AppendsPart (Some out.old.items) (Some out.new.items) (dotted part.now)) }
+    ensures { OnOk result (out.new.items ≡ out.old.items ++ dotted part.now) }
 {
     push_shown(out, part)?;
     out.extend_from_slice(b".")
@@ -237,9 +235,7 @@ fn push_dotted(out: &mut Vec<u8>, part: &[u8]) -> Result<(), AllocError>
 
 /// Appends the subsection and a dot, if there is a subsection.
 fn push_between(out: &mut Vec<u8>, between: Option<&[u8]>) -> Result<(), AllocError>
-    ensures ok { OnOk result (out.new.items ≡ out.old.items ++ between_shown between.entry) }
-    ensures err { OnErr result (AppendsPart (Some out.old.items) (Some out.new.items)
-        (between_shown between.entry)) }
+    ensures { OnOk result (out.new.items ≡ out.old.items ++ between_shown between.entry) }
 {
     match between {
         Some(between) => push_dotted(out, between),
@@ -249,8 +245,7 @@ fn push_between(out: &mut Vec<u8>, between: Option<&[u8]>) -> Result<(), AllocEr
 
 /// Appends what follows the section of a key and its dot.
 fn push_after(out: &mut Vec<u8>, key: &Key<'_>) -> Result<(), AllocError>
-    ensures ok { OnOk result (out.new.items ≡ out.old.items ++ after_shown key.now) }
-    ensures err { OnErr result (AppendsPart (Some out.old.items) (Some out.new.items) (after_shown key.now)) }
+    ensures { OnOk result (out.new.items ≡ out.old.items ++ after_shown key.now) }
 {
     push_between(out, key.between)?;
     push_shown(out, key.last)
@@ -258,8 +253,7 @@ fn push_after(out: &mut Vec<u8>, key: &Key<'_>) -> Result<(), AllocError>
 
 /// Appends a key.
 fn push_key(out: &mut Vec<u8>, key: &Key<'_>) -> Result<(), AllocError>
-    ensures ok { OnOk result (out.new.items ≡ out.old.items ++ key_shown key.now) }
-    ensures err { OnErr result (AppendsPart (Some out.old.items) (Some out.new.items) (key_shown key.now)) }
+    ensures { OnOk result (out.new.items ≡ out.old.items ++ key_shown key.now) }
 {
     push_dotted(out, key.section)?;
     push_after(out, key)
@@ -267,8 +261,7 @@ fn push_key(out: &mut Vec<u8>, key: &Key<'_>) -> Result<(), AllocError>
 
 /// Appends a key and a question mark.
 fn push_asked(out: &mut Vec<u8>, key: &Key<'_>) -> Result<(), AllocError>
-    ensures ok { OnOk result (out.new.items ≡ out.old.items ++ asked key.now) }
-    ensures err { OnErr result (AppendsPart (Some out.old.items) (Some out.new.items) (asked key.now)) }
+    ensures { OnOk result (out.new.items ≡ out.old.items ++ asked key.now) }
 {
     push_key(out, key)?;
     out.extend_from_slice(b"?")
@@ -276,20 +269,15 @@ fn push_asked(out: &mut Vec<u8>, key: &Key<'_>) -> Result<(), AllocError>
 
 /// Appends a text, a key and a question mark.
 fn push_meant(out: &mut Vec<u8>, front: &str, key: &Key<'_>) -> Result<(), AllocError>
-    ensures ok { OnOk result (out.new.items ≡ out.old.items ++ (front.now ++ asked key.now)) }
-    ensures err { OnErr result (AppendsPart (Some out.old.items) (Some out.new.items)
-        (front.now ++ asked key.now)) }
+    ensures { OnOk result (out.new.items ≡ out.old.items ++ (front.now ++ asked key.now)) }
 {
     out.extend_from_slice(front.as_bytes())?;
     push_asked(out, key)
 }
 
-/// Appends the text about an unknown key. If there is no memory for all of it, `out` keeps what it had, and a
-/// prefix of the text may follow.
+/// Appends the text about an unknown key.
 pub fn push_unknown(out: &mut Vec<u8>, unknown: &UnknownKey<'_>) -> Result<(), AllocError>
-    ensures ok { OnOk result (out.new.items ≡ out.old.items ++ unknown_text unknown.now) }
-    ensures err { OnErr result (AppendsPart (Some out.old.items) (Some out.new.items)
-        (unknown_text unknown.now)) }
+    ensures { OnOk result (out.new.items ≡ out.old.items ++ unknown_text unknown.now) }
 {
     match &unknown.nearest {
         Some(key) => push_meant(out, "unknown key; did you mean ", key),

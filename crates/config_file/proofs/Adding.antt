@@ -1,5 +1,5 @@
 -- Settings that are added one by one.
-use Rattle.std.proofs.Common.{◌≡◌, ◌++◌, ◌∙◌, ℕ, length, option_map, arith, List, [], ◌∷◌, Option, sym, ap, subst}
+use Rattle.std.proofs.Common.{◌≡◌, ◌++◌, ◌∙◌, ℕ, length, option_map, map, refl, arith, List, [], ◌∷◌, Option, sym, ap, subst}
 use Rattle.std.specs.List.{AllZip}
 use Rattle.std.proofs.lemmas.List.{append_assoc, append-nil}
 use Rattle.config_file.specs.declared.errors.Error.{Error}
@@ -11,25 +11,43 @@ use Rattle.config_file.specs.Settings.{IsSettingOf, Adds, HasFirst}
 use Rattle.config_file.specs.Views.{section_of}
 use Rattle.config_file.proofs.EachReading.{are_read}
 
-pub zip_push : {A B : Type 0} (R : A → B → Type 0) (xs : List A) (ys : List B) (x : A) (y : B)
-    → AllZip R xs ys → R x y
-    → AllZip R (xs ++ x ∷ []) (ys ++ y ∷ [])
-zip_push R [] [] x y all one = (one, tt)
-zip_push R [] (z ∷ zs) x y all one = absurd all
-zip_push R (w ∷ ws) [] x y all one = absurd all
-zip_push R (w ∷ ws) (z ∷ zs) x y all one = (all.0, zip_push R ws zs x y all.1 one)
+pub adds_none : (settings : List Setting) → Adds [] settings settings
+adds_none settings = ([], sym (append-nil settings), tt)
 
-pub adds_none : (file : List ℕ) (settings : List Setting) → Adds file [] settings settings
-adds_none file settings = ([], sym (append-nil settings), tt)
+pub adds_one : (found : List ℕ × Entry) (old new : List Setting) (setting : Setting) → IsSettingOf found setting
+    → new ≡ old ++ setting ∷ [] → Adds (found ∷ []) old new
+adds_one found old new setting is more = (setting ∷ [], more, (is, tt))
 
-pub adds_more : (file : List ℕ) (entries : List Entry) (entry : Entry) (old new newer : List Setting) (setting : Setting)
-    → Adds file entries old new → IsSettingOf file entry setting → newer ≡ new ++ setting ∷ []
-    → Adds file (entries ++ entry ∷ []) old newer
-adds_more file entries entry old new newer setting (added, is, all) one more = (
-  added ++ setting ∷ [],
-  more ∙ ap (λ s. s ++ setting ∷ []) is ∙ append_assoc old added (setting ∷ []),
-  zip_push (IsSettingOf file) entries added entry setting all one,
+zip_append : {A B : Type 0} (R : A → B → Type 0) (xs more : List A) (ys others : List B) → AllZip R xs ys
+    → AllZip R more others → AllZip R (xs ++ more) (ys ++ others)
+zip_append R [] more [] others all rest = rest
+zip_append R [] more (z ∷ zs) others all rest = absurd all
+zip_append R (w ∷ ws) more [] others all rest = absurd all
+zip_append R (w ∷ ws) more (z ∷ zs) others all rest = (all.0, zip_append R ws more zs others all.1 rest)
+
+pub adds_both : (found more : List (List ℕ × Entry)) (old new newer : List Setting) → Adds found old new
+    → Adds more new newer → Adds (found ++ more) old newer
+adds_both found more old new newer (first, is, all) (second, is2, all2) = (
+  first ++ second,
+  is2 ∙ ap (λ s. s ++ second) is ∙ append_assoc old first second,
+  zip_append IsSettingOf found more first second all all2,
 )
+
+-- the entries of one file
+abbrev pub of_file : List ℕ → List Entry → List (List ℕ × Entry)
+of_file file entries = map (λ entry. (file, entry)) entries
+
+map_push : (file : List ℕ) (entries : List Entry) (entry : Entry)
+    → of_file file (entries ++ entry ∷ []) ≡ of_file file entries ++ (file, entry) ∷ []
+map_push file [] entry = refl
+map_push file (e ∷ entries) entry = ap (λ s. (file, e) ∷ s) (map_push file entries entry)
+
+pub file_adds_more : (file : List ℕ) (entries : List Entry) (entry : Entry) (old new newer : List Setting)
+    → Adds (of_file file entries) old new → Adds ((file, entry) ∷ []) new newer
+    → Adds (of_file file (entries ++ entry ∷ [])) old newer
+file_adds_more file entries entry old new newer adds one =
+    subst (λ found. Adds found old newer) (sym (map_push file entries entry))
+    (adds_both (of_file file entries) ((file, entry) ∷ []) old new newer adds one)
 
 pub file_more : (text : List ℕ) (entries left : List Entry) (entry : Entry) (error : Option Error)
     → IsFile text (entries ++ entry ∷ left) error → IsFile text ((entries ++ entry ∷ []) ++ left) error

@@ -1,12 +1,31 @@
 -- What conditions on the git directory match.
-use Rattle.std.proofs.Common.{◌≡◌, ℕ, ◌<◌, Bool, true, false, List, ◌++◌, take, drop, length, codes, IsTrue, ◌↔◌, ◌⊎◌, inl, inr, rules, sym, ap, ◌∙◌, subst, arith}
+use Rattle.std.proofs.Common.{◌≡◌, ◌≢◌, ℕ, ◌<◌, Bool, true, false, List, ◌++◌, take, drop, length, codes, IsTrue, ◌↔◌, ◌⊎◌}
+use Rattle.std.specs.Prelude.{Result, Ok, Err, IfOk}
+use Rattle.std.specs.declared.alloc.AllocError.{AllocError}
+use Rattle.std.proofs.Common.{inl, inr, rules, refl, [], ◌∷◌, sym, ap, ◌∙◌, subst, arith, Option, None, Some, map}
+use Rattle.std.proofs.lemmas.Option.{same_Some, none-some}
 use Rattle.std.specs.List.{IsSplitAt}
 use Rattle.std.specs.Char.{to_ascii_lowercase}
 use Rattle.std.proofs.Math.Seq.{take-append_seam, drop-append_seam}
 use Rattle.std.proofs.lemmas.List.{append_cancel_left, length-append, length-map, take-append-drop}
 use Rattle.config_file.specs.Bytes.{LacksFront}
-use Rattle.config_file.specs.Include.{below, anywhere, IsSameName, MatchesBelow, MatchesDir, near, other}
+use Rattle.config_file.specs.File.{Entry}
+use Rattle.config_file.specs.Header.{Section}
+use Rattle.config_file.specs.Subsection.{SpellsSubsection}
+use Rattle.config_file.specs.Include.{below, anywhere, at_home, IsSameName, MatchesBelow, MatchesDir, near, other}
+use Rattle.config_file.specs.Include.{Names, Holds, IsPathIn, EntryFollows}
+use Rattle.config_file.specs.Include as follows
 use Rattle.config_file.specs.Pattern.{MatchesText}
+use Rattle.std.proofs.lemmas.Bool.Decides.{eqb_tells}
+use Rattle.config_file.specs.Path.{BeginsUnknown, user, no_home, no_prefix, Expands, below_home, below_prefix}
+use Rattle.config_file.specs.Path as p
+use Rattle.config_file.specs.Walk.{IsNameOf}
+use Rattle.config_file.specs.declared.path.Directories.{Directories}
+use Rattle.config_file.specs.declared.include.Condition.{Condition}
+use Rattle.config_file.specs.declared.include.Condition.TheVariants.{Always}
+use Rattle.config_file.specs.declared.include.Includes.{Includes}
+use Rattle.config_file.specs.declared.include.Includes.TheVariants.{AsGit}
+use Rattle.config_file.specs.declared.include.Repository.{Repository}
 use Rattle.config_file.proofs.Patterns.{no_match}
 
 same_length : (i : Bool) (a b : List ℕ) → IsSameName i a b → length a ≡ length b
@@ -77,3 +96,115 @@ either_second b c e first second = (
   λ yes. inr (second.0 yes),
   λ either. elim either [ inl a ↦ absurd (no_match b e first a) | inr x ↦ second.1 x ],
 )
+
+-- an entry without a section, or of another key, includes no file
+pub no_section : (includes : Includes) (dir : List ℕ) (entry : Entry) → entry.section ≡ None
+    → EntryFollows includes dir entry false
+no_section includes dir entry none = follows.unrelated
+    (λ is. let (written, some, named) = is.1 in none-some _ (sym none ∙ some))
+    (λ raw is. let (written, some, named) = is.1 in none-some _ (sym none ∙ some))
+
+pub other_key : (includes : Includes) (dir : List ℕ) (entry : Entry)
+    → ¬ (map to_ascii_lowercase entry.key ≡ codes "path") → EntryFollows includes dir entry false
+other_key includes dir entry differs = follows.unrelated (λ is. differs is.0) (λ raw is. differs is.0)
+
+other_subsection : {name : List ℕ} (entry : Entry) (section : Section) (subsection : Option (List ℕ))
+    → entry.section ≡ Some section → section.1 ≢ subsection → ¬ (IsPathIn name subsection entry)
+other_subsection entry section subsection is differs (key, (written, some, named)) =
+    differs (ap (λ s. s.1) (same_Some _ _ (sym is ∙ some)))
+
+other_name : {name : List ℕ} {subsection : Option (List ℕ)} (entry : Entry) (section : Section)
+    → entry.section ≡ Some section → ¬ (map to_ascii_lowercase section.0 ≡ name) → ¬ (IsPathIn name subsection entry)
+other_name {name = name} entry section is differs (key, (written, some, named)) =
+    differs (subst (λ s. map to_ascii_lowercase s ≡ name) (sym (ap (λ s. s.0) (same_Some _ _ (sym is ∙ some)))) named)
+
+pub no_include : (includes : Includes) (dir : List ℕ) (entry : Entry) (name : List ℕ)
+    → entry.section ≡ Some (name, None) → ¬ (map to_ascii_lowercase name ≡ codes "include")
+    → EntryFollows includes dir entry false
+no_include includes dir entry name is differs = follows.unrelated (other_name entry (name, None) is differs)
+    (λ raw. other_subsection entry (name, None) (Some raw) is (λ e. none-some raw e))
+
+pub no_condition : (includes : Includes) (dir : List ℕ) (entry : Entry) (name raw : List ℕ)
+    → entry.section ≡ Some (name, Some raw) → ¬ (map to_ascii_lowercase name ≡ codes "includeif")
+    → EntryFollows includes dir entry false
+no_condition includes dir entry name raw is differs =
+    follows.unrelated (other_subsection entry (name, Some raw) None is (λ e. none-some raw (sym e)))
+    (λ other. other_name entry (name, Some raw) is differs)
+
+-- an entry `include.path` is followed exactly if includes are
+pub followed_always : (includes : Includes) (dir : List ℕ) (entry : Entry) (name : List ℕ) (b : Bool)
+    → map to_ascii_lowercase entry.key ≡ codes "path" → entry.section ≡ Some (name, None)
+    → map to_ascii_lowercase name ≡ codes "include" → (IsTrue b ↔ (Holds includes dir Always))
+    → EntryFollows includes dir entry b
+followed_always includes dir entry name true key is named iff =
+    follows.always (key, (name, is, named)) (iff.0 (search rules))
+followed_always includes dir entry name false key is named iff =
+    follows.never (key, (name, is, named)) (no_match false (search rules) iff)
+
+-- an entry of `includeIf` is followed exactly if the condition of its subsection holds
+pub followed_if : (includes : Includes) (dir : List ℕ) (entry : Entry) (name raw text : List ℕ) (c : Condition)
+    (b : Bool) → map to_ascii_lowercase entry.key ≡ codes "path" → entry.section ≡ Some (name, Some raw)
+    → map to_ascii_lowercase name ≡ codes "includeif"
+    → ((spelled : List ℕ) → SpellsSubsection raw spelled → text ≡ spelled) → Names text c
+    → (IsTrue b ↔ (Holds includes dir c)) → EntryFollows includes dir entry b
+followed_if includes dir entry name raw text c true key is named spelled names iff = follows.holds raw
+    (key, (name, is, named))
+    (λ t spells. (c, subst (λ s. Names s c) (spelled t spells) names, iff.0 (search rules)))
+followed_if includes dir entry name raw text c false key is named spelled names iff = follows.fails raw
+    (key, (name, is, named))
+    (λ t spells. (c, subst (λ s. Names s c) (spelled t spells) names, no_match false (search rules) iff))
+
+pub name_of_text : (directories : Directories) (file value text name : List ℕ) → value ≡ text
+    → IsNameOf directories file value name → IsNameOf directories file text name
+name_of_text directories file value text name same is = subst (λ v. IsNameOf directories file v name) same is
+
+pub unknown_text : (home install : Option (List ℕ)) (value text : List ℕ) → value ≡ text
+    → BeginsUnknown home install value → BeginsUnknown home install text
+unknown_text home install value text same is = subst (λ v. BeginsUnknown home install v) same is
+
+pub if_always : (includes : Includes) (dir : List ℕ) (entry : Entry) (name : List ℕ) (result : Result Bool AllocError)
+    → map to_ascii_lowercase entry.key ≡ codes "path" → entry.section ≡ Some (name, None)
+    → map to_ascii_lowercase name ≡ codes "include"
+    → IfOk result (λ b. IsTrue b ↔ (Holds includes dir Always)) → IfOk result (EntryFollows includes dir entry)
+if_always includes dir entry name (Ok b) key is named iff = followed_always includes dir entry name b key is named iff
+if_always includes dir entry name (Err e) key is named iff = tt
+
+pub if_named : (includes : Includes) (dir : List ℕ) (entry : Entry) (name raw text : List ℕ) (c : Condition)
+    (result : Result Bool AllocError) → map to_ascii_lowercase entry.key ≡ codes "path"
+    → entry.section ≡ Some (name, Some raw) → map to_ascii_lowercase name ≡ codes "includeif"
+    → ((spelled : List ℕ) → SpellsSubsection raw spelled → text ≡ spelled) → Names text c
+    → IfOk result (λ b. IsTrue b ↔ (Holds includes dir c)) → IfOk result (EntryFollows includes dir entry)
+if_named includes dir entry name raw text c (Ok b) key is named spelled names iff =
+    followed_if includes dir entry name raw text c b key is named spelled names iff
+if_named includes dir entry name raw text c (Err e) key is named spelled names iff = tt
+
+pub git_dir_holds : (includes : Includes) (dir : List ℕ) (condition same : Condition) (r : Repository) (b : Bool)
+    → includes ≡ AsGit (Some r) → condition ≡ same → (IsTrue b ↔ (Holds (AsGit (Some r)) dir same))
+    → IsTrue b ↔ (Holds includes dir condition)
+git_dir_holds includes dir condition same r b is named iff =
+    subst (λ i. IsTrue b ↔ (Holds i dir condition)) (sym is)
+    (subst (λ k. IsTrue b ↔ (Holds (AsGit (Some r)) dir k)) (sym named) iff)
+
+other_first : (home : Option (List ℕ)) (pattern : List ℕ) → LacksFront (codes "~") pattern
+    → pattern ≡ at_home home pattern
+other_first None pattern lacks = refl
+other_first (Some home) [] lacks = refl
+other_first (Some home) (c ∷ rest) lacks = elim (eqb_tells c 126) [
+  | inl is ↦ absurd (lacks rest (ap (λ b. b ∷ rest) is.1))
+  | inr differs ↦ rw differs.0 refl
+]
+
+-- the path that a pattern expands to, without an install directory, is the pattern at home
+pub home_expands : (home : Option (List ℕ)) (pattern path : List ℕ) → Expands home None pattern path
+    → path ≡ at_home home pattern
+home_expands home pattern path (below_home dir rest e is some p) = rw (p, e, some, is) refl
+home_expands home pattern path (below_prefix dir rest e some p) = absurd (none-some dir some)
+home_expands home pattern path (p.other lacks more same) = same ∙ other_first home pattern lacks
+
+-- a pattern that begins with an unknown directory stays as it is
+pub home_unknown : (home : Option (List ℕ)) (pattern : List ℕ) → BeginsUnknown home None pattern
+    → pattern ≡ at_home home pattern
+home_unknown None pattern unknown = refl
+home_unknown (Some home) pattern (user rest e not) = rw (e, not) refl
+home_unknown (Some home) pattern (no_home rest e none) = absurd (none-some home (sym none))
+home_unknown (Some home) pattern (no_prefix rest e none) = rw e refl

@@ -1,39 +1,110 @@
--- The last setting of a key, from what holds for the setting at each index.
-use Rattle.std.proofs.Common.{◌≡◌, ◌≢◌, ◌<◌, ◌≤◌, ◌+◌, ℕ, zero, suc, List, [], ◌∷◌, Some, length, get_or}
-use Rattle.std.proofs.Common.{refl, ◌∙◌, ap, arith}
-use Rattle.std.specs.List.{slice_get, HoldsAt, AllWithin}
-use Rattle.std.proofs.lemmas.Option.{slice_get-map, slice_get-get_or, slice_get_within, get_or_from_slice_get}
-use Rattle.std.proofs.lemmas.Option.{same_Some, none-some}
-use Rattle.config_text.specs.Settings.{IsNamed, IsAbsent}
+-- Settings with a key, searched one by one.
+use Rattle.std.proofs.Common.{◌≡◌, ◌≤◌, ◌<◌, ◌+◌, ◌++◌, ◌∙◌, ◌↔◌, ◌⊎◌, inl, inr, ℕ, Bool, true, false, List, [], ◌∷◌, Some, length, take, get_or}
+use Rattle.std.proofs.Common.{IsTrue, rules, refl, sym, subst, ap, arith, zero, suc}
+use Rattle.std.specs.List.{slice_get, AllWithin}
+use Rattle.std.proofs.lemmas.Option.{get_or_from_slice_get, slice_get-get_or}
+use Rattle.std.proofs.lemmas.Bool.{false≢true}
+use Rattle.std.proofs.Math.Seq.{take-suc}
+use Rattle.std.proofs.lemmas.List.{take_all}
+use Rattle.config_file.specs.Key.{Key, HasKey}
+use Rattle.config_file.specs.Listing.{IsListed}
+use Rattle.config_file.specs.Settings.{AreListed, IsLast, IsLastAt, AllWithKey, none, has, lacks}
+use Rattle.config_file.specs.Views.{entry_of}
 use Rattle.config_file.specs.declared.settings.Setting.{Setting}
-use Rattle.config_file.specs.Settings.{texts, IsLast}
+use Rattle.config_file.proofs.Patterns.{no_match}
 
--- if the text at an index has this key, there is a setting at that index, and it has the key
-named_setting : (settings : List Setting) (key : List ℕ) (j : ℕ) (t : List ℕ)
-    → IsNamed (texts settings) key j t
-    → (s : Setting) × (slice_get settings j ≡ Some s) × (s.key.items ≡ key)
-named_setting [] key j t named = absurd (none-some (key, t) named)
-named_setting (s ∷ settings) key zero t named = (s, refl, ap (λ p. p.0) (same_Some _ _ named))
-named_setting (s ∷ settings) key (suc j) t named = named_setting settings key j t named
+le_cases : (i k : ℕ) → i ≤ k → (i ≡ k) ⊎ (i < k)
+le_cases zero zero h = inl refl
+le_cases zero (suc k) h = inr (omega arith)
+le_cases (suc i) zero h = absurd (omega arith)
+le_cases (suc i) (suc k) h = elim (le_cases i k (omega arith)) [ inl e ↦ inl (ap suc e) | inr l ↦ inr (omega arith) ]
 
--- if no setting from an index on has the key, no text from that index on has it
-not_named : (settings : List Setting) (key : List ℕ) (low : ℕ)
-    → AllWithin (λ s. s.key.items ≢ key) settings low (length settings)
-    → (j : ℕ) (t : List ℕ) → low ≤ j → ¬ (IsNamed (texts settings) key j t)
-not_named settings key low never j t above named =
-    let found = named_setting settings key j t named in
-    never j found.0 above (slice_get_within settings j found.0 found.1)
-    (ap (λ s. s.key.items) (get_or_from_slice_get settings j found.0 found.0 found.1) ∙ found.2)
+pub at_index : {X : Type 0} (xs : List X) (i : ℕ) (x : X) → i < length xs → x ≡ get_or xs i x
+    → slice_get xs i ≡ Some x
+at_index xs i x within is = slice_get-get_or xs i x within ∙ ap Some (sym is)
 
--- what a search from the end finds is the last setting
-pub last_at : (settings : List Setting) (key : List ℕ) (i : ℕ) (d : Setting)
-    → i < length settings → HoldsAt (λ s. s.key.items ≡ key) settings i
-    → AllWithin (λ s. s.key.items ≢ key) settings (i + 1) (length settings) → IsLast settings key (get_or settings i d)
-last_at settings key i d within hit later =
-    let here = slice_get-get_or settings i d within in
-    (i, here, record { named = rw (slice_get-map, here, hit d); last = λ j u above. not_named settings key (i + 1) later j u (omega arith) })
+-- whether a setting has a key, by what a test of a listed entry says
+abbrev pub Tests : Setting → Key → Bool → Type 0
+Tests setting key b = (text : List ℕ)
+    → IsListed (entry_of setting.entry).section (entry_of setting.entry).key text
+    → (IsTrue b ↔ HasKey (entry_of setting.entry) key)
 
--- a search that finds nothing shows that no setting has the key
-pub absent_by : (settings : List Setting) (key : List ℕ)
-    → AllWithin (λ s. s.key.items ≢ key) settings 0 (length settings) → IsAbsent (texts settings) key
-absent_by settings key nowhere j t = not_named settings key 0 nowhere j t (omega arith)
+tested : (settings : List Setting) (key : Key) (i : ℕ) (setting : Setting) (b : Bool)
+    → slice_get settings i ≡ Some setting → i < length settings → AreListed settings → Tests setting key b
+    → (IsTrue b ↔ HasKey (entry_of setting.entry) key)
+tested settings key i setting b at within listed tests =
+    let (text, is) = subst (λ s. (text : List ℕ) × IsListed (entry_of s.entry).section (entry_of s.entry).key text)
+    (get_or_from_slice_get settings i setting setting at) (listed i setting within) in
+    tests text is
+
+pub found : (settings : List Setting) (key : Key) (i low : ℕ) (setting : Setting) (b : Bool)
+    → slice_get settings i ≡ Some setting → i < length settings → low ≡ i + 1 → b ≡ true → Tests setting key b
+    → (AreListed settings
+    → AllWithin (λ later. ¬ (HasKey (entry_of later.entry) key)) settings low (length settings))
+    → AreListed settings → IsLastAt settings key i
+found settings key i low setting b at within above is_true tests later listed = (
+  setting,
+  at,
+  (tested settings key i setting b at within listed tests).0 (search rules),
+  subst (λ n. AllWithin (λ s. ¬ (HasKey (entry_of s.entry) key)) settings n (length settings)) above (later listed),
+)
+
+pub not_found : (settings : List Setting) (key : Key) (i low : ℕ) (setting : Setting) (b : Bool)
+    → slice_get settings i ≡ Some setting → i < length settings → low ≡ i + 1 → b ≡ false → Tests setting key b
+    → (AreListed settings
+    → AllWithin (λ later. ¬ (HasKey (entry_of later.entry) key)) settings low (length settings))
+    → AreListed settings
+    → AllWithin (λ later. ¬ (HasKey (entry_of later.entry) key)) settings i (length settings)
+not_found settings key i low setting b at within above is_false tests later listed k d from to =
+    elim (le_cases i k from) [
+      | inl same ↦ subst (λ s. ¬ (HasKey (entry_of s.entry) key))
+          (sym (ap (λ n. get_or settings n d) (sym same) ∙ get_or_from_slice_get settings i setting d at))
+          (no_match b is_false (tested settings key i setting b at within listed tests))
+      | inr more ↦ later listed k d (omega (arith, above, more)) to
+    ]
+
+pub all_has : {key : Key} {settings all : List Setting} (setting : Setting) → HasKey (entry_of setting.entry) key
+    → AllWithKey key settings all → AllWithKey key (settings ++ setting ∷ []) (all ++ setting ∷ [])
+all_has setting is none = has is none
+all_has setting is (has h rest) = has h (all_has setting is rest)
+all_has setting is (lacks l rest) = lacks l (all_has setting is rest)
+
+pub all_lacks : {key : Key} {settings all : List Setting} (setting : Setting)
+    → ¬ (HasKey (entry_of setting.entry) key) → AllWithKey key settings all
+    → AllWithKey key (settings ++ setting ∷ []) all
+all_lacks setting not none = lacks not none
+all_lacks setting not (has h rest) = has h (all_lacks setting not rest)
+all_lacks setting not (lacks l rest) = lacks l (all_lacks setting not rest)
+
+is_true : (b : Bool) → b ≡ true → IsTrue b
+is_true true e = search rules
+is_true false e = absurd (false≢true e)
+
+pub all_next : {key : Key} {all : List Setting} (settings : List Setting) (i : ℕ) (setting : Setting) (next : List Setting)
+    (b : Bool) → slice_get settings i ≡ Some setting → i < length settings → Tests setting key b
+    → ((b ≡ true) × (next ≡ all ++ setting ∷ [])) ⊎ ((b ≡ false) × (next ≡ all))
+    → (AreListed settings → AllWithKey key (take i settings) all) → AreListed settings
+    → AllWithKey key (take (i + 1) settings) next
+all_next {key = key} {all = all} settings i setting next b at within tests either before listed =
+    let one : i + 1 ≡ suc i = omega arith in
+    let turn : take (i + 1) settings ≡ take i settings ++ setting ∷ [] =
+    ap (λ n. take n settings) one ∙ take-suc settings i setting within
+    ∙ ap (λ s. take i settings ++ s ∷ []) (get_or_from_slice_get settings i setting setting at) in
+    let holds = tested settings key i setting b at within listed tests in
+    subst (λ s. AllWithKey key s next) (sym turn) (elim either [
+      | inl is ↦ subst (λ n. AllWithKey key (take i settings ++ setting ∷ []) n) (sym is.1)
+          (all_has setting (holds.0 (is_true b is.0)) (before listed))
+      | inr is ↦ subst (λ n. AllWithKey key (take i settings ++ setting ∷ []) n) (sym is.1)
+          (all_lacks setting (no_match b is.0 holds) (before listed))
+    ])
+
+pub is_last : (settings : List Setting) (key : Key) (i : ℕ) (d : Setting) → IsLastAt settings key i
+    → IsLast settings key (get_or settings i d)
+is_last settings key i d (setting, at, named, later) =
+    subst (λ s. IsLast settings key s) (sym (get_or_from_slice_get settings i setting d at)) (i, at, named, later)
+
+pub all_done : {key : Key} {all : List Setting} (settings : List Setting) (i : ℕ) → length settings ≤ i
+    → (AreListed settings → AllWithKey key (take i settings) all) → AreListed settings
+    → AllWithKey key settings all
+all_done {key = key} {all = all} settings i past is listed =
+    subst (λ s. AllWithKey key s all) (take_all i settings past) (is listed)

@@ -1,20 +1,19 @@
 -- What git-config(1) says about configuration files, with its own examples. A definition with a wrong escape, comment
 -- sign, byte of a name, case, include or condition fails here. Not on that page, but as Git reads them, are CR, the
 -- byte order mark, and the lines of entries and errors.
-use Rattle.std.proofs.Common.{true, false, ◌≡◌, ℕ, List, [], ◌∷◌, ◌++◌, length, length-append, map, codes, Bor, Option, Some, None, false, refl, ap, arith}
+use Rattle.std.proofs.Common.{true, false, ◌≡◌, ℕ, List, [], ◌∷◌, ◌++◌, map, option_map, codes, Bor, Option, Some, None, false, refl, ap}
 use Rattle.std.specs.List.{flat_map}
+use Rattle.std.proofs.lemmas.Option.{same_Some, none-some}
 use Prim.Native.String.{String}
 use Rattle.config_file.proofs.Fronts.{is_front, lacks}
 use Rattle.config_file.proofs.PatternsOnLiterals.{AreMatched, all_matched}
 use Rattle.config_file.proofs.OnLiterals.{Row, Lists, AreListed, lists, all_listed}
 use Rattle.config_file.specs.declared.errors.Fault.TheVariants.{BadLine, Nul}
 use Rattle.config_file.specs.declared.errors.Error.{Error}
-use Rattle.config_file.specs.declared.include.Condition.{Condition}
-use Rattle.config_file.specs.declared.include.Condition.TheVariants.{Always, GitDir, GitDirIgnoringCase, OnBranch, HasRemoteUrl, Unknown}
+use Rattle.config_file.specs.declared.include.Condition.TheVariants.{GitDir, GitDirIgnoringCase, OnBranch, HasRemoteUrl, Unknown}
 use Rattle.config_file.specs.Bytes.{line_feed}
-use Rattle.config_file.specs.File.{error_at}
-use Rattle.config_file.specs.Settings.{listed}
-use Rattle.config_file.specs.Include.{Names, Includes, IncludesNone, below, anywhere, at_home}
+use Rattle.config_file.specs.File.{Entry, entry_at, error_at}
+use Rattle.config_file.specs.Include.{Names, IsPathIn, below, anywhere, at_home}
 use Rattle.config_file.specs.Path.{Expands, below_home, below_prefix, other, BeginsUnknown, user, IsIncludedName, absolute, relative}
 
 -- ---- entries
@@ -174,29 +173,32 @@ no_lines_are_refused = all_listed (map refused no_lines) refl
 pub nul_is_refused : Lists (codes "a = b\0") [] (Some (error_at 1 Nul))
 nul_is_refused = lists (codes "a = b\0") _ _ refl
 
--- how a lookup writes a key
-pub keys_are_listed : (listed (codes "Core") None (codes "FileMode") ≡ codes "core.filemode")
-    × (listed (codes "Branch") (Some (codes "Main")) (codes "Rebase") ≡ codes "branch.Main.rebase")
-keys_are_listed = (refl, refl)
-
 -- ---- includes
 
 abbrev lent : String → Bor (List ℕ)
 lent text = record { ref_ptr = (0, 0); now = codes text }
 
--- "include.path (or includeIf.*.path)", and the keywords gitdir, gitdir/i, onbranch and hasconfig:remote.*.url, each
--- "followed by a colon and some data"
-pub always : Includes (codes "include.path") Always
-always = refl
+-- an entry without a value, in a section with this name, with these bytes of a subsection if it has one
+abbrev alone : String → Option String → String → Entry
+alone section subsection key =
+    entry_at (Some (codes section, option_map (λ text. codes text) subsection)) (codes key) None 1
 
-abbrev IsNamed : String → Condition → Type 0
-IsNamed text condition = Includes (codes "includeif." ++ codes text ++ codes ".path") condition
+-- "include.path (or includeIf.*.path)": "section names are not case sensitive", nor are names of variables
+pub paths_are_includes : IsPathIn (codes "include") None (alone "Include" None "PATH")
+    × IsPathIn (codes "includeif") (Some (codes "gitdir:/a/")) (alone "includeIf" (Some "gitdir:/a/") "path")
+paths_are_includes = ((refl, (_, refl, refl)), (refl, (_, refl, refl)))
 
-pub conditions_are_named : IsNamed "gitdir:/path/to/foo/.git" (GitDir (lent "/path/to/foo/.git"))
-    × IsNamed "gitdir/i:~/to/group/" (GitDirIgnoringCase (lent "~/to/group/"))
-    × IsNamed "onbranch:foo-branch" (OnBranch (lent "foo-branch"))
-    × IsNamed "hasconfig:remote.*.url:https://example.com/**" (HasRemoteUrl (lent "https://example.com/**"))
-conditions_are_named = ((_, refl, refl), (_, refl, refl), (_, refl, refl), (_, refl, refl))
+-- no includes: another key, and `includeIf` without a subsection
+pub others_are_none : ¬ (IsPathIn (codes "include") None (alone "include" None "paths"))
+    × ((raw : List ℕ) → ¬ (IsPathIn (codes "includeif") (Some raw) (alone "includeif" None "path")))
+others_are_none = (λ is. let e = is.0 in cc, λ raw is. none-some raw (ap (λ s. s.1) (same_Some _ _ is.1.1)))
+
+-- the keywords gitdir, gitdir/i, onbranch and hasconfig:remote.*.url, each "followed by a colon and some data"
+pub conditions_are_named : Names (codes "gitdir:/path/to/foo/.git") (GitDir (lent "/path/to/foo/.git"))
+    × Names (codes "gitdir/i:~/to/group/") (GitDirIgnoringCase (lent "~/to/group/"))
+    × Names (codes "onbranch:foo-branch") (OnBranch (lent "foo-branch"))
+    × Names (codes "hasconfig:remote.*.url:https://example.com/**") (HasRemoteUrl (lent "https://example.com/**"))
+conditions_are_named = (refl, refl, refl, refl)
 
 abbrev keywords : List (List ℕ)
 keywords = codes "gitdir:" ∷ codes "gitdir/i:" ∷ codes "onbranch:" ∷ codes "hasconfig:remote.*.url:" ∷ []
@@ -216,13 +218,6 @@ pub others_are_unknown : Names (codes "os:linux") Unknown
     × Names (codes "gitdir") Unknown
     × Names (codes "hasconfig:remote.a.url:b") Unknown
 others_are_unknown = (unknown "os:linux" refl, unknown "GitDir:/a/" refl, unknown "gitdir" refl, unknown "hasconfig:remote.a.url:b" refl)
-
--- no includes
-pub paths_is_none : IncludesNone (codes "include.paths")
-paths_is_none = (λ e. cc, λ text. lacks (codes "includeif.") (codes "include.paths") refl (text ++ codes ".path"))
-
-pub no_condition_is_none : IncludesNone (codes "includeif.path")
-no_condition_is_none = (λ e. cc, λ text e. omega (arith, ap length e, length-append text (codes ".path")))
 
 -- ---- paths
 

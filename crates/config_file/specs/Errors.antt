@@ -5,8 +5,6 @@ use Rattle.bstr.specs.Utf8.{lossy_chars}
 use Rattle.config_file.specs.declared.errors.Fault.{Fault}
 use Rattle.config_file.specs.declared.errors.Fault.TheVariants.{BadLine, Nul}
 use Rattle.config_file.specs.declared.errors.Error.{Error}
-use Rattle.config_file.specs.declared.walk.WalkError.{WalkError}
-use Rattle.config_file.specs.declared.walk.WalkError.TheVariants.{Line, MissingValue, UnknownDirectory, Unreadable, TooDeep, Unread, Memory}
 
 -- why a text is refused, in words
 abbrev pub fault_text : Fault → List ℕ
@@ -24,14 +22,3 @@ name_shown name = encode_utf8_all (lossy_chars name)
 -- `FILE:LINE`, and then the reason
 abbrev pub shown_at : List ℕ → ℕ → List ℕ → List ℕ
 shown_at file line reason = name_shown file ++ codes ":" ++ decimal line ++ reason
-
--- how the error of a walk is shown: its place, if it has one, and why the walk stops
-abbrev pub walk_error_shown : WalkError → List ℕ
-walk_error_shown (Line file error) = name_shown file.now ++ codes ":" ++ error_shown error
-walk_error_shown (MissingValue file line) = shown_at file.now line (codes ": an include has no value")
-walk_error_shown (UnknownDirectory file line) =
-    shown_at file.now line (codes ": the path of an include begins with an unknown directory")
-walk_error_shown (Unreadable file line) = shown_at file.now line (codes ": the included file cannot be read")
-walk_error_shown (TooDeep file line) = shown_at file.now line (codes ": files include each other too deep")
-walk_error_shown (Unread name) = name_shown name.items ++ codes ": not read"
-walk_error_shown (Memory _) = codes "no memory"

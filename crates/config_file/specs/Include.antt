@@ -1,11 +1,16 @@
--- The entries that include a file, and their conditions.
-use Rattle.std.specs.Prelude.{◌≡◌, ◌≢◌, ℕ, Bool, true, false, if◌then◌else◌, ◌==◌, ◌&&◌, List, ◌++◌, ◌∷◌, codes, nat_eq, Option, None, Some, ◌⊎◌, map, option_copied}
+-- The entries that include a file, and the conditions on which they are followed.
+use Rattle.std.specs.Prelude.{◌≡◌, ℕ, Bool, true, false, if◌then◌else◌, ◌==◌, ◌&&◌, List, ◌++◌, ◌∷◌, codes, nat_eq}
+use Rattle.std.specs.Prelude.{Option, None, Some, ◌⊎◌, ⊤, map, option_copied, option_map}
 use Rattle.std.specs.Char.{to_ascii_lowercase}
 use Rattle.std.specs.List.{ends_with, starts_with}
 use Rattle.config_file.specs.declared.include.Condition.{Condition}
 use Rattle.config_file.specs.declared.include.Condition.TheVariants.{Always, GitDir, GitDirIgnoringCase, OnBranch, HasRemoteUrl, Unknown}
 use Rattle.config_file.specs.declared.include.Repository.{Repository}
+use Rattle.config_file.specs.declared.include.Includes.{Includes}
+use Rattle.config_file.specs.declared.include.Includes.TheVariants.{Skipped, AsGit, All}
 use Rattle.config_file.specs.Bytes.{LacksFront}
+use Rattle.config_file.specs.File.{Entry}
+use Rattle.config_file.specs.Subsection.{SpellsSubsection}
 use Rattle.config_file.specs.Path.{is_rest}
 use Rattle.config_file.specs.Pattern.{MatchesText}
 
@@ -18,19 +23,6 @@ Names text (OnBranch pattern) = text ≡ codes "onbranch:" ++ pattern.now
 Names text (HasRemoteUrl pattern) = text ≡ codes "hasconfig:remote.*.url:" ++ pattern.now
 Names text Unknown = LacksFront (codes "gitdir:") text × LacksFront (codes "gitdir/i:") text × LacksFront (codes "onbranch:") text
     × LacksFront (codes "hasconfig:remote.*.url:") text
-
--- the key is `includeif.`, this text of a condition, and `.path`
-abbrev pub IsConditional : List ℕ → List ℕ → Type 0
-IsConditional key text = key ≡ codes "includeif." ++ text ++ codes ".path"
-
--- an entry of this key, as Git lists it, includes a file if this condition holds
-abbrev pub Includes : List ℕ → Condition → Type 0
-Includes key Always = key ≡ codes "include.path"
-Includes key condition = (text : List ℕ) × IsConditional key text × Names text condition
-
--- an entry of this key never includes a file
-abbrev pub IncludesNone : List ℕ → Type 0
-IncludesNone key = (key ≢ codes "include.path") × ((text : List ℕ) → ¬ (IsConditional key text))
 
 -- the same condition; patterns are compared byte by byte
 abbrev pub IsSameCondition : Condition → Condition → Type 0
@@ -81,3 +73,35 @@ IsGitDir ignores_case dir pattern repository =
 abbrev pub IsOnBranch : List ℕ → Option (List ℕ) → Type 0
 IsOnBranch pattern None = ⊥
 IsOnBranch pattern (Some branch) = MatchesText false (below pattern) branch
+
+-- the condition holds in a file of this directory; outside a repository, only `Always` does
+abbrev pub Holds : Includes → List ℕ → Condition → Type 0
+Holds Skipped dir condition = ⊥
+Holds All dir condition = ⊤
+Holds (AsGit repository) dir Always = ⊤
+Holds (AsGit (Some r)) dir (GitDir pattern) = IsGitDir false dir pattern.now r
+Holds (AsGit (Some r)) dir (GitDirIgnoringCase pattern) = IsGitDir true dir pattern.now r
+Holds (AsGit (Some r)) dir (OnBranch pattern) = IsOnBranch pattern.now (option_map (λ branch. branch.now) r.branch)
+Holds _ _ _ = ⊥
+
+-- the key of the entry is `path`, and its section has this name and this subsection; case does not count
+abbrev pub IsPathIn : List ℕ → Option (List ℕ) → Entry → Type 0
+IsPathIn name subsection entry =
+    (map to_ascii_lowercase entry.key ≡ codes "path")
+    × ((written : List ℕ) × (entry.section ≡ Some (written, subsection)) × (map to_ascii_lowercase written ≡ name))
+
+-- Whether an entry of a file in this directory includes a file, and is followed: the entry `include.path`, or
+-- an entry `includeIf.TEXT.path` where the condition that TEXT names holds.
+pub data EntryFollows (includes : Includes) (dir : List ℕ) (entry : Entry) : Bool → Type 0 where
+  always : IsPathIn (codes "include") None entry → Holds includes dir Always → EntryFollows includes dir entry true
+  never : IsPathIn (codes "include") None entry → ¬ (Holds includes dir Always) → EntryFollows includes dir entry false
+  holds : (raw : List ℕ) → IsPathIn (codes "includeif") (Some raw) entry
+      → ((text : List ℕ) → SpellsSubsection raw text
+      → (condition : Condition) × Names text condition × Holds includes dir condition)
+      → EntryFollows includes dir entry true
+  fails : (raw : List ℕ) → IsPathIn (codes "includeif") (Some raw) entry
+      → ((text : List ℕ) → SpellsSubsection raw text
+      → (condition : Condition) × Names text condition × ¬ (Holds includes dir condition))
+      → EntryFollows includes dir entry false
+  unrelated : ¬ (IsPathIn (codes "include") None entry)
+      → ((raw : List ℕ) → ¬ (IsPathIn (codes "includeif") (Some raw) entry)) → EntryFollows includes dir entry false

@@ -6,6 +6,8 @@ pub mod Errors
 pub mod Value
 pub mod File
 pub mod Listing
+pub mod Key
+pub mod KeyView
 pub mod Spelling
 pub mod Settings
 pub mod Set

@@ -2,3 +2,4 @@ pub mod Scans
 pub mod Spellings
 pub mod Walks
 pub mod Places
+pub mod Adds

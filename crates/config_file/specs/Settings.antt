@@ -1,130 +1,273 @@
--- Settings: the entries of files in order, each with its key as Git lists it and its text for a reader.
-use Rattle.std.specs.Prelude.{◌≡◌, Bool, ℕ, List, ◌∷◌, [], ◌++◌, Option, Some, None, map, codes, option_map, Result, Ok, Err}
-use Rattle.std.specs.List.{slice_get, filter, AllZip}
+-- Settings: the entries of files in order, each with the text of its value for a reader.
+use Rattle.std.specs.Prelude.{◌≡◌, Bool, true, false, ℕ, List, ◌∷◌, [], ◌++◌, ◌+◌, length, Option, Some, None, map, codes, option_map}
+use Rattle.std.specs.Prelude.{Result, Ok, Err, ⊤}
+use Rattle.std.specs.Cow.{cow_slice_items}
 use Rattle.std.specs.Fmt.{decimal}
-use Rattle.std.specs.Prelude.{encode_utf8_all}
-use Rattle.bstr.specs.Utf8.{lossy_chars}
-use Rattle.std.specs.Str.{bytes_eq}
+use Rattle.std.specs.List.{slice_get, All, AllWithin, AllZip}
 use Rattle.std.specs.Option.{option_map_or}
-use Rattle.std.specs.Str.{str_to_ascii_lowercase}
-use Rattle.config_text.specs.Settings.{Decides, IsAbsent}
 use Rattle.config_text.specs.Refusals.{ReadsOr}
+use Rattle.config_text.specs.Value.{IsRefused}
 use Rattle.config_text.specs.declared.errors.Fault.{Fault}
+use Rattle.config_path.specs.declared.interpolate.Error as path_errors
+use Rattle.config_path.specs.declared.parts.Parts.{Parts}
+use Rattle.config_path.specs.Interpolation as paths
+use Rattle.config_path.specs.Interpolation.{PathTable}
+use Rattle.config_path.specs.Parts.{parts_result}
+use Rattle.config_path.specs.Path.{Marked}
+use Rattle.config_file.specs.Errors.{error_shown, name_shown, shown_at}
+use Rattle.config_file.specs.File.{Entry, IsFile}
+use Rattle.config_file.specs.Header.{Section}
+use Rattle.config_file.specs.Key.{Key, HasKey, IsKey, RefusesKey}
+use Rattle.config_file.specs.Listing.{IsListed}
+use Rattle.config_file.specs.Value.{Ending, SpellsValue}
+use Rattle.config_file.specs.Views.{entry_of}
+use Rattle.config_file.specs.Walk.{Content, Text, Missing, Unreadable, Stop, Line, NoValue, Unknown, NotRead, TooDeep}
+use Rattle.config_file.specs.Walk.{Item, Found, Stops, WalksText}
+use Rattle.config_file.specs.declared.errors.Error.{Error}
+use Rattle.config_file.specs.declared.files.Content.{Content as Given}
+use Rattle.config_file.specs.declared.files.Content.TheVariants as given
 use Rattle.config_file.specs.declared.settings.Setting.{Setting}
 use Rattle.config_file.specs.declared.settings.Refused.{Refused}
 use Rattle.config_file.specs.declared.settings.AddError.{AddError}
-use Rattle.config_file.specs.declared.settings.AddError.TheVariants.{Line, Memory}
-use Rattle.config_path.specs.declared.interpolate.Error as path_errors
-use Rattle.config_path.specs.declared.parts.Parts.{Parts}
-use Rattle.config_path.specs.Interpolation.{Known, PathTable}
-use Rattle.config_path.specs.Parts.{parts_result}
-use Rattle.config_path.specs.Path.{Marked}
-use Rattle.config_file.specs.Value.{Ending, SpellsValue}
-use Rattle.config_file.specs.Errors.{error_shown}
-use Rattle.config_file.specs.File.{Entry, IsFile}
-use Rattle.config_file.specs.declared.errors.Error.{Error}
-use Rattle.config_file.specs.Listing.{IsListed}
+use Rattle.config_file.specs.declared.settings.AddError.TheVariants as error
+use Rattle.config_file.specs.declared.settings.IncludeFault.{IncludeFault}
+use Rattle.config_file.specs.declared.settings.IncludeFault.TheVariants as fault
+use Rattle.config_file.specs.declared.settings.GetError.{GetError}
+use Rattle.config_file.specs.declared.settings.GetError.TheVariants as get
+use Rattle.config_file.specs.declared.settings.Next.{Next}
+use Rattle.config_file.specs.declared.settings.Next.TheVariants as next
+use Rattle.config_file.specs.declared.walk.Include.{Include}
+use Rattle.config_file.specs.declared.walk.Include.TheVariants.{NotFollowed, MissingValue, UnknownDirectory, Named}
+use Rattle.config_file.specs.declared.walk.Known.{Known}
+use Rattle.config_file.specs.declared.walk.Place.{Place}
 
-abbrev pub dot : ℕ
-dot = 46
+-- the section of a key as it is written, with its dots, and U+FFFD for bytes that are not UTF-8
+abbrev pub written_section : Option Section → List ℕ
+written_section None = []
+written_section (Some (name, None)) = name_shown name ++ codes "."
+written_section (Some (name, Some raw)) = name_shown name ++ codes "." ++ name_shown raw ++ codes "."
 
--- what Git lists before a subsection: the section in lower case, and a dot
-abbrev pub section_stem : List ℕ → List ℕ
-section_stem section = str_to_ascii_lowercase section ++ dot ∷ []
+-- how the place of a refusal is shown: `FILE:LINE: KEY: `, with the key as it is written
+abbrev pub place_shown : Setting → List ℕ
+place_shown setting =
+    let entry = entry_of setting.entry in
+    name_shown setting.file.now ++ codes ":" ++ decimal entry.line ++ codes ": " ++ written_section entry.section
+    ++ name_shown entry.key ++ codes ": "
 
--- what Git lists before the last part of a key: the section, and the subsection unchanged, each with a dot
-abbrev pub stem : List ℕ → Option (List ℕ) → List ℕ
-stem section None = section_stem section
-stem section (Some subsection) = section_stem section ++ subsection ++ dot ∷ []
-
--- a key as Git lists it
-abbrev pub listed : List ℕ → Option (List ℕ) → List ℕ → List ℕ
-listed section subsection key = stem section subsection ++ str_to_ascii_lowercase key
-
--- how the place of a refusal is shown: `FILE:LINE: KEY: `, with U+FFFD for bytes of KEY that are not UTF-8
-abbrev pub place_shown : (file : List ℕ) (line : ℕ) (key : List ℕ) → List ℕ
-place_shown file line key =
-    file ++ codes ":" ++ decimal line ++ codes ": " ++ encode_utf8_all (lossy_chars key) ++ codes ": "
+-- why Git does not go on after an entry that includes a file, in words
+abbrev pub include_fault_text : IncludeFault → List ℕ
+include_fault_text fault.MissingValue = codes "an include has no value"
+include_fault_text fault.UnknownDirectory = codes "the path of an include begins with an unknown directory"
+include_fault_text (fault.Unreadable why) = why.now
+include_fault_text fault.TooDeep = codes "files include each other too deep"
 
 -- `FILE:LINE: reason`, or `no memory`
 abbrev pub add_error_shown : AddError → List ℕ
-add_error_shown (Line file error) = file.now ++ codes ":" ++ error_shown error
-add_error_shown (Memory _) = codes "no memory"
+add_error_shown (error.Line file at) = name_shown file.now ++ codes ":" ++ error_shown at
+add_error_shown (error.Include file line fault) = shown_at file.now line (codes ": " ++ include_fault_text fault)
+add_error_shown (error.Memory _) = codes "no memory"
+
+-- the text of the value, if there is one
+abbrev pub value_text : Setting → Option (List ℕ)
+value_text setting = option_map cow_slice_items setting.value
 
 -- the text for a reader: that of the value, or `true` for a key alone
 abbrev pub text_of : Setting → List ℕ
-text_of setting = option_map_or (λ v. v.items) setting.value (codes "true")
-
--- the key and the text of each setting, for a lookup
-abbrev pub texts : List Setting → List (List ℕ × List ℕ)
-texts settings = map (λ s. (s.key.items, text_of s)) settings
-
--- the setting is the last one that has this key
-abbrev pub IsLast : List Setting → List ℕ → Setting → Type 0
-IsLast settings key s = (i : ℕ) × (slice_get settings i ≡ Some s) × Decides (texts settings) key i (text_of s)
+text_of setting = option_map_or (λ text. text) (value_text setting) (codes "true")
 
 -- the value is the text that these bytes spell, and a key alone has no value
 abbrev pub IsValueOf : Option (List ℕ) → Option (List ℕ) → Type 0
 IsValueOf None value = value ≡ None
 IsValueOf (Some raw) value = (text : List ℕ) (ending : Ending) → SpellsValue raw text ending → value ≡ Some text
 
--- the setting of an entry of this file
-pub record IsSettingOf (name : List ℕ) (entry : Entry) (setting : Setting) : Type 0 where
-  pub file : setting.file.now ≡ name
-  pub line : setting.line ≡ entry.line
-  pub key : (listed_key : List ℕ) → IsListed entry.section entry.key listed_key → setting.key.items ≡ listed_key
-  pub value : IsValueOf entry.value (option_map (λ v. v.items) setting.value)
+-- the setting of an entry of the file of this name
+pub record IsSettingOf (found : List ℕ × Entry) (setting : Setting) : Type 0 where
+  pub file : setting.file.now ≡ found.0
+  pub entry : entry_of setting.entry ≡ found.1
+  pub value : IsValueOf found.1.value (value_text setting)
 
--- the new settings are the old ones, followed by one for each of these entries of the file
-abbrev pub Adds : List ℕ → List Entry → List Setting → List Setting → Type 0
-Adds file entries old new =
-    (added : List Setting) × (new ≡ old ++ added) × AllZip (IsSettingOf file) entries added
+-- the new settings are the old ones, followed by one for each of these entries
+abbrev pub Adds : List (List ℕ × Entry) → List Setting → List Setting → Type 0
+Adds found old new = (added : List Setting) × (new ≡ old ++ added) × AllZip IsSettingOf found added
 
 -- the entries of the text begin with these
 abbrev pub HasFirst : List ℕ → List Entry → Type 0
 HasFirst text entries = (rest : List Entry) × (error : Option Error) × IsFile text (entries ++ rest) error
 
--- what a file adds: all its entries, those before the first invalid line, or those before memory runs out
+-- what adding the entries of a file gives: all of them, those before the first line that Git cannot read, or
+-- those before memory is refused
 abbrev pub AddsFile : List ℕ → List ℕ → List Setting → List Setting → Result (Unit {0}) AddError → Type 0
-AddsFile file text old new (Ok _) = (entries : List Entry) × IsFile text entries None × Adds file entries old new
-AddsFile file text old new (Err (Line name error)) =
-    (name.now ≡ file) × ((entries : List Entry) × IsFile text entries (Some error) × Adds file entries old new)
-AddsFile file text old new (Err (Memory _)) = (entries : List Entry) × HasFirst text entries × Adds file entries old new
+AddsFile file text old new (Ok _) =
+    (entries : List Entry) × IsFile text entries None × Adds (map (λ entry. (file, entry)) entries) old new
+AddsFile file text old new (Err (error.Line name at)) = (name.now ≡ file)
+    × ((entries : List Entry) × IsFile text entries (Some at) × Adds (map (λ entry. (file, entry)) entries) old new)
+AddsFile file text old new (Err (error.Memory _)) =
+    (entries : List Entry) × HasFirst text entries × Adds (map (λ entry. (file, entry)) entries) old new
+AddsFile file text old new (Err _) = ⊥
 
--- the settings of a key, in order
-abbrev pub all_named : List ℕ → List Setting → List Setting
-all_named key settings = filter (λ s. bytes_eq s.key.items key) settings
+-- what is given for the file of this name is among what it may hold
+abbrev pub HoldsContent : (List ℕ → Content → Type 0) → List ℕ → Given → Type 0
+HoldsContent contents name (given.Text place text) =
+    (place.name.now ≡ name) × contents name (Text place.real_dir.now text.now)
+HoldsContent contents name given.Missing = contents name Missing
+HoldsContent contents name (given.Unreadable why) = contents name Unreadable
 
--- the refusal has the place, the key and the value of the setting
-pub record Tells {F : Type 0} (setting : Setting) (refused : Refused F) : Type 0 where
-  pub file : refused.file.now ≡ setting.file.now
-  pub line : refused.line ≡ setting.line
-  pub key : refused.key.now ≡ setting.key.items
-  pub value : option_map (λ v. v.now) refused.value ≡ option_map (λ v. v.items) setting.value
+-- an entry that includes this is passed: it includes no file, or there is no such file
+abbrev pub IsPassed : (List ℕ → Content → Type 0) → Include → Type 0
+IsPassed contents NotFollowed = ⊤
+IsPassed contents (Named name) = contents name.items Missing
+IsPassed contents _ = ⊥
 
--- the value that the grammar gives the text of the setting, or a refusal with the place and the fault
+-- an entry that includes this is followed into the file at this place, which has this text
+abbrev pub IsEntered : (List ℕ → Content → Type 0) → Place → List ℕ → Include → Type 0
+IsEntered contents place text (Named name) =
+    (place.name.now ≡ name.items) × contents place.name.now (Text place.real_dir.now text)
+IsEntered contents place text _ = ⊥
+
+-- Git stops at an entry that includes this, with this fault
+abbrev pub IsStop : (List ℕ → Content → Type 0) → Include → IncludeFault → Type 0
+IsStop contents MissingValue why = why ≡ fault.MissingValue
+IsStop contents UnknownDirectory why = why ≡ fault.UnknownDirectory
+IsStop contents (Named name) (fault.Unreadable why) = contents name.items Unreadable
+IsStop contents _ _ = ⊥
+
+-- how a walk goes on after an entry that includes this
+abbrev pub IsNext : (List ℕ → Content → Type 0) → Include → Next → Type 0
+IsNext contents include next.Behind = IsPassed contents include
+IsNext contents include (next.In place text) = IsEntered contents place text.now include
+IsNext contents include (next.Stops why) = IsStop contents include why
+
+-- the fault is that of this stop
+abbrev pub IsFaultOf : Stop → IncludeFault → Type 0
+IsFaultOf (NoValue _) fault.MissingValue = ⊤
+IsFaultOf (Unknown _) fault.UnknownDirectory = ⊤
+IsFaultOf (NotRead _) (fault.Unreadable _) = ⊤
+IsFaultOf (TooDeep _) fault.TooDeep = ⊤
+IsFaultOf _ _ = ⊥
+
+-- the error tells this stop in the file of this name, with its line and its fault
+abbrev pub TellsStop : List ℕ → Stop → AddError → Type 0
+TellsStop file (Line at) (error.Line name told) = (name.now ≡ file) × (told ≡ at)
+TellsStop file (NoValue entry) (error.Include name line fault) =
+    (name.now ≡ file) × (line ≡ entry.line) × IsFaultOf (NoValue entry) fault
+TellsStop file (Unknown entry) (error.Include name line fault) =
+    (name.now ≡ file) × (line ≡ entry.line) × IsFaultOf (Unknown entry) fault
+TellsStop file (NotRead entry) (error.Include name line fault) =
+    (name.now ≡ file) × (line ≡ entry.line) × IsFaultOf (NotRead entry) fault
+TellsStop file (TooDeep entry) (error.Include name line fault) =
+    (name.now ≡ file) × (line ≡ entry.line) × IsFaultOf (TooDeep entry) fault
+TellsStop _ _ _ = ⊥
+
+-- an entry as an item of a walk
+abbrev pub found_item : List ℕ × Entry → List ℕ × Item
+found_item found = (found.0, Found found.1)
+
+-- what adding the entries of a walk gives: all of them, those up to where Git stops, or those before memory is
+-- refused
+abbrev pub AddsWalk : (List ℕ → Content → Type 0) → Known → Place → List ℕ → List Setting → List Setting
+    → Result (Unit {0}) AddError → Type 0
+AddsWalk contents known place text old new (Ok _) = (found : List (List ℕ × Entry)) × Adds found old new
+    × WalksText contents known place text (map found_item found) true
+AddsWalk contents known place text old new (Err (error.Memory _)) = (found : List (List ℕ × Entry))
+    × Adds found old new × WalksText contents known place text (map found_item found) false
+AddsWalk contents known place text old new (Err error) =
+    (found : List (List ℕ × Entry)) × (file : List ℕ) × (stop : Stop) × Adds found old new × TellsStop file stop error
+    × WalksText contents known place text (map found_item found ++ (file, Stops stop) ∷ []) false
+
+-- two settings of the same entry of the same file, with the same text
+abbrev pub IsSameSetting : Setting → Setting → Type 0
+IsSameSetting a b =
+    (a.file.now ≡ b.file.now) × (entry_of a.entry ≡ entry_of b.entry) × (value_text a ≡ value_text b)
+
+-- the settings begin with settings that are the same as these
+abbrev pub HasSameFront : List Setting → List Setting → Type 0
+HasSameFront front settings = (same : List Setting) × (rest : List Setting) × (settings ≡ same ++ rest)
+    × AllZip IsSameSetting front same
+
+-- memory is not refused
+abbrev pub HasMemory : Result (Unit {0}) AddError → Type 0
+HasMemory (Err (error.Memory _)) = ⊥
+HasMemory _ = ⊤
+
+-- both additions are whole, or both errors tell the same stop in the same file
+abbrev pub IsSameEnd : Result (Unit {0}) AddError → Result (Unit {0}) AddError → Type 0
+IsSameEnd (Ok _) (Ok _) = ⊤
+IsSameEnd (Err a) (Err b) = (file : List ℕ) × (stop : Stop) × TellsStop file stop a × TellsStop file stop b
+IsSameEnd _ _ = ⊥
+
+-- the refusal is that of the setting, with this fault
+abbrev pub Tells : {F : Type 0} → Setting → F → Refused F → Type 0
+Tells setting fault refused = (refused.setting.now ≡ setting) × (refused.fault ≡ fault)
+
+-- the value that the grammar gives the text of the setting, or a refusal of it with a fault of the text
 abbrev pub ReadsSetting : {V : Type 0} → (List ℕ → V → Type 0) → (List ℕ → Fault → Type 0) → Setting
     → Result V (Refused Fault) → Type 0
 ReadsSetting grammar refusal setting result =
-    ReadsOr grammar (λ r. Tells setting r × refusal (text_of setting) r.fault) (text_of setting) result
+    ReadsOr grammar (λ r. (r.setting.now ≡ setting) × refusal (text_of setting) r.fault) (text_of setting) result
 
--- the value of the last setting of a key, or its refusal; no value if no setting has the key
+-- Git lists each of the settings under a key, as it does each entry of a file
+abbrev pub AreListed : List Setting → Type 0
+AreListed settings = All (λ setting. (text : List ℕ)
+    × IsListed (entry_of setting.entry).section (entry_of setting.entry).key text) settings
+
+-- no setting has the key
+abbrev pub LacksKey : List Setting → Key → Type 0
+LacksKey settings key = All (λ setting. ¬ (HasKey (entry_of setting.entry) key)) settings
+
+-- the setting at this index is the last one that has the key
+abbrev pub IsLastAt : List Setting → Key → ℕ → Type 0
+IsLastAt settings key i = (setting : Setting) × (slice_get settings i ≡ Some setting)
+    × HasKey (entry_of setting.entry) key
+    × AllWithin (λ later. ¬ (HasKey (entry_of later.entry) key)) settings (i + 1) (length settings)
+
+-- this is the last setting that has the key
+abbrev pub IsLast : List Setting → Key → Setting → Type 0
+IsLast settings key setting = (i : ℕ) × (slice_get settings i ≡ Some setting)
+    × HasKey (entry_of setting.entry) key
+    × AllWithin (λ later. ¬ (HasKey (entry_of later.entry) key)) settings (i + 1) (length settings)
+
+-- these are all settings that have the key, in order
+pub data AllWithKey (key : Key) : List Setting → List Setting → Type 0 where
+  none : AllWithKey key [] []
+  has : {setting : Setting} {settings all : List Setting} → HasKey (entry_of setting.entry) key
+      → AllWithKey key settings all → AllWithKey key (setting ∷ settings) (setting ∷ all)
+  lacks : {setting : Setting} {settings all : List Setting} → ¬ (HasKey (entry_of setting.entry) key)
+      → AllWithKey key settings all → AllWithKey key (setting ∷ settings) all
+
+-- the value of the last setting that has this key, or its refusal; no value if none has it
 abbrev pub Gets : {V : Type 0} → (List ℕ → V → Type 0) → (List ℕ → Fault → Type 0) → List Setting → List ℕ
-    → Result (Option V) (Refused Fault) → Type 0
-Gets grammar refusal settings key (Ok None) = IsAbsent (texts settings) key
-Gets grammar refusal settings key (Ok (Some v)) =
-    (setting : Setting) × IsLast settings key setting × ReadsSetting grammar refusal setting (Ok v)
-Gets grammar refusal settings key (Err e) =
-    (setting : Setting) × IsLast settings key setting × ReadsSetting grammar refusal setting (Err e)
+    → Result (Option V) GetError → Type 0
+Gets grammar refusal settings text (Ok None) = (key : Key) × IsKey text key × LacksKey settings key
+Gets grammar refusal settings text (Ok (Some v)) = (key : Key) × (setting : Setting) × IsKey text key
+    × IsLast settings key setting × grammar (text_of setting) v
+Gets grammar refusal settings text (Err (get.Refused refused)) = (key : Key) × IsKey text key
+    × IsLast settings key refused.setting.now × refusal (text_of refused.setting.now) refused.fault
+    × IsRefused grammar (text_of refused.setting.now)
+Gets grammar refusal settings text (Err (get.Key error)) = RefusesKey text error
+
+-- a text has at most one value, and is refused with at most one fault
+pub record HasOneReading {V : Type 0} (grammar : List ℕ → V → Type 0) (refusal : List ℕ → Fault → Type 0)
+    : Type 0 where
+  pub one_value : (text : List ℕ) (v w : V) → grammar text v → grammar text w → v ≡ w
+  pub one_fault : (text : List ℕ) (e f : Fault) → IsRefused grammar text → refusal text e → refusal text f
+      → e ≡ f
+
+-- two results with the same value, or with the same refusal of the same setting or of the key
+abbrev pub IsSameAnswer : {V : Type 0} → Result (Option V) GetError → Result (Option V) GetError → Type 0
+IsSameAnswer (Ok a) (Ok b) = a ≡ b
+IsSameAnswer (Err (get.Key a)) (Err (get.Key b)) = a ≡ b
+IsSameAnswer (Err (get.Refused a)) (Err (get.Refused b)) =
+    (a.setting.now ≡ b.setting.now) × (a.fault ≡ b.fault)
+IsSameAnswer _ _ = ⊥
 
 -- the bytes of a path, which are empty for a key alone
 abbrev pub path_bytes : Setting → List ℕ
-path_bytes setting = option_map_or (λ v. v.items) setting.value []
+path_bytes setting = option_map_or (λ text. text) (value_text setting) []
 
 -- what the path table gives for the value of a setting, after its mark is cut off
-abbrev pub IsPathOfSetting : Known → Setting → Result (Bool × Parts) (Refused path_errors.Error) → Type 0
+abbrev pub IsPathOfSetting : paths.Known → Setting → Result (Bool × Parts) (Refused path_errors.Error) → Type 0
 IsPathOfSetting known setting (Ok (is_optional, parts)) =
     (path : List ℕ) × Marked (path_bytes setting) is_optional path × PathTable known path (parts_result (Ok parts))
 IsPathOfSetting known setting (Err refused) =
     (is_optional : Bool) × (path : List ℕ) × Marked (path_bytes setting) is_optional path
-    × PathTable known path (parts_result (Err refused.fault)) × Tells setting refused
+    × PathTable known path (parts_result (Err refused.fault)) × (refused.setting.now ≡ setting)

@@ -13,7 +13,7 @@ use crate::value::{Taken, Value, read_value};
 use std::alloc::{AllocError, Global};
 
 /// An entry, whose parts are borrowed from the text that it was read from.
-#[derive(Clone, Copy)]
+#[derive(Clone, Copy, Debug)]
 pub struct Entry<'a> {
     /// The section of the last header before the entry, or `None` if no header precedes it.
     pub section: Option<Section<'a>>,

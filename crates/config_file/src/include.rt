@@ -1,13 +1,13 @@
 //! The entries that include a file: their conditions.
-ghost use Rattle.std.specs.Prelude.{◌≡◌, ◌≢◌, ◌↔◌, ◌++◌, IsTrue, IfOk, OnOk, MatchOption, List, ℕ};
-ghost use Rattle.std.specs.Prelude.{option_map, option_copied, codes};
+ghost use Rattle.std.specs.Prelude.{◌↔◌, ◌≡◌, ◌++◌, IsTrue, IfOk, OnOk, option_map, option_copied};
 ghost use Rattle.config_file.specs.Include as spec;
-ghost use Rattle.config_file.specs.Include.{Names, Includes, IncludesNone, IsConditional, IsGitDir};
-ghost use Rattle.config_file.specs.Include.{IsOnBranch};
+ghost use Rattle.config_file.specs.Include.{Names, IsGitDir, IsOnBranch, Holds, EntryFollows};
 ghost use Rattle.config_file.specs.Include.{IsSameName, MatchesBelow, MatchesDir};
+ghost use Rattle.config_file.specs.Views.{entry_of};
 
-use crate::bytes::{strip, strip_end};
-use crate::path::{is_rest, joined};
+use crate::bytes::strip;
+use crate::entry::Entry;
+use crate::path::{Directories, expand, joined};
 use crate::pattern::matches;
 use std::alloc::{AllocError, Global};
 
@@ -41,45 +41,23 @@ pub struct Repository<'r> {
     pub real_home: Option<&'r [u8]>,
 }
 
-/// The text of the condition in a key, or `None` if the key has no condition.
-fn condition_text(key: &[u8]) -> Option<&[u8]>
-    ensures { MatchOption result ((text : List ℕ) → ¬ (IsConditional key.now text))
-        (λ text. IsConditional key.now text.now) }
-{
-    let rest = strip(key, b"includeif.")?;
-    strip_end(rest, b".path")
-}
-
-/// The condition that this text names.
-fn named(text: &[u8]) -> Condition<'_>
-    ensures { Names text.now result }
-{
-    if let Some(pattern) = strip(text, b"gitdir:") {
-        return Condition::GitDir(pattern);
-    }
-    if let Some(pattern) = strip(text, b"gitdir/i:") {
-        return Condition::GitDirIgnoringCase(pattern);
-    }
-    if let Some(pattern) = strip(text, b"onbranch:") {
-        return Condition::OnBranch(pattern);
-    }
-    match strip(text, b"hasconfig:remote.*.url:") {
-        Some(pattern) => Condition::HasRemoteUrl(pattern),
-        None => Condition::Unknown,
-    }
-}
-
 impl<'c> Condition<'c> {
-    /// The condition on which an entry of a key, as Git lists it, includes a file. `None` if it never does.
-    pub fn of_key(key: &'c [u8]) -> Option<Condition<'c>>
-        ensures { MatchOption result (IncludesNone key.now) (λ condition. Includes key.now condition) }
+    /// The condition that the subsection of `includeIf` has as its text.
+    pub fn parse(text: &'c [u8]) -> Condition<'c>
+        ensures { Names text.now result }
     {
-        if key == b"include.path".as_slice() {
-            return Some(Condition::Always);
+        if let Some(pattern) = strip(text, b"gitdir:") {
+            return Condition::GitDir(pattern);
         }
-        match condition_text(key) {
-            Some(text) => Some(named(text)),
-            None => None,
+        if let Some(pattern) = strip(text, b"gitdir/i:") {
+            return Condition::GitDirIgnoringCase(pattern);
+        }
+        if let Some(pattern) = strip(text, b"onbranch:") {
+            return Condition::OnBranch(pattern);
+        }
+        match strip(text, b"hasconfig:remote.*.url:") {
+            Some(pattern) => Condition::HasRemoteUrl(pattern),
+            None => Condition::Unknown,
         }
     }
 }
@@ -107,17 +85,18 @@ fn anywhere(alloc: Global, pattern: &[u8]) -> Result<Vec<u8>, AllocError>
 }
 
 /// The pattern, with a `~` that is alone or before `/` replaced by the home directory, if that is known.
+#[tactic(auto, using(crate::proofs::Conditions::home_expands, crate::proofs::Conditions::home_unknown))]
 fn at_home(alloc: Global, home: Option<&[u8]>, pattern: &[u8]) -> Result<Vec<u8>, AllocError>
     ensures { IfOk result (λ whole. whole.items ≡ spec.at_home (option_copied home.entry) pattern.now) }
 {
-    if let Some(home) = home {
-        if let [first, rest @ ..] = pattern {
-            if *first == b'~' && is_rest(rest) {
-                return Ok(joined(alloc, home, rest)?);
-            }
-        }
+    let directories = Directories {
+        home,
+        install_dir: None,
+    };
+    match expand(pattern, directories) {
+        Some(parts) => Ok(joined(alloc, parts.directory, parts.rest)?),
+        None => Ok(joined(alloc, b"", pattern)?),
     }
-    Ok(joined(alloc, b"", pattern)?)
 }
 
 /// Whether two names are the same, ignoring ASCII case if `ignores_case` is true.
@@ -200,5 +179,79 @@ impl Repository<'_> {
         whole.extend_from_slice(pattern)?;
         push_below(&mut whole)?;
         Ok(matches(&whole, branch, false))
+    }
+}
+
+/// Which includes a walk follows.
+#[derive(Clone, Copy)]
+pub enum Includes<'r> {
+    /// None of them.
+    Skipped,
+    /// Those that Git follows in this repository, or outside of any repository. `HasRemoteUrl` never holds.
+    AsGit(Option<Repository<'r>>),
+    /// All of them, whatever their conditions.
+    All,
+}
+
+impl Includes<'_> {
+    /// Whether an include on this condition is followed in a file of the directory `real_dir`, which is written
+    /// as in [`Repository::is_git_dir`]. It fails only if memory is refused.
+    pub fn hold(
+        self,
+        alloc: Global,
+        real_dir: &[u8],
+        condition: Condition<'_>,
+    ) -> Result<bool, AllocError>
+        ensures { IfOk result (λ holds. IsTrue holds ↔ (Holds self.entry real_dir.now condition.entry)) }
+    {
+        let Includes::AsGit(repository) = self else {
+            return Ok(matches!(self, Includes::All));
+        };
+        if let Condition::Always = condition {
+            return Ok(true);
+        }
+        let Some(repository) = repository else {
+            return Ok(false);
+        };
+        match condition {
+            Condition::Always => Ok(true),
+            Condition::GitDir(pattern) => Ok(repository.is_git_dir(
+                alloc, real_dir, pattern, false,
+            )?),
+            Condition::GitDirIgnoringCase(pattern) => {
+                Ok(repository.is_git_dir(alloc, real_dir, pattern, true)?)
+            }
+            Condition::OnBranch(pattern) => Ok(repository.is_on_branch(alloc, pattern)?),
+            Condition::HasRemoteUrl(_) | Condition::Unknown => Ok(false),
+        }
+    }
+
+    /// Whether an entry of a file in the directory `real_dir` includes a file, and is followed.
+    pub(crate) fn follow(
+        self,
+        alloc: Global,
+        real_dir: &[u8],
+        entry: &Entry<'_>,
+    ) -> Result<bool, AllocError>
+        ensures { IfOk result (EntryFollows self.entry real_dir.now (entry_of entry.now)) }
+    {
+        let Some(section) = &entry.section else {
+            return Ok(false);
+        };
+        if !entry.key.eq_ignore_ascii_case(b"path") {
+            return Ok(false);
+        }
+        let Some(subsection) = &section.subsection else {
+            if !section.name.eq_ignore_ascii_case(b"include") {
+                return Ok(false);
+            }
+            return self.hold(alloc, real_dir, Condition::Always);
+        };
+        if !section.name.eq_ignore_ascii_case(b"includeif") {
+            return Ok(false);
+        }
+        let mut text = Vec::new(alloc);
+        subsection.push_text(&mut text)?;
+        self.hold(alloc, real_dir, Condition::parse(&text))
     }
 }

@@ -1,27 +1,22 @@
-//! Git's configuration files: the entries of a text, read as Git reads them (docs/GRAMMAR.md).
+//! Git's configuration files, from their texts to the values of settings (docs/GRAMMAR.md).
 //!
-//! [`reader::Entries`] yields the entries of a text one by one, in order, and takes no memory. It ends after
-//! the last entry, or after an error if the text is refused. [`file::read`] reads a whole text. An
-//! [`errors::Error`] has the line that Git reports, and the fault.
-//!
-//! The parts of an [`entry::Entry`] are borrowed from the text. A [`value::Value`] returns the text that its
-//! bytes spell, and a [`section::Subsection`] appends its text to a vector. [`entry::Entry::key_text`] is the
-//! key as `git config --list` shows it.
-//!
-//! [`settings`] looks up typed values in several files, [`walk`] follows includes, [`spelling`] writes
-//! entries, and [`here`] finds the repository that a program runs in.
-//!
-//! [`laws`] states that each text has exactly one reading: it is a configuration file, or it is refused on a
-//! line.
+//! - [`Entries`] yields the entries of a text one by one, in order, and takes no memory. An [`Entry`] has parts
+//!   that are borrowed from the text, and a [`FileError`] the line that Git reports, and the fault.
+//! - [`Walk`] goes on in the files that a file includes, in Git's order. Its caller opens them.
+//! - [`Settings`] holds the entries of several files, and what they include. A [`Key`] finds the last entry, and
+//!   its text is read as a value.
+//! - [`spelling`] writes entries.
+//! - [`laws`] states that each text has exactly one reading: it is a configuration file, or it is refused on a
+//!   line.
 #![tactic(auto)]
 
 mod bytes;
 pub mod entry;
 pub mod errors;
-pub mod file;
+pub mod files;
 mod header;
-pub mod here;
 pub mod include;
+pub mod key;
 pub mod laws;
 pub mod path;
 pub mod pattern;
@@ -32,3 +27,15 @@ pub mod settings;
 pub mod spelling;
 pub mod value;
 pub mod walk;
+
+pub use crate::entry::Entry;
+pub use crate::errors::Error as FileError;
+pub use crate::files::{Content, Files};
+pub use crate::include::{Condition, Includes, Repository};
+pub use crate::key::{Key, KeyError};
+pub use crate::path::Directories;
+pub use crate::reader::Entries;
+pub use crate::settings::{
+    AddError, GetError, IncludeFault, Next, Refused, Setting, Settings, next_of,
+};
+pub use crate::walk::{Include, Known, Place, Step, Walk};

@@ -1,10 +1,12 @@
 //! The name of an included file.
-ghost use Rattle.std.specs.Prelude.{◌≡◌, ◌≤◌, ◌++◌, length, IfOk, MatchOption, List, ℕ, option_copied};
+ghost use Rattle.std.specs.Prelude.{◌≡◌, ◌≤◌, ◌++◌, length, drop, IfOk, MatchOption, None, Some};
+ghost use Rattle.std.specs.Prelude.{option_copied};
 ghost use Rattle.config_file.specs.Path as spec;
 ghost use Rattle.config_file.specs.Path.{Expands, BeginsUnknown, IsIncludedName, is_no_slash};
 ghost use Rattle.std.specs.List.{suffix_len};
 
 use crate::bytes::strip;
+use config_path::parts::{Form, form_of};
 use std::alloc::{AllocError, Global};
 
 /// The directories that a path may begin with.
@@ -62,19 +64,21 @@ pub struct Expanded<'e> {
     pub rest: &'e [u8],
 }
 
-/// Whether the bytes are empty or begin with `/`.
-pub(crate) fn is_rest(rest: &[u8]) -> bool
-    ensures { result ≡ spec.is_rest rest.now }
+/// The directory, if it is known, and the value without its first bytes.
+fn below<'e>(directory: Option<&'e [u8]>, value: &'e [u8], front: usize) -> Option<Expanded<'e>>
+    requires { front ≤ length value.now }
+    ensures { MatchOption result (option_copied directory.entry ≡ None)
+        (λ parts. (option_copied directory.entry ≡ Some parts.directory.now)
+        × (parts.rest.now ≡ drop front value.now)) }
 {
-    match rest {
-        [] => true,
-        [first, ..] => *first == b'/',
-    }
+    Some(Expanded {
+        directory: directory?,
+        rest: &value[front..],
+    })
 }
 
 /// The path of a value, in two parts, or `None` if the value begins with a directory that is not known. Users
 /// are not looked up, so the directory of `~user` is not known.
-#[tactic(auto, using(crate::proofs::Paths::at_home, crate::proofs::Paths::at_prefix, crate::proofs::Paths::elsewhere, crate::proofs::Paths::of_user, crate::proofs::Paths::without_home, crate::proofs::Paths::without_prefix))]
 pub fn expand<'e>(value: &'e [u8], directories: Directories<'e>) -> Option<Expanded<'e>>
     ensures { MatchOption result
         (BeginsUnknown (option_copied directories.entry.home) (option_copied directories.entry.install_dir)
@@ -83,24 +87,13 @@ pub fn expand<'e>(value: &'e [u8], directories: Directories<'e>) -> Option<Expan
         (option_copied directories.entry.install_dir) value.now
         (parts.directory.now ++ parts.rest.now)) }
 {
-    if let Some(rest) = strip(value, b"~") {
-        if !is_rest(rest) {
-            return None;
-        }
-        return match directories.home {
-            Some(directory) => Some(Expanded { directory, rest }),
-            None => None,
-        };
+    match form_of(value) {
+        Form::BelowHome(_) => below(directories.home, value, 1),
+        Form::BelowPrefix(_) => below(directories.install_dir, value, 9),
+        Form::BelowUser(_, _) => None,
+        Form::Empty | Form::Other(_) => Some(Expanded {
+            directory: b"",
+            rest: value,
+        }),
     }
-    if let Some(_rest) = strip(value, b"%(prefix)/") {
-        let (_, rest) = value.split_at(9);
-        return match directories.install_dir {
-            Some(directory) => Some(Expanded { directory, rest }),
-            None => None,
-        };
-    }
-    Some(Expanded {
-        directory: b"",
-        rest: value,
-    })
 }

@@ -8,7 +8,7 @@ use crate::bytes::{after_byte, split};
 use std::alloc::AllocError;
 
 /// A section: its name, and its subsection if the header has one.
-#[derive(Clone, Copy)]
+#[derive(Clone, Copy, Debug)]
 pub struct Section<'a> {
     /// Letters, digits, `-` and `.`, in the case of the text. The name can be empty only before a subsection.
     pub name: &'a [u8],
@@ -27,7 +27,7 @@ impl<'a> Section<'a> {
 }
 
 /// A subsection: the bytes between its quotes.
-#[derive(Clone, Copy)]
+#[derive(Clone, Copy, Debug)]
 pub struct Subsection<'a> {
     /// The bytes as they are in the text, with their backslashes.
     pub raw: &'a [u8],

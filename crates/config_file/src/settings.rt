@@ -1,20 +1,21 @@
 //! The settings of several files, in order. The last entry of a key decides its value.
-ghost use Rattle.std.specs.Prelude.{◌≡◌, ◌≢◌, ◌++◌, ◌↔◌, ℕ, List, [], Some, IsTrue, MatchOption, MatchResult};
-ghost use Rattle.std.specs.Prelude.{IfOk, IsUtf8, map, option_copied, option_map};
-ghost use Rattle.std.specs.Str.{str_to_ascii_lowercase};
-ghost use Rattle.config_text.specs.Settings.{IsAbsent};
-ghost use Rattle.config_file.specs.Settings.{place_shown, add_error_shown};
-ghost use Rattle.config_file.specs.Settings.{section_stem, stem, listed, text_of, texts, IsLast, Tells};
-ghost use Rattle.config_file.specs.Settings.{ReadsSetting, Gets, all_named, IsSettingOf, AddsFile};
-ghost use Rattle.config_file.specs.Settings.{path_bytes, IsPathOfSetting};
-ghost use Rattle.config_file.specs.Views.{entry_of};
-ghost use Rattle.config_path.specs.Interpolation.{known_in};
+ghost use Rattle.std.specs.Prelude.{◌≡◌, ◌++◌, ◌<◌, length, IfSome, List, ℕ, [], Some, MatchOption, IfOk, OnOk, IsUtf8, map, option_map};
 ghost use Rattle.std.specs.Option.{ForSome};
+ghost use Rattle.config_path.specs.Interpolation.{known_in};
+ghost use Rattle.config_file.specs.Settings.{place_shown, add_error_shown, include_fault_text, text_of, path_bytes};
+ghost use Rattle.config_file.specs.Settings.{IsSettingOf, Tells, ReadsSetting, IsPathOfSetting};
+ghost use Rattle.config_file.specs.Settings.{AddsFile, AddsWalk, IsNext};
+ghost use Rattle.config_file.specs.Reading.Adds.{AddsEntry, AddsNext};
+ghost use Rattle.config_file.specs.Settings.{AreListed, LacksKey, IsLast, IsLastAt, AllWithKey, Gets};
+ghost use Rattle.config_file.specs.KeyView.{key_of};
+ghost use Rattle.config_file.specs.Views.{entry_of};
 
-use crate::bytes::strip;
 use crate::entry::Entry;
 use crate::errors::Error as FileError;
+use crate::files::{Content, Files};
+use crate::key::{Key, KeyError};
 use crate::reader::Entries;
+use crate::walk::{Include, Known, Place, Step, Walk};
 use bstr::BStr;
 use config_path::interpolate::{Context, Error as PathError};
 use config_path::parts::{Parts, parts_of};
@@ -22,73 +23,101 @@ use config_path::path::cut_mark;
 use config_text::errors::Fault;
 use config_text::readers::TryRead;
 use std::alloc::{AllocError, Global};
+use std::borrow::CowSlice;
 use std::{error, fmt};
 
-/// An entry of a file, with its key as Git lists it and the text of its value.
-#[derive(Drop)]
-pub struct Setting<'a> {
+/// An entry of a file, and the text of its value. Both are borrowed from the text of the file, but for a value
+/// that is quoted, escaped or continued.
+#[derive(Debug, Drop)]
+pub struct Setting<'t> {
     /// The name of the file.
-    pub file: &'a str,
-    /// The line of the entry, from 1.
-    pub line: usize,
-    /// The key as Git lists it.
-    pub key: Vec<u8>,
-    /// The text of the value, or `None` for a key alone.
-    pub value: Option<Vec<u8>>,
+    pub file: &'t [u8],
+    /// The entry.
+    pub entry: Entry<'t>,
+    /// The text of its value, or `None` for a key alone.
+    pub value: Option<CowSlice<'t, u8>>,
 }
 
-/// The entries of several files, in the order in which the files were added.
-///
-/// ```rust
-/// use config_file::settings::Settings;
-/// use gix_config_value::Boolean;
-///
-/// let mut settings = Settings::new(alloc);
-/// assert!(rt; settings.add_file(alloc, "/etc/gitconfig", b"[core]\n\tbare = no").is_ok());
-/// assert!(rt; settings.add_file(alloc, ".git/config", b"[core]\n\tbare\n\tautoCRLF = x").is_ok());
-/// let is_bare = settings.get::<Boolean>(b"core", None, b"bare").expect(&rt, "no refusal");
-/// assert!(rt; is_bare == Some(Boolean(true)));
-/// let refused = settings.get::<Boolean>(b"core", None, b"autocrlf").unwrap_err();
-/// assert_eq!(rt; (refused.file, refused.line), (".git/config", 3));
-/// ```
-#[derive(Drop)]
-pub struct Settings<'a> {
-    /// The entries, in order.
-    pub entries: Vec<Setting<'a>>,
-}
-
-/// The refusal of an entry: its text has no value of the wanted type.
+/// The refusal of a setting: its text has no value of the wanted type.
 #[derive(Clone, Copy, Debug)]
-pub struct Refused<'s, F> {
-    /// The name of the file.
-    pub file: &'s str,
-    /// The line of the entry, from 1.
-    pub line: usize,
-    /// The key as Git lists it.
-    pub key: &'s [u8],
-    /// The text of the value, or `None` for a key alone.
-    pub value: Option<&'s [u8]>,
-    /// Why the text is refused.
+pub struct Refused<'s, 't, F> {
+    /// The setting.
+    pub setting: &'s Setting<'t>,
+    /// Why its text is refused.
     pub fault: F,
 }
 
-impl<F: fmt::Display> fmt::Display for Refused<'_, F> {
+impl<F: fmt::Display> fmt::Display for Refused<'_, '_, F> {
     ghost output = { λ refused. option_map
-        (λ reason. place_shown refused.file.now refused.line refused.key.now ++ reason)
+        (λ reason. place_shown refused.setting.now ++ reason)
         (F.output refused.fault) };
 
+    /// Writes `FILE:LINE: KEY: reason`, with the key as it is written in the file.
     fn fmt<W: fmt::Write>(&self, f: &mut fmt::Formatter<W>) -> fmt::Result {
-        let key = BStr::new(self.key);
-        write!(f, "{}:{}: {key}: {}", self.file, self.line, self.fault)
+        let Setting { file, entry, .. } = self.setting;
+        write!(f, "{}:{}: ", BStr::new(file), entry.line)?;
+        if let Some(section) = &entry.section {
+            write!(f, "{}.", BStr::new(section.name))?;
+            if let Some(subsection) = &section.subsection {
+                write!(f, "{}.", BStr::new(subsection.raw))?;
+            }
+        }
+        write!(f, "{}: {}", BStr::new(entry.key), self.fault)
     }
 }
 
-/// Why not all entries of a file are added.
-#[derive(Debug, Drop)]
-pub enum AddError<'a> {
-    /// A line of the file is invalid. The entries before it are added.
-    Line { file: &'a str, error: FileError },
-    /// Memory for an entry was refused. The entries before it are added.
+/// Why Git does not go on after an entry that includes a file.
+#[derive(Clone, Copy, Debug)]
+pub enum IncludeFault<'t> {
+    /// The entry has no value.
+    MissingValue,
+    /// Its path begins with a user's name, or with a directory that is not known.
+    UnknownDirectory,
+    /// The file cannot be read, for the reason that the text says.
+    Unreadable(&'t str),
+    /// The file is more than ten includes deep.
+    TooDeep,
+}
+
+impl<'t> IncludeFault<'t> {
+    /// The reason in words, which `Display` writes.
+    pub fn text(self) -> &'t str
+        ensures { result.now ≡ include_fault_text self.entry }
+    {
+        match self {
+            IncludeFault::MissingValue => "an include has no value",
+            IncludeFault::UnknownDirectory => {
+                "the path of an include begins with an unknown directory"
+            }
+            IncludeFault::Unreadable(why) => why,
+            IncludeFault::TooDeep => "files include each other too deep",
+        }
+    }
+}
+
+impl fmt::Display for IncludeFault<'_> {
+    ghost output = { λ fault. Some (include_fault_text fault) };
+
+    fn fmt<W: fmt::Write>(&self, f: &mut fmt::Formatter<W>) -> fmt::Result {
+        f.write_str(self.text())
+    }
+}
+
+/// Why not all entries of a file, or of the files that it includes, are added.
+#[derive(Clone, Copy, Debug)]
+pub enum AddError<'t> {
+    /// A line of a file cannot be read. The entries before it are added.
+    Line {
+        file: &'t [u8],
+        error: FileError,
+    },
+    /// An include cannot be followed. The entries up to it are added.
+    Include {
+        file: &'t [u8],
+        line: usize,
+        fault: IncludeFault<'t>,
+    },
+    /// Memory was refused. The entries before that are added.
     Memory(AllocError),
 }
 
@@ -98,7 +127,10 @@ impl fmt::Display for AddError<'_> {
     /// Writes `FILE:LINE: reason`, or `no memory`.
     fn fmt<W: fmt::Write>(&self, f: &mut fmt::Formatter<W>) -> fmt::Result {
         match self {
-            AddError::Line { file, error } => write!(f, "{file}:{error}"),
+            AddError::Line { file, error } => write!(f, "{}:{error}", BStr::new(file)),
+            AddError::Include { file, line, fault } => {
+                write!(f, "{}:{line}: {fault}", BStr::new(file))
+            }
             AddError::Memory(_) => f.write_str("no memory"),
         }
     }
@@ -106,58 +138,25 @@ impl fmt::Display for AddError<'_> {
 
 impl error::Error for AddError<'_> {}
 
-/// What follows this prefix in lower case, or `None` if the text does not begin with that.
-fn strip_lower<'t>(text: &'t [u8], front: &[u8]) -> Option<&'t [u8]>
-    ensures { MatchOption result ((rest : List ℕ) → text.now ≢ str_to_ascii_lowercase front.now ++ rest)
-        (λ rest. text.now ≡ str_to_ascii_lowercase front.now ++ rest.now) }
-{
-    let mut rest = text;
-    for byte in front {
-        let (first, others) = rest.split_first()?;
-        if *first != byte.to_ascii_lowercase() {
-            return None;
-        }
-        rest = others;
-    }
-    Some(rest)
+/// Why a key has no value of the wanted type.
+#[derive(Clone, Copy, Debug)]
+pub enum GetError<'s, 't> {
+    /// The text is no key.
+    Key(KeyError),
+    /// The text of its last setting has no value of the type.
+    Refused(Refused<'s, 't, Fault>),
 }
 
-/// What follows the section and its dot in a key as Git lists it, if it has them.
-fn after_section<'t>(listed: &'t [u8], section: &[u8]) -> Option<&'t [u8]>
-    ensures { MatchOption result ((rest : List ℕ) → listed.now ≢ section_stem section.now ++ rest)
-        (λ rest. listed.now ≡ section_stem section.now ++ rest.now) }
-{
-    strip(strip_lower(listed, section)?, b".")
-}
-
-/// What follows the section, the subsection and their dots in a key as Git lists it, if it has them.
-fn after_stem<'t>(listed: &'t [u8], section: &[u8], subsection: Option<&[u8]>) -> Option<&'t [u8]>
-    ensures { MatchOption result
-        ((rest : List ℕ) → listed.now ≢ stem section.now (option_copied subsection.entry) ++ rest)
-        (λ rest. listed.now ≡ stem section.now (option_copied subsection.entry) ++ rest.now) }
-{
-    let rest = after_section(listed, section)?;
-    match subsection {
-        Some(subsection) => strip(strip(rest, subsection)?, b"."),
-        None => Some(rest),
-    }
-}
-
-impl<'a> Setting<'a> {
+impl<'t> Setting<'t> {
     /// The setting of an entry of a file. It fails only if memory is refused.
-    pub fn of_entry(alloc: Global, file: &'a str, entry: &Entry<'_>) -> Result<Self, AllocError>
-        ensures { IfOk result (IsSettingOf file.now (entry_of entry.now)) }
+    pub fn of_entry(alloc: Global, file: &'t [u8], entry: Entry<'t>) -> Result<Self, AllocError>
+        ensures { IfOk result (IsSettingOf (file.now, entry_of entry.entry)) }
     {
         let value = match &entry.value {
-            Some(value) => Some(value.text(alloc)?.into_owned(alloc)?),
+            Some(value) => Some(value.text(alloc)?),
             None => None,
         };
-        Ok(Self {
-            file,
-            line: entry.line,
-            key: entry.key_text(alloc)?,
-            value,
-        })
+        Ok(Self { file, entry, value })
     }
 
     /// The text for a reader: that of the value, or `true` for a key alone.
@@ -165,46 +164,23 @@ impl<'a> Setting<'a> {
         ensures { result.now ≡ text_of self.now }
     {
         match &self.value {
-            Some(text) => text.as_slice(),
+            Some(text) => text,
             None => b"true",
         }
     }
 
-    /// Whether this is an entry of the key. The section and the key are compared ignoring ASCII case, the
-    /// subsection byte by byte.
-    pub fn is_named(&self, section: &[u8], subsection: Option<&[u8]>, key: &[u8]) -> bool
-        ensures { IsTrue result
-            ↔ (self.now.key.items ≡ listed section.now (option_copied subsection.entry) key.now) }
+    /// A refusal of this setting, with this fault.
+    pub fn refused<F>(&self, fault: F) -> Refused<'_, 't, F>
+        ensures { Tells self.now fault result }
     {
-        match after_stem(&self.key, section, subsection) {
-            Some(rest) => match strip_lower(rest, key) {
-                Some(rest) => rest.is_empty(),
-                None => false,
-            },
-            None => false,
-        }
-    }
-
-    /// A refusal of this entry, with this fault.
-    pub fn refused<F>(&self, fault: F) -> Refused<'_, F>
-        ensures place { Tells self.now result }
-        ensures fault { result.fault ≡ fault }
-    {
-        let value = match &self.value {
-            Some(text) => Some(text.as_slice()),
-            None => None,
-        };
         Refused {
-            file: self.file,
-            line: self.line,
-            key: self.key.as_slice(),
-            value,
+            setting: self,
             fault,
         }
     }
 
     /// The value of the text, or a refusal with the place of the entry.
-    pub fn read<V: TryRead>(&self) -> Result<V, Refused<'_, Fault>>
+    pub fn read<V: TryRead>(&self) -> Result<V, Refused<'_, 't, Fault>>
         ensures { ReadsSetting V.grammar V.refusal self.now result }
     {
         match V::try_read(self.text()) {
@@ -218,7 +194,7 @@ impl<'a> Setting<'a> {
         ensures { result.now ≡ path_bytes self.now }
     {
         match &self.value {
-            Some(text) => text.as_slice(),
+            Some(text) => text,
             None => &[],
         }
     }
@@ -228,7 +204,7 @@ impl<'a> Setting<'a> {
     pub fn path<'s, 'c, F>(
         &'s self,
         context: Context<'c, F>,
-    ) -> Result<(bool, Parts<'c, 's>), Refused<'s, PathError<'s>>>
+    ) -> Result<(bool, Parts<'c, 's>), Refused<'s, 't, PathError<'s>>>
     where
         F: FnOnce(&str) -> Option<&'c str> + Drop,
         requires { ForSome context.home_for_user (λ f. (name : _) → IsUtf8 name.now → F.pre f name) }
@@ -242,9 +218,80 @@ impl<'a> Setting<'a> {
     }
 }
 
-impl<'a> Settings<'a> {
+/// The index of the last of these settings with a key, or `None` if none has it.
+fn last_index(settings: &[Setting<'_>], key: &Key<'_>) -> Option<usize>
+    ensures last { AreListed settings.now → MatchOption result (LacksKey settings.now (key_of key.now))
+        (IsLastAt settings.now (key_of key.now)) }
+    ensures within { IfSome result (λ index. index < length settings.now) }
+{
+    let mut index = settings.len();
+    'settings: while index > 0 {
+        index -= 1;
+        if key.is_of(&settings[index].entry) {
+            return Some(index);
+        }
+    }
+    None
+}
+
+/// The settings of several files, in the order in which the files were added.
+///
+/// ```rust
+/// use config_file::{GetError, Settings};
+/// use gix_config_value::Boolean;
+///
+/// let mut settings = Settings::new(alloc);
+/// assert!(rt; settings.add_file(alloc, b"/etc/gitconfig", b"[core]\n\tbare = no").is_ok());
+/// assert!(rt; settings.add_file(alloc, b".git/config", b"[core]\n\tbare\n\tautoCRLF = x").is_ok());
+/// let is_bare = settings.get::<Boolean>("core.bare").expect(&rt, "no refusal");
+/// assert!(rt; is_bare == Some(Boolean(true)));
+/// let GetError::Refused(refused) = settings.get::<Boolean>("core.autocrlf").unwrap_err() else {
+///     panic!(rt; "a refusal");
+/// };
+/// assert_eq!(rt; refused.setting.entry.line, 3);
+/// ```
+#[derive(Drop)]
+pub struct Settings<'t> {
+    /// The settings, in order.
+    pub entries: Vec<Setting<'t>>,
+}
+
+/// How a walk goes on after an entry.
+#[derive(Drop)]
+pub enum Next<'t> {
+    /// Behind it: the entry includes no file, or there is no such file.
+    Behind,
+    /// In the file at this place, which has this text.
+    In(Place<'t>, &'t [u8]),
+    /// Not at all, as Git stops here.
+    Stops(IncludeFault<'t>),
+}
+
+/// How a walk goes on after an entry that includes this. The files are asked for the text. It fails only if
+/// memory is refused.
+pub fn next_of<'t, S: Files<'t>>(
+    alloc: Global,
+    files: &S,
+    include: Include,
+) -> Result<Next<'t>, AllocError>
+    ensures { IfOk result (IsNext (S.contents files.now) include) }
+{
+    let name = match include {
+        Include::NotFollowed => return Ok(Next::Behind),
+        Include::MissingValue => return Ok(Next::Stops(IncludeFault::MissingValue)),
+        Include::UnknownDirectory => return Ok(Next::Stops(IncludeFault::UnknownDirectory)),
+        Include::Named(name) => name,
+    };
+    match files.read(alloc, &name)? {
+        Content::Text(place, text) => Ok(Next::In(place, text)),
+        Content::Missing => Ok(Next::Behind),
+        Content::Unreadable(why) => Ok(Next::Stops(IncludeFault::Unreadable(why))),
+    }
+}
+
+impl<'t> Settings<'t> {
     /// Settings without any entry.
-    pub fn new(alloc: Global) -> Settings<'a>
+    pub fn new(alloc: Global) -> Settings<'t>
         ensures { result.entries.items ≡ [] }
     {
         Settings {
@@ -252,14 +299,24 @@ impl<'a> Settings<'a> {
         }
     }
 
-    /// Appends the entries of a file, which decide over earlier ones. The name of the file is kept for
-    /// refusals.
+    /// Adds the setting of an entry.
+    fn add(&mut self, alloc: Global, file: &'t [u8], entry: Entry<'t>) -> Result<(), AllocError>
+        ensures { AddsEntry (file.now, entry_of entry.entry) self.old.entries.items self.new.entries.items result }
+    {
+        let setting = Setting::of_entry(alloc, file, entry)?;
+        match self.entries.push(setting) {
+            Ok(()) => Ok(()),
+            Err(_) => Err(AllocError),
+        }
+    }
+
+    /// Adds the entries of a file, which decide over earlier ones. Its includes are entries as others are.
     pub fn add_file(
         &mut self,
         alloc: Global,
-        file: &'a str,
-        text: &[u8],
-    ) -> Result<(), AddError<'a>>
+        file: &'t [u8],
+        text: &'t [u8],
+    ) -> Result<(), AddError<'t>>
         ensures { AddsFile file.now text.now self.old.entries.items self.new.entries.items result }
     {
         for entry in Entries::new(text) {
@@ -267,74 +324,122 @@ impl<'a> Settings<'a> {
                 Ok(entry) => entry,
                 Err(error) => return Err(AddError::Line { file, error }),
             };
-            let setting = match Setting::of_entry(alloc, file, &entry) {
-                Ok(setting) => setting,
+            match self.add(alloc, file, entry) {
+                Ok(()) => {}
                 Err(error) => return Err(AddError::Memory(error)),
-            };
-            if self.entries.push(setting).is_err() {
-                return Err(AddError::Memory(AllocError));
             }
         }
         Ok(())
     }
 
-    /// The last entry of a key, or `None` if no entry has it.
-    pub fn last(
-        &self,
-        section: &[u8],
-        subsection: Option<&[u8]>,
-        key: &[u8],
-    ) -> Option<&Setting<'a>>
-        ensures { MatchOption result
-            (IsAbsent (texts self.now.entries.items)
-            (listed section.now (option_copied subsection.entry) key.now))
-            (λ s. IsLast self.now.entries.items
-            (listed section.now (option_copied subsection.entry) key.now) s.now) }
+    /// Adds the entries of a file, and those of the files that it includes, in Git's order. They decide over
+    /// earlier ones. It stops where Git does.
+    pub fn add_with_includes<S: Files<'t>>(
+        &mut self,
+        alloc: Global,
+        files: &S,
+        known: &Known<'_>,
+        place: Place<'t>,
+        text: &'t [u8],
+    ) -> Result<(), AddError<'t>>
+        ensures { AddsWalk (S.contents files.now) known.now place.entry text.now
+            self.old.entries.items self.new.entries.items result }
     {
-        let index = self
-            .entries
-            .iter()
-            .rposition(|entry| entry.is_named(section, subsection, key))?;
+        let mut walk = Walk::new(place, text);
+        'steps: for _ in 0..u64::MAX {
+            let goes_on = match self.add_next(alloc, files, known, &mut walk) {
+                Ok(goes_on) => goes_on,
+                Err(error) => return Err(error),
+            };
+            if !goes_on {
+                return Ok(());
+            }
+        }
+        Err(AddError::Memory(AllocError))
+    }
+
+    /// Adds the next entry of a walk, and enters the file that it includes. Returns false at the end.
+    fn add_next<S: Files<'t>>(
+        &mut self,
+        alloc: Global,
+        files: &S,
+        known: &Known<'_>,
+        walk: &mut Walk<'t>,
+    ) -> Result<bool, AddError<'t>>
+        ensures { AddsNext (S.contents files.now) known.now walk.old.frames.items walk.new.frames.items
+            self.old.entries.items self.new.entries.items result }
+    {
+        let step = match walk.next(alloc, known) {
+            Ok(step) => step,
+            Err(error) => return Err(AddError::Memory(error)),
+        };
+        let (place, entry, include) = match step {
+            Step::Entry(place, entry, include) => (place, entry, include),
+            Step::Line(place, error) => {
+                let file = place.name;
+                return Err(AddError::Line { file, error });
+            }
+            Step::Ends => return Ok(false),
+        };
+        let (file, line) = (place.name, entry.line);
+        let next = match next_of(alloc, files, include) {
+            Ok(next) => next,
+            Err(error) => return Err(AddError::Memory(error)),
+        };
+        match self.add(alloc, file, entry) {
+            Ok(()) => {}
+            Err(error) => return Err(AddError::Memory(error)),
+        }
+        match next {
+            Next::Behind => Ok(true),
+            Next::In(place, text) if walk.enter(place, text) => Ok(true),
+            Next::In(_, _) => {
+                let fault = IncludeFault::TooDeep;
+                Err(AddError::Include { file, line, fault })
+            }
+            Next::Stops(fault) => Err(AddError::Include { file, line, fault }),
+        }
+    }
+
+    /// The last setting with a key, or `None` if no entry has it. Git lists each entry of a file.
+    pub fn last(&self, key: &Key<'_>) -> Option<&Setting<'t>>
+        ensures { AreListed self.now.entries.items
+            → MatchOption result (LacksKey self.now.entries.items (key_of key.now))
+            (λ setting. IsLast self.now.entries.items (key_of key.now) setting.now) }
+    {
+        let index = last_index(&self.entries, key)?;
         Some(&self.entries[index])
     }
 
-    /// The entries of a key, in order. It fails only if memory is refused.
-    pub fn all(
-        &self,
-        alloc: Global,
-        section: &[u8],
-        subsection: Option<&[u8]>,
-        key: &[u8],
-    ) -> Result<Vec<&Setting<'a>>, AllocError>
-        ensures { IfOk result (λ v. map (λ s. s.now) v.items
-            ≡ all_named (listed section.now (option_copied subsection.entry) key.now)
-            self.now.entries.items) }
+    /// The settings with a key, in order. It fails only if memory is refused.
+    pub fn all(&self, alloc: Global, key: &Key<'_>) -> Result<Vec<&Setting<'t>>, AllocError>
+        ensures { AreListed self.now.entries.items → IfOk result
+            (λ all. AllWithKey (key_of key.now) self.now.entries.items (map (λ setting. setting.now) all.items)) }
     {
         let mut all = Vec::new(alloc);
         for setting in &self.entries {
-            if setting.is_named(section, subsection, key) {
+            if key.is_of(&setting.entry) {
                 all.push(setting)?;
             }
         }
         Ok(all)
     }
 
-    /// The value of the last entry of a key, or `None` if no entry has it.
-    pub fn get<V: TryRead>(
-        &self,
-        section: &[u8],
-        subsection: Option<&[u8]>,
-        key: &[u8],
-    ) -> Result<Option<V>, Refused<'_, Fault>>
-        ensures { Gets V.grammar V.refusal self.now.entries.items
-            (listed section.now (option_copied subsection.entry) key.now) result }
+    /// The value of the last entry of a key, such as `branch.main.rebase`, or `None` if no entry has it.
+    pub fn get<V: TryRead>(&self, key: &str) -> Result<Option<V>, GetError<'_, 't>>
+        ensures { AreListed self.now.entries.items
+            → Gets V.grammar V.refusal self.now.entries.items key.now result }
     {
-        match self.last(section, subsection, key) {
-            Some(setting) => match setting.read() {
-                Ok(value) => Ok(Some(value)),
-                Err(refused) => Err(refused),
-            },
-            None => Ok(None),
+        let key = match Key::parse(key.as_bytes()) {
+            Ok(key) => key,
+            Err(error) => return Err(GetError::Key(error)),
+        };
+        let Some(setting) = self.last(&key) else {
+            return Ok(None);
+        };
+        match setting.read() {
+            Ok(value) => Ok(Some(value)),
+            Err(refused) => Err(GetError::Refused(refused)),
         }
     }
 }

@@ -28,7 +28,7 @@ pub(crate) fn escape(letter: u8) -> Option<u8>
 }
 
 /// A value, as it is written in the text.
-#[derive(Clone, Copy)]
+#[derive(Clone, Copy, Debug)]
 pub struct Value<'a> {
     /// The bytes from the `=` to the line end or to the comment, with quotes, backslashes and all blanks.
     pub raw: &'a [u8],

@@ -1,6 +1,6 @@
 -- The result of interpolating a path value: the path table.
 use Rattle.std.specs.Prelude.{◌≡◌, ◌≢◌, ℕ, nat_eq, List, [], ◌∷◌, ◌++◌, codes, Option, None, Some}
-use Rattle.std.specs.Prelude.{option_copied, Result, Ok, Err, string_bytes, IsUtf8, if◌then◌else◌, ⊤}
+use Rattle.std.specs.Prelude.{option_map, Result, Ok, Err, string_bytes, IsUtf8, if◌then◌else◌, ⊤}
 use Rattle.std.specs.Fn.{Once, FnOnceReturnsAt}
 use Rattle.std.specs.List.{starts_with, ends_with, AllByRecursion}
 use Rattle.std.specs.declared.string.String.{String}
@@ -159,26 +159,31 @@ pub record Interpolated (known : Known) (value : List ℕ) (r : Result (String G
 
 -- ---- what a context knows
 
--- the lookup may return this directory, or `None`, for the name
-abbrev pub LooksUp : {F : Type 0} → Once F (Bor (List ℕ) × Unit {0}) (Option (Bor (List ℕ))) → F → List ℕ
+-- the lookup may find a directory with these bytes, or `None`, for the name
+abbrev pub LooksUp : {H D : Type 0} → (D → List ℕ) → (H → List ℕ → Option D → Type 0) → H → List ℕ
     → Option (List ℕ) → Type 0
-LooksUp lookup f name answer =
-    (r : Option (Bor (List ℕ))) × FnOnceReturnsAt lookup f name r × (option_copied r ≡ answer)
+LooksUp {D = D} bytes finds lookup name answer =
+    (found : Option D) × finds lookup name found × (option_map bytes found ≡ answer)
 
 -- the users that a lookup knows, if there is one
-abbrev pub users_of : {F : Type 0} → Once F (Bor (List ℕ) × Unit {0}) (Option (Bor (List ℕ))) → Option F
-    → Users
-users_of lookup None = no_lookup
-users_of lookup (Some f) = looked_up (LooksUp lookup f)
+abbrev pub users_of : {H D : Type 0} → (D → List ℕ) → (H → List ℕ → Option D → Type 0) → Option H → Users
+users_of bytes finds None = no_lookup
+users_of bytes finds (Some lookup) = looked_up (LooksUp bytes finds lookup)
+
+-- what two directories and a lookup know, if directories have these bytes and the lookup finds these homes
+abbrev pub known_by : {H D : Type 0} → (D → List ℕ) → (H → List ℕ → Option D → Type 0)
+    → (install_dir home_dir : Option D) → Option H → Known
+known_by bytes finds install_dir home_dir lookup = record {
+  install_dir = option_map bytes install_dir;
+  home_dir = option_map bytes home_dir;
+  users = users_of bytes finds lookup;
+}
 
 -- the directories and users that a context knows
 abbrev pub known_in : {F : Type 0} → Once F (Bor (List ℕ) × Unit {0}) (Option (Bor (List ℕ))) → Context F
     → Known
-known_in lookup context = record {
-  install_dir = option_copied context.git_install_dir;
-  home_dir = option_copied context.home_dir;
-  users = users_of lookup context.home_for_user;
-}
+known_in lookup context = known_by (λ dir. dir.now) (λ f name found. FnOnceReturnsAt lookup f name found)
+    context.git_install_dir context.home_dir context.home_for_user
 
 -- ---- conditions of the laws
 

@@ -1,5 +1,6 @@
 -- The text that parts make.
 use Rattle.std.specs.Prelude.{ℕ, List, [], ◌++◌, codes, Result, Ok, Err, if◌then◌else◌, option_copied}
+use Rattle.std.specs.Option.{option_map_or}
 use Rattle.config_path.specs.declared.interpolate.Error.{Error}
 use Rattle.config_path.specs.declared.parts.Form as code
 use Rattle.config_path.specs.declared.parts.Form.TheVariants as forms
@@ -26,11 +27,11 @@ form_in (forms.BelowHome rest) = below_home (option_copied rest)
 form_in (forms.BelowUser name rest) = below_user name.now (option_copied rest)
 form_in (forms.Other value) = other value.now
 
--- the text that a joint makes with this directory
-abbrev pub joint_text : List ℕ → Joint → List ℕ
-joint_text dir j = (if j.has_dir then dir else []) ++ (if j.has_slash then codes "/" else []) ++ j.rest.now
+-- the text of a joint, if a directory has these bytes
+abbrev pub joint_text : {D : Type 0} → (D → List ℕ) → Joint D → List ℕ
+joint_text bytes j = option_map_or bytes j.dir [] ++ (if j.has_slash then codes "/" else []) ++ j.rest.now
 
--- a joint with this directory, or an error, as a result of the path table
-abbrev pub joint_result : List ℕ → Result Joint Error → PathResult
-joint_result dir (Ok j) = text (joint_text dir j)
-joint_result dir (Err e) = refusal e
+-- a joint, or an error, as a result of the path table
+abbrev pub joint_result : {D : Type 0} → (D → List ℕ) → Result (Joint D) Error → PathResult
+joint_result bytes (Ok j) = text (joint_text bytes j)
+joint_result bytes (Err e) = refusal e

@@ -1,6 +1,7 @@
 //! The command line.
 
 use clap::{Arg, ArgAction, ArgMatches, Command};
+use config_host::surroundings::Followed;
 use gix_config_value::canonical::Kind;
 use std::alloc::{AllocError, Global};
 
@@ -13,8 +14,8 @@ pub struct Request<'m, 'a> {
     pub key: Option<&'a str>,
     /// The kind as which the value is read. Without a kind, the text is printed unchanged.
     pub kind: Option<Kind>,
-    /// Whether includes are followed.
-    pub includes: bool,
+    /// Which includes are followed.
+    pub followed: Followed,
     /// Whether a NUL follows each entry and each value.
     pub null: bool,
 }
@@ -26,7 +27,11 @@ impl<'m, 'a> Request<'m, 'a> {
             files: matches.get_strs("file")?,
             key: matches.get_str("key"),
             kind: matches.get_one("type"),
-            includes: matches.get_flag("includes"),
+            followed: if matches.get_flag("includes") {
+                Followed::AsGit
+            } else {
+                Followed::Nothing
+            },
             null: matches.get_flag("null"),
         })
     }

@@ -1,54 +1,23 @@
 //! Lists the entries of files, or prints one value of them.
 
 use crate::arguments::Request;
-use crate::includes::{Environment, Source, files, read_included, walk_first};
 use bstr::BStr;
-use config_file::entry::Entry;
-use config_file::reader::Entries;
-use config_file::settings::{AddError, Setting, Settings};
-use config_file::walk::{Known, Walked};
-use gix_config_value::canonical::{normalize, refusal};
-use std::alloc::Global;
-use std::fs;
+use bumpalo::Bump;
+use config_file::{AddError, Entry, IncludeFault, Key, Next, Setting, Step, Walk, next_of};
+use config_host::{Disk, HostError, Surroundings, shown};
+use gix_config_value::canonical::{Kind, normalize, refusal};
+use std::alloc::{AllocError, Global};
+use std::fmt;
 use std::io::{self, BufWriter, Write};
 
 /// How many bytes of output are buffered before they are written.
 const ROOM: usize = 65536;
 
-/// Adds each file that can be read, up to its first invalid line. Reports each file that cannot be read and
-/// each invalid line, and returns whether all files have been added completely.
-fn add_files<'a>(
-    rt: &HostRuntime,
-    files: &[&'a str],
-    settings: &mut Settings<'a>,
-) -> io::Result<bool> {
-    let mut are_whole = true;
-    for file in files {
-        let Some(text) = read_file(rt, *file)? else {
-            are_whole = false;
-            continue;
-        };
-        match settings.add_file(rt.alloc(), *file, &text) {
-            Ok(()) => {}
-            Err(AddError::Memory(error)) => return Err(io::Error::from(error)),
-            Err(error) => {
-                are_whole = false;
-                eprintln!(rt; "{error}")?;
-            }
-        }
-    }
-    Ok(are_whole)
-}
-
-/// The bytes of a file. If it cannot be read, reports that and returns `None`.
-fn read_file(rt: &HostRuntime, file: &str) -> io::Result<Option<Vec<u8>>> {
-    match fs::read(rt, file) {
-        Ok(text) => Ok(Some(text)),
-        Err(error) => {
-            eprintln!(rt; "{file}: {error}")?;
-            Ok(None)
-        }
-    }
+/// Writes a message on standard error.
+pub fn tell<M: fmt::Display + Drop>(rt: &HostRuntime, message: M) -> io::Result<()> {
+    let message = format!(in rt.alloc(); "{message}")?;
+    rt.stderr()
+        .write_all(&shown::line_of(rt.alloc(), &message)?)
 }
 
 /// Writes an entry after its file and its line.
@@ -74,175 +43,166 @@ fn write_entry<W: Write>(
     writer.write_all(end.as_bytes())
 }
 
-/// Lists the entries of a file up to its first invalid line, which it reports. Returns whether the file can
-/// be read and all its lines are valid.
-fn list_file<W: Write>(
-    rt: &HostRuntime,
-    writer: &mut W,
-    file: &str,
+/// A run over the requested files.
+#[derive(Drop)]
+struct Reading<'r, 't, W: Write + Drop> {
+    rt: &'t HostRuntime,
+    disk: Disk<'t, HostRuntime>,
+    surroundings: Surroundings,
+    writer: W,
+    /// Whether a NUL follows each entry and each value.
     null: bool,
-) -> io::Result<bool> {
-    let Some(text) = read_file(rt, file)? else {
-        return Ok(false);
-    };
-    for entry in Entries::new(&text) {
-        match entry {
-            Ok(entry) => write_entry(rt.alloc(), writer, file.as_bytes(), &entry, null)?,
-            Err(error) => {
-                eprintln!(rt; "{file}:{error}")?;
-                return Ok(false);
-            }
-        }
-    }
-    Ok(true)
+    /// The key whose last entry is kept. Without a key the entries are listed.
+    key: Option<Key<'r>>,
+    last: Option<(&'t [u8], Entry<'t>)>,
 }
 
-/// Lists the entries of the files in order. Returns whether all files have been listed completely.
-fn list<W: Write>(
-    rt: &HostRuntime,
-    writer: &mut W,
-    files: &[&str],
-    null: bool,
-) -> io::Result<bool> {
-    let mut are_whole = true;
-    for file in files {
-        are_whole &= list_file(rt, writer, *file, null)?;
-    }
-    writer.flush()?;
-    Ok(are_whole)
-}
-
-/// Splits a key such as `core.bare` or `branch.main.rebase` into section, subsection and name. The subsection
-/// is what is between the first dot and the last one. Returns `None` if the key has no dot.
-fn split_key(key: &str) -> Option<(&str, Option<&str>, &str)> {
-    let (section, rest) = key.split_once('.')?;
-    match rest.rsplit_once('.') {
-        Some((subsection, name)) => Some((section, Some(subsection), name)),
-        None => Some((section, None, rest)),
-    }
-}
-
-/// The last entry of a key, or `None` if no entry has it.
-fn find<'s, 'a>(settings: &'s Settings<'a>, key: &str) -> Option<&'s Setting<'a>> {
-    let (section, subsection, name) = split_key(key)?;
-    let subsection = match subsection {
-        Some(subsection) => Some(subsection.as_bytes()),
-        None => None,
-    };
-    settings.last(section.as_bytes(), subsection, name.as_bytes())
-}
-
-/// Prints the last value of a key: its text, or the canonical text of a kind. Reports a key that no entry has
-/// and a text that the kind refuses, and returns whether the value is printed.
-fn get<W: Write>(
-    rt: &HostRuntime,
-    writer: &mut W,
-    settings: &Settings<'_>,
-    key: &str,
-    request: &Request<'_, '_>,
-) -> io::Result<bool> {
-    let Some(setting) = find(settings, key) else {
-        eprintln!(rt; "{key}: no entry has this key")?;
-        return Ok(false);
-    };
-    let text = BStr::new(setting.text());
-    match request.kind {
-        None => writer.write_all(text.as_bytes())?,
-        Some(kind) => match normalize(kind, text) {
-            Some(canonical) => writer.write_all(canonical.as_str().as_bytes())?,
-            None => {
-                if let Some(refusal) = refusal(kind, text) {
-                    eprintln!(rt; "{}", setting.refused(refusal))?;
+impl<'t, W: Write + Drop> Reading<'_, 't, W> {
+    /// Lists an entry, or keeps it if it has the key.
+    fn take(&mut self, file: &'t [u8], entry: Entry<'t>) -> io::Result<()> {
+        match &self.key {
+            Some(key) => {
+                if key.is_of(&entry) {
+                    self.last = Some((file, entry));
                 }
+                Ok(())
+            }
+            None => write_entry(self.rt.alloc(), &mut self.writer, file, &entry, self.null),
+        }
+    }
+
+    /// Takes the next entry of a walk, and goes on in the file that it includes. Returns false at the end,
+    /// and an error within the result where Git stops.
+    fn step(&mut self, walk: &mut Walk<'t>) -> Result<Result<bool, AddError<'t>>, HostError> {
+        let alloc = self.rt.alloc();
+        let (file, entry, include) = match walk.next(alloc, &self.surroundings.known())? {
+            Step::Entry(place, entry, include) => (place.name, entry, include),
+            Step::Line(place, error) => {
+                let file = place.name;
+                return Ok(Err(AddError::Line { file, error }));
+            }
+            Step::Ends => return Ok(Ok(false)),
+        };
+        let line = entry.line;
+        let next = next_of(alloc, &self.disk, include)?;
+        self.take(file, entry)?;
+        let fault = match next {
+            Next::Behind => return Ok(Ok(true)),
+            Next::Stops(fault) => fault,
+            Next::In(place, text) => {
+                self.surroundings.prepare(self.rt, text)?;
+                if walk.enter(place, text) {
+                    return Ok(Ok(true));
+                }
+                IncludeFault::TooDeep
+            }
+        };
+        Ok(Err(AddError::Include { file, line, fault }))
+    }
+
+    /// Takes the entries of a file, and of those that it includes. Reports where Git stops, and returns
+    /// whether it does not.
+    fn file(&mut self, name: &str) -> Result<bool, HostError> {
+        let (place, text) = match self.disk.first(name.as_bytes()) {
+            Ok(found) => found,
+            Err(error) if error.is_memory() => return Err(HostError::from(AllocError)),
+            Err(error) => {
+                tell(self.rt, format_args!("{name}: {error}"))?;
                 return Ok(false);
             }
-        },
+        };
+        self.surroundings.prepare(self.rt, text)?;
+        let mut walk = Walk::new(place, text);
+        for _ in 0..u64::MAX {
+            match self.step(&mut walk)? {
+                Ok(true) => {}
+                Ok(false) => break,
+                Err(stop) => {
+                    tell(self.rt, stop)?;
+                    return Ok(false);
+                }
+            }
+        }
+        Ok(true)
     }
-    writer.write_all(if request.null { b"\0" } else { b"\n" })?;
-    writer.flush()?;
-    Ok(true)
+
+    /// Prints the value of the last entry of a key: its text, or the canonical text of a kind. Reports a key
+    /// that no entry has and a text that the kind refuses, and returns whether the value is printed.
+    fn print(&mut self, key: &str, kind: Option<Kind>) -> io::Result<bool> {
+        let Some((file, entry)) = self.last else {
+            tell(self.rt, format_args!("{key}: no entry has this key"))?;
+            return Ok(false);
+        };
+        let setting = Setting::of_entry(self.rt.alloc(), file, entry)?;
+        let text = BStr::new(setting.text());
+        match kind {
+            None => self.writer.write_all(text.as_bytes())?,
+            Some(kind) => match normalize(kind, text) {
+                Some(canonical) => self.writer.write_all(canonical.as_str().as_bytes())?,
+                None => {
+                    if let Some(refusal) = refusal(kind, text) {
+                        tell(self.rt, setting.refused(refusal))?;
+                    }
+                    return Ok(false);
+                }
+            },
+        }
+        self.writer
+            .write_all(if self.null { b"\0" } else { b"\n" })?;
+        Ok(true)
+    }
 }
 
-/// The entries of files, as settings. Entries of files whose names are not UTF-8 are left out.
-fn settings_of<'a>(alloc: Global, walked: &[Walked<'a>]) -> io::Result<Settings<'a>> {
-    let mut settings = Settings::new(alloc);
-    for walked in walked {
-        if let Ok(file) = str::from_utf8(walked.file) {
-            let setting = Setting::of_entry(alloc, file, &walked.entry)?;
-            settings.entries.push(setting)?;
+/// The key that is asked for. Reports a text that is none.
+fn key_of<'k>(rt: &HostRuntime, key: &'k str) -> io::Result<Option<Key<'k>>> {
+    match Key::parse(key.as_bytes()) {
+        Ok(parsed) => Ok(Some(parsed)),
+        Err(error) => {
+            tell(rt, format_args!("{key}: {error}"))?;
+            Ok(None)
         }
     }
-    Ok(settings)
 }
 
-/// The requested files that can be read. Reports the others.
-fn sources(rt: &HostRuntime, files: &[&str]) -> io::Result<Vec<Source>> {
-    let mut sources = Vec::new(rt.alloc());
-    for file in files {
-        if let Some(text) = read_file(rt, *file)? {
-            sources.push(Source::asked_for(rt, *file, text)?)?;
-        }
-    }
-    Ok(sources)
-}
-
-/// Answers the request for the first `count` files and those that they include. Reports where the walks stop,
-/// and returns whether everything succeeds.
-fn answer_known<W: Write>(
-    rt: &HostRuntime,
-    writer: &mut W,
+/// Answers the request for this key, if one is asked for. The texts of the files are kept in `texts`.
+fn answer_in<'t>(
+    rt: &'t HostRuntime,
+    texts: &'t Bump,
     request: &Request<'_, '_>,
-    known: &Known<'_>,
-    count: usize,
-) -> io::Result<bool> {
-    let alloc = rt.alloc();
-    let mut walked = Vec::new(alloc);
-    let stops = walk_first(alloc, known, count, &mut walked)?;
-    for stop in &stops {
-        eprintln!(rt; "{stop}")?;
-    }
-    let Some(key) = request.key else {
-        for walked in &walked {
-            write_entry(alloc, writer, walked.file, &walked.entry, request.null)?;
-        }
-        writer.flush()?;
-        return Ok(stops.is_empty());
+    key: Option<Key<'_>>,
+) -> Result<bool, HostError> {
+    let mut reading = Reading {
+        rt,
+        disk: Disk::new(rt, texts),
+        surroundings: Surroundings::new(rt, request.followed)?,
+        writer: BufWriter::with_capacity(rt.alloc(), ROOM, rt.stdout())?,
+        null: request.null,
+        key,
+        last: None,
     };
-    let settings = settings_of(alloc, &walked)?;
-    Ok(stops.is_empty() && get(rt, writer, &settings, key, request)?)
-}
-
-/// Answers the request for the files and those that they include, as `answer` does.
-fn answer_included<W: Write>(
-    rt: &HostRuntime,
-    writer: &mut W,
-    request: &Request<'_, '_>,
-) -> io::Result<bool> {
-    let environment = Environment::new(rt)?;
-    let mut sources = sources(rt, request.files)?;
-    let count = sources.len();
-    if count < request.files.len() && request.key.is_some() {
-        return Ok(false);
+    let mut is_whole = true;
+    for file in request.files {
+        is_whole &= reading.file(*file)?;
     }
-    read_included(rt, &environment, &mut sources)?;
-    let files = files(rt.alloc(), &sources)?;
-    let known = environment.known(files.as_slice());
-    Ok(answer_known(rt, writer, request, &known, count)? && count == request.files.len())
+    if let Some(key) = request.key {
+        is_whole = is_whole && reading.print(key, request.kind)?;
+    }
+    reading.writer.flush()?;
+    Ok(is_whole)
 }
 
 /// Answers the request, and returns whether everything succeeds. If a file is not read completely, no value
 /// is printed, since a later line could have another one.
-fn answer(rt: &HostRuntime, request: &Request<'_, '_>) -> io::Result<bool> {
-    let mut writer = BufWriter::with_capacity(rt.alloc(), ROOM, rt.stdout())?;
-    if request.includes {
-        return answer_included(rt, &mut writer, request);
-    }
-    let Some(key) = request.key else {
-        return list(rt, &mut writer, request.files, request.null);
+fn answer(rt: &HostRuntime, request: &Request<'_, '_>) -> Result<bool, HostError> {
+    let key = match request.key {
+        Some(key) => match key_of(rt, key)? {
+            Some(key) => Some(key),
+            None => return Ok(false),
+        },
+        None => None,
     };
-    let mut settings = Settings::new(rt.alloc());
-    let are_whole = add_files(rt, request.files, &mut settings)?;
-    Ok(are_whole && get(rt, &mut writer, &settings, key, request)?)
+    let texts = Bump::new(rt.alloc());
+    answer_in(rt, &texts, request, key)
 }
 
 /// Answers the request, and returns the status: 0 if everything succeeds, 1 if something is refused or a file
@@ -252,7 +212,7 @@ pub fn run(rt: &HostRuntime, request: &Request<'_, '_>) -> u8 {
         Ok(true) => 0,
         Ok(false) => 1,
         Err(error) => {
-            let _ = eprintln!(rt; "config_value: {error}");
+            let _ = tell(rt, format_args!("config_value: {error}"));
             2
         }
     }

@@ -3,14 +3,13 @@
 
 mod arguments;
 mod files;
-mod includes;
 
 use crate::arguments::{Request, command};
 use clap::ArgMatches;
+use config_host::arguments;
 use gix_config_value::program;
-use std::alloc::AllocError;
+use std::fmt;
 use std::process::ExitCode;
-use std::{env, io};
 
 /// The status of a run that cannot read its arguments, print its usage or get memory for them.
 const FAILED: u8 = 2;
@@ -34,18 +33,20 @@ fn print_usage(rt: &HostRuntime, error: &clap::Error) -> u8 {
     }
 }
 
+/// Prints why the arguments cannot be read.
+fn refuse<M: fmt::Display + Drop>(rt: &HostRuntime, message: M) -> u8 {
+    let _ = files::tell(rt, format_args!("config_value: {message}"));
+    FAILED
+}
+
 fn main(rt: HostRuntime) -> ExitCode {
-    let arguments = match env::args(&rt) {
+    let arguments = match arguments(&rt) {
         Ok(arguments) => arguments,
-        Err(_) => return ExitCode::from(FAILED),
-    };
-    let arguments = match arguments.collect::<Vec<String>>(rt.alloc()) {
-        Ok(arguments) => arguments,
-        Err(_) => return ExitCode::from(FAILED),
+        Err(error) => return ExitCode::from(refuse(&rt, error)),
     };
     let command = match command(rt.alloc()) {
         Ok(command) => command,
-        Err(_) => return ExitCode::from(FAILED),
+        Err(_) => return ExitCode::from(refuse(&rt, "out of memory")),
     };
     ExitCode::from(match command.try_get_matches_from(arguments.as_slice()) {
         Ok(matches) => run(&rt, &matches),

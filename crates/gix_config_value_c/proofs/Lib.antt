@@ -5,7 +5,11 @@ pub mod NameTags
 pub mod NumbersApart
 pub mod OneAnswer
 pub mod OneComposition
+pub mod OneCondition
 pub mod OneEntry
+pub mod OneFile
+pub mod OneInclude
+pub mod OneMark
 pub mod OnePath
 pub mod OneText
 pub mod Rows

@@ -84,7 +84,7 @@ shows_once struct shown bad apart c = answers_once _ _ texts reasons absent wher
 
 -- ---- JSON
 
-put_has_memory : (text buffer buffer' : List ℕ) (size status : ℕ) → PutsText text buffer buffer' size status
+pub put_has_memory : (text buffer buffer' : List ℕ) (size status : ℕ) → PutsText text buffer buffer' size status
     → status ≢ status_number statuses.NoMemory
 put_has_memory text buffer a m s (whole fits is long ok) h = let e = sym ok ∙ h in cc
 put_has_memory text buffer a m s (short less kept long bad) h = let e = sym bad ∙ h in cc

@@ -18,13 +18,13 @@ use Rattle.gix_config_value_c.proofs.OneAnswer.{puts_once, left_once}
 
 -- ---- what is given, and a bad flag
 
-given_once : (given : ℕ × List ℕ) (t u : Option (List ℕ)) → IsGiven given t → IsGiven given u → t ≡ u
+pub given_once : (given : ℕ × List ℕ) (t u : Option (List ℕ)) → IsGiven given t → IsGiven given u → t ≡ u
 given_once given None None p q = refl
 given_once given None (Some u) p q = absurd (let e = sym p ∙ q.0 in cc (e))
 given_once given (Some t) None p q = absurd (let e = sym q ∙ p.0 in cc (e))
 given_once given (Some t) (Some u) p q = ap Some (p.1 ∙ sym q.1)
 
-not_bad : (given : ℕ × List ℕ) (t : Option (List ℕ)) → IsGiven given t → ¬ (IsNoValue flag_number given.0)
+pub not_bad : (given : ℕ × List ℕ) (t : Option (List ℕ)) → IsGiven given t → ¬ (IsNoValue flag_number given.0)
 not_bad given None p never = never false p
 not_bad given (Some t) p never = never true p.0
 
@@ -37,7 +37,7 @@ never_bad a b c i h p x y z (inr (inr (inr w))) = w
 
 -- ---- what is put
 
-mark_once : (t : List ℕ) (a b : Bool) (k m : List ℕ) → Marked t a k → Marked t b m → k ≡ m
+pub mark_once : (t : List ℕ) (a b : Bool) (k m : List ℕ) → Marked t a k → Marked t b m → k ≡ m
 mark_once t true true k m p q = cc
 mark_once t true false k m p q = absurd (q.1 k p)
 mark_once t false true k m p q = absurd (p.1 m q)

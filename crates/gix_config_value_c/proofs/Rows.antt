@@ -1,14 +1,20 @@
 -- The bytes and the places of settings, with one more setting at a time.
 use Rattle.std.proofs.Common.{◌≡◌, ◌∙◌, ◌<◌, ◌≤◌, ◌+◌, ◌⊎◌, inl, inr, ◌++◌, ℕ, suc, List, [], ◌∷◌}
-use Rattle.std.proofs.Common.{length, take, drop, get_or, refl, sym, ap, arith}
-use Rattle.std.proofs.Math.Seq.{take-suc}
+use Rattle.std.proofs.Common.{length, drop, refl, sym, ap, subst, arith, Option, None, Some, Ok}
+use Rattle.std.specs.List.{AllZip}
 use Rattle.std.proofs.lemmas.List.{append_assoc, append-nil, length-append}
-use Rattle.config_file.specs.declared.settings.Setting.{Setting}
+use Rattle.config_file.specs.File.{Entry, IsFile, Begins}
+use Rattle.config_file.specs.Left.{GivesEntry, HasLeft}
+use Rattle.config_file.specs.Views.{entry_of}
+use Rattle.config_file.specs.declared.entry.Entry as code
+use Rattle.config_file.specs.declared.errors.Error.{Error}
+use Rattle.config_file.specs.declared.reader.Entries.{Entries}
+use Rattle.config_file.proofs.Steps.{file_begins}
 use Rattle.gix_config_value_c.specs.Files.{setting_bytes, row_bytes, place_at, places_from, file_struct}
-use Rattle.gix_config_value_c.specs.Files.{PutsSettings}
+use Rattle.gix_config_value_c.specs.Files.{IsSettingOf, HasRow, PutsSettings}
 use Rattle.gix_config_value_c.specs.Files.PutsSettings.{short, put}
-use Rattle.gix_config_value_c.specs.declared.files.GcvFile.{GcvFile}
 use Rattle.gix_config_value_c.specs.declared.files.GcvPlace.{GcvPlace}
+use Rattle.gix_config_value_c.specs.declared.files.Setting.{Setting}
 
 row_push : (done : List Setting) (s : Setting)
     → row_bytes (done ++ s ∷ []) ≡ row_bytes done ++ setting_bytes s
@@ -29,31 +35,83 @@ places_push start (x ∷ done) s =
     ap (λ r. place_at start x ∷ r) (places_push (start + length (setting_bytes x)) done s
     ∙ ap (λ n. places_from (start + length (setting_bytes x)) done ++ place_at n s ∷ []) e)
 
-pub row_more : (xs : List Setting) (i : ℕ) (d : Setting) → i < length xs
-    → row_bytes (take (i + 1) xs) ≡ row_bytes (take i xs) ++ setting_bytes (get_or xs i d)
-row_more xs i d within =
-    let e : i + 1 ≡ suc i = omega arith in
-    rw e (ap row_bytes (take-suc xs i d within) ∙ row_push (take i xs) (get_or xs i d))
+-- one more item in each of two lists
+zip_push : {A B : Type 0} (R : A → B → Type 0) (xs : List A) (ys : List B) (x : A) (y : B)
+    → AllZip R xs ys → R x y → AllZip R (xs ++ x ∷ []) (ys ++ y ∷ [])
+zip_push R [] [] x y all one = (one, tt)
+zip_push R [] (z ∷ zs) x y all one = absurd all
+zip_push R (w ∷ ws) [] x y all one = absurd all
+zip_push R (w ∷ ws) (z ∷ zs) x y all one = (all.0, zip_push R ws zs x y all.1 one)
 
-pub places_more : (xs : List Setting) (i : ℕ) (d : Setting) → i < length xs
-    → places_from 0 (take (i + 1) xs)
-    ≡ places_from 0 (take i xs) ++ place_at (length (row_bytes (take i xs))) (get_or xs i d) ∷ []
-places_more xs i d within =
-    let e : i + 1 ≡ suc i = omega arith in
-    let z : 0 + length (row_bytes (take i xs)) ≡ length (row_bytes (take i xs)) = omega arith in
-    rw e (ap (places_from 0) (take-suc xs i d within) ∙ places_push 0 (take i xs) (get_or xs i d)
-    ∙ ap (λ n. places_from 0 (take i xs) ++ place_at n (get_or xs i d) ∷ []) z)
+-- the row holds the settings of the entries that were read, and the reader still has the other entries
+pub record HasRead (text : List ℕ) (reader : Entries) (bytes : List ℕ) (places : List GcvPlace) : Type 0 where
+  pub entries : List Entry
+  pub settings : List Setting
+  pub read : (left : List Entry) (error : Option Error) → HasLeft reader left error
+      → IsFile text (entries ++ left) error
+  pub are : AllZip IsSettingOf entries settings
+  pub bytes_are : bytes ≡ row_bytes settings
+  pub places_are : places ≡ places_from 0 settings
 
-places_count : (start : ℕ) (xs : List Setting) → length (places_from start xs) ≡ length xs
+pub row_start : (text : List ℕ) (reader : Entries) (bytes : List ℕ) (places : List GcvPlace)
+    → reader.section ≡ None → Begins text reader.line reader.rest.now → bytes ≡ [] → places ≡ []
+    → HasRead text reader bytes places
+row_start text reader bytes places none begins b p = record {
+  entries = [];
+  settings = [];
+  read = λ left error has. file_begins reader text left error none begins has;
+  are = tt;
+  bytes_are = b;
+  places_are = p;
+}
+
+module _ (text : List ℕ) (reader : Entries) (bytes : List ℕ) (places : List GcvPlace)
+    (so_far : HasRead text reader bytes places) where
+  pub row_more : (reader' : Entries) (entry : code.Entry) (s : Setting) (bytes' : List ℕ)
+      (places' : List GcvPlace)
+      → GivesEntry reader (Some (Ok entry)) reader' → IsSettingOf (entry_of entry) s
+      → bytes' ≡ bytes ++ setting_bytes s → places' ≡ places ++ place_at (length bytes) s ∷ []
+      → HasRead text reader' bytes' places'
+  row_more reader' entry s bytes' places' gives is b p =
+      let es = so_far.entries in
+      let done = so_far.settings in
+      record {
+        entries = es ++ entry_of entry ∷ [];
+        settings = done ++ s ∷ [];
+        read = λ left error has.
+            subst (λ e. IsFile text e error) (sym (append_assoc es (entry_of entry ∷ []) left))
+            (so_far.read (entry_of entry ∷ left) error (gives left error has));
+        are = zip_push IsSettingOf es done (entry_of entry) s so_far.are is;
+        bytes_are = b ∙ ap (λ r. r ++ setting_bytes s) so_far.bytes_are ∙ sym (row_push done s);
+        places_are =
+            let count = ap length so_far.bytes_are in
+            let at : length bytes ≡ 0 + length (row_bytes done) = omega (arith, count) in
+            p ∙ ap (λ r. r ++ place_at (length bytes) s ∷ []) so_far.places_are
+            ∙ ap (λ n. places_from 0 done ++ place_at n s ∷ []) at ∙ sym (places_push 0 done s);
+      }
+
+  -- the reader has no entries left, up to the end of the text or to its error
+  pub row_whole : (error : Option Error) → HasLeft reader [] error → HasRow text error bytes places
+  row_whole error left = (
+    so_far.settings,
+    (
+      so_far.entries,
+      subst (λ e. IsFile text e error) (append-nil so_far.entries) (so_far.read [] error left),
+      so_far.are,
+    ),
+    so_far.bytes_are,
+    so_far.places_are,
+  )
+
+pub places_count : (start : ℕ) (xs : List Setting) → length (places_from start xs) ≡ length xs
 places_count start [] = refl
 places_count start (x ∷ xs) = ap (λ n. suc n) (places_count (start + length (setting_bytes x)) xs)
 
-pub short_of : (settings : List Setting) (bytes row : List ℕ) (places all : List GcvPlace) (out : GcvFile)
-    (size count : ℕ)
+pub short_of : (settings : List Setting) (bytes row : List ℕ) (places all : List GcvPlace) (size count : ℕ)
     → row ≡ row_bytes settings → all ≡ places_from 0 settings → size ≡ length row → count ≡ length all
     → (length bytes < size) ⊎ (length places < count)
-    → PutsSettings settings bytes bytes places places out (file_struct size count 0) 13
-short_of settings bytes row places all out size count b p s n less =
+    → PutsSettings settings bytes bytes places places (file_struct size count 0) 13
+short_of settings bytes row places all size count b p s n less =
     let bs : size ≡ length (row_bytes settings) = s ∙ ap length b in
     let ps : count ≡ length settings = n ∙ ap length p ∙ places_count 0 settings in
     short (λ room. elim less [
@@ -62,12 +120,12 @@ short_of settings bytes row places all out size count b p s n less =
     ]) refl refl (rw (bs, ps) refl) refl
 
 pub put_of : (settings : List Setting) (bytes row front : List ℕ) (places all back : List GcvPlace)
-    (out : GcvFile) (size count : ℕ)
+    (size count : ℕ)
     → row ≡ row_bytes settings → all ≡ places_from 0 settings → size ≡ length row → count ≡ length all
     → size ≤ length bytes → count ≤ length places → front ≡ row → back ≡ all
-    → PutsSettings settings bytes (front ++ drop size bytes) places (back ++ drop count places) out
+    → PutsSettings settings bytes (front ++ drop size bytes) places (back ++ drop count places)
     (file_struct size count 0) 0
-put_of settings bytes row front places all back out size count b p s n fits also f g =
+put_of settings bytes row front places all back size count b p s n fits also f g =
     let bs : size ≡ length (row_bytes settings) = s ∙ ap length b in
     let ps : count ≡ length settings = n ∙ ap length p ∙ places_count 0 settings in
     put (omega (arith, bs, fits), omega (arith, ps, also))

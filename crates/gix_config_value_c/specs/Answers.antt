@@ -24,3 +24,10 @@ HasOneAnswerByMemory {C} call = (out first second : C) (number one two status ot
     → call out first number one status → call out second number two other
     → ((status ≡ status_number statuses.NoMemory) ↔ (other ≡ status_number statuses.NoMemory))
     → (first ≡ second) × (one ≡ two) × (status ≡ other)
+
+-- the same for a call that takes memory and writes into `out` alone
+abbrev pub HasOneResultByMemory : {C : Type 0} → (C → C → ℕ → Type 0) → Type 0
+HasOneResultByMemory {C} call = (out first second : C) (status other : ℕ)
+    → call out first status → call out second other
+    → ((status ≡ status_number statuses.NoMemory) ↔ (other ≡ status_number statuses.NoMemory))
+    → (first ≡ second) × (status ≡ other)

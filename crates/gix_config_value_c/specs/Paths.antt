@@ -1,14 +1,11 @@
 -- Paths in C: the mark of an optional path, and the text that a path value is interpolated to.
-use Rattle.std.specs.Prelude.{◌≡◌, ◌≤◌, ◌<◌, ◌-◌, ◌^◌, ◌⊎◌, ℕ, List, [], ◌∷◌, length, Bool, Option, None, Some}
-use Rattle.std.specs.Prelude.{◌++◌, codes, if◌then◌else◌, Result, Ok, Err, drop}
-use Rattle.config_path.specs.declared.interpolate.Error.{Error}
-use Rattle.config_path.specs.Interpolation.{refusal}
+use Rattle.std.specs.Prelude.{◌≡◌, ◌≤◌, ◌<◌, ◌-◌, ◌^◌, ◌⊎◌, ℕ, List, [], ◌∷◌, length, Bool}
+use Rattle.std.specs.Prelude.{Option, None, Some, drop}
 use Rattle.gix_config_value.specs.Path.{Marked}
 use Rattle.gix_config_value.specs.Passwd.{IsHomeIn}
 use Rattle.gix_config_value.specs.Interpolation.{Users, Known, PathResult, PathTable}
 use Rattle.gix_config_value.specs.Interpolation.Users.{no_lookup, looked_up}
 use Rattle.gix_config_value.specs.Interpolation.PathResult.{text, fault as path_fault, ill_formed}
-use Rattle.gix_config_value_c.specs.declared.paths.Parts.{Parts}
 use Rattle.gix_config_value_c.specs.declared.status.Status.TheVariants as statuses
 use Rattle.gix_config_value_c.specs.Buffers.{PutsText, LeavesBuffer}
 use Rattle.gix_config_value_c.specs.Faults.{path_fault_number, place_number}
@@ -41,21 +38,6 @@ users_in (Some passwd) = looked_up (IsHomeIn passwd)
 abbrev pub known_of : (install_dir home passwd : Option (List ℕ)) → Known
 known_of install_dir home passwd =
     record { install_dir = install_dir; home_dir = home; users = users_in passwd }
-
--- ---- the parts of a path
-
--- what follows a directory: a `/`, or nothing
-abbrev pub slash_bytes : Bool → List ℕ
-slash_bytes has_slash = if has_slash then codes "/" else []
-
--- the bytes of the parts, one after the other
-abbrev pub parts_bytes : Parts → List ℕ
-parts_bytes p = p.dir.now ++ slash_bytes p.has_slash ++ p.rest.now
-
--- parts, or an error, as a result of the path table
-abbrev pub parts_result : Result Parts Error → PathResult
-parts_result (Ok p) = text (parts_bytes p)
-parts_result (Err e) = refusal e
 
 -- ---- the result
 

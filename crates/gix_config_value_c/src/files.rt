@@ -1,15 +1,20 @@
 //! Configuration files: the keys and the values of a text, one after the other, and their places.
-ghost use Rattle.std.specs.Prelude.{◌≡◌, ◌++◌, ◌∷◌, [], length, IfOk, OnOk};
+ghost use Rattle.std.specs.Prelude.{◌≡◌, ◌++◌, ◌∷◌, [], length, List, IfOk, OnOk, option_map};
 ghost use Rattle.std.specs.Option.{option_map_or};
+ghost use Rattle.std.specs.Cow.{cow_slice_items};
+ghost use Rattle.config_file.specs.Views.{entry_of};
+ghost use Rattle.gix_config_value_c.specs.declared.files.Setting as setting;
 ghost use Rattle.gix_config_value_c.specs.Files.{ended, setting_bytes, row_bytes, place_at, places_from};
-ghost use Rattle.gix_config_value_c.specs.Files.{HasSettings, PutsSettings, ReadsFile};
+ghost use Rattle.gix_config_value_c.specs.Files.{IsSettingOf, HasRow, PutsSettings, ReadsFile};
 ghost use Rattle.gix_config_value_c.specs.Files.{fault_status as status_of};
 ghost use Rattle.gix_config_value_c.specs.Numbers.{status_number};
 
 use crate::status::Status;
+use config_file::entry::Entry;
 use config_file::errors::{Error, Fault};
-use config_file::settings::{AddError, Setting, Settings};
+use config_file::reader::Entries;
 use std::alloc::{AllocError, Global};
+use std::borrow::CowSlice;
 
 /// The place of a setting in the bytes, in which NUL ends each text.
 #[repr(C)]
@@ -37,6 +42,14 @@ pub struct GcvFile {
     pub line: usize,
 }
 
+/// An entry of a file, with its key as Git lists it and the text of its value.
+#[derive(Drop)]
+struct Setting<'t> {
+    key: Vec<u8>,
+    value: Option<CowSlice<'t, u8>>,
+    line: usize,
+}
+
 /// The bytes of settings, one after the other, and their places.
 #[derive(Drop)]
 struct Row {
@@ -44,15 +57,20 @@ struct Row {
     places: Vec<GcvPlace>,
 }
 
-/// Returns the settings of a text, up to the line that is refused, and the error if there is such a line.
-fn settings_of(alloc: Global, text: &[u8]) -> Result<(Settings<'static>, Option<Error>), AllocError>
-    ensures { IfOk result (λ read. HasSettings text.now read.1 read.0.entries.items) }
-{
-    let mut settings = Settings::new(alloc);
-    match settings.add_file(alloc, "", text) {
-        Ok(()) => Ok((settings, None)),
-        Err(AddError::Line { error, .. }) => Ok((settings, Some(error))),
-        Err(AddError::Memory(error)) => Err(error),
+impl<'t> Setting<'t> {
+    /// Returns the setting of an entry. It fails only if memory is refused.
+    fn of_entry(alloc: Global, entry: &Entry<'t>) -> Result<Self, AllocError>
+        ensures { IfOk result (IsSettingOf (entry_of entry.now)) }
+    {
+        let value = match &entry.value {
+            Some(value) => Some(value.text(alloc)?),
+            None => None,
+        };
+        Ok(Self {
+            key: entry.key_text(alloc)?,
+            value,
+            line: entry.line,
+        })
     }
 }
 
@@ -66,10 +84,11 @@ fn push_text(bytes: &mut Vec<u8>, text: &[u8]) -> Result<(), AllocError>
 }
 
 /// Appends the value of a setting and returns 1, or returns 0 if the setting has no value.
-fn push_value(bytes: &mut Vec<u8>, value: &Option<Vec<u8>>) -> Result<u32, AllocError>
+fn push_value(bytes: &mut Vec<u8>, value: &Option<CowSlice<'_, u8>>) -> Result<u32, AllocError>
     ensures bytes { OnOk result (bytes.new.items
-        ≡ bytes.old.items ++ option_map_or (λ v. ended v.items) value.now []) }
-    ensures flag { IfOk result (λ flag. flag ≡ option_map_or (λ v. 1) value.now 0) }
+        ≡ bytes.old.items ++ option_map_or ended (option_map cow_slice_items value.now) []) }
+    ensures flag { IfOk result
+        (λ flag. flag ≡ option_map_or (λ v. 1) (option_map cow_slice_items value.now) 0) }
 {
     match value {
         Some(text) => {
@@ -102,35 +121,33 @@ impl Row {
     }
 }
 
-/// Returns the bytes and the places of all settings.
-fn row_of(alloc: Global, settings: &[Setting<'_>]) -> Result<Row, AllocError>
-    ensures bytes { IfOk result (λ row. row.bytes.items ≡ row_bytes settings.now) }
-    ensures places { IfOk result (λ row. row.places.items ≡ places_from 0 settings.now) }
+/// Returns the bytes and the places of the settings of a text, up to the line that is refused, and the error
+/// if there is such a line.
+fn row_of(alloc: Global, text: &[u8]) -> Result<(Row, Option<Error>), AllocError>
+    ensures { IfOk result (λ read. HasRow text.now read.1 read.0.bytes.items read.0.places.items) }
 {
     let mut row = Row {
         bytes: Vec::new(alloc),
         places: Vec::new(alloc),
     };
-    'settings: for setting in settings {
-        row.push(setting)?;
+    for entry in Entries::new(text) {
+        let entry = match entry {
+            Ok(entry) => entry,
+            Err(error) => return Ok((row, Some(error))),
+        };
+        let setting = Setting::of_entry(alloc, &entry)?;
+        row.push(&setting)?;
     }
-    Ok(row)
+    Ok((row, None))
 }
 
-/// Puts settings at the front of both arrays. Returns `ShortBuffer` if one of the arrays is too short, and
-/// `NoMemory` if memory is refused.
-fn put_settings(
-    alloc: Global,
-    settings: &[Setting<'_>],
-    bytes: &mut [u8],
-    places: &mut [GcvPlace],
-    out: &mut GcvFile,
-) -> u32
-    ensures { PutsSettings settings.now bytes.old bytes.new places.old places.new out.old out.new result }
+/// Puts the bytes and the places of settings at the front of both arrays. Returns `ShortBuffer` if one of the
+/// arrays is too short.
+fn put_row(row: &Row, bytes: &mut [u8], places: &mut [GcvPlace], out: &mut GcvFile) -> u32
+    ensures { (settings : List (setting.Setting)) → row.now.bytes.items ≡ row_bytes settings
+        → row.now.places.items ≡ places_from 0 settings
+        → PutsSettings settings bytes.old bytes.new places.old places.new out.new result }
 {
-    let Ok(row) = row_of(alloc, settings) else {
-        return Status::NoMemory as u32;
-    };
     let size = row.bytes.len();
     let count = row.places.len();
     *out = GcvFile {
@@ -172,11 +189,11 @@ pub extern "C" fn gcv_raw_read_file(
 ) -> u32
     ensures { ReadsFile text.now bytes.old bytes.new places.old places.new out.old out.new result }
 {
-    let Ok((settings, refused)) = settings_of(alloc, text) else {
+    let Ok((row, refused)) = row_of(alloc, text) else {
         return Status::NoMemory as u32;
     };
     match refused {
-        None => put_settings(alloc, &settings.entries, bytes, places, out),
+        None => put_row(&row, bytes, places, out),
         Some(error) => {
             *out = GcvFile {
                 size: 0,

@@ -1,15 +1,54 @@
 //! The name of the file that an entry includes.
-ghost use Rattle.std.specs.Prelude.{◌≡◌, None, Some, IfOk, MatchOption, MatchResult, option_copied};
-ghost use Rattle.gix_config_value_c.specs.Includes.{IsNameIn, AsksUnknown, IsIncluded, TellsWhyNot};
-ghost use Rattle.gix_config_value_c.specs.Includes.{IncludesInto};
+ghost use Rattle.std.specs.Prelude.{◌≡◌, ◌↔◌, ℕ, List, None, Some, IfOk, IsTrue, MatchOption, MatchResult};
+ghost use Rattle.std.specs.Prelude.{option_copied};
+ghost use Rattle.config_file.specs.declared.include.Condition as condition;
+ghost use Rattle.gix_config_value_c.specs.Includes.{HasText, HasCondition, IsFollowed, IsNameIn, AsksUnknown};
+ghost use Rattle.gix_config_value_c.specs.Includes.{IsIncluded, TellsWhyNot, IncludesInto};
 
 use crate::buffer::put;
 use crate::paths::given;
 use crate::status::Status;
-use config_file::include::Repository;
+use config_file::include::{Condition, Includes, Repository};
 use config_file::path::{Directories, expand, included_name};
-use config_file::walk::is_followed;
 use std::alloc::{AllocError, Global};
+
+/// Returns the text of the condition in a key, or `None` if the key has no condition.
+fn text_in(key: &[u8]) -> Option<&[u8]>
+    ensures { MatchOption result ((text : List ℕ) → ¬ (HasText key.now text))
+        (λ text. HasText key.now text.now) }
+{
+    key.strip_prefix(b"includeif.")?.strip_suffix(b".path")
+}
+
+/// Returns the condition on which an entry of a key includes a file, or `None` if it never does.
+fn condition_of(key: &[u8]) -> Option<Condition<'_>>
+    ensures { MatchOption result ((c : condition.Condition) → ¬ (HasCondition key.now c))
+        (HasCondition key.now) }
+{
+    if key == b"include.path".as_slice() {
+        return Some(Condition::Always);
+    }
+    match text_in(key) {
+        Some(text) => Some(Condition::parse(text)),
+        None => None,
+    }
+}
+
+/// Returns whether Git follows an entry of this key to the file that it includes.
+fn is_followed(
+    alloc: Global,
+    repository: Option<Repository<'_>>,
+    real_dir: &[u8],
+    key: &[u8],
+) -> Result<bool, AllocError>
+    ensures { IfOk result (λ followed. IsTrue followed
+        ↔ (IsFollowed repository.entry real_dir.now key.now)) }
+{
+    match condition_of(key) {
+        Some(condition) => Includes::AsGit(repository).hold(alloc, real_dir, condition),
+        None => Ok(false),
+    }
+}
 
 /// Returns the name of the file that a value of this file includes, or `None` if the value begins with a
 /// directory that is not known.

@@ -161,7 +161,7 @@ int main(void)
     count(asks(interpolate_with, "/home/u/file", 1), "interpolate_with");
     count(asks(read_and_show, "red bold", 0), "read_color and show_color");
     count(asks(normalize, "16k", 0), "normalize");
-    count(asks(add_file, "a.b", 4), "add_file");
+    count(asks(add_file, "a.b", 3), "add_file");
     count(asks(include, "/home/u/x", 4), "include");
     return finish();
 }

@@ -2,7 +2,8 @@
 
 use crate::support::equal;
 use bstr::BStr;
-use config_file::settings::Settings;
+use config_file::settings::GetError;
+use config_file::{Key, Settings};
 use gix_config_value::canonical::normalize_as;
 use gix_config_value::integer::Amount;
 use gix_config_value::path::interpolate::{Context, absent};
@@ -34,17 +35,16 @@ fn reads_settings_of_three_files(rt: HostRuntime) -> Result<(), Fail> {
     let alloc = rt.alloc();
     let settings = read(alloc, &FILES)?;
     equal(&rt, is_bare(&settings)?, true, "core.bare");
-    let memory = settings.get::<Amount>(b"PACK", None, b"windowmemory")?;
+    let memory = settings.get::<Amount>("PACK.windowmemory")?;
     equal(&rt, memory, Some(Amount(536_870_912)), "pack.windowMemory");
-    let rebase = settings.get::<Boolean>(b"branch", Some(b"Main"), b"rebase")?;
+    let rebase = settings.get::<Boolean>("branch.Main.rebase")?;
     equal(&rt, rebase, Some(Boolean(false)), "branch.Main.rebase");
-    let rebase = settings.get::<Boolean>(b"branch", Some(b"main"), b"rebase")?;
+    let rebase = settings.get::<Boolean>("branch.main.rebase")?;
     equal(&rt, rebase, None, "branch.main.rebase");
-    let merges = settings.all(alloc, b"branch", Some(b"Main"), b"merge")?;
+    let merge = Key::parse(b"branch.Main.merge")?;
+    let merges = settings.all(alloc, &merge)?;
     equal(&rt, merges.len(), 2, "branch.Main.merge");
-    let last = settings
-        .last(b"branch", Some(b"Main"), b"merge")
-        .ok_or("no entry")?;
+    let last = settings.last(&merge).ok_or("no entry")?;
     equal(&rt, last.text(), b"b".as_slice(), "branch.Main.merge");
     Ok(())
 }
@@ -53,18 +53,16 @@ fn reads_settings_of_three_files(rt: HostRuntime) -> Result<(), Fail> {
 fn a_refusal_names_its_place(rt: HostRuntime) -> Result<(), Fail> {
     let alloc = rt.alloc();
     let settings = read(alloc, &FILES)?;
-    let refused = settings
-        .get::<Amount>(b"core", None, b"abbrev")
-        .err()
-        .ok_or("a number")?;
-    equal(&rt, refused.line, 2, "core.abbrev");
-    equal(&rt, refused.value, Some(b"08".as_slice()), "core.abbrev");
-    let told = format!(in alloc; "{refused}")?;
-    let wanted = format!(in alloc; "user:2: core.abbrev: {}", Fault::Integer.text())?;
+    let Some(GetError::Refused(refused)) = settings.get::<Amount>("core.abbrev").err() else {
+        return Err(Fail::new("a number"));
+    };
+    equal(&rt, refused.setting.entry.line, 2, "core.abbrev");
+    equal(&rt, refused.setting.text(), b"08".as_slice(), "core.abbrev");
+    let told = refused.to_string(alloc)?;
+    let wanted = format!(in alloc; "user:2: Core.abbrev: {}", Fault::Integer.text())?;
     equal(&rt, told.as_str(), wanted.as_str(), "core.abbrev");
-    let ignore = settings
-        .last(b"core", None, b"excludesfile")
-        .ok_or("no path")?;
+    let key = Key::parse(b"core.excludesfile")?;
+    let ignore = settings.last(&key).ok_or("no path")?;
     let context = Context {
         home_dir: Some("/home/ann"),
         home_for_user: absent(|_name: &str| None),
@@ -89,7 +87,7 @@ fn an_invalid_line_is_told(rt: HostRuntime) -> Result<(), Fail> {
     };
     let mut settings = Settings::new(alloc);
     let refused = settings
-        .add_file(alloc, file.name, file.bytes)
+        .add_file(alloc, file.name.as_bytes(), file.bytes)
         .err()
         .ok_or("no error")?;
     let told = format!(in alloc; "{refused}")?;

@@ -10,6 +10,10 @@ mod callers;
 #[cfg(test)]
 mod files;
 #[cfg(test)]
+mod includes;
+#[cfg(test)]
+mod keys;
+#[cfg(test)]
 mod memory;
 #[cfg(test)]
 mod program;

@@ -1,1 +1,2 @@
 mod HeadlineLemmas
+mod SettingLemmas

@@ -4,6 +4,7 @@ ghost use Rattle.config_text.specs.Orders.{Equates, IsCopied};
 
 use crate::push_default::PushDefault;
 use crate::repository::File;
+use crate::setting_headline::FirstFile;
 
 /// Values of `push.default` are equal exactly if they are the same.
 pub fn push_defaults()
@@ -13,5 +14,7 @@ pub fn push_defaults()
 
 /// A clone of a file is the same file, and never fails.
 pub fn files()
-    ensures { IsCopied ⟦<File<'static> as Clone>⟧.is_clone ⟦<File<'static> as Clone>⟧.is_infallible }
+    ensures files { IsCopied ⟦<File<'static> as Clone>⟧.is_clone ⟦<File<'static> as Clone>⟧.is_infallible }
+    ensures first { IsCopied ⟦<FirstFile<'static> as Clone>⟧.is_clone
+        ⟦<FirstFile<'static> as Clone>⟧.is_infallible }
 {}

@@ -6,6 +6,7 @@
 //! - `push_default` reads the values of `push.default`, as a kind of value of your own.
 //! - `paths` interpolates paths, without users and with those of a passwd text.
 //! - `headline` states for each kind which texts are read, with which value, and its one canonical text.
+//! - `setting_headline` states which value a setting has in several files and in those that they include.
 //! - `literals` has defaults that are written as texts, and whose values the prover computes.
 #![tactic(auto)]
 
@@ -15,3 +16,4 @@ pub mod literals;
 pub mod paths;
 pub mod push_default;
 pub mod repository;
+pub mod setting_headline;

@@ -1,14 +1,13 @@
 -- What the steps of a check count and write.
-use Rattle.std.specs.Prelude.{◌≡◌, ⊤, ℕ, ◌+◌, ◌^◌, ◌<◌, ◌≤◌, List, Option, None, Some}
+use Rattle.std.specs.Prelude.{◌≡◌, ⊤, ℕ, ◌+◌, ◌^◌, ◌<◌, ◌≤◌, List, ◌++◌, Option, None, Some}
 use Rattle.std.specs.Io.KnownBytes.{Appends}
 use Rattle.config_file.specs.declared.errors.Error as errors
-use Rattle.config_file.specs.declared.settings.Setting.{Setting}
 use Rattle.config_checks.specs.declared.options.Options.{Options}
 use Rattle.config_checks.specs.declared.row.Row.{Row}
+use Rattle.config_checks.specs.declared.setting.Setting.{Setting}
 use Rattle.config_checks.specs.declared.check.Counts.{Counts}
 use Rattle.config_checks.specs.declared.check.CheckError.{CheckError}
 use Rattle.config_checks.specs.declared.check.CheckError.TheVariants.{Write, Memory}
-use Rattle.config_checks.specs.Findings.{AppendsPart}
 use Rattle.config_checks.specs.Report.{ReportsSetting, Report, EndsReport, HasSettings}
 
 -- no count is greater than that of the entries
@@ -32,6 +31,13 @@ pub record HasRoomForFinding (s : Counts) : Type 0 where
 abbrev pub Reports : List Row → Options → Setting → Counts → Counts → Option (List ℕ) → Option (List ℕ) → Type 0
 Reports rows options setting s s' contents contents' =
     (line : List ℕ) × ReportsSetting rows options setting s line s' × Appends contents contents' line
+
+-- what was held is kept, and a prefix of the text is appended, which may be empty or the whole text
+pub record AppendsPart (held holds : Option (List ℕ)) (text : List ℕ) : Type 0 where
+  pub written : List ℕ
+  pub missing : List ℕ
+  pub appended : Appends held holds written
+  pub parts : text ≡ written ++ missing
 
 -- a prefix of such a line is written if a write failed, and nothing is written if memory ran out
 abbrev pub WritesPart : Option (List ℕ) → Option (List ℕ) → (List ℕ → Type 0) → CheckError → Type 0

@@ -1,31 +1,75 @@
--- What parts of a walk add.
-use Rattle.std.specs.Prelude.{◌≡◌, ℕ, ◌+◌, List, [], ◌∷◌, ◌++◌, None, Result, Ok, Err}
-use denote.Ref.{Bor}
+-- What is left of a walk, and what a step takes off it.
+use Rattle.std.specs.Prelude.{◌≡◌, ℕ, ◌+◌, Bool, true, false, List, [], ◌∷◌, ◌++◌, Option, length, reverse}
+use Rattle.std.specs.List.{Contains}
 use Rattle.config_file.specs.File.{Entry, IsFile}
-use Rattle.config_file.specs.declared.walk.Content.TheVariants.{Text, Missing}
-use Rattle.config_file.specs.declared.walk.File.{File}
-use Rattle.config_file.specs.declared.walk.Known.{Known}
+use Rattle.config_file.specs.Left.{HasLeft}
+use Rattle.config_file.specs.Views.{entry_of}
+use Rattle.config_file.specs.Walk.{Content, Text, Missing, Unreadable, Item, Found, Stops, Walks, in_file}
+use Rattle.config_file.specs.Walk.{Line, NoValue, Unknown, NotRead, TooDeep}
+use Rattle.config_file.specs.declared.errors.Error.{Error}
 use Rattle.config_file.specs.declared.walk.Place.{Place}
-use Rattle.config_file.specs.declared.walk.WalkError.{WalkError}
-use Rattle.config_file.specs.Walk.{HasContent, HasFile, IncludesFile, Reaches, Stops, Walks, in_file}
+use Rattle.config_file.specs.declared.walk.Known.{Known}
+use Rattle.config_file.specs.declared.walk.Frame.{Frame}
+use Rattle.config_file.specs.declared.walk.Step.{Step}
+use Rattle.config_file.specs.declared.walk.Step.TheVariants as step
+use Rattle.config_file.specs.declared.walk.Include.TheVariants as include
 
--- what the file of this name adds, at most this many includes deep: nothing if it is missing
-pub data AddsNamed (known : Known) (depth : ℕ) (name : List ℕ) : List (List ℕ × Entry) → Type 0 where
-  nothing : HasContent known.files.now name Missing → AddsNamed known depth name []
-  all_of : {within : List (List ℕ × Entry)} (less : ℕ) (file : File) (text : Bor (List ℕ)) (inner : List Entry)
-      → HasFile known.files.now name file → file.content ≡ Text text → IsFile text.now inner None → depth ≡ less + 1
-      → Walks known less file.place inner within → AddsNamed known depth name within
+-- the walk of the frames, from the last to the first: of what is left of the last file, and then of the others
+pub data LeftOf (contents : List ℕ → Content → Type 0) (known : Known)
+    : List Frame → List (List ℕ × Item) → Bool → Type 0 where
+  nothing : {whole : Bool} → LeftOf contents known [] [] whole
+  goes_on : {frame : Frame} {below : List Frame} {rest : List (List ℕ × Item)} {whole : Bool}
+      (depth : ℕ) (inner : List Entry) (end : Option Error) (within : List (List ℕ × Item))
+      → length below + depth ≡ 10 → HasLeft frame.entries inner end
+      → Walks contents known depth frame.place inner end within true
+      → LeftOf contents known below rest whole → LeftOf contents known (frame ∷ below) (within ++ rest) whole
+  is_cut : {frame : Frame} {below : List Frame}
+      (depth : ℕ) (inner : List Entry) (end : Option Error) (within : List (List ℕ × Item))
+      → length below + depth ≡ 10 → HasLeft frame.entries inner end
+      → Walks contents known depth frame.place inner end within false
+      → LeftOf contents known (frame ∷ below) within false
 
--- what an entry adds, or why the walk of its text stops there
-abbrev pub WalksEntry : Known → ℕ → Place → Entry → List (List ℕ × Entry) → Result (Unit {0}) WalkError → Type 0
-WalksEntry known depth place entry added (Ok _) = Walks known depth place (entry ∷ []) added
-WalksEntry known depth place entry added (Err error) =
-    (text : List ℕ) (walked : List (List ℕ × Entry)) → Reaches known depth place text entry walked
-    → Stops known depth place text (walked ++ added) error
+-- a walk with these frames comes to these items from now on; it may be cut unless it is whole
+abbrev pub Left : (List ℕ → Content → Type 0) → Known → List Frame → List (List ℕ × Item) → Bool → Type 0
+Left contents known frames items whole = LeftOf contents known (reverse frames) items whole
 
--- what the file of this name adds after the entry on this line that includes it, or why the walk stops there
-abbrev pub WalksNamed : Known → ℕ → Place → ℕ → List ℕ → List (List ℕ × Entry) → Result (Unit {0}) WalkError → Type 0
-WalksNamed known depth place line name added (Ok _) = AddsNamed known depth name added
-WalksNamed known depth place line name added (Err error) =
-    (text : List ℕ) (walked : List (List ℕ × Entry)) (entry : Entry) → entry.line ≡ line → Reaches known depth place text entry walked
-    → IncludesFile known place entry name → Stops known depth place text (walked ++ in_file place entry ∷ added) error
+-- the new frames are the old ones and, last, the whole text of the file at this place
+abbrev pub Enters : List Frame → Place → List ℕ → List Frame → Type 0
+Enters old place text new = (frame : Frame) × (new ≡ old ++ frame ∷ []) × (frame.place ≡ place)
+    × ((left : List Entry) (error : Option Error) → HasLeft frame.entries left error → IsFile text left error)
+
+-- the answers that a caller gave say that the file of this name holds this
+abbrev pub Said : List (List ℕ × Content) → List ℕ → Content → Type 0
+Said answers name content = Contains answers (name, content)
+
+-- the walk of the old frames comes to these items, and then goes on as that of the new frames
+abbrev pub Passes : List (List ℕ × Content) → Known → List Frame → List (List ℕ × Item) → List Frame → Type 0
+Passes answers known old items new = (left : List (List ℕ × Item)) (whole : Bool)
+    → Left (Said answers) known new left whole → Left (Said answers) known old (items ++ left) whole
+
+-- How the walk goes on after an entry that includes the file of this name, by what the file holds: as if the
+-- entry included nothing, after a stop there, or in the text that is entered.
+pub record Asks (answers : List (List ℕ × Content)) (known : Known) (old : List Frame) (place : Place)
+    (entry : Entry) (name : List ℕ) (new : List Frame) : Type 0 where
+  pub missing : Said answers name Missing → Passes answers known old (in_file place (Found entry) ∷ []) new
+  pub not_read : Said answers name Unreadable
+      → Passes answers known old (in_file place (Found entry) ∷ in_file place (Stops (NotRead entry)) ∷ []) new
+  pub too_deep : (real_dir text : List ℕ) → Said answers name (Text real_dir text) → length new ≡ 11
+      → Passes answers known old (in_file place (Found entry) ∷ in_file place (Stops (TooDeep entry)) ∷ []) new
+  pub entered : (at : Place) (text : List ℕ) (frames : List Frame) → at.name.now ≡ name
+      → Said answers at.name.now (Text at.real_dir.now text) → Enters new at text frames
+      → Passes answers known old (in_file place (Found entry) ∷ []) frames
+
+-- what a step takes off the walk with the old frames, which goes on with the new ones
+abbrev pub Takes : List (List ℕ × Content) → Known → List Frame → Step → List Frame → Type 0
+Takes answers known old (step.Entry place entry include.NotFollowed) new =
+    Passes answers known old (in_file place (Found (entry_of entry)) ∷ []) new
+Takes answers known old (step.Entry place entry include.MissingValue) new = Passes answers known old
+    (in_file place (Found (entry_of entry)) ∷ in_file place (Stops (NoValue (entry_of entry))) ∷ []) new
+Takes answers known old (step.Entry place entry include.UnknownDirectory) new = Passes answers known old
+    (in_file place (Found (entry_of entry)) ∷ in_file place (Stops (Unknown (entry_of entry))) ∷ []) new
+Takes answers known old (step.Entry place entry (include.Named name)) new =
+    Asks answers known old place (entry_of entry) name.items new
+Takes answers known old (step.Line place error) new =
+    Passes answers known old (in_file place (Stops (Line error)) ∷ []) new
+Takes answers known old step.Ends new = (new ≡ []) × Passes answers known old [] new

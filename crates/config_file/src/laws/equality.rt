@@ -5,12 +5,14 @@ ghost use Rattle.config_file.specs.Include.{IsSameCondition};
 
 use crate::entry::Entry;
 use crate::errors::{Error, Fault};
-use crate::include::{Condition, Repository};
+use crate::files::Content;
+use crate::include::{Condition, Includes, Repository};
+use crate::key::{Key, KeyError};
 use crate::path::{Directories, Expanded};
 use crate::section::{Section, Subsection};
-use crate::settings::Refused;
+use crate::settings::{AddError, GetError, IncludeFault, Refused};
 use crate::value::Value;
-use crate::walk::{Content, File, Known, Place, Walked};
+use crate::walk::{Known, Place};
 
 /// Faults are equal exactly if they are the same.
 pub fn faults()
@@ -22,6 +24,17 @@ pub fn faults()
 pub fn errors()
     ensures equality { Equates (◌≡◌) ⟦<Error as PartialEq>⟧.eq }
     ensures clones { IsCopied ⟦<Error as Clone>⟧.is_clone ⟦<Error as Clone>⟧.is_infallible }
+{}
+
+/// Refusals of keys are equal exactly if they are the same.
+pub fn key_errors()
+    ensures equality { Equates (◌≡◌) ⟦<KeyError as PartialEq>⟧.eq }
+    ensures clones { IsCopied ⟦<KeyError as Clone>⟧.is_clone ⟦<KeyError as Clone>⟧.is_infallible }
+{}
+
+/// A clone of a key is the same, and never fails.
+pub fn keys()
+    ensures { IsCopied ⟦<Key<'static> as Clone>⟧.is_clone ⟦<Key<'static> as Clone>⟧.is_infallible }
 {}
 
 /// Conditions are equal exactly if they are the same; their patterns are compared byte by byte.
@@ -45,23 +58,32 @@ pub fn entries()
 /// A clone of what a walk knows or finds is the same, and never fails.
 pub fn walks()
     ensures known { IsCopied ⟦<Known<'static> as Clone>⟧.is_clone ⟦<Known<'static> as Clone>⟧.is_infallible }
-    ensures files { IsCopied ⟦<File<'static> as Clone>⟧.is_clone ⟦<File<'static> as Clone>⟧.is_infallible }
     ensures places { IsCopied ⟦<Place<'static> as Clone>⟧.is_clone ⟦<Place<'static> as Clone>⟧.is_infallible }
     ensures contents { IsCopied ⟦<Content<'static> as Clone>⟧.is_clone
         ⟦<Content<'static> as Clone>⟧.is_infallible }
+    ensures includes { IsCopied ⟦<Includes<'static> as Clone>⟧.is_clone
+        ⟦<Includes<'static> as Clone>⟧.is_infallible }
     ensures repositories { IsCopied ⟦<Repository<'static> as Clone>⟧.is_clone
         ⟦<Repository<'static> as Clone>⟧.is_infallible }
     ensures directories { IsCopied ⟦<Directories<'static> as Clone>⟧.is_clone
         ⟦<Directories<'static> as Clone>⟧.is_infallible }
     ensures expanded { IsCopied ⟦<Expanded<'static> as Clone>⟧.is_clone
         ⟦<Expanded<'static> as Clone>⟧.is_infallible }
-    ensures walked { IsCopied ⟦<Walked<'static> as Clone>⟧.is_clone
-        ⟦<Walked<'static> as Clone>⟧.is_infallible }
+{}
+
+/// A clone of an error of settings is the same, and never fails.
+pub fn errors_of_settings()
+    ensures added { IsCopied ⟦<AddError<'static> as Clone>⟧.is_clone
+        ⟦<AddError<'static> as Clone>⟧.is_infallible }
+    ensures included { IsCopied ⟦<IncludeFault<'static> as Clone>⟧.is_clone
+        ⟦<IncludeFault<'static> as Clone>⟧.is_infallible }
+    ensures got { IsCopied ⟦<GetError<'static, 'static> as Clone>⟧.is_clone
+        ⟦<GetError<'static, 'static> as Clone>⟧.is_infallible }
 {}
 
 /// A clone of a refusal is the same refusal, and never fails, if both are true of clones of its fault.
 pub fn refusals<F: Clone>()
     ensures { IsCopied F.is_clone F.is_infallible
-        → IsCopied ⟦<Refused<'static, F> as Clone>⟧.is_clone
-        ⟦<Refused<'static, F> as Clone>⟧.is_infallible }
+        → IsCopied ⟦<Refused<'static, 'static, F> as Clone>⟧.is_clone
+        ⟦<Refused<'static, 'static, F> as Clone>⟧.is_infallible }
 {}

@@ -35,9 +35,14 @@ pub fn path_errors()
 /// A clone of a form or of the parts of a path is the same, and never fails.
 pub fn parts()
     ensures forms { IsCopied ⟦<Form<'static> as Clone>⟧.is_clone ⟦<Form<'static> as Clone>⟧.is_infallible }
-    ensures joints { IsCopied ⟦<Joint<'static> as Clone>⟧.is_clone ⟦<Joint<'static> as Clone>⟧.is_infallible }
     ensures parts { IsCopied ⟦<Parts<'static, 'static> as Clone>⟧.is_clone
         ⟦<Parts<'static, 'static> as Clone>⟧.is_infallible }
+{}
+
+/// A clone of a joint is the same, and never fails, if both are true of clones of its directory.
+pub fn joints<D: Clone>()
+    ensures { IsCopied D.is_clone D.is_infallible
+        → IsCopied ⟦<Joint<'static, D> as Clone>⟧.is_clone ⟦<Joint<'static, D> as Clone>⟧.is_infallible }
 {}
 
 /// A clone of a context is the same context, and never fails, if both are true of clones of its lookup.

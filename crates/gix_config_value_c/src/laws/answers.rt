@@ -1,9 +1,9 @@
 //! Laws about what the calls return and write: from the same input a call has one answer.
 //!
 //! An answer is the status and whatever the call writes over the same old contents. Two answers from the same
-//! input are the same. Of these calls only the JSON calls take memory. Two of their answers are the same if
-//! memory was refused to both or to neither.
-ghost use Rattle.std.specs.Prelude.{ℕ, List, Some};
+//! input are the same. Of these calls, those of JSON, files and includes take memory. Two of their answers
+//! are the same if memory was refused to both or to neither.
+ghost use Rattle.std.specs.Prelude.{◌≡◌, ℕ, List, Some};
 ghost use Rattle.serde_json.specs.Data.{Data, string, boolean as truth};
 ghost use Rattle.config_text.specs.declared.errors.Fault.TheVariants as faults;
 ghost use Rattle.config_boolean.specs.declared.boolean.Boolean as boolean;
@@ -16,16 +16,21 @@ ghost use Rattle.gix_config_value.specs.Name.{NameText, name_shown};
 ghost use Rattle.gix_config_value.specs.Attribute.{AttributeText};
 ghost use Rattle.gix_config_value.specs.Color.{ColorText, color_shown};
 ghost use Rattle.gix_config_value_c.specs.declared.status.Status.TheVariants as statuses;
+ghost use Rattle.gix_config_value_c.specs.declared.files.GcvFile.{GcvFile};
+ghost use Rattle.gix_config_value_c.specs.declared.files.GcvPlace.{GcvPlace};
 ghost use Rattle.gix_config_value_c.specs.declared.structs.GcvInteger.{GcvInteger};
 ghost use Rattle.gix_config_value_c.specs.declared.structs.GcvName.{GcvName};
 ghost use Rattle.gix_config_value_c.specs.declared.structs.GcvColor.{GcvColor};
 ghost use Rattle.gix_config_value_c.specs.Answers.{HasOneResult, HasOneAnswer, HasOneAnswerByMemory};
+ghost use Rattle.gix_config_value_c.specs.Answers.{HasOneResultByMemory};
 ghost use Rattle.gix_config_value_c.specs.Buffers.{PutsText};
 ghost use Rattle.gix_config_value_c.specs.Colors.{ComposesInto};
 ghost use Rattle.gix_config_value_c.specs.Faults.{TellsFault};
+ghost use Rattle.gix_config_value_c.specs.Files.{ReadsFile};
+ghost use Rattle.gix_config_value_c.specs.Includes.{IncludesInto};
 ghost use Rattle.gix_config_value_c.specs.Json.{PutsJson, WritesJson, WritesProduct};
 ghost use Rattle.gix_config_value_c.specs.Numbers.{suffix_number, flag_number};
-ghost use Rattle.gix_config_value_c.specs.Paths.{InterpolatesInto};
+ghost use Rattle.gix_config_value_c.specs.Paths.{CutsMark, InterpolatesInto};
 ghost use Rattle.gix_config_value_c.specs.Readers.{ReadsInto, Faults, NoFault};
 ghost use Rattle.gix_config_value_c.specs.Settings.{LooksUpInto};
 ghost use Rattle.gix_config_value_c.specs.Structs.{integer_struct, name_struct, color_struct};
@@ -94,3 +99,24 @@ pub fn calls()
 {
     one_composition();
 }
+
+/// The mark of an optional path is cut off in one way.
+pub fn marks()
+    ensures { (text : List ℕ) (optional other start index : ℕ) → CutsMark text optional start
+        → CutsMark text other index → (optional ≡ other) × (start ≡ index) }
+{}
+
+/// A text has one answer as a file: the same keys, values and places, or the refusal of the same line.
+pub fn files()
+    ensures { (text : List ℕ) → HasOneResultByMemory
+        (λ (out out' : List ℕ × List GcvPlace × GcvFile) status.
+        ReadsFile text out.0 out'.0 out.1 out'.1 out.2 out'.2 status) }
+{}
+
+/// An entry has one answer about what it includes: the name of the file, or why it includes none.
+pub fn includes()
+    ensures { (key : List ℕ) (value : ℕ × List ℕ) (file real_dir : List ℕ)
+        (install_dir home git_dir : ℕ × List ℕ) (real_git_dir : List ℕ) (branch real_home : ℕ × List ℕ)
+        → HasOneAnswerByMemory (λ buffer buffer' size size' status. IncludesInto key value file real_dir
+        install_dir home git_dir real_git_dir branch real_home buffer buffer' size size' status) }
+{}

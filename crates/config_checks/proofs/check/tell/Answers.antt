@@ -1,6 +1,6 @@
 use Rattle.std.proofs.Common.{ℕ, List, refl, rules, sym, subst}
 use Rattle.config_checks.specs.declared.check.Counts.{Counts}
-use Rattle.config_checks.specs.Findings.{AppendsPart}
+use Rattle.config_checks.specs.Reading.Steps.{AppendsPart}
 use Rattle.config_checks.specs.Report.{EndsReport}
 use Rattle.config_checks.proofs.check.tell.Goals as goal
 

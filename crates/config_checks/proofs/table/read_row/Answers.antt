@@ -1,6 +1,6 @@
 use Rattle.std.proofs.Common.{◌≡◌, ◌∷◌, List, ℕ, map, IfErr, rules}
+use Rattle.std.proofs.lemmas.Result.{IfErr-weaker}
 use Rattle.config_checks.specs.Rows.{fields_of, IsNoRow, HasMarks, IsBadKind, IsBadRow}
-use Rattle.config_checks.proofs.CheckLemmas.{any_err, err_with}
 use Rattle.config_checks.proofs.TableLemmas.{bad_kind}
 use Rattle.config_checks.proofs.table.read_row.Goals as goal
 
@@ -15,5 +15,6 @@ returns-in_err-kind-clause-refused c =
     let parts : fields ≡ key.now ∷ marked = search rules in
     let marks : HasMarks marked c.cut_alone-alone.result.0 c.cut_warn-goes_on.result.0 (name.now ∷ words) = search rules in
     let bad : IfErr c.from_residual-in_err-kind.result (IsBadKind name.now words) = search rules in
-    err_with {R = IsBadRow _} _ (any_err _ (Unit {0}) tt) bad (λ _ fault is.
-    bad_kind fields marked key.now name.now words c.in-Some-parse.key _ _ fault row parts c.in-Some-parse.ensures marks is)
+    IfErr-weaker c.from_residual-in_err-kind.result _ (IsBadRow fields)
+    (λ fault is. bad_kind fields marked key.now name.now words c.in-Some-parse.key _ _ fault row parts
+    c.in-Some-parse.ensures marks is) bad

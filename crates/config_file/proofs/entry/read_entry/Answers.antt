@@ -1,7 +1,7 @@
 use Rattle.std.proofs.Common.{rules, refl}
 use Rattle.std.proofs.lemmas.Result.{err_from_is_err_and}
 use Rattle.config_file.specs.File.{alone, valued, key, value}
-use Rattle.config_file.proofs.Entries.{takes_key, takes_key_and}
+use Rattle.config_file.proofs.ReadEntries.{takes_key, takes_key_and}
 use Rattle.config_file.proofs.entry.read_entry.Goals as goal
 
 pub returns-then-is_at_line_end : goal.returns-then-is_at_line_end

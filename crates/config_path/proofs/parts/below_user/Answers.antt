@@ -6,4 +6,4 @@ pub returns : goal.returns
 returns g c =
     let name = c.in_ok-name.ensures in
     rw c.in-Some.is (utf8 name.1
-    (_, (c.lookup.result, (c.in_ok-name.name, c.lookup.ensures, name.0), refl), c.below_dir.ensures))
+    (_, (c.home_of.result, (rw name.0 at c.home_of.ensures), refl), c.below_dir.ensures))

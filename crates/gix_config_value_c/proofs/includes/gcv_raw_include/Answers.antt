@@ -1,7 +1,7 @@
 use Rattle.std.proofs.Common.{inl, inr, refl}
 use Rattle.gix_config_value_c.specs.Buffers.AnswersText.{put, none}
 use Rattle.gix_config_value_c.specs.Includes.IncludesInto.{told, bad_flag}
-use Rattle.gix_config_value_c.proofs.GivenRepository.{repository_given}
+use Rattle.gix_config_value_c.proofs.GivenRepository.{repository_given, flags_given}
 use Rattle.gix_config_value_c.proofs.includes.gcv_raw_include.Goals as goal
 
 pub returns-in_default : goal.returns-in_default
@@ -24,14 +24,18 @@ returns-in_default-given-5 c = bad_flag (inr (inr (inr (inr (inr (inl c.in_defau
 
 pub returns-in-Ok : goal.returns-in-Ok
 returns-in-Ok c =
-    told _ _ _ c.in-Some.ensures (c.in-Some-given.ensures, c.in-Some-given-2.ensures)
+    told _ _ _ (flags_given _ _ _ _ _ _ _ _ _ _ _ _ c.in-Some.ensures c.in-Some-given.ensures
+    c.in-Some-given-2.ensures c.in-Some-given-3.ensures c.in-Some-given-4.ensures c.in-Some-given-5.ensures)
+    c.in-Some.ensures (c.in-Some-given.ensures, c.in-Some-given-2.ensures)
     (repository_given _ _ _ _ _ _ _ _ c.in-Some-given-3.ensures c.in-Some-given-4.ensures c.in-Some-given-5.ensures
     c.repository_of-repository.ensures)
     (put _ (rw c.deref.ensures.value c.in-Ok.ensures) c.put.ensures)
 
 pub returns-in-Err : goal.returns-in-Err
 returns-in-Err c =
-    told _ _ _ c.in-Some.ensures (c.in-Some-given.ensures, c.in-Some-given-2.ensures)
+    told _ _ _ (flags_given _ _ _ _ _ _ _ _ _ _ _ _ c.in-Some.ensures c.in-Some-given.ensures
+    c.in-Some-given-2.ensures c.in-Some-given-3.ensures c.in-Some-given-4.ensures c.in-Some-given-5.ensures)
+    c.in-Some.ensures (c.in-Some-given.ensures, c.in-Some-given-2.ensures)
     (repository_given _ _ _ _ _ _ _ _ c.in-Some-given-3.ensures c.in-Some-given-4.ensures c.in-Some-given-5.ensures
     c.repository_of-repository.ensures)
     (none c.in-Err.ensures refl refl)

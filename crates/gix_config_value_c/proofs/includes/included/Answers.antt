@@ -1,35 +1,26 @@
-use Rattle.std.proofs.Common.{◌≡◌, ℕ, List, Bool, true, false, Option, refl, subst}
-use Rattle.config_file.specs.Walk.{Follows}
-use Rattle.config_file.specs.declared.include.Repository.{Repository}
-use Rattle.gix_config_value_c.specs.declared.status.Status.TheVariants as statuses
+use Rattle.std.proofs.Common.{refl}
+use Rattle.config_file.proofs.Patterns.{no_match}
+use Rattle.gix_config_value_c.specs.Includes.TellsWhyNot.{no_include, no_value, no_directory, no_memory}
+use Rattle.gix_config_value_c.proofs.OneCondition.{followed}
 use Rattle.gix_config_value_c.proofs.includes.included.Goals as goal
-
-follows : (repository : Option Repository) (dir key : List ℕ) (is said : Bool) → is ≡ said → Follows repository dir key is
-    → Follows repository dir key said
-follows repository dir key is said e f = subst (λ b. Follows repository dir key b) e f
 
 pub returns-in-Ok-false : goal.returns-in-Ok-false
 returns-in-Ok-false c =
-    let is = c.in-Ok-false in (statuses.NoInclude, follows _ _ _ is.field-0 false (cc (is.field-0-test)) is.ensures, refl)
+    let is = c.in-Ok-false in no_include (no_match is.field-0 (cc (is.field-0-test)) is.ensures) refl
 
 pub returns-in-Err : goal.returns-in-Err
-returns-in-Err c = (statuses.NoMemory, tt, refl)
+returns-in-Err c = no_memory refl
 
 pub returns-in_default : goal.returns-in_default
 returns-in_default c =
     let is = c.in-Ok-true in
-    (statuses.NoValue, (follows _ _ _ is.field-0 true (cc (is.field-0-test)) is.ensures, rw c.in_default.is refl), refl)
+    no_value (followed is.field-0 (cc (is.field-0-test)) is.ensures) (rw c.in_default.is refl) refl
 
 pub returns-in-Ok-None : goal.returns-in-Ok-None
 returns-in-Ok-None c =
-    let is = c.in-Ok-true in (
-      statuses.NoDirectory,
-      (
-        follows _ _ _ is.field-0 true (cc (is.field-0-test)) is.ensures,
-        (c.in-Some.value.now, rw c.in-Some.is refl, rw c.in-Ok-None.field-0-is at c.in-Ok-None.ensures),
-      ),
-      refl,
-    )
+    let is = c.in-Ok-true in
+    no_directory c.in-Some.value.now (followed is.field-0 (cc (is.field-0-test)) is.ensures)
+    (rw c.in-Some.is refl) (rw c.in-Ok-None.field-0-is at c.in-Ok-None.ensures) refl
 
 pub returns-in-Err-name_in : goal.returns-in-Err-name_in
-returns-in-Err-name_in c = (statuses.NoMemory, tt, refl)
+returns-in-Err-name_in c = no_memory refl

@@ -19,7 +19,8 @@ numbered (IllFormed place input) = refl
 numbered (Memory e) = refl
 
 pub returns-in-Ok : goal.returns-in-Ok
-returns-in-Ok c = rw c.in-Ok.is (c.put_parts.ensures _)
+returns-in-Ok c = rw c.in-Ok.is (c.put_joint.ensures _)
 
 pub returns-in-Err : goal.returns-in-Err
-returns-in-Err c = rw (c.in-Err.is, c.path_fault_number.ensures) (refused (numbered c.in-Err.error) (refl, refl, refl))
+returns-in-Err c =
+    rw (c.in-Err.is, c.path_fault_number.ensures) (refused (numbered c.in-Err.error) (refl, refl, refl))

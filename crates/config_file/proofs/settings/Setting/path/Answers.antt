@@ -5,6 +5,6 @@ returns-in-Err g c = (
   c.cut_mark-is_optional.result.0,
   c.cut_mark-is_optional.result.1.now,
   rw c.path_bytes.ensures at c.cut_mark-is_optional.ensures,
-  rw c.refused.ensures.fault (rw c.in-Err.is at c.parts_of.ensures),
-  c.refused.ensures.place,
+  rw c.refused.ensures.1 (rw c.in-Err.is at c.parts_of.ensures),
+  c.refused.ensures.0,
 )

@@ -1,4 +1,4 @@
-use Rattle.std.proofs.Common.{◌++◌, List, Option}
+use Rattle.std.proofs.Common.{◌++◌, List, Option, map}
 use Rattle.config_file.specs.declared.errors.Error.{Error}
 use Rattle.config_file.specs.File.{Entry, IsFile}
 use Rattle.config_file.specs.Left.{HasLeft}
@@ -8,5 +8,6 @@ use Rattle.config_file.proofs.settings.Settings.add_file.Given as goal
 abbrev pub invariant-loop-entry : goal.invariant-loop-entry
 invariant-loop-entry l =
     (entries : List Entry)
-    × ((left : List Entry) (error : Option Error) → HasLeft l.entry-iterator left error → IsFile l.text (entries ++ left) error)
-    × Adds l.file entries l.fn.self.entries.items l.self.entries.items
+    × ((left : List Entry) (error : Option Error) → HasLeft l.entry-iterator left error
+    → IsFile l.text (entries ++ left) error)
+    × Adds (map (λ entry. (l.file, entry)) entries) l.fn.self.entries.items l.self.entries.items

@@ -1,0 +1,38 @@
+//! What a check judges: the entries of a file.
+ghost use Rattle.std.specs.Prelude.{IfOk};
+ghost use Rattle.config_file.specs.Views.{entry_of};
+ghost use Rattle.config_checks.specs.Settings.{IsSettingOf};
+
+use config_file::entry::Entry;
+use std::alloc::{AllocError, Global};
+
+/// An entry of a file, with its key as Git lists it and the text of its value.
+#[derive(Drop)]
+pub struct Setting<'a> {
+    /// The name of the file.
+    pub file: &'a str,
+    /// The line of the entry, from 1.
+    pub line: usize,
+    /// The key as Git lists it.
+    pub key: Vec<u8>,
+    /// The text of the value, or `None` for a key alone.
+    pub value: Option<Vec<u8>>,
+}
+
+impl<'a> Setting<'a> {
+    /// The setting of an entry of the file with this name. It fails only if there is no memory for its texts.
+    pub fn of_entry(alloc: Global, file: &'a str, entry: &Entry<'_>) -> Result<Self, AllocError>
+        ensures { IfOk result (IsSettingOf file.now (entry_of entry.now)) }
+    {
+        let value = match &entry.value {
+            Some(value) => Some(value.text(alloc)?.into_owned(alloc)?),
+            None => None,
+        };
+        Ok(Self {
+            file,
+            line: entry.line,
+            key: entry.key_text(alloc)?,
+            value,
+        })
+    }
+}

@@ -1,0 +1,263 @@
+-- An entry of a file aims at one file at most: its section and its value spell a text, and a text has one
+-- meaning.
+use Rattle.std.proofs.Common.{◌≡◌, ℕ, Bool, true, false, List, ◌++◌, codes, Option, None, Some}
+use Rattle.std.proofs.Common.{refl, sym, ap, ◌∙◌, subst, option_map}
+use Rattle.std.proofs.lemmas.Bool.{true≢false}
+use Rattle.std.proofs.lemmas.Option.{same_Some, none-some}
+use Rattle.std.proofs.lemmas.List.{append_cancel_left}
+use Rattle.config_file.specs.Header.{Section}
+use Rattle.config_file.specs.File.{Entry}
+use Rattle.config_file.specs.Subsection.{SpellsSubsection, IsSubsection}
+use Rattle.config_file.specs.Value.{SpellsValue}
+use Rattle.config_file.specs.Listing.{IsListed, alone, in_section, plain, quoted}
+use Rattle.config_file.specs.Include as include
+use Rattle.config_file.specs.Include.{Names, Holds, IsSameCondition, IsPathIn, EntryFollows, IsGitDir}
+use Rattle.config_file.specs.Include.{IsOnBranch}
+use Rattle.config_file.specs.Path as path
+use Rattle.config_file.specs.Path.{Expands, BeginsUnknown, IsIncludedName, is_rest}
+use Rattle.config_file.specs.Walk.{IsNameOf, SpellsName, SpellsUnknown}
+use Rattle.config_file.specs.declared.path.Directories.{Directories}
+use Rattle.config_file.specs.declared.walk.Known.{Known}
+use Rattle.config_file.specs.declared.include.Includes.{Includes}
+use Rattle.config_file.specs.declared.include.Includes.TheVariants.{Skipped, AsGit, All}
+use Rattle.config_file.specs.declared.include.Condition.{Condition}
+use Rattle.config_file.specs.declared.include.Condition.TheVariants.{Always, GitDir, GitDirIgnoringCase}
+use Rattle.config_file.specs.declared.include.Condition.TheVariants.{OnBranch, HasRemoteUrl, Unknown}
+use Rattle.config_file.proofs.Fronts.{is_front, lacks}
+use Rattle.config_file.proofs.EachListed.{IsRead, IsSpelled}
+
+-- ---- the condition that a text names
+
+abbrev git_dir : List ℕ
+git_dir = codes "gitdir:"
+
+abbrev ignoring_case : List ℕ
+ignoring_case = codes "gitdir/i:"
+
+abbrev branch : List ℕ
+branch = codes "onbranch:"
+
+abbrev url : List ℕ
+url = codes "hasconfig:remote.*.url:"
+
+-- a text does not begin in two ways
+apart : (first second a b : List ℕ) {text : List ℕ} → is_front second (first ++ a) ≡ false → text ≡ first ++ a
+    → text ≡ second ++ b → ⊥
+apart first second a b differ e f = lacks second (first ++ a) differ b (sym e ∙ f)
+
+same_rest : (front : List ℕ) {text a b : List ℕ} → text ≡ front ++ a → text ≡ front ++ b → a ≡ b
+same_rest front {a = a} {b = b} e f = append_cancel_left front a b (sym e ∙ f)
+
+pub one_condition : (text : List ℕ) (a b : Condition) → Names text a → Names text b → IsSameCondition a b
+one_condition text Always b is so = absurd is
+one_condition text (GitDir a) Always is so = absurd so
+one_condition text (GitDir a) (GitDir b) is so = same_rest git_dir is so
+one_condition text (GitDir a) (GitDirIgnoringCase b) is so =
+    absurd (apart git_dir ignoring_case a.now b.now refl is so)
+one_condition text (GitDir a) (OnBranch b) is so = absurd (apart git_dir branch a.now b.now refl is so)
+one_condition text (GitDir a) (HasRemoteUrl b) is so = absurd (apart git_dir url a.now b.now refl is so)
+one_condition text (GitDir a) Unknown is so = absurd (so.0 a.now is)
+one_condition text (GitDirIgnoringCase a) Always is so = absurd so
+one_condition text (GitDirIgnoringCase a) (GitDir b) is so =
+    absurd (apart git_dir ignoring_case b.now a.now refl so is)
+one_condition text (GitDirIgnoringCase a) (GitDirIgnoringCase b) is so = same_rest ignoring_case is so
+one_condition text (GitDirIgnoringCase a) (OnBranch b) is so =
+    absurd (apart ignoring_case branch a.now b.now refl is so)
+one_condition text (GitDirIgnoringCase a) (HasRemoteUrl b) is so =
+    absurd (apart ignoring_case url a.now b.now refl is so)
+one_condition text (GitDirIgnoringCase a) Unknown is so = absurd (so.1 a.now is)
+one_condition text (OnBranch a) Always is so = absurd so
+one_condition text (OnBranch a) (GitDir b) is so = absurd (apart git_dir branch b.now a.now refl so is)
+one_condition text (OnBranch a) (GitDirIgnoringCase b) is so =
+    absurd (apart ignoring_case branch b.now a.now refl so is)
+one_condition text (OnBranch a) (OnBranch b) is so = same_rest branch is so
+one_condition text (OnBranch a) (HasRemoteUrl b) is so = absurd (apart branch url a.now b.now refl is so)
+one_condition text (OnBranch a) Unknown is so = absurd (so.2 a.now is)
+one_condition text (HasRemoteUrl a) Always is so = absurd so
+one_condition text (HasRemoteUrl a) (GitDir b) is so = absurd (apart git_dir url b.now a.now refl so is)
+one_condition text (HasRemoteUrl a) (GitDirIgnoringCase b) is so =
+    absurd (apart ignoring_case url b.now a.now refl so is)
+one_condition text (HasRemoteUrl a) (OnBranch b) is so = absurd (apart branch url b.now a.now refl so is)
+one_condition text (HasRemoteUrl a) (HasRemoteUrl b) is so = same_rest url is so
+one_condition text (HasRemoteUrl a) Unknown is so = absurd (so.3 a.now is)
+one_condition text Unknown Always is so = absurd so
+one_condition text Unknown (GitDir b) is so = absurd (is.0 b.now so)
+one_condition text Unknown (GitDirIgnoringCase b) is so = absurd (is.1 b.now so)
+one_condition text Unknown (OnBranch b) is so = absurd (is.2 b.now so)
+one_condition text Unknown (HasRemoteUrl b) is so = absurd (is.3 b.now so)
+one_condition text Unknown Unknown is so = refl
+
+-- ---- whether an entry is followed
+
+same_condition_holds : (includes : Includes) (dir : List ℕ) (a b : Condition) → IsSameCondition a b
+    → Holds includes dir a → Holds includes dir b
+same_condition_holds Skipped dir a b same holds = absurd holds
+same_condition_holds All dir a b same holds = tt
+same_condition_holds (AsGit r) dir Always Always same holds = tt
+same_condition_holds (AsGit None) dir (GitDir a) b same holds = absurd holds
+same_condition_holds (AsGit None) dir (GitDirIgnoringCase a) b same holds = absurd holds
+same_condition_holds (AsGit None) dir (OnBranch a) b same holds = absurd holds
+same_condition_holds (AsGit r) dir (HasRemoteUrl a) b same holds = absurd holds
+same_condition_holds (AsGit r) dir Unknown b same holds = absurd holds
+same_condition_holds (AsGit (Some r)) dir (GitDir a) (GitDir b) same holds =
+    subst (λ p. IsGitDir false dir p r) same holds
+same_condition_holds (AsGit (Some r)) dir (GitDirIgnoringCase a) (GitDirIgnoringCase b) same holds =
+    subst (λ p. IsGitDir true dir p r) same holds
+same_condition_holds (AsGit (Some r)) dir (OnBranch a) (OnBranch b) same holds =
+    subst (λ p. IsOnBranch p (option_map (λ branch. branch.now) r.branch)) same holds
+same_condition_holds (AsGit r) dir a b same holds = cc
+
+-- the bytes of the subsection of an entry that Git lists spell a text
+spells : {section : Option Section} {key listed written raw : List ℕ} → IsListed section key listed
+    → section ≡ Some (written, Some raw) → IsSubsection raw
+spells alone is = absurd (none-some _ is)
+spells (in_section plain) is = absurd (none-some _ (ap (λ s. s.1) (same_Some _ _ is)))
+spells (in_section (quoted {spelled = text} spelled)) is =
+    (text, subst (λ r. SpellsSubsection r text) (same_Some _ _ (ap (λ s. s.1) (same_Some _ _ is))) spelled)
+
+subsections : (entry : Entry) {a b : List ℕ} {p q : Option (List ℕ)} → IsPathIn a p entry
+    → IsPathIn b q entry → p ≡ q
+subsections entry first second =
+    let (written, is, named) = first.1 in
+    let (other, so, also) = second.1 in
+    ap (λ s. s.1) (same_Some _ _ (sym is ∙ so))
+
+condition_spelled : (includes : Includes) (dir : List ℕ) {raw same : List ℕ}
+    → IsSubsection raw → raw ≡ same
+    → ((text : List ℕ) → SpellsSubsection raw text → (c : Condition) × Names text c × Holds includes dir c)
+    → ((text : List ℕ) → SpellsSubsection same text
+    → (c : Condition) × Names text c × ¬ (Holds includes dir c)) → ⊥
+condition_spelled includes dir (text, spelled) e holding failing =
+    let (a, is, holds) = holding text spelled in
+    let (b, so, fails) = failing text (subst (λ r. SpellsSubsection r text) e spelled) in
+    fails (same_condition_holds includes dir a b (one_condition text a b is so) holds)
+
+not_both : (includes : Includes) (dir : List ℕ) (entry : Entry) → IsRead entry
+    → EntryFollows includes dir entry true → EntryFollows includes dir entry false → ⊥
+not_both includes dir entry read (include.always is h) (include.never so n) = n h
+not_both includes dir entry read (include.always is h) (include.fails raw so n) =
+    none-some raw (subsections entry is so)
+not_both includes dir entry read (include.always is h) (include.unrelated n m) = n is
+not_both includes dir entry read (include.holds raw is h) (include.never so n) =
+    none-some raw (subsections entry so is)
+not_both includes dir entry read (include.holds raw is h) (include.fails other so n) =
+    let (written, found, named) = is.1 in
+    condition_spelled includes dir (spells read.listed.1 found) (same_Some _ _ (subsections entry is so)) h n
+not_both includes dir entry read (include.holds raw is h) (include.unrelated n m) = m raw is
+
+pub one_answer : (includes : Includes) (dir : List ℕ) (entry : Entry) (a b : Bool) → IsRead entry
+    → EntryFollows includes dir entry a → EntryFollows includes dir entry b → a ≡ b
+one_answer includes dir entry true true read is so = refl
+one_answer includes dir entry true false read is so = absurd (not_both includes dir entry read is so)
+one_answer includes dir entry false true read is so = absurd (not_both includes dir entry read so is)
+one_answer includes dir entry false false read is so = refl
+
+-- ---- the name of a file
+
+home_or_prefix : {value a b : List ℕ} → value ≡ codes "~" ++ a → value ≡ codes "%(prefix)/" ++ b → ⊥
+home_or_prefix e f = cc
+
+same_dir : {known : Option (List ℕ)} {a b : List ℕ} → known ≡ Some a → known ≡ Some b → a ≡ b
+same_dir e f = same_Some _ _ (sym e ∙ f)
+
+one_path : {home install : Option (List ℕ)} {value p q : List ℕ} → Expands home install value p
+    → Expands home install value q → p ≡ q
+one_path (path.below_home a r e is h f) (path.below_home b s g so i k) =
+    f ∙ rw (same_dir h i, same_rest (codes "~") e g) (sym k)
+one_path (path.below_home a r e is h f) (path.below_prefix b s g i k) = absurd (home_or_prefix e g)
+one_path (path.below_home a r e is h f) (path.other m n k) = absurd (m r e)
+one_path (path.below_prefix b s g i k) (path.below_home a r e is h f) = absurd (home_or_prefix e g)
+one_path (path.below_prefix a r e h f) (path.below_prefix b s g i k) =
+    f ∙ rw (same_dir h i, same_rest (codes "%(prefix)/") e g) (sym k)
+one_path (path.below_prefix a r e h f) (path.other m n k) = absurd (n r e)
+one_path (path.other m n k) (path.below_home a r e is h f) = absurd (m r e)
+one_path (path.other m n k) (path.below_prefix a r e h f) = absurd (n r e)
+one_path (path.other m n e) (path.other o p f) = e ∙ sym f
+
+known_or_unknown : {home install : Option (List ℕ)} {value p : List ℕ} → Expands home install value p
+    → BeginsUnknown home install value → ⊥
+known_or_unknown (path.below_home a r e is h f) (path.user s g u) =
+    true≢false (sym is ∙ ap is_rest (same_rest (codes "~") e g) ∙ u)
+known_or_unknown (path.below_home a r e is h f) (path.no_home s g u) = none-some a (sym u ∙ h)
+known_or_unknown (path.below_home a r e is h f) (path.no_prefix s g u) = home_or_prefix e g
+known_or_unknown (path.below_prefix a r e h f) (path.user s g u) = home_or_prefix g e
+known_or_unknown (path.below_prefix a r e h f) (path.no_home s g u) = home_or_prefix g e
+known_or_unknown (path.below_prefix a r e h f) (path.no_prefix s g u) = none-some a (sym u ∙ h)
+known_or_unknown (path.other m n k) (path.user s g u) = m s g
+known_or_unknown (path.other m n k) (path.no_home s g u) = m s g
+known_or_unknown (path.other m n k) (path.no_prefix s g u) = n s g
+
+one_included : {file p a b : List ℕ} → IsIncludedName file p a → IsIncludedName file p b → a ≡ b
+one_included (path.absolute r e is) (path.absolute s f so) = is ∙ sym so
+one_included (path.absolute r e is) (path.relative n so) = absurd (n r e)
+one_included (path.relative n is) (path.absolute s f so) = absurd (n s f)
+one_included (path.relative n is) (path.relative m so) = is ∙ sym so
+
+one_name : (directories : Directories) (file : List ℕ) {value a b : List ℕ}
+    → IsNameOf directories file value a
+    → IsNameOf directories file value b → a ≡ b
+one_name directories file {b = b} (p, is, named) (q, so, also) =
+    one_included named (subst (λ x. IsIncludedName file x b) (one_path so is) also)
+
+-- ---- what an entry aims at
+
+-- no file, a value that is missing, a directory that is not known, or the file of a name
+pub data Aim : Type 0 where
+  no_file : Aim
+  no_value : Aim
+  unknown : Aim
+  file : List ℕ → Aim
+
+-- what the entry of a file of this name, in this directory, includes
+abbrev pub Aims : Known → List ℕ → List ℕ → Entry → Aim → Type 0
+Aims known name dir entry no_file = EntryFollows known.includes dir entry false
+Aims known name dir entry no_value = EntryFollows known.includes dir entry true × (entry.value ≡ None)
+Aims known name dir entry unknown = EntryFollows known.includes dir entry true
+    × ((raw : List ℕ) × (entry.value ≡ Some raw) × SpellsUnknown known raw)
+Aims known name dir entry (file included) = EntryFollows known.includes dir entry true
+    × ((raw : List ℕ) × (entry.value ≡ Some raw) × SpellsName known name raw included)
+
+known_and_unknown : (known : Known) (name included : List ℕ) {raw same : List ℕ} {value : Option (List ℕ)}
+    → IsSpelled value
+    → value ≡ Some raw → value ≡ Some same → SpellsName known name raw included → SpellsUnknown known same → ⊥
+known_and_unknown known name included {raw = raw} spelled e f named lost =
+    let (text, ending, is) = spelled raw e in
+    let (p, expands, rest) = named text ending is in
+    known_or_unknown expands (lost text ending (subst (λ r. SpellsValue r text ending) (same_dir e f) is))
+
+same_file : (known : Known) (name : List ℕ) {raw same a b : List ℕ} {value : Option (List ℕ)}
+    → IsSpelled value
+    → value ≡ Some raw → value ≡ Some same → SpellsName known name raw a → SpellsName known name same b
+    → a ≡ b
+same_file known name {raw = raw} spelled e f first second =
+    let (text, ending, is) = spelled raw e in
+    one_name known.directories name (first text ending is)
+    (second text ending (subst (λ r. SpellsValue r text ending) (same_dir e f) is))
+
+pub one_aim : (known : Known) (name dir : List ℕ) (entry : Entry) (a b : Aim) → IsRead entry
+    → Aims known name dir entry a → Aims known name dir entry b → a ≡ b
+one_aim known name dir entry no_file no_file read is so = refl
+one_aim known name dir entry no_file no_value read is so =
+    absurd (not_both known.includes dir entry read so.0 is)
+one_aim known name dir entry no_file unknown read is so =
+    absurd (not_both known.includes dir entry read so.0 is)
+one_aim known name dir entry no_file (file b) read is so =
+    absurd (not_both known.includes dir entry read so.0 is)
+one_aim known name dir entry no_value no_file read is so =
+    absurd (not_both known.includes dir entry read is.0 so)
+one_aim known name dir entry no_value no_value read is so = refl
+one_aim known name dir entry no_value unknown read is so = absurd (none-some _ (sym is.1 ∙ so.1.1))
+one_aim known name dir entry no_value (file b) read is so = absurd (none-some _ (sym is.1 ∙ so.1.1))
+one_aim known name dir entry unknown no_file read is so =
+    absurd (not_both known.includes dir entry read is.0 so)
+one_aim known name dir entry unknown no_value read is so = absurd (none-some _ (sym so.1 ∙ is.1.1))
+one_aim known name dir entry unknown unknown read is so = refl
+one_aim known name dir entry unknown (file b) read (follows, (raw, e, lost)) (also, (same, f, named)) =
+    absurd (known_and_unknown known name _ read.spelled f e named lost)
+one_aim known name dir entry (file a) no_file read is so =
+    absurd (not_both known.includes dir entry read is.0 so)
+one_aim known name dir entry (file a) no_value read is so = absurd (none-some _ (sym so.1 ∙ is.1.1))
+one_aim known name dir entry (file a) unknown read (follows, (raw, e, named)) (also, (same, f, lost)) =
+    absurd (known_and_unknown known name _ read.spelled e f named lost)
+one_aim known name dir entry (file a) (file b) read (follows, (raw, e, named)) (also, (same, f, so)) =
+    ap file (same_file known name read.spelled e f named so)

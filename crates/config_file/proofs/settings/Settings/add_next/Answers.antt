@@ -1,0 +1,77 @@
+use Rattle.std.proofs.Common.{rules, refl, [], ◌∷◌}
+use Rattle.config_file.specs.Views.{entry_of}
+use Rattle.config_file.specs.Walk.{Line, TooDeep}
+use Rattle.config_file.proofs.Adding.{adds_none}
+use Rattle.config_file.proofs.Coming.{line_next, ends_next, passed_next, entered_next, deep_next, stop_comes}
+use Rattle.config_file.proofs.settings.Settings.add_next.Goals as goal
+
+pub returns-in-Line : goal.returns-in-Line
+returns-in-Line g c = (
+  [],
+  c.in-Line.place.name.now,
+  Line c.in-Line.error,
+  adds_none c.args.self.now.entries.items,
+  (refl, refl),
+  (
+    c.next.new.self.frames.items,
+    c.next.new.self.fits,
+    line_next (g.S.Files.contents c.args.files.now) c.args.known.now c.args.walk.now.frames.items
+        c.next.new.self.frames.items c.in-Line.place c.in-Line.error
+        (λ answers. rw c.in-Line.is at (c.in-Ok.ensures answers)),
+  ),
+)
+
+pub returns-in-Ends : goal.returns-in-Ends
+returns-in-Ends g c = ends_next (g.S.Files.contents c.args.files.now) c.args.known.now
+    c.args.self.now.entries.items c.args.walk.now.frames.items c.next.new.self.frames.items
+    (λ answers. rw c.in-Ends.is at (c.in-Ok.ensures answers))
+
+pub returns-in-Behind : goal.returns-in-Behind
+returns-in-Behind g c = (
+  (c.in-Entry.place.name.now, entry_of c.in-Entry.entry),
+  c.in-Ok-add.ensures,
+  passed_next (g.S.Files.contents c.args.files.now) c.args.known.now c.args.walk.now.frames.items
+      c.next.new.self.frames.items c.in-Entry.place c.in-Entry.entry c.in-Entry.include
+      (λ answers. rw c.in-Entry.is at (c.in-Ok.ensures answers)) (rw c.in-Behind.is at c.in-Ok-next_of.ensures),
+)
+
+pub returns-in-In : goal.returns-in-In
+returns-in-In g c = (
+  (c.in-Entry.place.name.now, entry_of c.in-Entry.entry),
+  c.in-Ok-add.ensures,
+  entered_next (g.S.Files.contents c.args.files.now) c.args.known.now c.args.walk.now.frames.items
+      c.next.new.self.frames.items c.enter.new.self.frames.items c.in-Entry.place c.in-In.place c.in-Entry.entry
+      c.in-Entry.include c.in-In.text.now (λ answers. rw c.in-Entry.is at (c.in-Ok.ensures answers))
+      (rw c.in-In.is at c.in-Ok-next_of.ensures) (c.enter.ensures.entered (search rules)),
+)
+
+pub returns-in-In-2 : goal.returns-in-In-2
+returns-in-In-2 g c = (
+  (c.in-Entry.place.name.now, entry_of c.in-Entry.entry) ∷ [],
+  c.in-Entry.place.name.now,
+  TooDeep (entry_of c.in-Entry.entry),
+  c.in-Ok-add.ensures,
+  (refl, refl, tt),
+  (
+    c.next.new.self.frames.items,
+    c.next.new.self.fits,
+    deep_next (g.S.Files.contents c.args.files.now) c.args.known.now c.args.walk.now.frames.items
+        c.next.new.self.frames.items c.in-Entry.place c.in-In.place c.in-Entry.entry c.in-Entry.include
+        c.in-In.text.now (λ answers. rw c.in-Entry.is at (c.in-Ok.ensures answers))
+        (rw c.in-In.is at c.in-Ok-next_of.ensures) (search rules),
+  ),
+)
+
+pub returns-in-Stops : goal.returns-in-Stops
+returns-in-Stops g c =
+    let (stop, tells, comes) = stop_comes (g.S.Files.contents c.args.files.now) c.args.known.now
+    c.args.walk.now.frames.items c.next.new.self.frames.items c.in-Entry.place c.in-Entry.entry
+    c.in-Entry.include c.in-Stops.fault (λ answers. rw c.in-Entry.is at (c.in-Ok.ensures answers))
+    (rw c.in-Stops.is at c.in-Ok-next_of.ensures) in (
+      (c.in-Entry.place.name.now, entry_of c.in-Entry.entry) ∷ [],
+      c.in-Entry.place.name.now,
+      stop,
+      c.in-Ok-add.ensures,
+      tells,
+      (c.next.new.self.frames.items, c.next.new.self.fits, comes),
+    )

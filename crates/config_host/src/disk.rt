@@ -1,0 +1,241 @@
+//! Reads files, and keeps their texts for as long as a walk borrows from them.
+ghost use Rattle.std.specs.Prelude.{◌≡◌, ◌⊎◌, ⊤, IfOk};
+ghost use Rattle.config_host.specs.declared.disk.ReadError.TheVariants.{Name, System};
+
+use crate::environment::{Host, current_folder};
+use crate::names::{answer, inside, real_name, split_last, text_of};
+use bstr::BStr;
+use bumpalo::Bump;
+use bumpalo::collections::into_bump_slice;
+use config_file::errors::Fault;
+use config_file::reader::Entries;
+use config_file::{Content, Files, Place};
+use std::alloc::{AllocError, Global};
+use std::fs::{self, File, FileType, OpenFile};
+use std::io::{self, ErrorKind, Read};
+use std::os::unix::fs::FileTypeExt;
+use thiserror::Error;
+
+/// The number of bytes of the longest file that is read: 1 GiB.
+pub const LONGEST: usize = 1 << 30;
+
+/// How many bytes are read at once.
+const PIECE: usize = 1 << 16;
+
+/// Why a file is not read.
+#[derive(Debug, Drop, Error)]
+pub enum ReadError {
+    /// Its name is not UTF-8, and the system opens no such file here.
+    #[error("its name is not UTF-8")]
+    Name,
+    /// It is a folder, a pipe, or another thing whose end an include does not wait for.
+    #[error("it is no regular file")]
+    Kind,
+    /// It is longer than [`LONGEST`].
+    #[error("it is longer than 1 GiB")]
+    Length,
+    /// The system refuses it.
+    #[error("{0}")]
+    System(io::Error),
+}
+
+impl From<io::Error> for ReadError {
+    ghost from_gives = { λ error read. (read ≡ Name) ⊎ (read ≡ System error) };
+
+    fn from(error: io::Error) -> ReadError {
+        match error.kind() {
+            ErrorKind::InvalidFilename => ReadError::Name,
+            _ => ReadError::System(error),
+        }
+    }
+}
+
+impl From<AllocError> for ReadError {
+    ghost from_gives = { λ _ read. (error : _) × (read ≡ System error) };
+
+    fn from(error: AllocError) -> ReadError {
+        ReadError::System(io::Error::from(error))
+    }
+}
+
+impl ReadError {
+    /// Whether memory was refused, which ends a run.
+    pub fn is_memory(&self) -> bool {
+        matches!(self, ReadError::System(error) if error.kind() == ErrorKind::OutOfMemory)
+    }
+
+    /// Whether there is no such file, or its name is below a file.
+    fn is_missing(&self) -> bool {
+        matches!(self, ReadError::System(error)
+            if matches!(error.kind(), ErrorKind::NotFound | ErrorKind::NotADirectory))
+    }
+}
+
+/// Whether what follows this text cannot change where Git stops in it.
+fn is_refused(text: &[u8]) -> bool {
+    let lines = text.iter().filter(|byte| **byte == b'\n').count();
+    for entry in Entries::new(text) {
+        if let Err(error) = entry {
+            return error.fault == Fault::Nul || error.line < lines;
+        }
+    }
+    false
+}
+
+/// Reads bytes, and returns how many there are: none at the end of the file.
+fn read_some<F: Read>(file: &mut F, room: &mut [u8]) -> io::Result<usize> {
+    for _ in 0..u64::MAX {
+        match file.read(room) {
+            Err(error) if error.kind() == ErrorKind::Interrupted => {}
+            answer => return answer,
+        }
+    }
+    Ok(0)
+}
+
+/// Reads what there is room for, or up to [`PIECE`] bytes. Returns false at the end of the file.
+fn read_piece<'t, F: Read>(file: &mut F, text: &mut Vec<u8, &'t Bump>) -> io::Result<bool> {
+    let start = text.len();
+    let full = if start < text.capacity() {
+        text.capacity()
+    } else {
+        start.saturating_add(PIECE)
+    };
+    if text.resize(full, 0).is_err() {
+        return Err(io::Error::from(ErrorKind::OutOfMemory));
+    }
+    let Some((_, room)) = text.split_at_mut_checked(start) else {
+        return Ok(false);
+    };
+    let count = read_some(file, room)?;
+    text.truncate(start.saturating_add(count));
+    Ok(count != 0)
+}
+
+/// Whether a file of this type may be included: a regular file, or a device whose bytes are read in turn.
+fn is_included(kind: FileType) -> bool {
+    kind.is_file() || kind.is_char_device()
+}
+
+/// The length of a file, or `None` if it has no length before it is read.
+fn known_length<F: OpenFile>(file: &F, is_first: bool) -> Result<Option<usize>, ReadError> {
+    let known = file.metadata()?;
+    if !is_first && !is_included(known.file_type()) {
+        return Err(ReadError::Kind);
+    }
+    if !known.is_file() {
+        return Ok(None);
+    }
+    match usize::try_from(known.len()) {
+        Ok(length) if length <= LONGEST => Ok(Some(length)),
+        _ => Err(ReadError::Length),
+    }
+}
+
+/// The files of a host, whose texts are kept in memory until all of them are given up together.
+#[derive(Drop)]
+pub struct Disk<'t, R> {
+    host: &'t R,
+    texts: &'t Bump,
+}
+
+impl<'t, R: Host> Disk<'t, R> {
+    /// The files of this host, whose texts are kept there.
+    pub fn new(host: &'t R, texts: &'t Bump) -> Disk<'t, R> {
+        Disk { host, texts }
+    }
+
+    /// The bytes to the end of what is read, at most [`LONGEST`]. If the length is not known, as that of a
+    /// device, they are read until Git would stop in them.
+    pub fn text<F: Read + Drop>(
+        &self,
+        mut file: F,
+        length: Option<usize>,
+    ) -> Result<&'t [u8], ReadError> {
+        let mut text = Vec::with_capacity(self.texts, length.unwrap_or(PIECE).saturating_add(1))?;
+        let mut asked_at = PIECE;
+        for _ in 0..u64::MAX {
+            if !read_piece(&mut file, &mut text)? {
+                break;
+            }
+            if LONGEST < text.len() {
+                return Err(ReadError::Length);
+            }
+            if length.is_none() && asked_at <= text.len() {
+                if is_refused(&text) {
+                    break;
+                }
+                asked_at = text.len().saturating_mul(2);
+            }
+        }
+        Ok(into_bump_slice(text))
+    }
+
+    /// The bytes of the file of this name, which has to be one that may be included if `is_first` is false.
+    fn read_file(&self, name: &[u8], is_first: bool) -> Result<&'t [u8], ReadError> {
+        let name = text_of(name)?;
+        if !is_first && !is_included(fs::metadata(self.host, name)?.file_type()) {
+            return Err(ReadError::Kind);
+        }
+        let file = File::open(self.host, name)?;
+        let length = known_length(&file, is_first)?;
+        self.text(file, length)
+    }
+
+    /// The name of a file from the root, without links as far as the system knows it.
+    pub fn real_name(&self, name: &[u8]) -> Result<Vec<u8>, AllocError> {
+        let alloc = self.host.alloc();
+        match real_name(self.host, name) {
+            Ok(Some(real)) => return Ok(real),
+            Ok(None) => {}
+            Err(_) => return Err(AllocError),
+        }
+        match answer(current_folder(self.host)) {
+            Ok(Some(folder)) => Ok(inside(alloc, &folder, name)?),
+            Ok(None) => Ok(inside(alloc, b"", name)?),
+            Err(_) => Err(AllocError),
+        }
+    }
+
+    /// The place of the file of this name.
+    pub fn place(&self, name: &[u8]) -> Result<Place<'t>, AllocError>
+        ensures { IfOk result (λ place. place.name.now ≡ name.now) }
+    {
+        let real = self.real_name(name)?;
+        let real_dir: &'t [u8] = match split_last(&real) {
+            Some((folder, _)) => self.texts.try_alloc_slice_copy(folder)?,
+            None => b"",
+        };
+        Ok(Place {
+            name: self.texts.try_alloc_slice_copy(name)?,
+            real_dir,
+        })
+    }
+
+    /// The text of a file that the user names, or that Git reads by itself. It may be a pipe or a terminal.
+    pub fn first(&self, name: &[u8]) -> Result<(Place<'t>, &'t [u8]), ReadError> {
+        let text = self.read_file(name, true)?;
+        Ok((self.place(name)?, text))
+    }
+
+    /// Why the file of this name is not read, as a text that is kept.
+    fn reason(&self, name: &[u8], error: &ReadError) -> Result<&'t str, AllocError> {
+        let name = BStr::new(name);
+        let text = format!(in self.host.alloc(); "cannot read {name}: {error}")?;
+        self.texts.try_alloc_str(&text)
+    }
+}
+
+impl<'t, R: Host> Files<'t> for Disk<'t, R> {
+    ghost contents = { λ _ _ _. ⊤ };
+
+    /// What the file of this name holds. It is missing if it does not exist, or if its name is below a file.
+    fn read(&self, _alloc: Global, name: &[u8]) -> Result<Content<'t>, AllocError> {
+        match self.read_file(name, false) {
+            Ok(text) => Ok(Content::Text(self.place(name)?, text)),
+            Err(error) if error.is_memory() => Err(AllocError),
+            Err(error) if error.is_missing() => Ok(Content::Missing),
+            Err(error) => Ok(Content::Unreadable(self.reason(name, &error)?)),
+        }
+    }
+}

@@ -1,0 +1,148 @@
+//! The arguments and the variables of a program, as bytes.
+ghost use Rattle.std.specs.Prelude.{◌≡◌};
+ghost use Rattle.config_host.specs.declared.environment.HostError.TheVariants.{System};
+ghost use Rattle.config_host.specs.declared.environment.ArgumentError.TheVariants.{Memory};
+
+use bstr::BStr;
+use std::alloc::{AllocError, AllocGlobal};
+use std::env::{Env, FillError};
+use std::fs::Files;
+use std::io::{self, ErrorKind};
+use thiserror::Error;
+
+/// A system of files, an environment and memory: those of the program, or of a test.
+pub trait Host: Files + Env + AllocGlobal {}
+
+impl<R: Files + Env + AllocGlobal> Host for R {}
+
+/// Why a program cannot say where it runs.
+#[derive(Debug, Drop, Error)]
+pub enum HostError {
+    /// The variable of this name is needed, and it is not UTF-8.
+    #[error("{0} is not UTF-8")]
+    Variable(&'static str),
+    /// The system refuses an answer, or memory.
+    #[error("{0}")]
+    System(io::Error),
+}
+
+impl From<io::Error> for HostError {
+    ghost from_gives = { λ error host. host ≡ System error };
+
+    fn from(error: io::Error) -> HostError {
+        HostError::System(error)
+    }
+}
+
+impl From<AllocError> for HostError {
+    ghost from_gives = { λ _ host. (error : _) × (host ≡ System error) };
+
+    fn from(error: AllocError) -> HostError {
+        HostError::System(io::Error::from(error))
+    }
+}
+
+/// Why the arguments of a program cannot be read.
+#[derive(Debug, Drop, Error)]
+pub enum ArgumentError {
+    /// This argument is not UTF-8.
+    #[error("{}: the argument is not UTF-8", BStr::new(.0))]
+    NotUtf8(Vec<u8>),
+    /// Memory was refused.
+    #[error("out of memory")]
+    Memory(AllocError),
+}
+
+impl From<AllocError> for ArgumentError {
+    ghost from_gives = { λ error refused. refused ≡ Memory error };
+
+    fn from(error: AllocError) -> ArgumentError {
+        ArgumentError::Memory(error)
+    }
+}
+
+/// What the environment is asked for.
+#[derive(Clone, Copy)]
+enum Asked<'n> {
+    Argument(usize),
+    Variable(&'n str),
+}
+
+/// The number of bytes that is enough for most variables.
+const USUAL: usize = 256;
+
+/// The number of bytes that is enough for the name of a folder.
+const LONGEST_FOLDER: usize = 4096;
+
+fn fill<R: Env>(host: &R, asked: Asked<'_>, buffer: &mut [u8]) -> Result<usize, FillError> {
+    match asked {
+        Asked::Argument(index) => host.arg(index, buffer),
+        Asked::Variable(name) => host.var(name, buffer),
+    }
+}
+
+/// The bytes of what is asked for, or `None` if there is no such thing.
+fn bytes_of<R: Host>(host: &R, asked: Asked<'_>) -> Result<Option<Vec<u8>>, AllocError> {
+    let mut size = USUAL;
+    for _ in 0..usize::BITS {
+        let mut bytes = Vec::new(host.alloc());
+        if bytes.resize(size, 0).is_err() {
+            return Err(AllocError);
+        }
+        match fill(host, asked, &mut bytes) {
+            Ok(length) => {
+                bytes.truncate(length);
+                return Ok(Some(bytes));
+            }
+            Err(FillError::NotPresent) => return Ok(None),
+            Err(FillError::TooLong) => size = size.saturating_mul(2),
+        }
+    }
+    Err(AllocError)
+}
+
+/// The value of an environment variable, or `None` if it is not set.
+pub fn variable<R: Host>(host: &R, name: &str) -> Result<Option<Vec<u8>>, AllocError> {
+    bytes_of(host, Asked::Variable(name))
+}
+
+/// The value of an environment variable that has to be UTF-8.
+pub fn text_variable<R: Host>(host: &R, name: &'static str) -> Result<Option<String>, HostError> {
+    let Some(value) = variable(host, name)? else {
+        return Ok(None);
+    };
+    match String::from_utf8(value) {
+        Ok(text) => Ok(Some(text)),
+        Err(_) => Err(HostError::Variable(name)),
+    }
+}
+
+/// The arguments of the program, which begin with its name.
+pub fn arguments<R: Host>(host: &R) -> Result<Vec<String>, ArgumentError> {
+    let mut all = Vec::new(host.alloc());
+    for index in 0..usize::MAX {
+        let Some(argument) = bytes_of(host, Asked::Argument(index))? else {
+            break;
+        };
+        if str::from_utf8(&argument).is_err() {
+            return Err(ArgumentError::NotUtf8(argument));
+        }
+        if let Ok(text) = String::from_utf8(argument) {
+            if all.push(text).is_err() {
+                return Err(ArgumentError::Memory(AllocError));
+            }
+        }
+    }
+    Ok(all)
+}
+
+/// The name of the current folder from the root, without links.
+pub fn current_folder<R: Host>(host: &R) -> io::Result<Vec<u8>> {
+    let mut bytes = Vec::new(host.alloc());
+    if bytes.resize(LONGEST_FOLDER, 0).is_err() {
+        return Err(io::Error::from(ErrorKind::OutOfMemory));
+    }
+    let length = host.current_dir(&mut bytes)?;
+    bytes.truncate(length);
+    Ok(bytes)
+}

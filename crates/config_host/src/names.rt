@@ -1,0 +1,93 @@
+//! The names of files and folders: bytes, of which the system opens those that are UTF-8.
+
+use crate::environment::Host;
+use bstr::ByteSlice;
+use std::alloc::{AllocError, Global};
+use std::fs::{self, Metadata};
+use std::io::{self, ErrorKind};
+
+/// The name as a text. Otherwise the error that the system has for such names, which no file has.
+pub fn text_of(name: &[u8]) -> io::Result<&str> {
+    match str::from_utf8(name) {
+        Ok(text) => Ok(text),
+        Err(_) => Err(io::Error::from(ErrorKind::InvalidFilename)),
+    }
+}
+
+/// What the system answers, or `None` if it has no answer. Only refused memory is an error.
+pub fn answer<T: Drop>(asked: io::Result<T>) -> io::Result<Option<T>> {
+    match asked {
+        Ok(answer) => Ok(Some(answer)),
+        Err(error) if error.kind() == ErrorKind::OutOfMemory => Err(error),
+        Err(_) => Ok(None),
+    }
+}
+
+/// The bytes before the last `/` of a name, and those after it, or `None` if it has no `/`.
+pub fn split_last(name: &[u8]) -> Option<(&[u8], &[u8])> {
+    let slash = name.iter().rposition(|byte| *byte == b'/')?;
+    Some((&name[..slash], &name[slash + 1..]))
+}
+
+/// The folder above this one, whose name begins at the root and has no `/` at its end.
+pub fn parent(folder: &[u8]) -> Option<&[u8]> {
+    if folder == b"/".as_slice() {
+        return None;
+    }
+    match split_last(folder) {
+        Some(([], _)) => Some(b"/"),
+        Some((above, _)) => Some(above),
+        None => None,
+    }
+}
+
+/// The name of a file in a folder. A name that begins with `/` is kept. An empty folder is the current one.
+pub fn inside(alloc: Global, folder: &[u8], name: &[u8]) -> Result<Vec<u8>, AllocError> {
+    let mut whole = Vec::new(alloc);
+    if !folder.is_empty() && !name.starts_with(b"/") {
+        whole.extend_from_slice(folder)?;
+        if !folder.ends_with(b"/") {
+            whole.push(b'/')?;
+        }
+    }
+    whole.extend_from_slice(name)?;
+    Ok(whole)
+}
+
+/// What the system knows of the file of this name, or `None`.
+pub fn known_of<R: Host>(host: &R, name: &[u8]) -> io::Result<Option<Metadata>> {
+    answer(match text_of(name) {
+        Ok(name) => fs::metadata(host, name),
+        Err(error) => Err(error),
+    })
+}
+
+/// Whether there is a file or a folder of this name.
+pub fn exists<R: Host>(host: &R, name: &[u8]) -> io::Result<bool> {
+    Ok(known_of(host, name)?.is_some())
+}
+
+/// Whether there is a folder of this name.
+pub fn is_folder<R: Host>(host: &R, name: &[u8]) -> io::Result<bool> {
+    Ok(match known_of(host, name)? {
+        Some(known) => known.is_dir(),
+        None => false,
+    })
+}
+
+/// The name from the root without links, or `None` if the system does not know it.
+pub fn real_name<R: Host>(host: &R, name: &[u8]) -> io::Result<Option<Vec<u8>>> {
+    let real = answer(match text_of(name) {
+        Ok(name) => fs::canonicalize(host, name),
+        Err(error) => Err(error),
+    })?;
+    match real {
+        Some(real) => Ok(Some(real.as_path().as_str().as_bytes().to_vec(host.alloc())?)),
+        None => Ok(None),
+    }
+}
+
+/// A line without the line ends at its end.
+pub fn without_line_ends(line: &[u8]) -> &[u8] {
+    line.trim_end_with(|character| character == '\n' || character == '\r')
+}
