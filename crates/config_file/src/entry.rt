@@ -107,7 +107,7 @@ fn push_section(text: &mut Vec<u8>, section: &Section<'_>) -> Result<(), AllocEr
 }
 
 /// Appends a name in lower case.
-fn push_lower(text: &mut Vec<u8>, name: &[u8]) -> Result<(), AllocError>
+pub(crate) fn push_lower(text: &mut Vec<u8>, name: &[u8]) -> Result<(), AllocError>
     ensures { OnOk result (text.new.items ≡ text.old.items ++ map to_ascii_lowercase name.now) }
 {
     let start = text.len();

@@ -9,7 +9,7 @@ ghost use Rattle.config_file.specs.Key as keys;
 ghost use Rattle.config_file.specs.Key.{is_no_dot, key_error_text};
 
 use crate::bytes::{after_byte, is_key_byte, split};
-use crate::entry::Entry;
+use crate::entry::{Entry, push_lower};
 use crate::section::Section;
 use std::alloc::AllocError;
 use std::{error, fmt};
@@ -313,14 +313,4 @@ fn left_after<'s>(subsection: Option<&'s [u8]>, bytes: &[u8]) -> Option<Option<&
         Some((byte, left)) => { if byte == b'.' { Some(Some(left)) } else { None } }
         None => Some(None),
     }
-}
-
-/// Appends a name in lower case.
-fn push_lower(text: &mut Vec<u8>, name: &[u8]) -> Result<(), AllocError>
-    ensures { OnOk result (text.new.items ≡ text.old.items ++ map to_ascii_lowercase name.now) }
-{
-    let start = text.len();
-    text.extend_from_slice(name)?;
-    text[start..].make_ascii_lowercase();
-    Ok(())
 }

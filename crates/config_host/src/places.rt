@@ -4,7 +4,7 @@ use crate::disk::Disk;
 use crate::environment::{Host, HostError, variable};
 use crate::names::{exists, inside};
 use crate::repository::{common_folder, find_git_dir, is_on};
-use config_file::Settings;
+use config_file::{AddError, Settings};
 use gix_config_value::Boolean;
 use std::alloc::{AllocError, Global};
 use std::io;
@@ -72,7 +72,9 @@ fn has_worktree_files<R: Host>(
         Err(_) => return Ok(false),
     };
     let mut settings = Settings::new(host.alloc());
-    let _ = settings.add_file(host.alloc(), b"", text);
+    if let Err(AddError::Memory(error)) = settings.add_file(host.alloc(), b"", text) {
+        return Err(HostError::from(error));
+    }
     match settings.get::<Boolean>("extensions.worktreeConfig") {
         Ok(Some(boolean)) => Ok(boolean.0),
         _ => Ok(false),
