@@ -108,7 +108,7 @@ class Program:
         run = subprocess.run([self.path, "--null", *words], cwd=self.folder, capture_output=True, check=False)
         *parts, rest = run.stdout.split(b"\0")
         refusals = dict(map(refusal, run.stderr.splitlines()))
-        if rest or len(parts) % 2 or run.returncode != bool(refusals):
+        if rest or len(parts) % 2 or run.returncode != (REFUSED if refusals else 0):
             raise Wrong(f"{self.path} ended with status {run.returncode} and {run.stderr[:300]!r}")
         entries = {name: [] for name in names}
         for place, data in zip(parts[::2], parts[1::2]):
@@ -303,7 +303,7 @@ class Folder:
         run = self.run(program, "--file", self.main, "--includes", "--null")
         parts = run.stdout.split(b"\0")
         stopped = re.fullmatch(rb"(.+):(\d+): (.*)\n", run.stderr, re.DOTALL)
-        if run.returncode != bool(stopped) or bool(run.stderr) != bool(stopped):
+        if run.returncode != (REFUSED if stopped else 0) or bool(run.stderr) != bool(stopped):
             raise Wrong(f"{self.line[:80]}: {program} ended with status {run.returncode} and {run.stderr!r}")
         place = stopped and (TOO_DEEP if b"too deep" in stopped[3] else (stopped[1], int(stopped[2])))
         return [(name.rsplit(b":", 1)[0], entry(data)) for name, data in zip(parts[::2], parts[1::2])], place

@@ -104,6 +104,17 @@ static PyObject *bytes_of(PyObject *text)
     return bytes;
 }
 
+/* Returns the bytes for C, and their number; null for None, and, with an exception, for what is not `bytes`. */
+static const char *part_of(PyObject *bytes, size_t *length)
+{
+    char *text = NULL;
+    Py_ssize_t size = 0;
+    if (bytes != Py_None && PyBytes_AsStringAndSize(bytes, &text, &size) != 0)
+        return NULL;
+    *length = (size_t)size;
+    return text;
+}
+
 /* A text of this module's own, such as a canonical text. */
 static PyObject *ascii(const char *text, size_t length)
 {
@@ -144,19 +155,6 @@ static PyObject *refuse(gcv_fault fault, PyObject *bytes)
     (void)gcv_fault_text(fault, text, sizeof text, &size);
     return raised(refused_type,
                   PyObject_CallFunction(refused_type, "sNO", codes[fault], ascii(text, size), bytes));
-}
-
-/* Raises InvalidFile for a line of a file, or MemoryError. Always returns NULL. */
-static PyObject *reject(gcv_status status, PyObject *file, size_t line)
-{
-    const char *code = status == GCV_BAD_LINE   ? "bad_line"
-                       : status == GCV_NUL      ? "nul"
-                       : status == GCV_NO_VALUE ? "no_value"
-                                                : "no_directory";
-    if (status == GCV_NO_MEMORY)
-        return PyErr_NoMemory();
-    return raised(invalid_file_type, PyObject_CallFunction(invalid_file_type, "ssOn", code,
-                                                           gcv_status_text(status), file, (Py_ssize_t)line));
 }
 
 /* Readers */
@@ -707,14 +705,8 @@ static PyObject *interpolated(PyObject *Py_UNUSED(module), PyObject *args)
     size_t size = 0;
     if (!PyArg_ParseTuple(args, "SOOO", &path, &prefix, &home, &users.callable))
         return NULL;
-    if (prefix != Py_None) {
-        context.install_dir = PyBytes_AsString(prefix);
-        context.install_dir_length = (size_t)PyBytes_Size(prefix);
-    }
-    if (home != Py_None) {
-        context.home = PyBytes_AsString(home);
-        context.home_length = (size_t)PyBytes_Size(home);
-    }
+    context.install_dir = part_of(prefix, &context.install_dir_length);
+    context.home = part_of(home, &context.home_length);
     if (PyErr_Occurred())
         return NULL;
     const char *text = PyBytes_AsString(path);
@@ -758,97 +750,123 @@ static PyObject *text_of(const char *bytes)
     return PyUnicode_DecodeUTF8(bytes, (Py_ssize_t)strlen(bytes), "surrogateescape");
 }
 
-/* Lists the line, the key and the text of each setting; the text of a key without `=` is None. */
-static PyObject *listed(const gcv_settings *settings)
-{
-    PyObject *list = PyList_New((Py_ssize_t)settings->count);
-    gcv_setting setting;
-    size_t index = 0;
-    while (list && gcv_next_setting(settings, &index, &setting) == GCV_OK) {
-        PyObject *text = setting.value ? text_of(setting.value) : counted(Py_None);
-        PyObject *row = Py_BuildValue("nNN", (Py_ssize_t)setting.line, text_of(setting.key), text);
-        if (!row || PyList_SetItem(list, (Py_ssize_t)index - 1, row) != 0)
-            Py_CLEAR(list);
-    }
-    return list;
-}
+/* A walk, and for each file that it is in the tuple from which it borrows. */
+typedef struct {
+    gcv_walk walk;
+    PyObject *files[GCV_MOST_FRAMES];
+    char *buffer;
+    size_t capacity;
+} Walk;
 
-/* Lists the settings of a file with these bytes. InvalidFile names the file. */
-static PyObject *settings_of(PyObject *Py_UNUSED(module), PyObject *args)
+/* Goes on in a file: a tuple of its name as a str, and its name, its real directory and its text as `bytes`. If it is
+ * none, returns GCV_REFUSED and raises an exception. */
+static gcv_status enter(Walk *walk, PyObject *file)
 {
-    PyObject *bytes, *file, *result = NULL;
-    gcv_settings settings = {0};
-    gcv_file taken = {0};
-    if (!PyArg_ParseTuple(args, "SO", &bytes, &file))
-        return NULL;
-    const char *text = PyBytes_AsString(bytes);
-    size_t length = (size_t)PyBytes_Size(bytes);
-    gcv_status status = gcv_add_file(&settings, text, length, &taken);
-    if (status == GCV_SHORT_BUFFER) {
-        settings.bytes = PyMem_Malloc(settings.capacity = taken.size);
-        settings.places = PyMem_Malloc((settings.room = taken.count) * sizeof *settings.places);
-        status = settings.bytes && settings.places ? gcv_add_file(&settings, text, length, &taken) : GCV_NO_MEMORY;
-    }
-    result = status == GCV_OK ? listed(&settings) : reject(status, file, taken.line);
-    PyMem_Free(settings.bytes);
-    PyMem_Free(settings.places);
-    return result;
-}
-
-/* Returns the bytes for C, and their number; null for None, and, with an exception, for what is not `bytes`. */
-static const char *part_of(PyObject *bytes, size_t *length)
-{
-    char *text = NULL;
-    Py_ssize_t size = 0;
-    if (bytes != Py_None && PyBytes_AsStringAndSize(bytes, &text, &size) != 0)
-        return NULL;
-    *length = (size_t)size;
-    return text;
-}
-
-/* Makes the name of the file that a key and a value include, as `bytes`. Both are `bytes`, or None. */
-static gcv_status make_name(PyObject *key, PyObject *value, const gcv_includer *includer, PyObject **name)
-{
-    size_t key_length = 0, length = 0, size = 0;
-    const char *key_text = part_of(key, &key_length), *text = part_of(value, &length);
-    gcv_status status = gcv_include(key_text, key_length, text, length, includer, NULL, 0, &size);
-    if (status == GCV_OK || status == GCV_SHORT_BUFFER) {
-        *name = PyBytes_FromStringAndSize(NULL, (Py_ssize_t)size);
-        status = *name ? gcv_include(key_text, key_length, text, length, includer, PyBytes_AsString(*name), size, &size)
-                       : GCV_NO_MEMORY;
+    PyObject *shown, *name, *directory, *text;
+    size_t depth = walk->walk.count;
+    if (!PyArg_ParseTuple(file, "USSS", &shown, &name, &directory, &text))
+        return GCV_REFUSED;
+    gcv_status status = gcv_enter(&walk->walk, PyBytes_AsString(name), (size_t)PyBytes_Size(name),
+                                  PyBytes_AsString(directory), (size_t)PyBytes_Size(directory),
+                                  PyBytes_AsString(text), (size_t)PyBytes_Size(text));
+    if (status == GCV_OK) {
+        Py_XDECREF(walk->files[depth]);
+        walk->files[depth] = counted(file);
     }
     return status;
 }
 
-/* Returns the name of the file that an entry includes, or None. The arguments are an entry, and the parts of a
- * gcv_includer, each of them `bytes` or None. */
-static PyObject *included(PyObject *Py_UNUSED(module), PyObject *args)
+/* Takes a step, with a longer buffer if it needs one. */
+static gcv_status take(Walk *walk, const gcv_known *known, gcv_step *step)
 {
-    PyObject *file, *key, *value, *parts[8], *name = NULL;
-    Py_ssize_t line;
-    gcv_includer includer = {0};
-    gcv_status status = GCV_NO_MEMORY;
-    if (!PyArg_ParseTuple(args, "(OnOO)(OOOOOOOO)", &file, &line, &key, &value, &parts[0], &parts[1], &parts[2],
-                          &parts[3], &parts[4], &parts[5], &parts[6], &parts[7]))
-        return NULL;
-    includer.file = part_of(parts[0], &includer.file_length);
-    includer.real_dir = part_of(parts[1], &includer.real_dir_length);
-    includer.install_dir = part_of(parts[2], &includer.install_dir_length);
-    includer.home = part_of(parts[3], &includer.home_length);
-    includer.real_home = part_of(parts[4], &includer.real_home_length);
-    includer.git_dir = part_of(parts[5], &includer.git_dir_length);
-    includer.real_git_dir = part_of(parts[6], &includer.real_git_dir_length);
-    includer.branch = part_of(parts[7], &includer.branch_length);
-    PyObject *text = value == Py_None ? counted(value) : bytes_of(value);
-    key = text ? bytes_of(key) : NULL;
-    if (key && !PyErr_Occurred())
-        status = make_name(key, text, &includer, &name);
-    Py_XDECREF(key);
-    Py_XDECREF(text);
-    if (status == GCV_OK || PyErr_Occurred())
-        return name;
+    gcv_status status = gcv_next(&walk->walk, known, walk->buffer, walk->capacity, step);
+    if (status == GCV_SHORT_BUFFER) {
+        PyMem_Free(walk->buffer);
+        walk->buffer = PyMem_Malloc(walk->capacity = 2 * step->size);
+        status = walk->buffer ? gcv_next(&walk->walk, known, walk->buffer, walk->capacity, step) : GCV_NO_MEMORY;
+    }
+    return status;
+}
+
+/* Returns the file, the line, the key and the text of an entry; the text of a key without `=` is None. */
+static PyObject *row_of(const Walk *walk, const gcv_step *step)
+{
+    PyObject *file = PyTuple_GetItem(walk->files[walk->walk.count - 1], 0);
+    PyObject *text = step->value ? text_of(step->value) : counted(Py_None);
+    return Py_BuildValue("OnNN", file, (Py_ssize_t)step->line, text_of(step->key), text);
+}
+
+/* Goes on in the file that an entry includes. `open` takes the entry and the name of the file, or None if the library
+ * does not know a directory. It returns a file as `enter` takes it, or None if it is not there. */
+static gcv_status follow(Walk *walk, const gcv_step *step, PyObject *row, PyObject *open)
+{
+    if (step->include == GCV_NO_INCLUDE)
+        return GCV_OK;
+    if (step->include == GCV_NO_VALUE)
+        return GCV_NO_VALUE;
+    PyObject *name = step->included ? PyBytes_FromString(step->included) : counted(Py_None);
+    PyObject *file = name ? PyObject_CallFunctionObjArgs(open, row, name, NULL) : NULL;
+    gcv_status status = !file ? GCV_REFUSED : file == Py_None ? GCV_OK : enter(walk, file);
     Py_XDECREF(name);
-    return status == GCV_NO_INCLUDE ? counted(Py_None) : reject(status, file, (size_t)line);
+    Py_XDECREF(file);
+    return status;
+}
+
+/* Raises an exception for the status with which a walk ended, unless there is one: InvalidFile, at the last step. */
+static void raise_for(gcv_status status, const gcv_step *step)
+{
+    const char *code = status == GCV_BAD_LINE   ? "bad_line"
+                       : status == GCV_NUL      ? "nul"
+                       : status == GCV_NO_VALUE ? "no_value"
+                                                : "too_deep";
+    if (status == GCV_NO_MEMORY)
+        PyErr_NoMemory();
+    else if (!PyErr_Occurred())
+        raised(invalid_file_type,
+               PyObject_CallFunction(invalid_file_type, "ssNn", code, gcv_status_text(status),
+                                     PyUnicode_DecodeFSDefaultAndSize(step->file, (Py_ssize_t)step->file_length),
+                                     (Py_ssize_t)step->line));
+}
+
+/* Reads the members of a gcv_known, each of them `bytes` or None. */
+static int is_known(PyObject *parts, gcv_known *known)
+{
+    PyObject *all[6];
+    if (!PyArg_ParseTuple(parts, "OOOOOO", &all[0], &all[1], &all[2], &all[3], &all[4], &all[5]))
+        return 0;
+    known->install_dir = part_of(all[0], &known->install_dir_length);
+    known->home = part_of(all[1], &known->home_length);
+    known->real_home = part_of(all[2], &known->real_home_length);
+    known->git_dir = part_of(all[3], &known->git_dir_length);
+    known->real_git_dir = part_of(all[4], &known->real_git_dir_length);
+    known->branch = part_of(all[5], &known->branch_length);
+    return !PyErr_Occurred();
+}
+
+/* Lists the entries of a file, and of the files that they include. Takes the file as `enter` does, what includes may
+ * refer to, or None if none is followed, and what opens files for `follow`. */
+static PyObject *entries_of(PyObject *Py_UNUSED(module), PyObject *args)
+{
+    PyObject *file, *parts, *open, *rows = PyList_New(0);
+    Walk walk = {0};
+    gcv_known known = {0};
+    gcv_step step = {0};
+    gcv_status status = GCV_REFUSED;
+    if (rows && PyArg_ParseTuple(args, "OOO", &file, &parts, &open) && (parts == Py_None || is_known(parts, &known)))
+        status = enter(&walk, file);
+    while (status == GCV_OK && (status = take(&walk, parts == Py_None ? NULL : &known, &step)) == GCV_OK) {
+        PyObject *row = row_of(&walk, &step);
+        status = row && PyList_Append(rows, row) == 0 ? follow(&walk, &step, row, open) : GCV_REFUSED;
+        Py_XDECREF(row);
+    }
+    if (status != GCV_ABSENT) {
+        raise_for(status, &step);
+        Py_CLEAR(rows);
+    }
+    for (int depth = 0; depth < GCV_MOST_FRAMES; depth++)
+        Py_XDECREF(walk.files[depth]);
+    PyMem_Free(walk.buffer);
+    return rows;
 }
 
 /* The module */
@@ -868,8 +886,7 @@ static PyMethodDef functions[] = {
     {"encode", encoded, METH_O, NULL},
     {"cut_mark", mark_cut, METH_O, NULL},
     {"interpolate", interpolated, METH_VARARGS, NULL},
-    {"settings", settings_of, METH_VARARGS, NULL},
-    {"include", included, METH_VARARGS, NULL},
+    {"entries", entries_of, METH_VARARGS, NULL},
     {NULL, NULL, 0, NULL},
 };
 

@@ -24,7 +24,7 @@ const char *gcv_status_text(gcv_status status)
     case GCV_TOO_MANY_NAMES:
         return "the colors have more than two names together";
     case GCV_ABSENT:
-        return "no entry has the name";
+        return "no entry has the name, or none is left";
     case GCV_UNKNOWN_KIND:
         return "no kind has the number";
     case GCV_UNKNOWN_FAULT:
@@ -36,7 +36,7 @@ const char *gcv_status_text(gcv_status status)
     case GCV_BAD_FLAG:
         return "a flag is neither 0 nor 1";
     case GCV_BAD_LENGTHS:
-        return "the lengths are not those of names and texts that fill the bytes";
+        return "the lengths are not those of texts that fill the bytes, or the walk is invalid";
     case GCV_SHORT_BUFFER:
         return "the buffer is too short";
     case GCV_NO_MEMORY:
@@ -51,6 +51,8 @@ const char *gcv_status_text(gcv_status status)
         return "the entry includes a file, and has no value";
     case GCV_NO_DIRECTORY:
         return "the path begins with a user's name, or with a directory that is not known";
+    case GCV_TOO_DEEP:
+        return "the file is more than ten includes deep";
     }
     return "unknown status";
 }

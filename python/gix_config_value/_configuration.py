@@ -11,9 +11,6 @@ Entry.__doc__ = """An entry of a file: the file, the line from 1, the key as Git
 
 The text is `None` if the key has no `=`."""
 
-#: The greatest depth to which Git follows includes.
-MOST_INCLUDES = 10
-
 _MISSING = (FileNotFoundError, NotADirectoryError)
 
 _ABSENT = object()
@@ -134,49 +131,34 @@ class Configuration(dict):
     __setitem__ = __delitem__ = __or__ = __ror__ = __ior__ = clear = pop = popitem = setdefault = update = _unchanged
 
 
-def _text_of(name):
-    with open(os.fsdecode(name), "rb") as file:
-        return file.read()
+def _opened(name):
+    """A file for a walk: its name, as a `str` and as `bytes`, the real name of its directory, and its text."""
+    shown = os.fsdecode(name)
+    with open(shown, "rb") as file:
+        return shown, name, os.path.dirname(os.path.realpath(name)).rstrip(b"/"), file.read()
 
 
-def _add(entries, name, text, known, depth=0):
-    """Appends the entries of a file, and if `known` is given, after each entry those of the file that it includes."""
-    real_dir = os.path.dirname(os.path.realpath(name)).rstrip(b"/")
-    file, includer = os.fsdecode(name), known and (name, real_dir, *known)
-    for line, key, value in _core.settings(text, file):
-        entry = Entry(file, line, key, value)
-        entries.append(entry)
-        included = includer and _included(entry, includer)
-        if included is not None:
-            _add_included(entries, entry, included, known, depth + 1)
-
-
-def _included(entry, includer):
-    """The name of the file that an entry includes, or `None`."""
-    try:
-        return _core.include(entry, includer)
-    except InvalidFile as invalid:
-        if invalid.code != "no_directory":
-            raise
-        # the library looks up no users
+def _included(entry, name):
+    """The file that an entry includes, or `None` if it is not there, where Git goes on. Without a name, looks for the
+    user whose name its path begins with."""
+    file, line, _, path = entry
+    if name is None:
+        user, _, rest = path.partition("/")
         try:
-            path = interpolate(entry.text, users=home_of_user)
+            name = os.fsencode(interpolate(user + "/", users=home_of_user) + rest)
         except Refused:
-            raise invalid from None
-    return _core.include(entry._replace(text=path), includer)
-
-
-def _add_included(entries, entry, name, known, depth):
-    """Appends the entries of the file that an entry includes. Git skips one that is not there."""
+            raise InvalidFile("no_directory", f"the directory of {path} is not known", file, line) from None
     try:
-        text = _text_of(name)
+        return _opened(name)
     except _MISSING:
-        return
+        return None
     except OSError as error:
-        raise InvalidFile("unreadable", f"{os.fsdecode(name)} cannot be read: {error.strerror}", *entry[:2]) from error
-    if depth > MOST_INCLUDES:
-        raise InvalidFile("too_deep", f"{os.fsdecode(name)} is more than {MOST_INCLUDES} includes deep", *entry[:2])
-    _add(entries, name, text, known, depth)
+        raise InvalidFile("unreadable", f"{os.fsdecode(name)} cannot be read: {error.strerror}", file, line) from error
+
+
+def _entries(file, known):
+    """The entries of a file, and if `known` is given, after each entry those of the file that it includes."""
+    return map(Entry._make, _core.entries(_opened(os.fsencode(file)), known, _included))
 
 
 def _known(repository):
@@ -200,19 +182,15 @@ def read(*paths, includes=False, repository=None):
     known = _known(repository and _repository.find(os.fsdecode(repository))) if includes else None
     entries = []
     for path in paths:
-        name = os.fsencode(path)
-        _add(entries, name, _text_of(name), known)
+        entries += _entries(path, known)
     return Configuration(entries)
 
 
-def _add_present(entries, file, known, skipped=()):
-    """Appends the entries of a file, if it is there."""
-    name = os.fsencode(file)
+def _entries_if_present(file, known, skipped=()):
     try:
-        text = _text_of(name)
+        return _entries(file, known)
     except (*_MISSING, *skipped):
-        return
-    _add(entries, name, text, known)
+        return ()
 
 
 def read_repository(path="."):
@@ -227,14 +205,15 @@ def read_repository(path="."):
     repository = _repository.find(folder)
     known = _known(repository)
     entries = []
-    system = _repository.system_file(folder)
+    top = repository.folder if repository else folder
+    system = _repository.system_file(top)
     if system is not None:
-        _add_present(entries, system, known)
-    for file in _repository.files_of_user(folder):
-        _add_present(entries, file, known, (PermissionError,))
+        entries += _entries_if_present(system, known)
+    for file in _repository.files_of_user(top):
+        entries += _entries_if_present(file, known, (PermissionError,))
     if repository:
         shared = repository.shared_file("config")
-        _add_present(entries, shared, known)
+        entries += _entries_if_present(shared, known)
         if os.path.exists(shared) and read(shared).get("extensions.worktreeConfig", "boolean"):
-            _add_present(entries, repository.file("config.worktree"), known)
+            entries += _entries_if_present(repository.file("config.worktree"), known)
     return Configuration(entries)

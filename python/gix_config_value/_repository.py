@@ -1,6 +1,7 @@
 """The places where Git finds its configuration files: those of the system, of the user, and of a repository.
 
-A name is relative to the folder in which Git works, and the empty folder is the current one.
+A name is relative to the folder in which Git works, which is the top of a work tree, and the empty folder is the current
+one.
 """
 import os
 

@@ -46,6 +46,8 @@ FILES = {
     "in place": {"main": "[a]k=1\n[include]path=other\nk=2\n[a]k=3", "other": "[hit]k=1\nk=2"},
     "in folders": {"main": "[include]path=s/one", "s/one": "[include]path=two\npath=../two\npath=/{root}/two",
                    "s/two": "[hit]k=1", "two": "[hit]k=2"},
+    "names of any bytes": {"main": "[include]path=\udcff/x\n", "\udcff/x": "[include]path=\u00e9\n[a]k",
+                           "\udcff/\u00e9": "[hit]k"},
     "twice, and none": {"main": "[include]path=o\npath=o\npath=none\npath=o/x\npath=", "o": "[hit]k=1"},
     "at home": {"main": "[include]path=~/h\npath=~{user}/no such file", "home/h": "[hit]k=1"},
     "other keys": {"main": "[include]path2=o\n[include \"x\"]path=o\n[includeIf]path=o\n[includeif \"\"]path=o", "o": "bad ="},
@@ -59,6 +61,8 @@ FILES = {
     "itself": {"main": "[include]path=main"},
     "a bad line": {"main": "[a]b=1\n[a\n"},
     "a bad line of an included file": {"main": "[include]path=s/o\n", "s/o": "[a]b=1\nc=\"\n"},
+    "a bad line after the include of another": {"main": "[include]path=o\n[a\n", "o": "[a]b=1\n[a\n"},
+    "a bad line after itself": {"main": "[include]path=main\n[a\n"},
     "no path": {"main": "[a]b=1\n[include]\npath\n"},
     "no such user": {"main": "\n[include]path=~no_such_user/x\n"},
     "a folder": {"main": "[include]path=s\n", "s/x": ""},
@@ -185,6 +189,11 @@ class AsGit(Files):
         with mock.patch.dict(os.environ):
             del os.environ["HOME"]
             self.repository()
+        # in a folder of a work tree Git takes names from its top
+        self.write({"r/own": "[o]wn=top", "r/deep/own": "[o]wn=deep", "r/x/git/config": "[x]dg=3"})
+        for name, value in (("GIT_CONFIG_GLOBAL", "own"), ("GIT_CONFIG_SYSTEM", "own"), ("XDG_CONFIG_HOME", "x")):
+            with self.subTest(name, value=value), mock.patch.dict(os.environ, {name: value}):
+                self.repository("deep", same_names=False, top="r")
         os.environ["GIT_CEILING_DIRECTORIES"] = f"{self.root}/r"
         self.assertEqual(len(self.repository("deep/er", same_names=False)), 2)
 
@@ -285,6 +294,37 @@ class Configurations(Files):
         self.assertRaises(FileNotFoundError, read, "none")
         self.assertRaises(IsADirectoryError, read, b".")
         self.assertRaises(TypeError, read, 3)
+
+    def test_depth(self):
+        self.write({str(at): f"[hit]k={at}\n[include]path={at + 1}\n[hit]k=-{at}" for at in range(12)})
+        self.write({"main": "[a]k\n[include]path=main"})
+        below = [str(at) for at in range(1, 12)] + [str(-at) for at in range(11, 0, -1)]
+        self.assertEqual(read("1", includes=True).get_all("hit.k"), below)
+        for name, file in (("0", "10"), ("main", "main")):
+            invalid = self.refused(read, name, includes=True)
+            self.assertEqual((invalid.code, invalid.file, invalid.line), ("too_deep", file, 2))
+
+    def test_users(self):
+        self.write({"main": "[include]path=~ann/s/x\udcff\n", "home/s/x\udcff": "[include]path=y\n[in]it=1",
+                    "home/s/y": "[in]it=2", "other": "[include]path=~ann/none\npath=~ann\n",
+                    "unknown": "[a]k\n[include]path=~bob/x"})
+        homes = {"ann": mock.Mock(pw_dir=f"{self.root}/home")}
+        with mock.patch("pwd.getpwnam", homes.__getitem__):
+            config = read("main", includes=True)
+            for name, code in (("other", "unreadable"), ("unknown", "no_directory")):
+                invalid = self.refused(read, name, includes=True)
+                self.assertEqual((invalid.code, invalid.file, invalid.line), (code, name, 2))
+        self.assertEqual([(entry.file, entry.text) for entry in config.entries], [
+            ("main", "~ann/s/x\udcff"), (f"{self.root}/home/s/x\udcff", "y"), (f"{self.root}/home/s/y", "2"),
+            (f"{self.root}/home/s/x\udcff", "1")])
+
+    def test_unknown_directories(self):
+        del os.environ["HOME"]
+        self.write({"home": "[include]\npath=~/x", "prefix": "[include]\npath=%(prefix)/x", "none": "[include]\npath"})
+        for name, code in (("home", "no_directory"), ("prefix", "no_directory"), ("none", "no_value")):
+            invalid = self.refused(read, name, includes=True)
+            self.assertEqual((invalid.code, invalid.file, invalid.line), (code, name, 2))
+            self.assertEqual(len(read(name)), 1)
 
     def test_blanks(self):
         # as Git reads them since 2.45

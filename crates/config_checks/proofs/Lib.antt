@@ -1,4 +1,3 @@
-mod KeyLemmas
 mod NearestLemmas
 mod RunLemmas
 mod WordLemmas
@@ -11,6 +10,5 @@ mod TableLemmas
 mod OneFinding
 mod OneKey
 mod OneSuggestion
-mod OneMeant
 mod OneReport
 mod OneLine

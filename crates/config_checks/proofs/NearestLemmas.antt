@@ -1,21 +1,23 @@
 -- The edits between texts, and the nearest of several items.
 use Rattle.std.proofs.Common.{◌≡◌, ◌+◌, ◌<◌, ◌≤◌, ℕ, zero, suc, List, [], ◌∷◌, ◌++◌, length, map, take, nat_eq, get_or}
 use Rattle.std.proofs.Common.{MatchOption, Option, None, Some, Bor, refl, sym, ap, ◌∙◌, subst, arith, ◌≢◌, ◌↔◌, IsTrue, Bool}
+use Rattle.std.proofs.Common.{◌-◌, ◌==◌, drop, append_assoc, inl, inr}
 use Rattle.std.proofs.lemmas.Int.{clamps}
 use Rattle.std.specs.Char.{to_ascii_lowercase}
 use Rattle.strsim.specs.Edits.{next_row, rows, cost_at}
 use Rattle.std.proofs.Common.{true, false}
-use Rattle.std.proofs.lemmas.Bool.{false≢true}
-use Rattle.std.proofs.lemmas.List.{take_more as one_more_taken, length-map, get_or-take, get_or_default, length-take, length-append, take-append-le, get_or_append_left}
+use Rattle.std.proofs.lemmas.Bool.{false≢true, true≢false, cases_Bool, eqb-true, eq-eqb}
+use Rattle.std.proofs.lemmas.List.{take_more as one_more_taken, length-map, get_or-take, get_or_default, length-take, length-append, take-append-le, take_rest, get_or_append_left}
 use Rattle.std.proofs.lemmas.List.Elements.{All-append}
 use Rattle.std.proofs.Math.Seq.{get_or-append_seam, take-append_seam}
-use Rattle.std.specs.List.{All}
+use Rattle.std.specs.List.{All, prefix_len, zip}
 use Rattle.std.specs.Prelude.{MatchBool}
 use Rattle.std.specs.Cmp.Lexicographic.{pointwise, told_text}
 use Rattle.config_checks.specs.Nearest.{Edits, IsSwap, LeavesOut, lower, edits, AreBeyond, IsFirstAt, AreFar, IsNearest}
 use Rattle.config_checks.specs.Nearest.Edits.{swapped, counted}
 use Rattle.config_checks.specs.Nearest.IsSwap.{at_front, further}
 use Rattle.config_checks.specs.Nearest.LeavesOut.{skipped, kept}
+use Rattle.config_checks.specs.Reading.Steps.{AreApart, AreRests}
 
 -- the row and the column of a place of the table differ by no more than the edits there
 next_row_apart : (c before : ℕ → ℕ) (n : ℕ) → ((j : ℕ) → (n ≤ before j + j) × (j ≤ before j + n)) → (k : ℕ)
@@ -51,39 +53,6 @@ swap_length : (a b : List ℕ) → IsSwap a b → length a ≡ length b
 swap_length _ _ (at_front differ) = refl
 swap_length _ _ (further {x} {xs} {ys} swap) = rw (swap_length xs ys swap) refl
 
-same_first : (x y : ℕ) (xs ys : List ℕ) → x ≡ y → IsSwap (x ∷ xs) (y ∷ ys) → IsSwap xs ys
-same_first _ _ _ _ same (at_front differ) = absurd (differ same)
-same_first _ _ _ _ same (further swap) = swap
-
--- texts that begin with the same byte differ by a swap if and only if their rests do
-pub swap_further : (r : Bool) (s t xs ys : List ℕ) (x y : ℕ) → s ≡ x ∷ xs → t ≡ y ∷ ys → x ≡ y
-    → (IsTrue r ↔ IsSwap xs ys) → IsTrue r ↔ IsSwap s t
-swap_further r s t xs ys x y front back same is = rw front (rw back (
-  λ yes. subst (λ z. IsSwap (x ∷ xs) (z ∷ ys)) same (further (is.0 yes)),
-  λ swap. is.1 (same_first x y xs ys same swap),
-))
-
-same_rest : (a b c d : ℕ) (xs ys : List ℕ) → a ≢ c → IsSwap (a ∷ b ∷ xs) (c ∷ d ∷ ys) → xs ≡ ys
-same_rest _ _ _ _ _ _ differ (at_front other) = refl
-same_rest _ _ _ _ _ _ differ (further swap) = absurd (differ refl)
-
-swapped_bytes : (a b : ℕ) (xs ys : List ℕ) (b' a' : ℕ) → a ≢ b → b' ≡ b → a' ≡ a → xs ≡ ys
-    → IsSwap (a ∷ b' ∷ xs) (b ∷ a' ∷ ys)
-swapped_bytes a b xs ys b' a' differ e f same = rw e (rw f (rw same (at_front differ)))
-
-same_told : (r : Bool) (xs ys : List ℕ) → MatchBool r (xs ≡ ys) (xs ≢ ys) → IsTrue r ↔ (xs ≡ ys)
-same_told true xs ys same = (λ yes. same, λ e. refl)
-same_told false xs ys other = (λ yes. absurd (false≢true yes), λ e. absurd (other e))
-
--- two neighbors at the front are swapped if and only if the rests are the same
-pub swap_front : (r : Bool) (s t s' t' xs ys : List ℕ) (a b b' a' : ℕ) → s ≡ a ∷ s' → t ≡ b ∷ t' → s' ≡ b' ∷ xs
-    → t' ≡ a' ∷ ys → a ≢ b → b' ≡ b → a' ≡ a → r ≡ pointwise nat_eq xs ys → IsTrue r ↔ IsSwap s t
-swap_front r s t s' t' xs ys a b b' a' p q p' q' differ e f told =
-    let is = same_told r xs ys (told_text xs ys r told) in rw p (rw q (rw p' (rw q' (
-      λ yes. swapped_bytes a b xs ys b' a' differ e f (is.0 yes),
-      λ swap. is.1 (same_rest a b' b a' xs ys differ swap),
-    ))))
-
 -- the lengths of two texts differ by no more than the edits between them, if a swap is one edit
 pub lengths_near : (a b : List ℕ) (n : ℕ) → Edits a b n → (length a ≤ n + length b) × (length b ≤ n + length a)
 lengths_near a b n (swapped swap is) =
@@ -94,20 +63,114 @@ lengths_near a b n (swapped swap is) =
 lengths_near a b n (counted not is) =
     let apart = lengths_apart a b in (omega (arith, is, apart.0), omega (arith, is, apart.1))
 
+-- ---- what follows the bytes that two texts both begin with
+
+abbrev pub common : List ℕ → List ℕ → ℕ
+common a b = prefix_len (λ p. p.0 == p.1) (zip a b)
+
+one_suc : (n : ℕ) → 1 + n ≡ suc n
+one_suc n = omega arith
+
+differ_of : (x y : ℕ) → x == y ≡ false → x ≢ y
+differ_of x y differ same = true≢false (sym (eq-eqb x y same) ∙ differ)
+
+both_begin : (x : ℕ) (a b : List ℕ) (n : ℕ) → AreRests a b (drop n a) (drop n b)
+    → AreRests (x ∷ a) (x ∷ b) (drop (1 + n) (x ∷ a)) (drop (1 + n) (x ∷ b))
+both_begin x a b n more = rw (one_suc n) record {
+  front = x ∷ more.front;
+  first = ap (λ l. x ∷ l) more.first;
+  second = ap (λ l. x ∷ l) more.second;
+  apart = more.apart;
+}
+
+pub rests_of : (a b : List ℕ) → AreRests a b (drop (common a b) a) (drop (common a b) b)
+rests_of [] b = record { front = []; first = refl; second = refl; apart = tt }
+rests_of (x ∷ a) [] = record { front = []; first = refl; second = refl; apart = tt }
+rests_of (x ∷ a) (y ∷ b) = elim (cases_Bool (x == y)) [
+  | inl same ↦ rw same (subst (λ z. AreRests (x ∷ a) (z ∷ b) (drop (1 + common a b) (x ∷ a)) (drop (1 + common a b) (z ∷ b)))
+      (eqb-true x y same) (both_begin x a b (common a b) (rests_of a b)))
+  | inr differ ↦ rw differ record { front = []; first = refl; second = refl; apart = differ_of x y differ }
+]
+
+-- ---- a swap
+
+swap_behind : (front x y : List ℕ) → IsSwap x y → IsSwap (front ++ x) (front ++ y)
+swap_behind [] x y swap = swap
+swap_behind (f ∷ front) x y swap = further (swap_behind front x y swap)
+
+swap_rest : (f g : ℕ) (x y : List ℕ) → f ≡ g → IsSwap (f ∷ x) (g ∷ y) → IsSwap x y
+swap_rest _ _ _ _ same (at_front differ) = absurd (differ same)
+swap_rest _ _ _ _ same (further swap) = swap
+
+swap_within : (front x y : List ℕ) → IsSwap (front ++ x) (front ++ y) → IsSwap x y
+swap_within [] x y swap = swap
+swap_within (f ∷ front) x y swap = swap_within front x y (swap_rest f f (front ++ x) (front ++ y) refl swap)
+
+pub swap_rests : {a b x y : List ℕ} → AreRests a b x y → IsSwap a b ↔ IsSwap x y
+swap_rests {a} {b} {x} {y} r = (
+  λ swap. swap_within r.front x y (subst (λ b. IsSwap (r.front ++ x) b) r.second (subst (λ a. IsSwap a b) r.first swap)),
+  λ swap. subst (λ a. IsSwap a b) (sym r.first) (subst (λ b. IsSwap (r.front ++ x) b) (sym r.second) (swap_behind r.front x y swap)),
+)
+
+pair_swap : (x y : List ℕ) → AreApart x y → IsSwap x y
+    → (get_or x 0 0 ≡ get_or y 1 0) × (get_or x 1 0 ≡ get_or y 0 0) × (drop 2 x ≡ drop 2 y)
+pair_swap _ _ apart (at_front differ) = (refl, refl, refl)
+pair_swap _ _ apart (further swap) = absurd (apart refl)
+
+swap_pair : (x y : List ℕ) → AreApart x y → 2 ≤ length x → 2 ≤ length y → get_or x 0 0 ≡ get_or y 1 0
+    → get_or x 1 0 ≡ get_or y 0 0 → drop 2 x ≡ drop 2 y → IsSwap x y
+swap_pair [] y apart some also e f same = absurd (omega (arith, some))
+swap_pair (a ∷ []) y apart some also e f same = absurd (omega (arith, some))
+swap_pair (a ∷ b ∷ x) [] apart some also e f same = absurd (omega (arith, also))
+swap_pair (a ∷ b ∷ x) (c ∷ []) apart some also e f same = absurd (omega (arith, also))
+swap_pair (a ∷ b ∷ x) (c ∷ d ∷ y) apart some also e f same =
+    subst (λ d. IsSwap (a ∷ b ∷ x) (c ∷ d ∷ y)) e (subst (λ c. IsSwap (a ∷ b ∷ x) (c ∷ a ∷ y)) f
+    (subst (λ y. IsSwap (a ∷ b ∷ x) (b ∷ a ∷ y)) same (at_front (λ g. apart (g ∙ f)))))
+
+same_told : (r : Bool) (xs ys : List ℕ) → MatchBool r (xs ≡ ys) (xs ≢ ys) → IsTrue r ↔ (xs ≡ ys)
+same_told true xs ys same = (λ yes. same, λ e. refl)
+same_told false xs ys other = (λ yes. absurd (false≢true yes), λ e. absurd (other e))
+
+-- if the first two bytes are swapped, the texts differ by a swap if and only if their rests are the same
+pub pair_told : (x y : List ℕ) (r : Bool) → AreApart x y → 2 ≤ length x → 2 ≤ length y → get_or x 0 0 ≡ get_or y 1 0
+    → get_or x 1 0 ≡ get_or y 0 0
+    → r ≡ pointwise nat_eq (take (length x - 2) (drop 2 x)) (take (length y - 2) (drop 2 y)) → IsTrue r ↔ IsSwap x y
+pair_told x y r apart some also e f told =
+    let same = same_told r (drop 2 x) (drop 2 y) (told_text (drop 2 x) (drop 2 y) r (told
+    ∙ ap (λ xs. pointwise nat_eq xs (take (length y - 2) (drop 2 y))) (take_rest x 2)
+    ∙ ap (λ ys. pointwise nat_eq (drop 2 x) ys) (take_rest y 2))) in (
+      λ yes. swap_pair x y apart some also e f (same.0 yes),
+      λ swap. same.1 (pair_swap x y apart swap).2,
+    )
+
 -- ---- a run of bytes left out
 
-left_rest : (x y : ℕ) (xs ys : List ℕ) → ((word : List ℕ) → y ∷ ys ≢ word ++ (x ∷ xs)) → LeavesOut (x ∷ xs) (y ∷ ys)
-    → LeavesOut xs ys
-left_rest x y xs ys none (skipped word e) = absurd (none word e)
-left_rest x y xs ys none (kept left) = left
+left_behind : (front x y : List ℕ) → LeavesOut x y → LeavesOut (front ++ x) (front ++ y)
+left_behind [] x y left = left
+left_behind (f ∷ front) x y left = kept (left_behind front x y left)
 
--- if the second text does not end with the first one, the run of bytes is left out of its rest
-pub left_further : (r : Bool) (s t xs ys : List ℕ) (x y : ℕ) → s ≡ x ∷ xs → t ≡ y ∷ ys → x ≡ y
-    → ((word : List ℕ) → t ≢ word ++ s) → (IsTrue r ↔ LeavesOut xs ys) → IsTrue r ↔ LeavesOut s t
-left_further r s t xs ys x y front back same none is = rw front (rw back (
-  λ yes. subst (λ z. LeavesOut (x ∷ xs) (z ∷ ys)) same (kept (is.0 yes)),
-  λ left. is.1 (left_rest x y xs ys (λ word e. none word (back ∙ e ∙ ap (λ l. word ++ l) (sym front))) left),
-))
+left_word : (f : ℕ) (x y : List ℕ) (word : List ℕ) → f ∷ y ≡ word ++ f ∷ x → LeavesOut x y
+left_word f x y [] e = skipped [] (cc)
+left_word f x y (w ∷ word) e = skipped (word ++ f ∷ []) (let tails : y ≡ word ++ f ∷ x = cc in tails ∙ sym (append_assoc word (f ∷ []) x))
+
+left_rest : (f g : ℕ) (x y : List ℕ) → f ≡ g → LeavesOut (f ∷ x) (g ∷ y) → LeavesOut x y
+left_rest f g x y same (skipped word e) = left_word f x y word (ap (λ h. h ∷ y) same ∙ e)
+left_rest _ _ _ _ same (kept left) = left
+
+left_within : (front x y : List ℕ) → LeavesOut (front ++ x) (front ++ y) → LeavesOut x y
+left_within [] x y left = left
+left_within (f ∷ front) x y left = left_within front x y (left_rest f f (front ++ x) (front ++ y) refl left)
+
+-- texts that do not begin with the same byte: one only leaves out what comes first
+left_apart : (x y : List ℕ) → AreApart x y → LeavesOut x y → (word : List ℕ) × (y ≡ word ++ x)
+left_apart x y apart (skipped word e) = (word, e)
+left_apart _ _ apart (kept left) = absurd (apart refl)
+
+pub left_rests : {a b x y : List ℕ} → AreRests a b x y → LeavesOut a b ↔ ((word : List ℕ) × (y ≡ word ++ x))
+left_rests {a} {b} {x} {y} r = (
+  λ left. left_apart x y r.apart (left_within r.front x y (subst (λ b. LeavesOut (r.front ++ x) b) r.second (subst (λ a. LeavesOut a b) r.first left))),
+  λ (word, e). subst (λ a. LeavesOut a b) (sym r.first) (subst (λ b. LeavesOut (r.front ++ x) b) (sym r.second) (left_behind r.front x y (skipped word e))),
+)
 
 -- there is at most one number of edits
 pub one_count : (a b : List ℕ) (m n : ℕ) → Edits a b m → Edits a b n → m ≡ n

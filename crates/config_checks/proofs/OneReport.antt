@@ -1,6 +1,6 @@
 -- A file has one report.
 use Rattle.std.proofs.Common.{◌≡◌, ◌≢◌, ◌+◌, ℕ, inl, inr, ◌⊎◌, List, [], ◌∷◌, ◌++◌, Bool, map}
-use Rattle.std.proofs.Common.{Option, None, Some, option_copied, refl, sym, ap, subst, ◌∙◌, append_assoc, append-nil, codes}
+use Rattle.std.proofs.Common.{Option, None, Some, option_copied, option_map, refl, sym, ap, subst, ◌∙◌, append_assoc, append-nil, codes}
 use Rattle.std.specs.Bool.{⊤}
 use Rattle.std.specs.Char.{to_ascii_lowercase}
 use Rattle.std.specs.List.{AllByRecursion, AllZip}
@@ -9,6 +9,7 @@ use Rattle.config_file.specs.Header as header
 use Rattle.config_file.specs.Header.{Section, Header}
 use Rattle.config_file.specs.Value as value
 use Rattle.config_file.specs.Value.{Ending, outside, at_backslash, SpellsValue}
+use Rattle.config_file.specs.Key.{written}
 use Rattle.config_file.specs.Listing as listing
 use Rattle.config_file.specs.Listing.{IsListed}
 use Rattle.config_file.specs.File as file
@@ -25,7 +26,7 @@ use Rattle.config_checks.specs.declared.check.Counts.{Counts}
 use Rattle.config_checks.specs.declared.check.CheckError.{CheckError}
 use Rattle.config_checks.specs.Rows.{Decides, IsUnknown}
 use Rattle.config_checks.specs.Settings.{IsSettingOf, IsValueOf, value_of}
-use Rattle.config_checks.specs.Suggestions.{IsPassed, IsUnknownKey, unknown_text}
+use Rattle.config_checks.specs.Suggestions.{IsPassed, IsUnknownKey, suggestion_text, unknown_text}
 use Rattle.config_checks.specs.Reasons.{HasFinding, IsSameFinding, severity_of}
 use Rattle.config_checks.specs.Findings.{reason_text, no_word_text}
 use Rattle.config_checks.specs.Report.{line_of, suggestion_of, key_meant, counted, finding_line}
@@ -33,8 +34,7 @@ use Rattle.config_checks.specs.Report.{ReportsSetting, unknown, misspelled, righ
 use Rattle.config_checks.specs.Report.{Report, nothing, next, EndsReport, HasSettings, IsReport, BeginsReport}
 use Rattle.config_checks.proofs.OneFinding.{finding_once}
 use Rattle.config_checks.proofs.OneKey.{known_once, row_once}
-use Rattle.config_checks.proofs.OneMeant.{meant_once}
-use Rattle.config_checks.proofs.OneSuggestion.{text_once, not_passed}
+use Rattle.config_checks.proofs.OneSuggestion.{nearest_same, not_passed}
 
 -- ---- the settings of a file
 
@@ -203,9 +203,8 @@ module _ (options : Options) where
     setting_once setting s line line' t t' (misspelled key is_key shown is) (unknown u passed none is') =
         absurd (not_passed rows setting.key.items key is_key passed)
     setting_once setting s line line' t t' (misspelled key is_key shown is) (misspelled key' is_key' shown' is') =
-        let text = text_once rows setting.key.items key key' is_key is_key' in
-        let meant = meant_once rows setting.key.items key key' is_key is_key' in
-        (shown ∙ (λ i. key_line (facts setting) (text i) (meant i)) ∙ sym shown', is ∙ sym is')
+        let nearest = nearest_same rows setting.key.items key key' is_key is_key' in
+        (shown ∙ ap (λ k. key_line (facts setting) (suggestion_text k) (option_map written k)) nearest ∙ sym shown', is ∙ sym is')
     setting_once setting s line line' t t' (misspelled key is_key shown is) (right row decides good none' is') =
         absurd (known_once rows setting.key.items row decides is_key.unknown)
     setting_once setting s line line' t t' (misspelled key is_key shown is) (found row reason decides bad shown' is') =

@@ -9,10 +9,11 @@ use Rattle.std.proofs.lemmas.Int.{clamps}
 use Rattle.std.specs.Char.{to_ascii_lowercase}
 use Rattle.std.specs.Int.{abs_diff}
 use Rattle.config_text.specs.SameWord.{SameWord}
-use Rattle.config_checks.specs.declared.key.Key.{Key}
+use Rattle.config_file.specs.Key.{Key, IsCut}
+use Rattle.config_file.specs.KeyView.{key_of}
 use Rattle.config_checks.specs.declared.row.Row.{Row}
 use Rattle.config_checks.specs.declared.row.Run.{Run}
-use Rattle.config_checks.specs.Keys.{IsKey, Covers}
+use Rattle.config_checks.specs.Keys.{Covers}
 use Rattle.config_checks.specs.Nearest.{AreFar, most_edits}
 use Rattle.config_checks.specs.Rows.{CoversNone, Decides, IsFirstCovering, rows_of}
 use Rattle.config_checks.specs.Suggestions.{RowEdits, HasSection}
@@ -36,7 +37,7 @@ same_length a b same = sym (length-map a to_ascii_lowercase) ∙ ap length same 
 
 module _ (key : Key) where
   -- no row of a run with another section covers the key
-  pub other_section : (run : Run) → ¬ (SameWord run.section.now key.section.now) → CoversNone run.rows.now key
+  pub other_section : (run : Run) → ¬ (SameWord run.section.now key.section) → CoversNone run.rows.now key
   other_section run other k d inside covers = other (sym (run.of_section k d inside) ∙ covers.section)
 
   first_within : (xs ys zs : List Row) (row : Row) → CoversNone xs key → IsFirstCovering ys key row
@@ -52,16 +53,16 @@ module _ (key : Key) where
         covers = first.covers;
         first = subst (λ l. CoversNone l key)
             (sym (take-append-le (length xs + first.place) (xs ++ ys) zs (omega (arith, below)) ∙ take-append-add xs ys first.place))
-            (All-append (λ row. ¬ (Covers row.key key)) xs (take first.place ys) none first.first);
+            (All-append (λ row. ¬ (Covers (key_of row.key) key)) xs (take first.place ys) none first.first);
       }
 
-  pub decides : (t : List ℕ) (runs : List Run) (i : ℕ) (run : Run) (row : Row) → IsKey t key → i < length runs
+  pub decides : (t : List ℕ) (runs : List Run) (i : ℕ) (run : Run) (row : Row) → IsCut t key → i < length runs
       → get_or runs i run ≡ run → CoversNone (rows_of (take i runs)) key → IsFirstCovering run.rows.now key row
       → Decides (rows_of runs) t row
-  decides t runs i run row is_key below here none first =
+  decides t runs i run row cut below here none first =
       record {
         key = key;
-        is_key = is_key;
+        cut = cut;
         covering = subst (λ l. IsFirstCovering l key row) (sym (rows_around runs i run below here))
             (first_within (rows_of (take i runs)) run.rows.now (rows_of (drop (i + 1) runs)) row none first);
       }
@@ -69,22 +70,22 @@ module _ (key : Key) where
   -- ---- the edits that lead to a key
 
   -- if the lengths of the sections differ by too much, the key of the row is not near the key
-  far_row : (row : Row) → most_edits 8 row.key.section.now key.section.now
-      < abs_diff (length row.key.section.now) (length key.section.now) → (n : ℕ) → RowEdits key row n → 3 < n
+  far_row : (row : Row) → most_edits 8 (key_of row.key).section key.section
+      < abs_diff (length (key_of row.key).section) (length key.section) → (n : ℕ) → RowEdits key row n → 3 < n
   far_row row far n (in_rest same edits) =
-      absurd (omega (arith, clamps, far, same_length row.key.section.now key.section.now same))
+      absurd (omega (arith, clamps, far, same_length (key_of row.key).section key.section same))
   far_row row far n (in_section other between last edits) =
-      let near = lengths_near row.key.section.now key.section.now n edits.0 in
+      let near = lengths_near (key_of row.key).section key.section n edits.0 in
       let few = edits.1 in
       absurd (omega (arith, clamps, far, near.0, near.1, few))
 
-  pub far_run : (run : Run) → most_edits 8 run.section.now key.section.now
-      < abs_diff (length run.section.now) (length key.section.now) → AreFar (RowEdits key) run.rows.now
+  pub far_run : (run : Run) → most_edits 8 run.section.now key.section
+      < abs_diff (length run.section.now) (length key.section) → AreFar (RowEdits key) run.rows.now
   far_run run far k d inside =
       let row = get_or run.rows.now k d in
       far_row row
-      (subst (λ l. (if nat_lt l 8 || nat_lt (length key.section.now) 8 then 1 else 2) < abs_diff l (length key.section.now))
-      (sym (same_length row.key.section.now run.section.now (run.of_section k d inside))) far)
+      (subst (λ l. (if nat_lt l 8 || nat_lt (length key.section) 8 then 1 else 2) < abs_diff l (length key.section))
+      (sym (same_length (key_of row.key).section run.section.now (run.of_section k d inside))) far)
 
 -- what holds for the rows of the first runs and for those of one more run
 pub all_more : (P : Row → Type 0) (runs : List Run) (i : ℕ) (run : Run) → i < length runs → get_or runs i run ≡ run
@@ -108,7 +109,7 @@ pub has_run : (t : List ℕ) (runs : List Run) (i : ℕ) (run : Run) → i < len
     → SameWord run.section.now t → HasSection (rows_of runs) t
 has_run t runs i run below here same =
     subst (λ rows. HasSection rows t) (sym (rows_around runs i run below here))
-    (any_within (λ row. SameWord row.key.section.now t) (rows_of (take i runs)) run.rows.now (rows_of (drop (i + 1) runs)) run.some
+    (any_within (λ row. SameWord (key_of row.key).section t) (rows_of (take i runs)) run.rows.now (rows_of (drop (i + 1) runs)) run.some
     (λ k d inside. run.of_section k d inside ∙ same))
 
 -- the rows of the runs so far and of one more run are the first rows

@@ -13,12 +13,11 @@ use Rattle.std.proofs.lemmas.Iterator.{YieldsList}
 use Rattle.std.proofs.lemmas.Iterator.Splits.{YieldsList-from_slice_split}
 use Rattle.std.proofs.lemmas.Iterator.Consumers.{YieldsList-at}
 use Rattle.std.proofs.Common.{Option, arith}
-use Rattle.config_checks.specs.declared.key.Key.{Key}
+use Rattle.config_file.specs.Key.{Key, IsCut}
 use Rattle.config_checks.specs.declared.row.Row.{Row}
 use Rattle.config_checks.specs.declared.table.RowFault.{RowFault}
 use Rattle.config_checks.specs.declared.table.RowFault.TheVariants.{NoKind, NoKey, UnknownKind, NoWords, Words, Bounds}
 use Rattle.config_checks.specs.declared.table.RowFault.TheVariants.{Memory}
-use Rattle.config_checks.specs.Keys.{IsKey}
 use Rattle.config_checks.specs.declared.table.BadRow.{BadRow}
 use Rattle.config_checks.specs.Rows.{lines_of, fields_of, IsNoRow, HasMarks, IsBadKind, IsBadRow, IsBadLine, AddsRow, AddsRows}
 
@@ -73,7 +72,7 @@ bad_line text lines line bad rows rows' before here numbered added fault =
 
 -- the fields have a key and marks, but what follows is a bad kind
 pub bad_kind : (fields marked : List (List ℕ)) (key name : List ℕ) (words : List (List ℕ)) (k : Key) (alone : Option Bool)
-    (goes_on : Bool) (fault : RowFault) → ¬ (IsNoRow fields) → fields ≡ key ∷ marked → IsKey key k
+    (goes_on : Bool) (fault : RowFault) → ¬ (IsNoRow fields) → fields ≡ key ∷ marked → IsCut key k
     → HasMarks marked alone goes_on (name ∷ words) → IsBadKind name words fault → IsBadRow fields fault
 bad_kind fields marked key name words k alone goes_on NoKind row parts is marks bad = absurd bad
 bad_kind fields marked key name words k alone goes_on NoKey row parts is marks bad = absurd bad

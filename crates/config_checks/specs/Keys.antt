@@ -1,36 +1,20 @@
--- Keys: a section, a subsection if there is one, and a last part, with dots between them.
-use Rattle.std.specs.Prelude.{◌≡◌, ◌≢◌, ◌⊎◌, ⊤, ℕ, List, [], ◌∷◌, ◌++◌, codes, Option, None, Some, All}
+-- Which keys the key of a row covers.
+use Rattle.std.specs.Prelude.{◌≡◌, ◌⊎◌, ⊤, ℕ, List, codes, Option, None, Some}
 use Rattle.config_text.specs.SameWord.{SameWord}
-use Rattle.config_checks.specs.declared.key.Key.{Key}
-use denote.Ref.{Bor}
-
--- `.`
-abbrev pub dot : ℕ
-dot = 46
-
--- the byte does not occur in the text
-abbrev pub IsWithout : ℕ → List ℕ → Type 0
-IsWithout byte t = All (λ b. b ≢ byte) t
-
--- the subsection followed by its dot, or nothing if the key has no subsection
-abbrev pub between_text : Option (Bor (List ℕ)) → List ℕ
-between_text None = []
-between_text (Some between) = between.now ++ dot ∷ []
-
--- the text is this key: its section precedes the first dot, and its last part follows the last dot
-pub record IsKey (t : List ℕ) (key : Key) : Type 0 where
-  pub parts : t ≡ key.section.now ++ dot ∷ (between_text key.between ++ key.last.now)
-  pub first : IsWithout dot key.section.now
-  pub last : IsWithout dot key.last.now
+use Rattle.config_file.specs.Key.{Key}
 
 -- the row's subsection covers the key's: it is `*` or has the same bytes, or neither has a subsection
-abbrev pub CoversBetween : Option (Bor (List ℕ)) → Option (Bor (List ℕ)) → Type 0
-CoversBetween None None = ⊤
-CoversBetween (Some row) (Some between) = (row.now ≡ codes "*") ⊎ (row.now ≡ between.now)
-CoversBetween _ _ = ⊥
+abbrev pub CoversSubsection : Option (List ℕ) → Option (List ℕ) → Type 0
+CoversSubsection None None = ⊤
+CoversSubsection (Some row) (Some subsection) = (row ≡ codes "*") ⊎ (row ≡ subsection)
+CoversSubsection _ _ = ⊥
 
--- the row's key covers the key: sections and last parts ignore ASCII case, and `*` covers any last part
+-- the row's name covers the key's: it is `*`, or the names are the same, ignoring case
+abbrev pub CoversName : List ℕ → List ℕ → Type 0
+CoversName row name = (row ≡ codes "*") ⊎ SameWord row name
+
+-- the row's key covers the key: sections and names ignore ASCII case, and `*` covers any name
 pub record Covers (row key : Key) : Type 0 where
-  pub section : SameWord row.section.now key.section.now
-  pub between : CoversBetween row.between key.between
-  pub last : (row.last.now ≡ codes "*") ⊎ SameWord row.last.now key.last.now
+  pub section : SameWord row.section key.section
+  pub subsection : CoversSubsection row.subsection key.subsection
+  pub name : CoversName row.name key.name

@@ -7,7 +7,7 @@ use Rattle.config_file.specs.declared.errors.Error as errors
 use Rattle.config_file.specs.declared.errors.Fault.{Fault}
 use Rattle.config_file.specs.declared.errors.Fault.TheVariants.{BadLine, Nul}
 use Rattle.config_file.specs.File.{Entry, IsFile}
-use Rattle.config_checks.specs.declared.key.Key.{Key}
+use Rattle.config_file.specs.Key.{written}
 use Rattle.config_checks.specs.declared.options.Format.{Format}
 use Rattle.config_checks.specs.declared.options.Format.TheVariants.{Text, Json}
 use Rattle.config_checks.specs.declared.options.Options.{Options}
@@ -21,13 +21,12 @@ use Rattle.config_checks.specs.declared.suggestion.UnknownKey.{UnknownKey}
 use Rattle.config_checks.specs.declared.check.Counts.{Counts}
 use Rattle.config_checks.specs.declared.check.CheckError.{CheckError}
 use Rattle.config_checks.specs.declared.check.CheckError.TheVariants.{Write, Memory}
-use Rattle.config_checks.specs.Keys.{dot, between_text}
 use Rattle.config_checks.specs.Rows.{Decides, IsUnknown}
 use Rattle.config_checks.specs.Settings.{IsSettingOf, value_of}
 use Rattle.config_checks.specs.Reasons.{HasFinding, severity_of}
 use Rattle.config_checks.specs.Findings.{Finding, text_line, reason_text}
 use Rattle.config_checks.specs.Json.{json_line}
-use Rattle.config_checks.specs.Suggestions.{IsPassed, IsUnknownKey, unknown_text}
+use Rattle.config_checks.specs.Suggestions.{IsPassed, IsUnknownKey, nearest_of, unknown_text}
 
 -- ---- a line
 
@@ -57,12 +56,9 @@ finding_line options setting severity reason = line_of options (record {
   suggestion = suggestion_of reason;
 })
 
-abbrev pub key_text : Key → List ℕ
-key_text key = key.section.now ++ dot ∷ (between_text key.between ++ key.last.now)
-
 -- the text of the key that is suggested, if a key is near
 abbrev pub key_meant : UnknownKey → Option (List ℕ)
-key_meant unknown = option_map key_text unknown.nearest
+key_meant unknown = option_map written (nearest_of unknown)
 
 -- the line that reports a setting with an unknown key
 abbrev pub unknown_line : Options → Setting → UnknownKey → List ℕ

@@ -1,12 +1,13 @@
 -- Rows: which row decides about a key, and how rows are written.
 use Rattle.std.specs.Prelude.{◌≡◌, ◌≢◌, ◌⊎◌, ℕ, ◌+◌, ◌<◌, ◌==◌, ◌||◌, Bool, true, false, List, [], ◌∷◌, ◌++◌}
 use Rattle.std.specs.Prelude.{length, take, map, flat_map, codes, Option, None, Some, slice_index_or, All}
-use Rattle.std.specs.List.{slice_split}
+use Rattle.std.specs.List.{slice_split, list_all}
 use Rattle.gix_config_value.specs.Amount.{AmountText}
 use Rattle.config_integer.specs.declared.amount.Amount.{Amount}
 use Rattle.config_checks.specs.declared.kind.Form.{Form}
 use Rattle.config_checks.specs.declared.kind.Form.TheVariants as forms
-use Rattle.config_checks.specs.declared.key.Key.{Key}
+use Rattle.config_file.specs.Key.{Key, IsCut, is_no_dot}
+use Rattle.config_file.specs.KeyView.{key_of}
 use Rattle.config_checks.specs.declared.row.Row.{Row}
 use Rattle.config_checks.specs.declared.row.Run.{Run}
 use Rattle.config_checks.specs.declared.kind.SettingKind.{SettingKind}
@@ -15,7 +16,7 @@ use Rattle.config_checks.specs.declared.table.RowFault.{RowFault}
 use Rattle.config_checks.specs.declared.table.BadRow.{BadRow}
 use Rattle.config_checks.specs.declared.table.RowFault.TheVariants.{NoKind, NoKey, UnknownKind, NoWords, Bounds}
 use Rattle.config_checks.specs.declared.table.RowFault.TheVariants.{Words, Memory}
-use Rattle.config_checks.specs.Keys.{IsKey, Covers}
+use Rattle.config_checks.specs.Keys.{Covers}
 use Rattle.config_checks.specs.Kinds.{takes_true}
 use Rattle.config_checks.specs.Reasons.{least_int, greatest_int}
 
@@ -25,25 +26,25 @@ rows_of = flat_map (λ run. run.rows.now)
 
 -- no row covers the key
 abbrev pub CoversNone : List Row → Key → Type 0
-CoversNone rows key = All (λ row. ¬ (Covers row.key key)) rows
+CoversNone rows key = All (λ row. ¬ (Covers (key_of row.key) key)) rows
 
 -- the first row that covers the key
 pub record IsFirstCovering (rows : List Row) (key : Key) (row : Row) : Type 0 where
   pub place : ℕ
   pub inside : place < length rows
   pub stands : slice_index_or rows place row ≡ row
-  pub covers : Covers row.key key
+  pub covers : Covers (key_of row.key) key
   pub first : CoversNone (take place rows) key
 
 -- the first row that covers the key of this text
 pub record Decides (rows : List Row) (t : List ℕ) (row : Row) : Type 0 where
   pub key : Key
-  pub is_key : IsKey t key
+  pub cut : IsCut t key
   pub covering : IsFirstCovering rows key row
 
--- the text is not a key, or no row covers its key
+-- the text has no dot, or no row covers its key
 abbrev pub IsUnknown : List Row → List ℕ → Type 0
-IsUnknown rows t = ((key : Key) → ¬ (IsKey t key)) ⊎ ((key : Key) × IsKey t key × CoversNone rows key)
+IsUnknown rows t = (list_all is_no_dot t ≡ true) ⊎ ((key : Key) × IsCut t key × CoversNone rows key)
 
 -- ---- how rows are written
 
@@ -142,7 +143,7 @@ pub record IsRow (fields : List (List ℕ)) (row : Row) : Type 0 where
   pub words : List (List ℕ)
   pub parts : fields ≡ key ∷ marked
   pub marks : HasMarks marked alone row.goes_on (name ∷ words)
-  pub is_key : IsKey key row.key
+  pub cut : IsCut key (key_of row.key)
   pub is_kind : IsKind name words row.kind
   pub takes_no_value : row.takes_no_value ≡ is_right_alone alone row.kind
 
@@ -156,13 +157,14 @@ IsBadKind name words Bounds = (name ≡ codes "int") × ((low high : Amount) →
 IsBadKind name words (Memory e) = Unit {0}
 IsBadKind name words _ = ⊥
 
--- what is wrong first: the key is invalid, no kind follows it, or no kind has the name and the words
+-- what is wrong first: the key has no dot, no kind follows it, or no kind has the name and the words
 abbrev pub HasRowFault : List (List ℕ) → RowFault → Type 0
-HasRowFault fields NoKey = (key : List ℕ) × (marked : List (List ℕ)) × (fields ≡ key ∷ marked) × ((k : Key) → ¬ (IsKey key k))
+HasRowFault fields NoKey =
+    (key : List ℕ) × (marked : List (List ℕ)) × (fields ≡ key ∷ marked) × (list_all is_no_dot key ≡ true)
 HasRowFault fields NoKind = (key : List ℕ) × (marked : List (List ℕ)) × (fields ≡ key ∷ marked)
-    × ((k : Key) × IsKey key k) × ((alone : Option Bool) × (goes_on : Bool) × HasMarks marked alone goes_on [])
+    × ((k : Key) × IsCut key k) × ((alone : Option Bool) × (goes_on : Bool) × HasMarks marked alone goes_on [])
 HasRowFault fields fault = (key : List ℕ) × (marked : List (List ℕ)) × (fields ≡ key ∷ marked)
-    × ((k : Key) × IsKey key k) × (alone : Option Bool) × (goes_on : Bool) × (name : List ℕ) × (words : List (List ℕ))
+    × ((k : Key) × IsCut key k) × (alone : Option Bool) × (goes_on : Bool) × (name : List ℕ) × (words : List (List ℕ))
     × HasMarks marked alone goes_on (name ∷ words) × IsBadKind name words fault
 
 -- why these fields are neither a row nor a comment nor a blank line, or that memory ran out

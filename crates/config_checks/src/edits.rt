@@ -1,7 +1,8 @@
 //! The edits that lead from one text to another.
-ghost use Rattle.std.specs.Prelude.{◌≡◌, ◌≢◌, ◌<◌, ◌≤◌, ◌↔◌, ◌++◌, ℕ, List, IsTrue, IfOk, MatchOption};
+ghost use Rattle.std.specs.Prelude.{◌≡◌, ◌≤◌, ◌↔◌, ◌==◌, length, IsTrue, IfOk};
+ghost use Rattle.std.specs.List.{prefix_len, zip};
 ghost use Rattle.config_checks.specs.Nearest.{Edits, IsSwap, FewEdits, most_edits, LeavesOut, LacksWord};
-ghost use Rattle.config_checks.specs.Reading.Steps.{IsFew};
+ghost use Rattle.config_checks.specs.Reading.Steps.{AreApart, AreRests, IsFew};
 
 use std::alloc::{AllocError, Global};
 use strsim::generic_levenshtein;
@@ -12,22 +13,41 @@ pub(crate) const MOST_EDITS: usize = 3;
 /// A text of at least this many bytes is long. Two edits turn a shorter one into another word.
 pub(crate) const LONG: usize = 5;
 
+/// How many bytes both texts begin with.
+fn common(a: &[u8], b: &[u8]) -> usize
+    ensures count { result ≡ prefix_len (λ p. p.0 == p.1) (zip a.now b.now) }
+    ensures within { (result ≤ length a.now) × (result ≤ length b.now) }
+{
+    a.iter().zip(b).take_while(|(a, b)| a == b).count()
+}
+
+/// What follows the longest text that both texts begin with.
+fn rests<'t>(a: &'t [u8], b: &'t [u8]) -> (&'t [u8], &'t [u8])
+    ensures { AreRests a.now b.now result.0.now result.1.now }
+{
+    let count = common(a, b);
+    (&a[count..], &b[count..])
+}
+
+/// Whether two texts that do not begin with the same byte differ only in that their first two bytes are
+/// swapped.
+fn swaps_first(from: &[u8], to: &[u8]) -> bool
+    requires { AreApart from.now to.now }
+    ensures { IsTrue result ↔ (IsSwap from.now to.now) }
+{
+    match (from, to) {
+        ([a, b, from @ ..], [c, d, to @ ..]) => a == d && b == c && from == to,
+        _ => false,
+    }
+}
+
 /// Whether two texts differ only in that two different neighboring bytes are swapped.
+#[tactic(auto, using(crate::proofs::NearestLemmas::swap_rests))]
 fn is_swap(from: &[u8], to: &[u8]) -> bool
     ensures { IsTrue result ↔ (IsSwap from.now to.now) }
 {
-    let (Some((a, after_a)), Some((b, after_b))) = (from.split_first(), to.split_first()) else {
-        return false;
-    };
-    if *a == *b {
-        return is_swap(after_a, after_b);
-    }
-    match (after_a.split_first(), after_b.split_first()) {
-        (Some((b_later, from)), Some((a_later, to))) => *b_later == *b
-            && *a_later == *a
-            && from == to,
-        _ => false,
-    }
+    let (from, to) = rests(from, to);
+    swaps_first(from, to)
 }
 
 /// The most edits between near texts: two if both have at least `long` bytes, otherwise one.
@@ -74,25 +94,12 @@ pub(crate) fn few_edits(
     Ok(Some(edits))
 }
 
-/// What precedes this suffix of a text, or `None` if the text does not end with the suffix.
-fn before_end<'a>(text: &'a [u8], end: &[u8]) -> Option<&'a [u8]>
-    ensures { MatchOption result ((front : List ℕ) → text.now ≢ front ++ end.now)
-        (λ front. text.now ≡ front.now ++ end.now) }
-{
-    text.strip_suffix(end)
-}
-
 /// Whether the first text is the second one without one run of bytes, which may be empty.
 fn leaves_out(short: &[u8], long: &[u8]) -> bool
     ensures { IsTrue result ↔ (LeavesOut short.now long.now) }
 {
-    if let Some(_) = before_end(long, short) {
-        return true;
-    }
-    match (short.split_first(), long.split_first()) {
-        (Some((a, short)), Some((b, long))) if *a == *b => leaves_out(short, long),
-        _ => false,
-    }
+    let (short, long) = rests(short, long);
+    long.ends_with(short)
 }
 
 /// Whether the first text is long, and is the second one without one run of bytes, ignoring ASCII case.

@@ -3,19 +3,20 @@ ghost use Rattle.std.specs.Prelude.{◌≡◌, ◌<◌, ◌++◌, [], length, fl
 ghost use Rattle.std.specs.Prelude.{OnOk, IfOk, MatchOption, IfSome, Some, codes};
 ghost use Rattle.std.specs.Char.{digit_char};
 ghost use Rattle.std.specs.Fmt.{signed_decimal};
+ghost use Rattle.config_file.specs.Key.{written};
+ghost use Rattle.config_file.specs.KeyView.{key_of};
 ghost use Rattle.config_checks.specs.Findings.{hex, is_control, piece_shown, shown, value_shown};
 ghost use Rattle.config_checks.specs.Findings.{range_text, words_text, no_word_front, list_text, word_asked};
 ghost use Rattle.config_checks.specs.Findings.{meant_text, no_word_text};
 ghost use Rattle.config_checks.specs.Findings.{reason_text, severity_text, painted};
 ghost use Rattle.config_checks.specs.Findings.{place, key_part, setting_shown, text_line};
 ghost use Rattle.config_checks.specs.Findings.{finding_of};
-ghost use Rattle.config_checks.specs.Report.{line_of, suggestion_of, key_text, key_meant};
+ghost use Rattle.config_checks.specs.Report.{line_of, suggestion_of, key_meant};
 ghost use Rattle.config_checks.specs.Report.{finding_line, unknown_line};
 ghost use Rattle.config_checks.specs.Report.{fault_text, refused_line};
 ghost use Rattle.config_checks.specs.Settings.{value_of};
 
 use crate::json_line::push_json;
-use crate::key::Key;
 use crate::kind::{Form, WordList};
 use crate::options::{Format, Options};
 use crate::reason::{Reason, Severity};
@@ -23,6 +24,7 @@ use crate::setting::Setting;
 use crate::suggestion::{UnknownKey, push_unknown};
 use bstr::decode_utf8;
 use config_file::errors::{Error, Fault};
+use config_file::key::Key;
 use gix_config_value::integer::Amount;
 use itoa::Buffer;
 use std::alloc::{AllocError, Global};
@@ -369,16 +371,16 @@ pub(crate) fn push_finding(
 
 /// The text of a key.
 fn key_text(alloc: Global, key: &Key<'_>) -> Result<Vec<u8>, AllocError>
-    ensures { IfOk result (λ t. t.items ≡ key_text key.now) }
+    ensures { IfOk result (λ t. t.items ≡ written (key_of key.now)) }
 {
     let mut text = Vec::new(alloc);
-    text.extend_from_slice(key.section)?;
-    text.push(b'.')?;
-    if let Some(between) = key.between {
-        text.extend_from_slice(between)?;
+    text.extend_from_slice(key.section())?;
+    if let Some(subsection) = key.subsection() {
         text.push(b'.')?;
+        text.extend_from_slice(subsection)?;
     }
-    text.extend_from_slice(key.last)?;
+    text.push(b'.')?;
+    text.extend_from_slice(key.name())?;
     Ok(text)
 }
 

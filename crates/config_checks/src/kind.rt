@@ -1,5 +1,5 @@
 //! What a row demands of the value of a setting.
-ghost use Rattle.std.specs.Prelude.{◌≡◌, ◌≢◌, ◌↔◌, ◌++◌, ℕ, List, IsTrue, MatchOption, take};
+ghost use Rattle.std.specs.Prelude.{◌≡◌, ◌↔◌, ℕ, List, IsTrue, MatchOption, take};
 ghost use Rattle.std.specs.List.{slice_split, Any};
 ghost use Rattle.config_checks.specs.Kinds.{IsSame, IsPattern, IsWord, IsNoWord, IsFirstWord, HasWord};
 ghost use Rattle.config_checks.specs.Kinds.{is_separator, IsPiece, AreWords, is_no_letter, HasDigit, HasDate};
@@ -89,14 +89,6 @@ fn sort_name(text: &[u8]) -> &[u8]
     without_front(plain, b"*")
 }
 
-/// What follows this name in a text, or `None` if the text does not begin with the name.
-fn after_name<'a>(text: &'a [u8], name: &[u8]) -> Option<&'a [u8]>
-    ensures { MatchOption result ((rest : List ℕ) → text.now ≢ name.now ++ rest)
-        (λ rest. text.now ≡ name.now ++ rest.now) }
-{
-    text.strip_prefix(name)
-}
-
 /// Whether the rest after a name is empty or begins with a colon.
 fn ends_name(rest: &[u8]) -> bool
     ensures { IsTrue result ↔ EndsName rest.now }
@@ -111,7 +103,7 @@ fn ends_name(rest: &[u8]) -> bool
 fn names(text: &[u8], name: &[u8]) -> bool
     ensures { IsTrue result ↔ Names text.now name.now }
 {
-    match after_name(text, name) {
+    match text.strip_prefix(name) {
         Some(rest) => ends_name(rest),
         None => false,
     }

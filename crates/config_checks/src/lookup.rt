@@ -1,9 +1,11 @@
 //! Looks up the row that decides about a key.
 ghost use Rattle.std.specs.Prelude.{◌≡◌, ◌≤◌, [], length, take, IfOk, MatchOption};
+ghost use Rattle.config_file.specs.KeyView.{key_of};
 ghost use Rattle.config_checks.specs.Rows.{Decides, IsFirstCovering, IsUnknown, CoversNone, rows_of};
 
-use crate::key::{Key, is_same_word};
+use crate::key::{covers, is_same_word};
 use crate::row::{Row, Run};
+use config_file::key::Key;
 use std::alloc::{AllocError, Global};
 
 /// The run that the rows begin with, or `None` if there are no rows.
@@ -11,10 +13,10 @@ fn first_run<'r, 't>(rows: &'r [Row<'t>]) -> Option<Run<'r, 't>>
     ensures { MatchOption result (rows.now ≡ []) (λ run. (length run.rows.now ≤ length rows.now)
         × (run.rows.now ≡ take (length run.rows.now) rows.now)) }
 {
-    let section = rows.first()?.key.section;
+    let section = rows.first()?.key.section();
     let end = rows
         .iter()
-        .position(|row| !is_same_word(row.key.section, section))
+        .position(|row| !is_same_word(row.key.section(), section))
         .unwrap_or(rows.len());
     Some(Run {
         section,
@@ -37,20 +39,20 @@ pub fn runs_of<'r, 't>(alloc: Global, rows: &'r [Row<'t>]) -> Result<Vec<Run<'r,
 
 /// The first of these rows that covers a key, or `None` if no row covers it.
 fn first_covering<'r, 't>(rows: &'r [Row<'t>], key: &Key<'_>) -> Option<&'r Row<'t>>
-    ensures { MatchOption result (CoversNone rows.now key.now)
-        (λ row. IsFirstCovering rows.now key.now row.now) }
+    ensures { MatchOption result (CoversNone rows.now (key_of key.now))
+        (λ row. IsFirstCovering rows.now (key_of key.now) row.now) }
 {
-    rows.iter().find(|row| row.key.covers(key))
+    rows.iter().find(|row| covers(&row.key, key))
 }
 
-/// The first row that covers a key. Returns `None` if no row covers it, or if the text is not a key.
+/// The first row that covers a key. Returns `None` if no row covers it, or if the text has no dot.
 pub fn row_for<'r, 't>(runs: &[Run<'r, 't>], key: &[u8]) -> Option<&'r Row<'t>>
     ensures { MatchOption result (IsUnknown (rows_of runs.now) key.now)
         (λ row. Decides (rows_of runs.now) key.now row.now) }
 {
-    let key = Key::parse(key)?;
+    let key = Key::split(key)?;
     for run in runs {
-        if !is_same_word(run.section, key.section) {
+        if !is_same_word(run.section, key.section()) {
             continue;
         }
         if let Some(row) = first_covering(run.rows, &key) {

@@ -2,14 +2,15 @@
 ghost use Rattle.std.specs.Prelude.{◌<◌, length};
 ghost use Rattle.std.specs.List.{All};
 ghost use Rattle.config_text.specs.SameWord.{SameWord};
+ghost use Rattle.config_file.specs.KeyView.{key_of};
 
-use crate::key::Key;
 use crate::kind::SettingKind;
+use config_file::key::Key;
 
 /// A row says what the value of a setting has to be if the key of the row covers the setting's key.
 #[derive(Drop)]
 pub struct Row<'t> {
-    /// The key, which may have `*` as its subsection and as its last part.
+    /// The key, which may have `*` as its subsection and as its name.
     pub key: Key<'t>,
     /// Whether a key alone, which has no value, is right.
     pub takes_no_value: bool,
@@ -26,6 +27,6 @@ pub struct Run<'r, 't> {
     pub section: &'t [u8],
     /// The rows.
     pub rows: &'r [Row<'t>],
-    ghost of_section: { All (λ row. SameWord row.key.section.now section.now) rows.now },
+    ghost of_section: { All (λ row. SameWord (key_of row.key).section section.now) rows.now },
     ghost some: { 0 < length rows.now },
 }

@@ -1,19 +1,22 @@
 //! Keys that no row covers, and the nearest keys of the rows.
 ghost use Rattle.std.specs.Prelude.{◌≡◌, ◌⊎◌, ◌++◌, ◌↔◌, IsTrue, MatchOption, IfOk, OnOk, Some};
+ghost use Rattle.std.specs.Prelude.{option_copied};
 ghost use Rattle.config_text.specs.SameWord.{SameWord};
+ghost use Rattle.config_file.specs.KeyView.{key_of};
 ghost use Rattle.config_checks.specs.Nearest.{LacksWord, AreFar, IsNearest};
-ghost use Rattle.config_checks.specs.Suggestions.{BetweenEdits, CoversLast, LastEdits, EditsAfter};
-ghost use Rattle.config_checks.specs.Suggestions.{OnePartEdits, RowEdits, Fills, FillsBetween};
+ghost use Rattle.config_checks.specs.Suggestions.{SubsectionEdits, NameEdits, EditsAfter};
+ghost use Rattle.config_checks.specs.Suggestions.{OnePartEdits, RowEdits, Fills, FillsSubsection};
 ghost use Rattle.config_checks.specs.Suggestions.{FillsKey, IsShared, IsOwn};
 ghost use Rattle.config_checks.specs.Rows.{IsUnknown, rows_of};
 ghost use Rattle.config_checks.specs.Reading.Steps.{IsFew};
-ghost use Rattle.config_checks.specs.Suggestions.{HasSection, IsPassed, IsUnknownKey, dotted, between_shown};
-ghost use Rattle.config_checks.specs.Suggestions.{after_shown, key_shown, asked, unknown_text};
+ghost use Rattle.config_checks.specs.Suggestions.{HasSection, IsPassed, IsUnknownKey, dotted};
+ghost use Rattle.config_checks.specs.Suggestions.{subsection_shown, after_shown, key_shown, asked, unknown_text};
 
 use crate::edits::{LONG, MOST_EDITS, few_edits, lacks_word, most_edits};
 use crate::finding::push_shown;
-use crate::key::{ANY, Key, covers_between, is_same_word};
+use crate::key::{ANY, covers_name, covers_subsection, is_same_word};
 use crate::row::{Row, Run};
+use config_file::key::Key;
 use std::alloc::{AllocError, Global};
 
 /// A section of at least this many bytes is long.
@@ -21,62 +24,53 @@ const LONG_SECTION: usize = 8;
 
 /// How many edits lead from one subsection to the other. `None` if they are not near, or if a key has no
 /// subsection.
-fn between_edits(
+fn subsection_edits(
     alloc: Global,
-    row: Option<&[u8]>,
-    between: Option<&[u8]>,
+    row: &Key<'_>,
+    key: &Key<'_>,
 ) -> Result<Option<usize>, AllocError>
-    ensures { IfOk result (λ r. IsFew (BetweenEdits row.entry between.entry) r) }
+    ensures { IfOk result (λ r. IsFew
+        (SubsectionEdits (key_of row.now).subsection (key_of key.now).subsection) r) }
 {
-    match (row, between) {
-        (Some(row), Some(between)) => few_edits(alloc, LONG, row, between),
+    match (row.subsection(), key.subsection()) {
+        (Some(row), Some(subsection)) => few_edits(alloc, LONG, row, subsection),
         _ => Ok(None),
     }
 }
 
-/// Whether the last part of a row's key covers the last part of a key.
-fn covers_last(row: &[u8], last: &[u8]) -> bool
-    ensures { IsTrue result ↔ CoversLast row.now last.now }
+/// Three edits if one name is long and only lacks a run of bytes of the other, and otherwise `None`.
+fn edits_of_word(alloc: Global, row: &[u8], name: &[u8]) -> Result<Option<usize>, AllocError>
+    ensures { IfOk result (λ r. MatchOption r (¬ (LacksWord row.now name.now ⊎ LacksWord name.now row.now))
+        (λ n. (LacksWord row.now name.now ⊎ LacksWord name.now row.now) × (n ≡ 3))) }
 {
-    row == ANY || is_same_word(row, last)
-}
-
-/// Three edits if one last part is long and only lacks a run of bytes of the other, and otherwise `None`.
-fn edits_of_word(alloc: Global, row: &[u8], last: &[u8]) -> Result<Option<usize>, AllocError>
-    ensures { IfOk result (λ r. MatchOption r (¬ (LacksWord row.now last.now ⊎ LacksWord last.now row.now))
-        (λ n. (LacksWord row.now last.now ⊎ LacksWord last.now row.now) × (n ≡ 3))) }
-{
-    if lacks_word(alloc, row, last)? || lacks_word(alloc, last, row)? {
+    if lacks_word(alloc, row, name)? || lacks_word(alloc, name, row)? {
         return Ok(Some(MOST_EDITS));
     }
     Ok(None)
 }
 
-/// How many edits lead from one last part to the other, if they are near. If they are not, a missing run of
+/// How many edits lead from one name to the other, if they are near. If they are not, a missing run of
 /// bytes counts as three edits in a key without a subsection. `None` in all other cases.
-fn last_edits(alloc: Global, row: &Key<'_>, key: &Key<'_>) -> Result<Option<usize>, AllocError>
-    ensures { IfOk result (λ r. IsFew (LastEdits row.now key.now) r) }
+fn name_edits(alloc: Global, row: &Key<'_>, key: &Key<'_>) -> Result<Option<usize>, AllocError>
+    ensures { IfOk result (λ r. IsFew (NameEdits (key_of row.now) (key_of key.now)) r) }
 {
-    if let Some(edits) = few_edits(alloc, LONG, row.last, key.last)? {
+    if let Some(edits) = few_edits(alloc, LONG, row.name(), key.name())? {
         return Ok(Some(edits));
     }
-    match key.between {
+    match key.subsection() {
         Some(_) => Ok(None),
-        None => edits_of_word(alloc, row.last, key.last),
+        None => edits_of_word(alloc, row.name(), key.name()),
     }
 }
 
 /// How many edits lead from the key of a row to a key with the same section. `None` unless the two keys are
 /// near, and so differ in exactly one part.
 fn edits_after(alloc: Global, row: &Key<'_>, key: &Key<'_>) -> Result<Option<usize>, AllocError>
-    ensures { IfOk result (λ r. IsFew (EditsAfter row.now key.now) r) }
+    ensures { IfOk result (λ r. IsFew (EditsAfter (key_of row.now) (key_of key.now)) r) }
 {
-    match (
-        covers_between(row.between, key.between),
-        covers_last(row.last, key.last),
-    ) {
-        (true, false) => last_edits(alloc, row, key),
-        (false, true) => between_edits(alloc, row.between, key.between),
+    match (covers_subsection(row, key), covers_name(row, key)) {
+        (true, false) => name_edits(alloc, row, key),
+        (false, true) => subsection_edits(alloc, row, key),
         _ => Ok(None),
     }
 }
@@ -89,14 +83,14 @@ fn one_part_edits(
     row: &Key<'_>,
     key: &Key<'_>,
 ) -> Result<Option<usize>, AllocError>
-    requires { IsTrue is_same ↔ SameWord row.now.section.now key.now.section.now }
-    ensures { IfOk result (λ r. IsFew (OnePartEdits row.now key.now) r) }
+    requires { IsTrue is_same ↔ SameWord (key_of row.now).section (key_of key.now).section }
+    ensures { IfOk result (λ r. IsFew (OnePartEdits (key_of row.now) (key_of key.now)) r) }
 {
     if is_same {
         return edits_after(alloc, row, key);
     }
-    if covers_last(row.last, key.last) && covers_between(row.between, key.between) {
-        return few_edits(alloc, LONG_SECTION, row.section, key.section);
+    if covers_name(row, key) && covers_subsection(row, key) {
+        return few_edits(alloc, LONG_SECTION, row.section(), key.section());
     }
     Ok(None)
 }
@@ -108,17 +102,18 @@ fn nearest<'r, 't>(
     runs: &[Run<'r, 't>],
     key: &Key<'_>,
 ) -> Result<Option<&'r Row<'t>>, AllocError>
-    ensures { IfOk result (λ r. MatchOption r (AreFar (RowEdits key.now) (rows_of runs.now))
-        (λ row. IsNearest (RowEdits key.now) (rows_of runs.now) row.now)) }
+    ensures { IfOk result (λ r. MatchOption r (AreFar (RowEdits (key_of key.now)) (rows_of runs.now))
+        (λ row. IsNearest (RowEdits (key_of key.now)) (rows_of runs.now) row.now)) }
 {
+    let section = key.section();
     let mut best = None;
     let mut least = MOST_EDITS + 1;
     'runs: for run in runs {
-        let most = most_edits(LONG_SECTION, run.section, key.section);
-        if run.section.len().abs_diff(key.section.len()) > most {
+        let most = most_edits(LONG_SECTION, run.section, section);
+        if run.section.len().abs_diff(section.len()) > most {
             continue;
         }
-        let is_same = is_same_word(run.section, key.section);
+        let is_same = is_same_word(run.section, section);
         'rows: for row in run.rows {
             if let Some(edits) = one_part_edits(alloc, is_same, &row.key, key)? {
                 if edits < least {
@@ -139,23 +134,25 @@ fn filled<'k>(row: &'k [u8], part: &'k [u8]) -> &'k [u8]
 }
 
 /// The same for subsections. If one of the keys has no subsection, the result is that of the row's key.
-fn filled_between<'k>(row: Option<&'k [u8]>, between: Option<&'k [u8]>) -> Option<&'k [u8]>
-    ensures { FillsBetween row.entry between.entry result }
+fn filled_subsection<'k>(row: &Key<'k>, key: &Key<'k>) -> Option<&'k [u8]>
+    ensures { FillsSubsection (key_of row.now).subsection (key_of key.now).subsection
+        (option_copied result) }
 {
-    match (row, between) {
-        (Some(row), Some(between)) => Some(filled(row, between)),
-        _ => row,
+    match (row.subsection(), key.subsection()) {
+        (Some(row), Some(subsection)) => Some(filled(row, subsection)),
+        (row, _) => row,
     }
 }
 
 /// The key of a row, in which the parts of a key replace `*`.
 fn filled_key<'k>(row: &Key<'k>, key: &Key<'k>) -> Key<'k>
-    ensures { FillsKey row.now key.now result }
+    ensures { FillsKey (key_of row.now) (key_of key.now) (key_of result) }
 {
-    Key {
-        section: row.section,
-        between: filled_between(row.between, key.between),
-        last: filled(row.last, key.last),
+    let filled = row.with_subsection(filled_subsection(row, key));
+    if row.name() == ANY {
+        filled.with_name_of(key)
+    } else {
+        filled
     }
 }
 
@@ -185,11 +182,11 @@ fn has_section(runs: &[Run<'_, '_>], section: &[u8]) -> bool
 
 /// Whether a key has no subsection, and a section of the rows that has no settings without a row.
 fn is_own(runs: &[Run<'_, '_>], key: &Key<'_>) -> bool
-    ensures { IsTrue result ↔ IsOwn (rows_of runs.now) key.now }
+    ensures { IsTrue result ↔ IsOwn (rows_of runs.now) (key_of key.now) }
 {
-    match key.between {
+    match key.subsection() {
         Some(_) => false,
-        None => !is_shared(key.section) && has_section(runs, key.section),
+        None => !is_shared(key.section()) && has_section(runs, key.section()),
     }
 }
 
@@ -202,7 +199,7 @@ pub struct UnknownKey<'k> {
 
 /// Returns the unknown key if a check should report it: it is near the key of a row, or it has no subsection,
 /// and only rows have settings in its section. Two keys are near if they differ in exactly one part: by one
-/// edit, by two if the part is long in both or, in the last part of a key without a subsection, by a missing
+/// edit, by two if the part is long in both or, in the name of a key without a subsection, by a missing
 /// run of bytes. Returns `None` for any other text, and an error if there is no memory.
 pub(crate) fn unknown_key<'k>(
     alloc: Global,
@@ -213,7 +210,7 @@ pub(crate) fn unknown_key<'k>(
     ensures { IfOk result (λ r. MatchOption r (IsPassed (rows_of runs.now) text.now)
         (IsUnknownKey (rows_of runs.now) text.now)) }
 {
-    let Some(key) = Key::parse(text) else {
+    let Some(key) = Key::split(text) else {
         return Ok(None);
     };
     match nearest(alloc, runs, &key)? {
@@ -234,34 +231,35 @@ fn push_dotted(out: &mut Vec<u8>, part: &[u8]) -> Result<(), AllocError>
 }
 
 /// Appends the subsection and a dot, if there is a subsection.
-fn push_between(out: &mut Vec<u8>, between: Option<&[u8]>) -> Result<(), AllocError>
-    ensures { OnOk result (out.new.items ≡ out.old.items ++ between_shown between.entry) }
+fn push_subsection(out: &mut Vec<u8>, key: &Key<'_>) -> Result<(), AllocError>
+    ensures { OnOk result
+        (out.new.items ≡ out.old.items ++ subsection_shown (key_of key.now).subsection) }
 {
-    match between {
-        Some(between) => push_dotted(out, between),
+    match key.subsection() {
+        Some(subsection) => push_dotted(out, subsection),
         None => Ok(()),
     }
 }
 
 /// Appends what follows the section of a key and its dot.
 fn push_after(out: &mut Vec<u8>, key: &Key<'_>) -> Result<(), AllocError>
-    ensures { OnOk result (out.new.items ≡ out.old.items ++ after_shown key.now) }
+    ensures { OnOk result (out.new.items ≡ out.old.items ++ after_shown (key_of key.now)) }
 {
-    push_between(out, key.between)?;
-    push_shown(out, key.last)
+    push_subsection(out, key)?;
+    push_shown(out, key.name())
 }
 
 /// Appends a key.
 fn push_key(out: &mut Vec<u8>, key: &Key<'_>) -> Result<(), AllocError>
-    ensures { OnOk result (out.new.items ≡ out.old.items ++ key_shown key.now) }
+    ensures { OnOk result (out.new.items ≡ out.old.items ++ key_shown (key_of key.now)) }
 {
-    push_dotted(out, key.section)?;
+    push_dotted(out, key.section())?;
     push_after(out, key)
 }
 
 /// Appends a key and a question mark.
 fn push_asked(out: &mut Vec<u8>, key: &Key<'_>) -> Result<(), AllocError>
-    ensures { OnOk result (out.new.items ≡ out.old.items ++ asked key.now) }
+    ensures { OnOk result (out.new.items ≡ out.old.items ++ asked (key_of key.now)) }
 {
     push_key(out, key)?;
     out.extend_from_slice(b"?")
@@ -269,7 +267,7 @@ fn push_asked(out: &mut Vec<u8>, key: &Key<'_>) -> Result<(), AllocError>
 
 /// Appends a text, a key and a question mark.
 fn push_meant(out: &mut Vec<u8>, front: &str, key: &Key<'_>) -> Result<(), AllocError>
-    ensures { OnOk result (out.new.items ≡ out.old.items ++ (front.now ++ asked key.now)) }
+    ensures { OnOk result (out.new.items ≡ out.old.items ++ (front.now ++ asked (key_of key.now))) }
 {
     out.extend_from_slice(front.as_bytes())?;
     push_asked(out, key)

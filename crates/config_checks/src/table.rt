@@ -8,10 +8,10 @@ ghost use Rattle.config_integer.specs.declared.amount.Amount.{Amount};
 ghost use Rattle.config_checks.specs.Rows.{IsNoRow, IsRow, IsKind, IsBadKind, IsBadRow};
 ghost use Rattle.config_checks.specs.Rows.{AddsRow, AddsRows, IsBadLine};
 
-use crate::key::Key;
 use crate::kind::{Form, SettingKind, WordList};
 use crate::reason::{GREATEST_INT, LEAST_INT};
 use crate::row::Row;
+use config_file::key::Key;
 use gix_config_value::canonical::TryRead;
 use gix_config_value::integer::Amount;
 use std::alloc::{AllocError, Global};
@@ -213,7 +213,7 @@ pub fn read_row<'t>(alloc: Global, line: &'t [u8]) -> Result<Option<Row<'t>>, Ro
     if key.starts_with(b"#") {
         return Ok(None);
     }
-    let Some(key) = Key::parse(key) else {
+    let Some(key) = Key::split(key) else {
         return Err(RowFault::NoKey);
     };
     let (alone, rest) = cut_alone(marked);

@@ -8,7 +8,7 @@ use Rattle.std.specs.List.{IsSplitAt}
 use Rattle.std.specs.Char.{to_ascii_lowercase}
 use Rattle.std.proofs.Math.Seq.{take-append_seam, drop-append_seam}
 use Rattle.std.proofs.lemmas.List.{append_cancel_left, length-append, length-map, take-append-drop}
-use Rattle.config_file.specs.Bytes.{LacksFront}
+use Rattle.config_text.specs.Bytes.{LacksFront}
 use Rattle.config_file.specs.File.{Entry}
 use Rattle.config_file.specs.Header.{Section}
 use Rattle.config_file.specs.Subsection.{SpellsSubsection}

@@ -1,7 +1,7 @@
 -- What a text begins with.
 use Rattle.std.proofs.Common.{◌≡◌, ◌≢◌, ◌<◌, ◌++◌, ◌∙◌, ◌==◌, ◌&&◌, Bool, true, false, ℕ, zero, suc, List, [], ◌∷◌, Option, None, Some, Bor, MatchOption, length, take, drop, get_or, sym, ap, refl, arith}
 use Rattle.std.proofs.lemmas.Bool.{true≢false, eq-eqb}
-use Rattle.config_file.specs.Bytes.{LacksFront}
+use Rattle.config_text.specs.Bytes.{LacksFront}
 use Rattle.std.proofs.lemmas.List.{append_assoc, append_cancel_left}
 use Rattle.std.specs.Char.{to_ascii_lowercase}
 use Rattle.std.specs.Str.{str_to_ascii_lowercase}

@@ -10,7 +10,7 @@ use Rattle.std.specs.Prelude.{⊤, is_some, option_copied}
 use Rattle.std.specs.Borrow.{Bor}
 use Rattle.std.specs.Char.{to_ascii_lowercase}
 use Rattle.std.specs.List.{list_all, prefix_len, HoldsAt, AllWithin}
-use Rattle.config_file.specs.Bytes.{LacksFront}
+use Rattle.config_text.specs.Bytes.{LacksFront}
 use Rattle.config_file.specs.Runs.{Run, StopsRun}
 use Rattle.config_file.specs.Key.{is_no_dot, dotted}
 use Rattle.config_file.specs.Header.{Section, BeginsWithout}

@@ -8,7 +8,7 @@ use Rattle.std.proofs.Math.Seq.{take-suc}
 use Rattle.std.proofs.lemmas.List.{take_all}
 use Rattle.config_file.specs.Key.{Key, HasKey}
 use Rattle.config_file.specs.Listing.{IsListed}
-use Rattle.config_file.specs.Settings.{AreListed, IsLast, IsLastAt, AllWithKey, none, has, lacks}
+use Rattle.config_file.specs.Settings.{AreListed, IsLast, AllWithKey, none, has, lacks}
 use Rattle.config_file.specs.Views.{entry_of}
 use Rattle.config_file.specs.declared.settings.Setting.{Setting}
 use Rattle.config_file.proofs.Patterns.{no_match}
@@ -41,9 +41,9 @@ pub found : (settings : List Setting) (key : Key) (i low : ℕ) (setting : Setti
     → slice_get settings i ≡ Some setting → i < length settings → low ≡ i + 1 → b ≡ true → Tests setting key b
     → (AreListed settings
     → AllWithin (λ later. ¬ (HasKey (entry_of later.entry) key)) settings low (length settings))
-    → AreListed settings → IsLastAt settings key i
+    → AreListed settings → IsLast settings key setting
 found settings key i low setting b at within above is_true tests later listed = (
-  setting,
+  i,
   at,
   (tested settings key i setting b at within listed tests).0 (search rules),
   subst (λ n. AllWithin (λ s. ¬ (HasKey (entry_of s.entry) key)) settings n (length settings)) above (later listed),
@@ -97,11 +97,6 @@ all_next {key = key} {all = all} settings i setting next b at within tests eithe
       | inr is ↦ subst (λ n. AllWithKey key (take i settings ++ setting ∷ []) n) (sym is.1)
           (all_lacks setting (no_match b is.0 holds) (before listed))
     ])
-
-pub is_last : (settings : List Setting) (key : Key) (i : ℕ) (d : Setting) → IsLastAt settings key i
-    → IsLast settings key (get_or settings i d)
-is_last settings key i d (setting, at, named, later) =
-    subst (λ s. IsLast settings key s) (sym (get_or_from_slice_get settings i setting d at)) (i, at, named, later)
 
 pub all_done : {key : Key} {all : List Setting} (settings : List Setting) (i : ℕ) → length settings ≤ i
     → (AreListed settings → AllWithKey key (take i settings) all) → AreListed settings

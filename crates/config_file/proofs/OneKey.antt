@@ -49,12 +49,12 @@ stops_at_dot : (q : Option (List ℕ)) → StopsRun is_no_dot (dotted q)
 stops_at_dot None = tt
 stops_at_dot (Some q) = refl
 
-same_parts : (a b : Key) → a.section ≡ b.section → a.subsection ≡ b.subsection → a.name ≡ b.name → a ≡ b
+pub same_parts : (a b : Key) → a.section ≡ b.section → a.subsection ≡ b.subsection → a.name ≡ b.name → a ≡ b
 same_parts a b e f g =
     ap (λ s. key s a.subsection a.name) e ∙ ap (λ q. key b.section q a.name) f
     ∙ ap (λ n. key b.section b.subsection n) g
 
-cut_same : {text : List ℕ} {a b : Key} → IsCut text a → IsCut text b → a ≡ b
+pub cut_same : {text : List ℕ} {a b : Key} → IsCut text a → IsCut text b → a ≡ b
 cut_same {a = a} {b = b} first second =
     let q = dotted a.subsection in
     let r = dotted b.subsection in
@@ -66,7 +66,7 @@ cut_same {a = a} {b = b} first second =
     (stops_at_dot b.subsection) fronts in
     same_parts a b sections (dotted_same a.subsection b.subsection subs) names
 
-cut_has_dot : {text : List ℕ} {k : Key} → IsCut text k → list_all is_no_dot text ≡ true → ⊥
+pub cut_has_dot : {text : List ℕ} {k : Key} → IsCut text k → list_all is_no_dot text ≡ true → ⊥
 cut_has_dot {k = k} cut none =
     no_dot_within (k.section ++ dotted k.subsection) k.name none cut.joined
 

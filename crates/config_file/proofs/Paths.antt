@@ -1,6 +1,6 @@
 -- The names of included files.
 use Rattle.std.proofs.Common.{◌≡◌, ℕ, List, ◌++◌, codes}
-use Rattle.config_file.specs.Bytes.{LacksFront}
+use Rattle.config_text.specs.Bytes.{LacksFront}
 use Rattle.config_file.specs.Path.{IsIncludedName, absolute, relative, directory}
 
 pub absolute_name : (file path rest name : List ℕ) → path ≡ codes "/" ++ rest → name ≡ path

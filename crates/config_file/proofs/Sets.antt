@@ -9,9 +9,10 @@ use Rattle.std.proofs.lemmas.Option.{same_Some}
 use Rattle.std.proofs.lemmas.Bool.{cases_Bool, true≢false, and_parts}
 use Rattle.std.proofs.lemmas.Bool.Decides.{nat_tests}
 use Rattle.std.proofs.Math.Bool.{or_assoc}
+use Rattle.config_text.specs.Bytes.{LacksFront}
 use Rattle.config_file.specs.Runs.{Run, StopsRun}
 use Rattle.config_file.specs.Reading.Places.{Closing}
-use Rattle.config_file.specs.Bytes.{LacksFront, right_bracket, backslash, dash, is_blank, is_space}
+use Rattle.config_file.specs.Bytes.{right_bracket, backslash, dash, is_blank, is_space}
 use Rattle.config_file.proofs.OneRun.{run_only}
 use Rattle.config_file.specs.Set.{folded, is_negation, is_wanted, opened, is_unclosed, IsClass, IsNoClass, IsNoRange, range_has, StandsForByte}
 use Rattle.config_file.specs.Set.{SetByte, bare, after_backslash, RangeEnd, to, Member, class, single, range, SetHas, closes, has}

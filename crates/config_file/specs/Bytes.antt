@@ -1,5 +1,5 @@
 -- The bytes of a configuration file.
-use Rattle.std.specs.Prelude.{◌≡◌, ◌≢◌, ℕ, Bool, true, false, not, ◌&&◌, ◌||◌, ◌==◌, ◌⊎◌, List, [], ◌∷◌, ◌++◌, ⊤}
+use Rattle.std.specs.Prelude.{◌≡◌, ℕ, Bool, true, false, not, ◌&&◌, ◌||◌, ◌==◌, ◌⊎◌, List, [], ◌∷◌, ⊤}
 use Rattle.std.specs.Char.{is_ascii_alphanumeric}
 
 abbrev pub backspace : ℕ
@@ -91,7 +91,3 @@ abbrev pub IsAtLineEnd : List ℕ → Type 0
 IsAtLineEnd [] = ⊤
 IsAtLineEnd (a ∷ []) = a ≡ line_feed
 IsAtLineEnd (a ∷ b ∷ rest) = (a ≡ line_feed) ⊎ ((a ≡ carriage_return) × (b ≡ line_feed))
-
--- the text does not begin with this prefix
-abbrev pub LacksFront : List ℕ → List ℕ → Type 0
-LacksFront front text = (rest : List ℕ) → text ≢ front ++ rest

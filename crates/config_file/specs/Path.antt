@@ -1,8 +1,8 @@
 -- The name of an included file.
 use Rattle.std.specs.Prelude.{◌≡◌, ℕ, Bool, true, false, not, ◌==◌, ◌-◌, take, length, List, [], ◌∷◌, ◌++◌, codes, Option, None, Some}
 use Rattle.std.specs.List.{suffix_len}
+use Rattle.config_text.specs.Bytes.{LacksFront}
 use Rattle.config_file.specs.Set.{slash}
-use Rattle.config_file.specs.Bytes.{LacksFront}
 
 -- whether the bytes are empty or begin with `/`
 abbrev pub is_rest : List ℕ → Bool

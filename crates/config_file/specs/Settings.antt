@@ -214,12 +214,6 @@ AreListed settings = All (λ setting. (text : List ℕ)
 abbrev pub LacksKey : List Setting → Key → Type 0
 LacksKey settings key = All (λ setting. ¬ (HasKey (entry_of setting.entry) key)) settings
 
--- the setting at this index is the last one that has the key
-abbrev pub IsLastAt : List Setting → Key → ℕ → Type 0
-IsLastAt settings key i = (setting : Setting) × (slice_get settings i ≡ Some setting)
-    × HasKey (entry_of setting.entry) key
-    × AllWithin (λ later. ¬ (HasKey (entry_of later.entry) key)) settings (i + 1) (length settings)
-
 -- this is the last setting that has the key
 abbrev pub IsLast : List Setting → Key → Setting → Type 0
 IsLast settings key setting = (i : ℕ) × (slice_get settings i ≡ Some setting)

@@ -1,10 +1,10 @@
 //! Bytes, and runs of them.
-ghost use Rattle.std.specs.Prelude.{◌≡◌, ◌≢◌, ℕ, ◌<◌, ◌≤◌, ◌↔◌, List, [], ◌∷◌, ◌++◌, length, MatchOption};
+ghost use Rattle.std.specs.Prelude.{◌≡◌, ℕ, ◌<◌, ◌≤◌, ◌↔◌, List, [], ◌∷◌, ◌++◌, length, MatchOption};
 ghost use Rattle.std.specs.Prelude.{IsTrue, take, drop};
 ghost use Rattle.std.specs.Prelude.{count_by, ◌==◌};
 ghost use Rattle.std.specs.List.{prefix_len};
 ghost use Rattle.config_file.specs.Bytes as spec;
-ghost use Rattle.config_file.specs.Bytes.{IsAtLineEnd, LacksFront};
+ghost use Rattle.config_file.specs.Bytes.{IsAtLineEnd};
 ghost use Rattle.config_file.specs.Header.{BeginsWithout};
 ghost use Rattle.config_file.specs.Runs.{Run};
 ghost use Rattle.config_file.specs.Value.{line_feeds};
@@ -28,21 +28,6 @@ pub(crate) fn after_byte(byte: u8, text: &[u8]) -> Option<&[u8]>
 {
     let (first, rest) = split(text)?;
     if first == byte { Some(rest) } else { None }
-}
-
-/// What follows this prefix, or `None` if the text does not begin with it.
-pub(crate) fn strip<'t>(text: &'t [u8], front: &[u8]) -> Option<&'t [u8]>
-    ensures { MatchOption result (LacksFront front.now text.now) (λ rest. text.now ≡ front.now ++ rest.now) }
-{
-    text.strip_prefix(front)
-}
-
-/// What precedes this suffix, or `None` if the text does not end with it.
-pub(crate) fn strip_end<'t>(text: &'t [u8], end: &[u8]) -> Option<&'t [u8]>
-    ensures { MatchOption result ((front : List ℕ) → text.now ≢ front ++ end.now)
-        (λ front. text.now ≡ front.now ++ end.now) }
-{
-    text.strip_suffix(end)
 }
 
 #[inline]

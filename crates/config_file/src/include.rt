@@ -5,7 +5,6 @@ ghost use Rattle.config_file.specs.Include.{Names, IsGitDir, IsOnBranch, Holds, 
 ghost use Rattle.config_file.specs.Include.{IsSameName, MatchesBelow, MatchesDir};
 ghost use Rattle.config_file.specs.Views.{entry_of};
 
-use crate::bytes::strip;
 use crate::entry::Entry;
 use crate::path::{Directories, expand, joined};
 use crate::pattern::matches;
@@ -46,16 +45,16 @@ impl<'c> Condition<'c> {
     pub fn parse(text: &'c [u8]) -> Condition<'c>
         ensures { Names text.now result }
     {
-        if let Some(pattern) = strip(text, b"gitdir:") {
+        if let Some(pattern) = text.strip_prefix(b"gitdir:") {
             return Condition::GitDir(pattern);
         }
-        if let Some(pattern) = strip(text, b"gitdir/i:") {
+        if let Some(pattern) = text.strip_prefix(b"gitdir/i:") {
             return Condition::GitDirIgnoringCase(pattern);
         }
-        if let Some(pattern) = strip(text, b"onbranch:") {
+        if let Some(pattern) = text.strip_prefix(b"onbranch:") {
             return Condition::OnBranch(pattern);
         }
-        match strip(text, b"hasconfig:remote.*.url:") {
+        match text.strip_prefix(b"hasconfig:remote.*.url:") {
             Some(pattern) => Condition::HasRemoteUrl(pattern),
             None => Condition::Unknown,
         }
@@ -132,7 +131,7 @@ fn matches_dir(
 ) -> Result<bool, AllocError>
     ensures { IfOk result (λ holds. IsTrue holds ↔ (MatchesDir ignores_case dir.now pattern.now name.now)) }
 {
-    match strip(pattern, b"./") {
+    match pattern.strip_prefix(b"./") {
         Some(rest) => {
             let mut whole = joined(alloc, b"/", rest)?;
             push_below(&mut whole)?;

@@ -3,8 +3,9 @@ ghost use Rattle.std.specs.Prelude.{◌≡◌, ◌≢◌, ◌==◌, ◌++◌, �
 ghost use Rattle.std.specs.Prelude.{true, length, map, IsTrue, OnOk, MatchOption, MatchResult, option_copied};
 ghost use Rattle.std.specs.Char.{to_ascii_lowercase};
 ghost use Rattle.std.specs.List.{list_all, list_any, prefix_len};
+ghost use Rattle.config_text.specs.Bytes.{LacksFront};
 ghost use Rattle.config_file.specs.Bytes as spec;
-ghost use Rattle.config_file.specs.Bytes.{dot, LacksFront};
+ghost use Rattle.config_file.specs.Bytes.{dot};
 ghost use Rattle.config_file.specs.Key as keys;
 ghost use Rattle.config_file.specs.Key.{is_no_dot, key_error_text};
 
@@ -129,6 +130,30 @@ impl<'k> Key<'k> {
         ensures { result.now ≡ (key_of self.now).name }
     {
         self.name
+    }
+
+    /// The same key with this subsection, or with none.
+    pub fn with_subsection(&self, subsection: Option<&'k [u8]>) -> Key<'k>
+        ensures { key_of result
+            ≡ keys.key (key_of self.now).section (option_copied subsection.entry) (key_of self.now).name }
+    {
+        Key {
+            section: self.section,
+            subsection,
+            name: self.name,
+        }
+    }
+
+    /// The same key with the name of another one.
+    pub fn with_name_of(&self, other: &Key<'k>) -> Key<'k>
+        ensures { key_of result ≡
+            keys.key (key_of self.now).section (key_of self.now).subsection (key_of other.now).name }
+    {
+        Key {
+            section: self.section,
+            subsection: self.subsection,
+            name: other.name,
+        }
     }
 
     fn has_section(&self) -> bool

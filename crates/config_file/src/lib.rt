@@ -38,4 +38,4 @@ pub use crate::reader::Entries;
 pub use crate::settings::{
     AddError, GetError, IncludeFault, Next, Refused, Setting, Settings, next_of,
 };
-pub use crate::walk::{Include, Known, Place, Step, Walk};
+pub use crate::walk::{Frame, Include, Known, Place, Step, Walk};

@@ -5,7 +5,6 @@ ghost use Rattle.config_file.specs.Path as spec;
 ghost use Rattle.config_file.specs.Path.{Expands, BeginsUnknown, IsIncludedName, is_no_slash};
 ghost use Rattle.std.specs.List.{suffix_len};
 
-use crate::bytes::strip;
 use config_path::parts::{Form, form_of};
 use std::alloc::{AllocError, Global};
 
@@ -49,7 +48,7 @@ fn directory(file: &[u8]) -> &[u8]
 pub fn included_name(alloc: Global, file: &[u8], path: &[u8]) -> Result<Vec<u8>, AllocError>
     ensures { IfOk result (λ name. IsIncludedName file.now path.now name.items) }
 {
-    match strip(path, b"/") {
+    match path.strip_prefix(b"/") {
         Some(_rest) => Ok(joined(alloc, b"", path)?),
         None => Ok(joined(alloc, directory(file), path)?),
     }

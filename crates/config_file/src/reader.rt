@@ -1,6 +1,6 @@
 //! The reader: the entries of a text, one by one.
-ghost use Rattle.std.specs.Prelude.{◌≡◌, ◌+◌, ◌<◌, ◌^◌, ◌↔◌, IsTrue, None, Some, Option, List, [], length};
-ghost use Rattle.std.specs.Prelude.{option_map};
+ghost use Rattle.std.specs.Prelude.{◌≡◌, ◌+◌, ◌<◌, ◌≤◌, ◌^◌, ◌↔◌, IsTrue, None, Some, Option, List, [], length};
+ghost use Rattle.std.specs.Prelude.{option_map, MatchOption};
 ghost use Rattle.config_file.specs.File.{Begins, after_mark, IsPartOfMark};
 ghost use Rattle.config_file.specs.Reading.Scans.{BeginsWithLetter};
 
@@ -83,6 +83,29 @@ impl<'a> Entries<'a> {
             line: 1,
             rest: text,
         }
+    }
+
+    /// The entries of what is left of a text after this line, under the last header before it. They are none if
+    /// the lines could not be counted: if `line` and the length of `rest` sum to more than 2^63 + 1.
+    pub fn resume(section: Option<Section<'a>>, line: usize, rest: &'a [u8]) -> Option<Self>
+        ensures { MatchOption result (2 ^ 63 + 2 ≤ line + length rest.now)
+            (λ entries. (entries.section ≡ section.entry) × (entries.line ≡ line) × (entries.rest ≡ rest.entry)) }
+    {
+        if line > (1 << 63) + 1 - rest.len() {
+            return None;
+        }
+        Some(Self {
+            section,
+            line,
+            rest,
+        })
+    }
+
+    /// What [`Entries::resume`] goes on from: the last header, the line, and the rest of the text.
+    pub fn parts(&self) -> (Option<Section<'a>>, usize, &'a [u8])
+        ensures { (result.0 ≡ self.now.section) × (result.1 ≡ self.now.line) × (result.2 ≡ self.now.rest) }
+    {
+        (self.section, self.line, self.rest)
     }
 
     /// The entry that begins with the next byte, or why it is refused.

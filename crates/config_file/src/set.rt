@@ -9,7 +9,7 @@ ghost use Rattle.config_file.specs.Set.{Class, IsClass, IsNoClass, IsNoRange, Me
 ghost use Rattle.config_file.specs.Set.{SetHas, StandsForByte, is_unclosed};
 ghost use Rattle.config_file.specs.Reading.Places.{Closing};
 
-use crate::bytes::{after_byte, before, is_blank, split, strip, strip_end};
+use crate::bytes::{after_byte, before, is_blank, split};
 use config_text::words::equals;
 
 /// A byte as it is compared: in lower case if case is ignored.
@@ -167,9 +167,9 @@ fn class_name<'t>(text: &'t [u8], closing: &'t [u8]) -> Option<(&'t [u8], &'t [u
     requires { (inside : List ℕ) × Run is_unclosed text.now inside closing.now }
     ensures { MatchOption result (IsNoClass text.now) (λ p. IsClass text.now p.0.now p.1.now) }
 {
-    let inner = strip(text, b"[:")?;
+    let inner = text.strip_prefix(b"[:")?;
     let inside = before(inner, closing);
-    let name = strip_end(inside, b":")?;
+    let name = inside.strip_suffix(b":")?;
     let rest = after_end(closing)?;
     Some((name, rest))
 }

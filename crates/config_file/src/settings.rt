@@ -1,12 +1,12 @@
 //! The settings of several files, in order. The last entry of a key decides its value.
-ghost use Rattle.std.specs.Prelude.{◌≡◌, ◌++◌, ◌<◌, length, IfSome, List, ℕ, [], Some, MatchOption, IfOk, OnOk, IsUtf8, map, option_map};
+ghost use Rattle.std.specs.Prelude.{◌≡◌, ◌++◌, [], Some, MatchOption, IfOk, IsUtf8, map, option_map};
 ghost use Rattle.std.specs.Option.{ForSome};
 ghost use Rattle.config_path.specs.Interpolation.{known_in};
 ghost use Rattle.config_file.specs.Settings.{place_shown, add_error_shown, include_fault_text, text_of, path_bytes};
 ghost use Rattle.config_file.specs.Settings.{IsSettingOf, Tells, ReadsSetting, IsPathOfSetting};
 ghost use Rattle.config_file.specs.Settings.{AddsFile, AddsWalk, IsNext};
 ghost use Rattle.config_file.specs.Reading.Adds.{AddsEntry, AddsNext};
-ghost use Rattle.config_file.specs.Settings.{AreListed, LacksKey, IsLast, IsLastAt, AllWithKey, Gets};
+ghost use Rattle.config_file.specs.Settings.{AreListed, LacksKey, IsLast, AllWithKey, Gets};
 ghost use Rattle.config_file.specs.KeyView.{key_of};
 ghost use Rattle.config_file.specs.Views.{entry_of};
 
@@ -218,17 +218,17 @@ impl<'t> Setting<'t> {
     }
 }
 
-/// The index of the last of these settings with a key, or `None` if none has it.
-fn last_index(settings: &[Setting<'_>], key: &Key<'_>) -> Option<usize>
-    ensures last { AreListed settings.now → MatchOption result (LacksKey settings.now (key_of key.now))
-        (IsLastAt settings.now (key_of key.now)) }
-    ensures within { IfSome result (λ index. index < length settings.now) }
+/// The last of these settings with a key, or `None` if none has it.
+fn last_of<'s, 't>(settings: &'s [Setting<'t>], key: &Key<'_>) -> Option<&'s Setting<'t>>
+    ensures { AreListed settings.now → MatchOption result (LacksKey settings.now (key_of key.now))
+        (λ setting. IsLast settings.now (key_of key.now) setting.now) }
 {
     let mut index = settings.len();
     'settings: while index > 0 {
         index -= 1;
-        if key.is_of(&settings[index].entry) {
-            return Some(index);
+        let setting = &settings[index];
+        if key.is_of(&setting.entry) {
+            return Some(setting);
         }
     }
     None
@@ -407,8 +407,7 @@ impl<'t> Settings<'t> {
             → MatchOption result (LacksKey self.now.entries.items (key_of key.now))
             (λ setting. IsLast self.now.entries.items (key_of key.now) setting.now) }
     {
-        let index = last_index(&self.entries, key)?;
-        Some(&self.entries[index])
+        last_of(&self.entries, key)
     }
 
     /// The settings with a key, in order. It fails only if memory is refused.

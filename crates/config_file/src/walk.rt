@@ -1,6 +1,6 @@
 //! The walk over the entries of a file and of the files that it includes, in Git's order. Its caller pulls it,
 //! and opens the files.
-ghost use Rattle.std.specs.Prelude.{◌≡◌, ◌≤◌, ℕ, List, [], IfOk, MatchOption, length, true, false, option_copied};
+ghost use Rattle.std.specs.Prelude.{◌≡◌, ◌≤◌, ◌++◌, ◌∷◌, ℕ, List, [], IfOk, MatchOption, length, true, false, option_copied};
 ghost use Rattle.config_file.specs.Path.{BeginsUnknown};
 ghost use Rattle.config_file.specs.Views.{entry_of};
 ghost use Rattle.config_file.specs.Walk.{Content, IsNameOf, IsInclude};
@@ -87,11 +87,27 @@ pub fn include_of(
     }
 }
 
-/// A file, and the entries that are left of it.
+/// A file that a walk is in, and the entries that are left of it.
+///
+/// ```rust
+/// use config_file::{Entries, Frame, Place, Walk};
+///
+/// let place = Place { name: b"/etc/gitconfig", real_dir: b"/etc" };
+/// let walk = Walk::new(place, b"[core]\n\tbare");
+/// let mut same = Walk::default();
+/// for frame in walk.frames() {
+///     let (section, line, rest) = frame.entries.parts();
+///     let entries = Entries::resume(section, line, rest).expect(&rt, "lines that can be counted");
+///     assert!(rt; same.go_on(Frame { place: frame.place, entries }));
+/// }
+/// assert_eq!(rt; same.frames().len(), 1);
+/// ```
 #[derive(Drop)]
-struct Frame<'t> {
-    place: Place<'t>,
-    entries: Entries<'t>,
+pub struct Frame<'t> {
+    /// Where the file is.
+    pub place: Place<'t>,
+    /// What is left of it.
+    pub entries: Entries<'t>,
 }
 
 impl Default for Frame<'_> {
@@ -159,6 +175,17 @@ pub struct Walk<'t> {
     ghost fits: { length frames.items ≤ 11 },
 }
 
+impl Default for Walk<'_> {
+    ghost is_default = { λ walk. walk.frames.items ≡ [] };
+
+    /// A walk that is in no file.
+    fn default() -> Self {
+        Walk {
+            frames: ArrayVec::new(),
+        }
+    }
+}
+
 impl<'t> Walk<'t> {
     /// A walk over the text of the file at this place.
     pub fn new(place: Place<'t>, text: &'t [u8]) -> Walk<'t>
@@ -180,18 +207,35 @@ impl<'t> Walk<'t> {
         ensures too_deep { result ≡ false
             → (self.new.frames.items ≡ self.old.frames.items) × (length self.old.frames.items ≡ 11) }
     {
-        self.frames
-            .try_push(Frame {
-                place,
-                entries: Entries::new(text),
-            })
-            .is_ok()
+        self.go_on(Frame {
+            place,
+            entries: Entries::new(text),
+        })
+    }
+
+    /// Goes on in what is left of a file, as [`Walk::enter`] does in a whole file.
+    pub fn go_on(&mut self, frame: Frame<'t>) -> bool
+        ensures goes_on { result ≡ true
+            → self.new.frames.items ≡ self.old.frames.items ++ frame.entry ∷ [] }
+        ensures too_deep { result ≡ false
+            → (self.new.frames.items ≡ self.old.frames.items) × (length self.old.frames.items ≡ 11) }
+    {
+        self.frames.try_push(frame).is_ok()
+    }
+
+    /// The files that the walk is in: the first one, and each after the one that includes it. Whoever holds a
+    /// walk in a form of his own, as C does, takes it apart here, and makes it again with [`Walk::go_on`].
+    pub fn frames(&self) -> &[Frame<'t>]
+        ensures { result.now ≡ self.now.frames.items }
+    {
+        &self.frames
     }
 
     /// The next step of the walk. It fails only if memory is refused, and the walk is of no use after that.
     pub fn next(&mut self, alloc: Global, known: &Known<'_>) -> Result<Step<'t>, AllocError>
-        ensures { (answers : List (List ℕ × Content)) → IfOk result
+        ensures takes { (answers : List (List ℕ × Content)) → IfOk result
             (λ step. Takes answers known.now self.old.frames.items step self.new.frames.items) }
+        ensures no_more { length self.new.frames.items ≤ length self.old.frames.items }
     {
         'frames: while let Some(mut frame) = self.frames.pop() {
             let Some(entry) = frame.entries.next() else {

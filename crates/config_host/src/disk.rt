@@ -3,7 +3,7 @@ ghost use Rattle.std.specs.Prelude.{◌≡◌, ◌⊎◌, ⊤, IfOk};
 ghost use Rattle.config_host.specs.declared.disk.ReadError.TheVariants.{Name, System};
 
 use crate::environment::{Host, current_folder};
-use crate::names::{answer, inside, real_name, split_last, text_of};
+use crate::names::{answer, copied, inside, real_name, split_last, text_of};
 use bstr::BStr;
 use bumpalo::Bump;
 use bumpalo::collections::into_bump_slice;
@@ -112,9 +112,41 @@ fn read_piece<'t, F: Read>(file: &mut F, text: &mut Vec<u8, &'t Bump>) -> io::Re
     Ok(count != 0)
 }
 
+/// Reads to the end, at most [`LONGEST`] bytes. If the length is not known, it reads until Git would stop.
+fn read_all<'t, F: Read>(
+    file: &mut F,
+    text: &mut Vec<u8, &'t Bump>,
+    is_known: bool,
+) -> Result<(), ReadError> {
+    let mut asked_at = PIECE;
+    for _ in 0..u64::MAX {
+        if !read_piece(file, text)? {
+            break;
+        }
+        if LONGEST < text.len() {
+            return Err(ReadError::Length);
+        }
+        if !is_known && asked_at <= text.len() {
+            if is_refused(text) {
+                break;
+            }
+            asked_at = text.len().saturating_mul(2);
+        }
+    }
+    Ok(())
+}
+
 /// Whether a file of this type may be included: a regular file, or a device whose bytes are read in turn.
 fn is_included(kind: FileType) -> bool {
     kind.is_file() || kind.is_char_device()
+}
+
+/// Opens the file of this name, which has to be one that may be included if `is_first` is false.
+fn opened<R: Host>(host: &R, name: &str, is_first: bool) -> Result<R::File, ReadError> {
+    if !is_first && !is_included(fs::metadata(host, name)?.file_type()) {
+        return Err(ReadError::Kind);
+    }
+    Ok(File::open(host, name)?)
 }
 
 /// The length of a file, or `None` if it has no length before it is read.
@@ -129,6 +161,17 @@ fn known_length<F: OpenFile>(file: &F, is_first: bool) -> Result<Option<usize>, 
     match usize::try_from(known.len()) {
         Ok(length) if length <= LONGEST => Ok(Some(length)),
         _ => Err(ReadError::Length),
+    }
+}
+
+/// The name of a file from the root, without links as far as the system knows it.
+fn name_from_root<R: Host>(host: &R, name: &[u8]) -> io::Result<Vec<u8>> {
+    if let Some(real) = real_name(host, name)? {
+        return Ok(real);
+    }
+    match answer(current_folder(host))? {
+        Some(folder) => inside(host, &folder, name),
+        None => copied(host, name),
     }
 }
 
@@ -153,46 +196,21 @@ impl<'t, R: Host> Disk<'t, R> {
         length: Option<usize>,
     ) -> Result<&'t [u8], ReadError> {
         let mut text = Vec::with_capacity(self.texts, length.unwrap_or(PIECE).saturating_add(1))?;
-        let mut asked_at = PIECE;
-        for _ in 0..u64::MAX {
-            if !read_piece(&mut file, &mut text)? {
-                break;
-            }
-            if LONGEST < text.len() {
-                return Err(ReadError::Length);
-            }
-            if length.is_none() && asked_at <= text.len() {
-                if is_refused(&text) {
-                    break;
-                }
-                asked_at = text.len().saturating_mul(2);
-            }
-        }
+        read_all(&mut file, &mut text, length.is_some())?;
         Ok(into_bump_slice(text))
     }
 
     /// The bytes of the file of this name, which has to be one that may be included if `is_first` is false.
     fn read_file(&self, name: &[u8], is_first: bool) -> Result<&'t [u8], ReadError> {
-        let name = text_of(name)?;
-        if !is_first && !is_included(fs::metadata(self.host, name)?.file_type()) {
-            return Err(ReadError::Kind);
-        }
-        let file = File::open(self.host, name)?;
+        let file = opened(self.host, text_of(name)?, is_first)?;
         let length = known_length(&file, is_first)?;
         self.text(file, length)
     }
 
     /// The name of a file from the root, without links as far as the system knows it.
     pub fn real_name(&self, name: &[u8]) -> Result<Vec<u8>, AllocError> {
-        let alloc = self.host.alloc();
-        match real_name(self.host, name) {
-            Ok(Some(real)) => return Ok(real),
-            Ok(None) => {}
-            Err(_) => return Err(AllocError),
-        }
-        match answer(current_folder(self.host)) {
-            Ok(Some(folder)) => Ok(inside(alloc, &folder, name)?),
-            Ok(None) => Ok(inside(alloc, b"", name)?),
+        match name_from_root(self.host, name) {
+            Ok(real) => Ok(real),
             Err(_) => Err(AllocError),
         }
     }
@@ -202,13 +220,13 @@ impl<'t, R: Host> Disk<'t, R> {
         ensures { IfOk result (λ place. place.name.now ≡ name.now) }
     {
         let real = self.real_name(name)?;
-        let real_dir: &'t [u8] = match split_last(&real) {
-            Some((folder, _)) => self.texts.try_alloc_slice_copy(folder)?,
+        let folder = match split_last(&real) {
+            Some((folder, _)) => folder,
             None => b"",
         };
         Ok(Place {
             name: self.texts.try_alloc_slice_copy(name)?,
-            real_dir,
+            real_dir: self.texts.try_alloc_slice_copy(folder)?,
         })
     }
 

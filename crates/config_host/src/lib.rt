@@ -19,6 +19,3 @@ pub mod surroundings;
 pub use crate::disk::{Disk, ReadError};
 pub use crate::environment::{ArgumentError, Host, HostError, arguments};
 pub use crate::surroundings::Surroundings;
-
-#[cfg(test)]
-mod tests;

@@ -2,7 +2,6 @@
 
 use crate::environment::Host;
 use bstr::ByteSlice;
-use std::alloc::{AllocError, Global};
 use std::fs::{self, Metadata};
 use std::io::{self, ErrorKind};
 
@@ -25,8 +24,7 @@ pub fn answer<T: Drop>(asked: io::Result<T>) -> io::Result<Option<T>> {
 
 /// The bytes before the last `/` of a name, and those after it, or `None` if it has no `/`.
 pub fn split_last(name: &[u8]) -> Option<(&[u8], &[u8])> {
-    let slash = name.iter().rposition(|byte| *byte == b'/')?;
-    Some((&name[..slash], &name[slash + 1..]))
+    name.rsplit_once_str(b"/")
 }
 
 /// The folder above this one, whose name begins at the root and has no `/` at its end.
@@ -41,9 +39,14 @@ pub fn parent(folder: &[u8]) -> Option<&[u8]> {
     }
 }
 
+/// A copy of a name.
+pub fn copied<R: Host>(host: &R, name: &[u8]) -> io::Result<Vec<u8>> {
+    Ok(name.to_vec(host.alloc())?)
+}
+
 /// The name of a file in a folder. A name that begins with `/` is kept. An empty folder is the current one.
-pub fn inside(alloc: Global, folder: &[u8], name: &[u8]) -> Result<Vec<u8>, AllocError> {
-    let mut whole = Vec::new(alloc);
+pub fn inside<R: Host>(host: &R, folder: &[u8], name: &[u8]) -> io::Result<Vec<u8>> {
+    let mut whole = Vec::new(host.alloc());
     if !folder.is_empty() && !name.starts_with(b"/") {
         whole.extend_from_slice(folder)?;
         if !folder.ends_with(b"/") {
@@ -75,6 +78,14 @@ pub fn is_folder<R: Host>(host: &R, name: &[u8]) -> io::Result<bool> {
     })
 }
 
+/// Whether there is a regular file of this name.
+pub fn is_file<R: Host>(host: &R, name: &[u8]) -> io::Result<bool> {
+    Ok(match known_of(host, name)? {
+        Some(known) => known.is_file(),
+        None => false,
+    })
+}
+
 /// The name from the root without links, or `None` if the system does not know it.
 pub fn real_name<R: Host>(host: &R, name: &[u8]) -> io::Result<Option<Vec<u8>>> {
     let real = answer(match text_of(name) {
@@ -82,8 +93,16 @@ pub fn real_name<R: Host>(host: &R, name: &[u8]) -> io::Result<Option<Vec<u8>>> 
         Err(error) => Err(error),
     })?;
     match real {
-        Some(real) => Ok(Some(real.as_path().as_str().as_bytes().to_vec(host.alloc())?)),
+        Some(real) => Ok(Some(copied(host, real.as_path().as_str().as_bytes())?)),
         None => Ok(None),
+    }
+}
+
+/// The name from the root without links, or the other name if the system does not know it.
+pub fn resolved<R: Host>(host: &R, name: &[u8], other: &[u8]) -> io::Result<Vec<u8>> {
+    match real_name(host, name)? {
+        Some(real) => Ok(real),
+        None => copied(host, other),
     }
 }
 

@@ -1,7 +1,7 @@
 //! What includes ask about the place in which a program runs.
 
 use crate::environment::{Host, HostError, variable};
-use crate::names::real_name;
+use crate::names::resolved;
 use crate::repository::{self, Repository};
 use bstr::ByteSlice;
 use config_file::{Directories, Includes, Known, Repository as Conditions};
@@ -69,10 +69,7 @@ impl Surroundings {
         }
         self.repository = repository::find(host)?;
         if let Some(home) = &self.home {
-            self.real_home = match real_name(host, home)? {
-                Some(real) => Some(real),
-                None => Some(home.to_vec(host.alloc())?),
-            };
+            self.real_home = Some(resolved(host, home, home)?);
         }
         self.is_known = true;
         Ok(())

@@ -6,6 +6,7 @@ use Rattle.std.specs.List.{starts_with, ends_with, AllByRecursion}
 use Rattle.std.specs.declared.string.String.{String}
 use Rattle.std.specs.declared.alloc.Global.{Global}
 use denote.Ref.{Bor}
+use Rattle.config_text.specs.Bytes.{LacksFront}
 use Rattle.config_path.specs.declared.interpolate.Context.{Context}
 use Rattle.config_path.specs.declared.interpolate.Place.{Place}
 use Rattle.config_path.specs.declared.interpolate.Place.TheVariants.{PastPrefix, PastHome, Username, PastUser}
@@ -37,10 +38,6 @@ IsOneName name = AllByRecursion (λ b. b ≢ slash) name
 abbrev pub below : List ℕ → Option (List ℕ) → List ℕ
 below name None = name
 below name (Some rest) = name ++ codes "/" ++ rest
-
--- the value does not begin with `front`
-abbrev pub LacksFront : List ℕ → List ℕ → Type 0
-LacksFront front value = (rest : List ℕ) → value ≢ front ++ rest
 
 -- the value has this form; each value has exactly one form
 abbrev pub HasForm : List ℕ → Form → Type 0

@@ -16,7 +16,6 @@ ghost use Rattle.config_path.specs.Passwd.{IsHomeIn};
 ghost use Rattle.config_path.specs.Parts.{parts_text, parts_result, form_in, joint_text, joint_result};
 
 use crate::interpolate::{Context, Error, Place, home_in_passwd};
-use crate::path::strip_front;
 use bstr::ByteSlice;
 use std::alloc::{AllocError, Global};
 use std::convert::AsSlice;
@@ -297,10 +296,10 @@ pub fn form_of(value: &[u8]) -> Form<'_>
     if value.is_empty() {
         return Form::Empty;
     }
-    if let Some(rest) = strip_front(value, PREFIX) {
+    if let Some(rest) = value.strip_prefix(PREFIX) {
         return Form::BelowPrefix(rest);
     }
-    let Some(path) = strip_front(value, b"~") else {
+    let Some(path) = value.strip_prefix(b"~") else {
         return Form::Other(value);
     };
     let (name, rest) = name_and_rest(path);

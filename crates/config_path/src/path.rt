@@ -1,5 +1,5 @@
 //! Path values, which may be marked as optional.
-ghost use Rattle.std.specs.Prelude.{◌≡◌, ◌≢◌, ◌++◌, ℕ, List, IsUtf8, MatchOption, IsOk, IfOk};
+ghost use Rattle.std.specs.Prelude.{◌≡◌, IsUtf8, IsOk, IfOk};
 ghost use Rattle.std.specs.Option.{ForSome};
 ghost use Rattle.std.specs.Cow.{cow_slice_items, IsOwnedSlice};
 ghost use Rattle.bstr.specs.BStr.{bstr_bytes};
@@ -50,19 +50,10 @@ pub struct Path {
 pub fn cut_mark(bytes: &[u8]) -> (bool, &[u8])
     ensures { Marked bytes.now result.0 result.1.now }
 {
-    match strip_front(bytes, MARK) {
+    match bytes.strip_prefix(MARK) {
         Some(path) => (true, path),
         None => (false, bytes),
     }
-}
-
-/// Returns what follows `front`, or `None` if the bytes do not begin with it.
-pub(crate) fn strip_front<'a>(bytes: &'a [u8], front: &[u8]) -> Option<&'a [u8]>
-    ensures { MatchOption result
-        ((rest : List ℕ) → bytes.now ≢ front.now ++ rest)
-        (λ rest. bytes.now ≡ front.now ++ rest.now) }
-{
-    bytes.strip_prefix(front)
 }
 
 impl From<BString> for Path {

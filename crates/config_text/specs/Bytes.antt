@@ -1,5 +1,5 @@
--- Names for bytes and for ranges of bytes.
-use Rattle.std.specs.Prelude.{ℕ, ◌⊎◌}
+-- Names for bytes and for ranges of bytes, and what a text does not begin with.
+use Rattle.std.specs.Prelude.{ℕ, ◌≢◌, ◌⊎◌, List, ◌++◌}
 use Rattle.std.specs.Int.{IsInRange}
 
 -- the space, U+0020
@@ -17,3 +17,7 @@ IsLeadingDigit c = IsInRange 49 57 c
 -- `0` to `9` or `a` to `f`
 abbrev pub IsLowerHex : ℕ → Type 0
 IsLowerHex c = IsInRange 48 57 c ⊎ IsInRange 97 102 c
+
+-- the text does not begin with this prefix
+abbrev pub LacksFront : List ℕ → List ℕ → Type 0
+LacksFront front text = (rest : List ℕ) → text ≢ front ++ rest

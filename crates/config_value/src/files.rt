@@ -13,6 +13,17 @@ use std::io::{self, BufWriter, Write};
 /// How many bytes of output are buffered before they are written.
 const ROOM: usize = 65536;
 
+/// How a run over files ends. Its number is the exit status, which is Git's.
+#[derive(Clone, Copy, PartialEq)]
+enum Ending {
+    /// All is listed, or the value is printed.
+    Done = 0,
+    /// No entry has the key, or it is no key.
+    Absent = 1,
+    /// A file, a line or a value is refused.
+    Refused = 128,
+}
+
 /// Writes a message on standard error.
 pub fn tell<M: fmt::Display + Drop>(rt: &HostRuntime, message: M) -> io::Result<()> {
     let message = format!(in rt.alloc(); "{message}")?;
@@ -100,15 +111,14 @@ impl<'t, W: Write + Drop> Reading<'_, 't, W> {
         Ok(Err(AddError::Include { file, line, fault }))
     }
 
-    /// Takes the entries of a file, and of those that it includes. Reports where Git stops, and returns
-    /// whether it does not.
-    fn file(&mut self, name: &str) -> Result<bool, HostError> {
+    /// Takes the entries of a file, and of those that it includes. Reports where Git stops.
+    fn file(&mut self, name: &str) -> Result<Ending, HostError> {
         let (place, text) = match self.disk.first(name.as_bytes()) {
             Ok(found) => found,
             Err(error) if error.is_memory() => return Err(HostError::from(AllocError)),
             Err(error) => {
                 tell(self.rt, format_args!("{name}: {error}"))?;
-                return Ok(false);
+                return Ok(Ending::Refused);
             }
         };
         self.surroundings.prepare(self.rt, text)?;
@@ -119,23 +129,25 @@ impl<'t, W: Write + Drop> Reading<'_, 't, W> {
                 Ok(false) => break,
                 Err(stop) => {
                     tell(self.rt, stop)?;
-                    return Ok(false);
+                    return Ok(Ending::Refused);
                 }
             }
         }
-        Ok(true)
+        Ok(Ending::Done)
     }
 
-    /// Prints the value of the last entry of a key: its text, or the canonical text of a kind. Reports a key
-    /// that no entry has and a text that the kind refuses, and returns whether the value is printed.
-    fn print(&mut self, key: &str, kind: Option<Kind>) -> io::Result<bool> {
+    /// Prints the value of the last entry of a key: its text, or the canonical text of a kind. Without a kind,
+    /// a key without `=` has an empty line, as in Git. Reports a key that no entry has and a text that the
+    /// kind refuses.
+    fn print(&mut self, key: &str, kind: Option<Kind>) -> io::Result<Ending> {
         let Some((file, entry)) = self.last else {
             tell(self.rt, format_args!("{key}: no entry has this key"))?;
-            return Ok(false);
+            return Ok(Ending::Absent);
         };
         let setting = Setting::of_entry(self.rt.alloc(), file, entry)?;
         let text = BStr::new(setting.text());
         match kind {
+            None if entry.value.is_none() => {}
             None => self.writer.write_all(text.as_bytes())?,
             Some(kind) => match normalize(kind, text) {
                 Some(canonical) => self.writer.write_all(canonical.as_str().as_bytes())?,
@@ -143,13 +155,13 @@ impl<'t, W: Write + Drop> Reading<'_, 't, W> {
                     if let Some(refusal) = refusal(kind, text) {
                         tell(self.rt, setting.refused(refusal))?;
                     }
-                    return Ok(false);
+                    return Ok(Ending::Refused);
                 }
             },
         }
         self.writer
             .write_all(if self.null { b"\0" } else { b"\n" })?;
-        Ok(true)
+        Ok(Ending::Done)
     }
 }
 
@@ -170,7 +182,7 @@ fn answer_in<'t>(
     texts: &'t Bump,
     request: &Request<'_, '_>,
     key: Option<Key<'_>>,
-) -> Result<bool, HostError> {
+) -> Result<Ending, HostError> {
     let mut reading = Reading {
         rt,
         disk: Disk::new(rt, texts),
@@ -180,24 +192,28 @@ fn answer_in<'t>(
         key,
         last: None,
     };
-    let mut is_whole = true;
+    let mut ending = Ending::Done;
     for file in request.files {
-        is_whole &= reading.file(*file)?;
+        if reading.file(*file)? == Ending::Refused {
+            ending = Ending::Refused;
+        }
     }
     if let Some(key) = request.key {
-        is_whole = is_whole && reading.print(key, request.kind)?;
+        if ending == Ending::Done {
+            ending = reading.print(key, request.kind)?;
+        }
     }
     reading.writer.flush()?;
-    Ok(is_whole)
+    Ok(ending)
 }
 
-/// Answers the request, and returns whether everything succeeds. If a file is not read completely, no value
-/// is printed, since a later line could have another one.
-fn answer(rt: &HostRuntime, request: &Request<'_, '_>) -> Result<bool, HostError> {
+/// Answers the request. If a file is not read completely, no value is printed, since a later line could have
+/// another one.
+fn answer(rt: &HostRuntime, request: &Request<'_, '_>) -> Result<Ending, HostError> {
     let key = match request.key {
         Some(key) => match key_of(rt, key)? {
             Some(key) => Some(key),
-            None => return Ok(false),
+            None => return Ok(Ending::Absent),
         },
         None => None,
     };
@@ -205,12 +221,12 @@ fn answer(rt: &HostRuntime, request: &Request<'_, '_>) -> Result<bool, HostError
     answer_in(rt, &texts, request, key)
 }
 
-/// Answers the request, and returns the status: 0 if everything succeeds, 1 if something is refused or a file
-/// cannot be read, and 2 after an error of the output, of memory or of the environment.
+/// Answers the request, and returns the status: 0 if everything succeeds, 1 if no entry has the key or it is
+/// no key, 128 if a file cannot be read or a line or a value is refused, and 2 after an error of the output, of
+/// memory or of the environment.
 pub fn run(rt: &HostRuntime, request: &Request<'_, '_>) -> u8 {
     match answer(rt, request) {
-        Ok(true) => 0,
-        Ok(false) => 1,
+        Ok(ending) => ending as u8,
         Err(error) => {
             let _ = tell(rt, format_args!("config_value: {error}"));
             2

@@ -70,7 +70,7 @@ class Tests:
         if holds is not None:
             self.expect(f"{what}, in Git", holds, b"hit.k\n1" in wanted)
 
-    def refuse(self, what, words, told, status=1, more=None, folder=b""):
+    def refuse(self, what, words, told, status=128, more=None, folder=b""):
         """Expects one line of error, and its status."""
         run = self.run(self.program, *words, folder=folder, more=more)
         self.expect(what, (status, told + b"\n"), (run.returncode, run.stderr))
@@ -145,12 +145,26 @@ def shown(tests):
     git = tests.run(tests.git, "config", "--file", name, "--list").stderr
     tests.expect("Git's message", True, b"a?[31m?b" in git and b"\x1b" not in git)
     tests.refuse("a name", ["--file", name], b"a?[31m?b: No such file or directory (os error 2)")
-    tests.refuse("a key", ["--file", "plain", b"a.b\x1b"], b"a.b?: invalid key")
-    tests.refuse("a missing key", ["--file", "plain", b"a.\x1b.b"], b"a.?.b: no entry has this key")
+    tests.refuse("a key", ["--file", "plain", b"a.b\x1b"], b"a.b?: invalid key", 1)
+    tests.refuse("a missing key", ["--file", "plain", b"a.\x1b.b"], b"a.?.b: no entry has this key", 1)
     for key, told in ((b"key", b"key does not contain a section"), (b"a.", b"key does not contain a variable name"),
                       (b"a.b\n", b"invalid key")):
-        tests.refuse(key, ["--file", "plain", key], key + b": " + told)
+        tests.refuse(key, ["--file", "plain", key], key + b": " + told, 1)
         tests.expect(f"{key} in Git", 1, tests.run(tests.git, "config", key).returncode)
+
+
+def statuses(tests):
+    """The statuses and the values of one key, which are Git's: an absent key is told from a wrong value."""
+    file = tests.write(b"status", b"[a]\n\tyes = yes\n\twrong = maybe\n\talone\n\tempty =\n")
+    bad = tests.write(b"bad", b"[a]\n\tyes = yes\n?\n")
+    for file, key, status, more in ((file, b"a.yes", 0, True), (file, b"a.no", 1, True), (file, b"a.wrong", 128, True),
+                                    (file, b"a.alone", 0, False), (file, b"a.empty", 0, False), (file, b"a", 1, False),
+                                    (bad, b"a.yes", 128, False)):
+        ours = tests.run(tests.program, "--file", file, *["--type=boolean"] * more, key)
+        theirs = tests.run(tests.git, "config", "--file", file, *["--type=bool"] * more, "--get", key)
+        tests.expect(f"{key} of {file}", (status, theirs.returncode, theirs.stdout),
+                     (ours.returncode, status, ours.stdout))
+    tests.refuse("a missing file", ["--file", "nowhere", "a.b"], b"nowhere: No such file or directory (os error 2)")
 
 
 def repositories(tests):
@@ -213,7 +227,7 @@ def main():
     arguments = arguments.parse_args()
     with tempfile.TemporaryDirectory() as folder:
         tests = Tests(arguments.program, arguments.git, os.path.realpath(folder))
-        for part in (endless, names, folders, shown, repositories, memory):
+        for part in (endless, names, folders, shown, statuses, repositories, memory):
             part(tests)
     print(f"{tests.passed} passed, {tests.failed} failed")
     return 1 if tests.failed else 0

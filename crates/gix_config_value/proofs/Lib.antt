@@ -4,4 +4,3 @@ pub mod StepLemmas
 pub mod RunLemmas
 pub mod OnLiterals
 pub mod OneAnswer
-mod FrontLemmas

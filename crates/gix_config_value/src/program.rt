@@ -2,9 +2,9 @@
 //!
 //! Answers wait in a buffer. They are written out when it is full, before the next read and at the end. Lines
 //! within one read are answered from its slice; only a line that crosses the end of a read is copied.
-ghost use Rattle.std.specs.Prelude.{◌≡◌, ℕ, ◌+◌, ◌≤◌, ◌<◌, List, [], ◌++◌, length, OnOk, OnErr, IfOk, IfErr};
+ghost use Rattle.std.specs.Prelude.{◌≡◌, ◌+◌, ◌≤◌, [], length, OnOk, IfOk, IfErr};
 ghost use Rattle.gix_config_value.specs.Answers.{ended, line_head, line_value, IsUnbroken, Completes, Fails};
-ghost use Rattle.gix_config_value.specs.Answers.{Answers, AnswersAllBut, status_of};
+ghost use Rattle.gix_config_value.specs.Answers.{status_of};
 ghost use Rattle.gix_config_value.specs.Reading.Steps.{AppendsAnswer, output_state, SendsBytes, SendsAnswer};
 ghost use Rattle.gix_config_value.specs.Reading.Steps.{FailsSending, run_state, with_more, Advances};
 ghost use Rattle.gix_config_value.specs.Reading.Steps.{FailsWithin, AnswersUpTo, EndsAnswered, EndsEarly};
@@ -345,49 +345,6 @@ pub fn run<R: Read, W: Write>(
         writer,
     };
     answer_input(alloc, reader, &mut output)
-}
-
-/// Appends the answer to a line to `out`, and returns whether the line was accepted.
-fn append_answer(line: &[u8], out: &mut Vec<u8>) -> Result<bool, AllocError>
-    ensures ok { IfOk result (AppendsAnswer line.now out.old.items out.new.items) }
-    ensures err { OnErr result (out.new.items ≡ out.old.items) }
-{
-    let mut answer = ArrayString::new();
-    let accepted = push_answer(line, &mut answer);
-    out.extend_from_slice(answer.as_str().as_bytes())?;
-    Ok(accepted)
-}
-
-/// Appends the answers to the lines of an input in memory to `out`, the same as [`run`] writes, and returns
-/// whether every line was accepted. No reader or writer can fail. If memory for `out` is refused, the answers
-/// to some first lines are appended.
-///
-/// ```rust
-/// use gix_config_value::program::run_over;
-///
-/// let mut out = Vec::new(alloc);
-/// let all_accepted = run_over(b"integer 0x10K\n", &mut out)?;
-/// assert!(rt; all_accepted);
-/// assert_eq!(rt; out.as_slice(), b"ok 16k\n".as_slice());
-/// ```
-pub fn run_over(input: &[u8], out: &mut Vec<u8>) -> Result<bool, AllocError>
-    ensures answers { IfOk result (λ ok. (output : List ℕ)
-        × (out.new.items ≡ out.old.items ++ output) × Answers input.now output ok) }
-    ensures lines { OnErr result ((output : List ℕ) × (more : List (List ℕ))
-        × (out.new.items ≡ out.old.items ++ output) × AnswersAllBut more input.now output) }
-{
-    let mut all_accepted = true;
-    let mut rest = input;
-    while let Some(place) = rest.find_byte(b'\n') {
-        let accepted = append_answer(&rest[..place], out)?;
-        all_accepted &= accepted;
-        rest = &rest[place + 1..];
-    }
-    if rest.is_empty() {
-        return Ok(all_accepted);
-    }
-    let accepted = append_answer(rest, out)?;
-    Ok(all_accepted & accepted)
 }
 
 /// The exit status of a run: 0 if every line was accepted, 1 if some line was not, and 2 after an error.

@@ -2,8 +2,8 @@
  *
  * A text is a pointer and a length. It may be any bytes, and needs no NUL at its end; if the length is 0, the pointer
  * may be null. Each call reads only the bytes that it is given, writes only what its comment says, and keeps no pointer
- * after it returns. There is no global state, so threads may call at the same time, if no memory that one call writes
- * is used by another.
+ * after it returns, except that gcv_enter keeps some in a walk. There is no global state, so threads may call at the
+ * same time, if no memory that one call writes is used by another.
  *
  * What a call writes must not overlap what it reads, or what else it writes. Pointers to what it writes, and to the
  * structs that it reads, must not be null, except for `fault`, which may always be null, and a buffer of capacity 0. A
@@ -73,21 +73,22 @@ typedef GCV_ENUM(gcv_status) {
     GCV_OVERFLOW = 2,       /* the product of an integer does not fit int64_t */
     GCV_NO_TEXT = 3,        /* one of the colors has no text */
     GCV_TOO_MANY_NAMES = 4, /* the two colors have more than two names together */
-    GCV_ABSENT = 5,         /* no entry has the name */
+    GCV_ABSENT = 5,         /* no entry has the name, or none is left */
     GCV_UNKNOWN_KIND = 6,   /* the number is not that of a kind */
     GCV_UNKNOWN_FAULT = 7,  /* the number is not that of a fault */
     GCV_BAD_SUFFIX = 8,     /* the number is not that of a suffix */
     GCV_BAD_NAME = 9,       /* the struct is not that of a name */
     GCV_BAD_FLAG = 10,      /* a flag is neither 0 nor 1 */
     /* 11 is no status */
-    GCV_BAD_LENGTHS = 12,   /* the lengths are not those of names and texts that fill the bytes */
+    GCV_BAD_LENGTHS = 12,   /* the lengths are not those of texts that fill the bytes, or the walk is invalid */
     GCV_SHORT_BUFFER = 13,  /* the buffer is shorter than the text */
     GCV_NO_MEMORY = 14,     /* malloc failed, or a path would be longer than memory can be */
     GCV_BAD_LINE = 15,      /* a line of a file is invalid */
     GCV_NUL = 16,           /* a file has a NUL outside a comment */
     GCV_NO_INCLUDE = 17,    /* the entry includes no file */
     GCV_NO_VALUE = 18,      /* the entry includes a file, but has no value */
-    GCV_NO_DIRECTORY = 19   /* the path of an include begins with a user's name, or a directory that is null */
+    GCV_NO_DIRECTORY = 19,  /* the path of an include begins with a user's name, or a directory that is null */
+    GCV_TOO_DEEP = 20       /* the file is more than ten includes deep */
 } gcv_status;
 
 /* The kinds of values. */
@@ -218,6 +219,55 @@ typedef struct gcv_file {
     size_t line;  /* the line that was refused, from 1, or 0 if no line was */
 } gcv_file;
 
+/* A file of a walk, and the entries that are left of it. Only calls of the library read and write its members. */
+typedef struct gcv_frame {
+    const char *name;
+    size_t name_length;
+    const char *real_dir;
+    size_t real_dir_length;
+    const char *section;
+    size_t section_length;
+    const char *subsection;
+    size_t subsection_length;
+    const char *rest;
+    size_t rest_length;
+    size_t line;
+    uint32_t parts;
+} gcv_frame;
+
+/* The structs of gcv_raw_next, which gcv_next makes of a gcv_known, and of which it makes a gcv_step. */
+typedef struct gcv_raw_known {
+    const char *install_dir;
+    size_t install_dir_length;
+    const char *home;
+    size_t home_length;
+    const char *real_home;
+    size_t real_home_length;
+    const char *git_dir;
+    size_t git_dir_length;
+    const char *real_git_dir;
+    size_t real_git_dir_length;
+    const char *branch;
+    size_t branch_length;
+    uint32_t has_install_dir;
+    uint32_t has_home;
+    uint32_t has_real_home;
+    uint32_t has_repository;
+    uint32_t has_branch;
+    uint32_t follows;
+} gcv_raw_known;
+
+typedef struct gcv_raw_step {
+    const char *name;
+    size_t name_length;
+    size_t line;
+    size_t value;
+    size_t included;
+    size_t size;
+    uint32_t has_value;
+    gcv_status include;
+} gcv_raw_step;
+
 /* The library expects this layout. A compiler that lays the structs out in another way reports an error. */
 #if defined(__cplusplus) && __cplusplus >= 201103L
 #define GCV_ASSERT(fact) static_assert(fact, #fact)
@@ -253,6 +303,47 @@ GCV_ASSERT(offsetof(gcv_file, size) == 0);
 GCV_ASSERT(offsetof(gcv_file, count) == 8);
 GCV_ASSERT(offsetof(gcv_file, line) == 16);
 GCV_ASSERT(sizeof(gcv_file) == 24);
+GCV_ASSERT(offsetof(gcv_frame, name) == 0);
+GCV_ASSERT(offsetof(gcv_frame, name_length) == 8);
+GCV_ASSERT(offsetof(gcv_frame, real_dir) == 16);
+GCV_ASSERT(offsetof(gcv_frame, real_dir_length) == 24);
+GCV_ASSERT(offsetof(gcv_frame, section) == 32);
+GCV_ASSERT(offsetof(gcv_frame, section_length) == 40);
+GCV_ASSERT(offsetof(gcv_frame, subsection) == 48);
+GCV_ASSERT(offsetof(gcv_frame, subsection_length) == 56);
+GCV_ASSERT(offsetof(gcv_frame, rest) == 64);
+GCV_ASSERT(offsetof(gcv_frame, rest_length) == 72);
+GCV_ASSERT(offsetof(gcv_frame, line) == 80);
+GCV_ASSERT(offsetof(gcv_frame, parts) == 88);
+GCV_ASSERT(sizeof(gcv_frame) == 96);
+GCV_ASSERT(offsetof(gcv_raw_known, install_dir) == 0);
+GCV_ASSERT(offsetof(gcv_raw_known, install_dir_length) == 8);
+GCV_ASSERT(offsetof(gcv_raw_known, home) == 16);
+GCV_ASSERT(offsetof(gcv_raw_known, home_length) == 24);
+GCV_ASSERT(offsetof(gcv_raw_known, real_home) == 32);
+GCV_ASSERT(offsetof(gcv_raw_known, real_home_length) == 40);
+GCV_ASSERT(offsetof(gcv_raw_known, git_dir) == 48);
+GCV_ASSERT(offsetof(gcv_raw_known, git_dir_length) == 56);
+GCV_ASSERT(offsetof(gcv_raw_known, real_git_dir) == 64);
+GCV_ASSERT(offsetof(gcv_raw_known, real_git_dir_length) == 72);
+GCV_ASSERT(offsetof(gcv_raw_known, branch) == 80);
+GCV_ASSERT(offsetof(gcv_raw_known, branch_length) == 88);
+GCV_ASSERT(offsetof(gcv_raw_known, has_install_dir) == 96);
+GCV_ASSERT(offsetof(gcv_raw_known, has_home) == 100);
+GCV_ASSERT(offsetof(gcv_raw_known, has_real_home) == 104);
+GCV_ASSERT(offsetof(gcv_raw_known, has_repository) == 108);
+GCV_ASSERT(offsetof(gcv_raw_known, has_branch) == 112);
+GCV_ASSERT(offsetof(gcv_raw_known, follows) == 116);
+GCV_ASSERT(sizeof(gcv_raw_known) == 120);
+GCV_ASSERT(offsetof(gcv_raw_step, name) == 0);
+GCV_ASSERT(offsetof(gcv_raw_step, name_length) == 8);
+GCV_ASSERT(offsetof(gcv_raw_step, line) == 16);
+GCV_ASSERT(offsetof(gcv_raw_step, value) == 24);
+GCV_ASSERT(offsetof(gcv_raw_step, included) == 32);
+GCV_ASSERT(offsetof(gcv_raw_step, size) == 40);
+GCV_ASSERT(offsetof(gcv_raw_step, has_value) == 48);
+GCV_ASSERT(offsetof(gcv_raw_step, include) == 52);
+GCV_ASSERT(sizeof(gcv_raw_step) == 56);
 #undef GCV_ASSERT
 
 /* The settings of files in order, in two arrays of the caller. Start with all members 0: no settings and no room. */
@@ -283,13 +374,8 @@ typedef struct gcv_context {
     size_t passwd_length;
 } gcv_context;
 
-/* The file that an entry is in, and what its include may refer to. A null pointer means that it is not given, whatever
- * its length. */
-typedef struct gcv_includer {
-    const char *file; /* the name of the file: a relative path is below its directory */
-    size_t file_length;
-    const char *real_dir; /* its absolute directory, links resolved and no / at its end: for conditions with ./ */
-    size_t real_dir_length;
+/* What includes may refer to, as any bytes. A null pointer means that it is not given, whatever its length. */
+typedef struct gcv_known {
     const char *install_dir; /* for %(prefix)/ */
     size_t install_dir_length;
     const char *home; /* for ~ */
@@ -302,7 +388,29 @@ typedef struct gcv_includer {
     size_t real_git_dir_length;
     const char *branch; /* its name without refs/heads/; null if HEAD is detached */
     size_t branch_length;
-} gcv_includer;
+} gcv_known;
+
+/* The most files that a walk is in: a file, and ten that are included, each by the one before. */
+enum { GCV_MOST_FRAMES = 11 };
+
+/* A walk over the entries of a file and of the files that it includes. Start with `count` 0: the other members are read
+ * only after gcv_enter has written them. A copy of a walk goes on from the same place. */
+typedef struct gcv_walk {
+    size_t count; /* how many files it is in */
+    gcv_frame frames[GCV_MOST_FRAMES];
+} gcv_walk;
+
+/* A step of a walk: an entry. The key and the value are as in a gcv_setting. */
+typedef struct gcv_step {
+    const char *file; /* the name that gcv_enter was given for the file */
+    size_t file_length;
+    size_t line; /* the line of the entry, from 1 */
+    const char *key;
+    const char *value;
+    const char *included; /* the name of the file that the entry includes, or null; NUL ends it */
+    gcv_status include;   /* GCV_OK if there is such a name, and otherwise why not */
+    size_t size;          /* how many bytes of the buffer the three texts take */
+} gcv_step;
 
 /* Returns the version of the library, as a text that ends with NUL. */
 const char *gcv_version(void);
@@ -372,14 +480,10 @@ gcv_status gcv_raw_lookup(gcv_kind kind, const char *bytes, size_t bytes_length,
                           size_t lengths_count, const char *name, size_t name_length, gcv_entry *out);
 gcv_status gcv_raw_read_file(const char *text, size_t length, char *bytes, size_t capacity, gcv_place *places,
                              size_t room, gcv_file *out);
-gcv_status gcv_raw_include(const char *key, size_t key_length, uint32_t has_value, const char *value,
-                           size_t value_length, const char *file, size_t file_length, const char *real_dir,
-                           size_t real_dir_length, uint32_t has_install_dir, const char *install_dir,
-                           size_t install_dir_length, uint32_t has_home, const char *home, size_t home_length,
-                           uint32_t has_repository, const char *git_dir, size_t git_dir_length,
-                           const char *real_git_dir, size_t real_git_dir_length, uint32_t has_branch,
-                           const char *branch, size_t branch_length, uint32_t has_real_home, const char *real_home,
-                           size_t real_home_length, char *buffer, size_t capacity, size_t *size);
+gcv_status gcv_raw_enter(size_t *count, gcv_frame *frame, const char *name, size_t name_length, const char *real_dir,
+                         size_t real_dir_length, const char *text, size_t length);
+gcv_status gcv_raw_next(gcv_frame *frames, size_t frames_count, size_t *count, const gcv_raw_known *known, char *buffer,
+                        size_t capacity, gcv_raw_step *out);
 void gcv_raw_cut_mark(const char *text, size_t length, uint32_t *optional, size_t *start);
 gcv_status gcv_raw_interpolate(const char *text, size_t length, uint32_t has_install_dir, const char *install_dir,
                                size_t install_dir_length, uint32_t has_home, const char *home, size_t home_length,
@@ -671,39 +775,96 @@ GCV_RETURNS((1, 2, 3)) gcv_lookup_setting(const gcv_settings *settings, const ch
     return GCV_ABSENT;
 }
 
-/* Writes the name of the file that an entry includes. If that file is there, its entries come directly after this one.
- * `key` is the key as gcv_next_setting writes it, and `value` the value, or null for a key without `=`.
- * The key, the value and the directories may be any bytes.
+/* Files with those that they include.
  *
- * Returns GCV_NO_INCLUDE if the entry includes no file, or if its condition does not hold: without a repository only
- * include.path includes, and hasconfig: never does. Otherwise returns GCV_NO_VALUE if there is no value, and
- * GCV_NO_DIRECTORY if the value begins with `~` and a user's name, or with a directory that is null. Git stops at these
- * two. The call allocates and frees memory, and returns GCV_NO_MEMORY if malloc fails. */
-GCV_RETURNS((5, 8)) gcv_include(const char *key, size_t key_length, const char *value, size_t value_length,
-                                const gcv_includer *includer, char *GCV_RESTRICT buffer, size_t capacity, size_t *size)
+ * gcv_enter begins a walk, and gcv_next returns one entry after the other, in Git's order. If an entry includes a file,
+ * open it and call gcv_enter: its entries come next. If there is no such file, just go on, as Git does. Git stops at an
+ * entry whose `include` is GCV_NO_VALUE or GCV_NO_DIRECTORY, at GCV_BAD_LINE, GCV_NUL and GCV_TOO_DEEP, and at a file
+ * that it cannot read. A caller may go on all the same. */
+
+/* Goes on in the text of a file. `file` is its name: relative paths in it are below its directory. `real_dir` is this
+ * directory as an absolute path, links resolved and no / at its end, for conditions with ./ alone. The walk keeps the
+ * three pointers, so the texts must stay valid and unchanged while it is in the file, which is the last one of `count`.
+ * Returns GCV_TOO_DEEP if the walk is in GCV_MOST_FRAMES files already. */
+GCV_RETURNS((1)) gcv_enter(gcv_walk *GCV_RESTRICT walk, const char *file, size_t file_length, const char *real_dir,
+                           size_t real_dir_length, const char *text, size_t length)
+{
+    gcv_frame frame = {"", 0, "", 0, "", 0, "", 0, "", 0, 0, 0};
+    gcv_status status = gcv_raw_enter(&walk->count, &frame, gcv_bytes(file, file_length), file_length,
+                                      gcv_bytes(real_dir, real_dir_length), real_dir_length, gcv_bytes(text, length),
+                                      length);
+    if (status == GCV_OK) {
+        walk->frames[walk->count - 1] = frame;
+    }
+    return status;
+}
+
+/* Writes a text that may be null, and returns whether it is given. */
+GCV_INLINE uint32_t gcv_give(const char *text, size_t length, const char **to, size_t *to_length)
+{
+    *to_length = text ? length : 0;
+    *to = gcv_bytes(text, *to_length);
+    return text ? 1 : 0;
+}
+
+/* Returns what a walk knows for gcv_raw_next, which takes no null pointer. */
+GCV_INLINE gcv_raw_known gcv_give_all(const gcv_known *known)
+{
+    static const gcv_known nothing = {NULL, 0, NULL, 0, NULL, 0, NULL, 0, NULL, 0, NULL, 0};
+    const gcv_known *of = known ? known : &nothing;
+    int is_home = !of->real_home, is_git_dir = !of->real_git_dir;
+    gcv_raw_known raw;
+    raw.has_install_dir = gcv_give(of->install_dir, of->install_dir_length, &raw.install_dir, &raw.install_dir_length);
+    raw.has_home = gcv_give(of->home, of->home_length, &raw.home, &raw.home_length);
+    raw.has_real_home = gcv_give(is_home ? of->home : of->real_home, is_home ? of->home_length : of->real_home_length,
+                                 &raw.real_home, &raw.real_home_length);
+    raw.has_repository = gcv_give(of->git_dir, of->git_dir_length, &raw.git_dir, &raw.git_dir_length);
+    gcv_give(is_git_dir ? of->git_dir : of->real_git_dir, is_git_dir ? of->git_dir_length : of->real_git_dir_length,
+             &raw.real_git_dir, &raw.real_git_dir_length);
+    raw.has_branch = gcv_give(of->branch, of->branch_length, &raw.branch, &raw.branch_length);
+    raw.follows = known ? 1 : 0;
+    return raw;
+}
+
+/* Writes the next entry of the walk to `*out`, and its texts into the buffer: its key, its value if it has one, and the
+ * name of the file that it includes if it includes one, each with a NUL. Writes null for a text that is not there.
+ *
+ * `out->include` is GCV_NO_INCLUDE if the entry includes no file, or if its condition does not hold: without a
+ * repository only include.path includes, and hasconfig: never does. A null `known` means that no entry includes a file.
+ * Otherwise it is GCV_NO_VALUE if there is no value, and GCV_NO_DIRECTORY if the value begins with `~` and a user's
+ * name, or with a directory that is null.
+ *
+ * Returns GCV_ABSENT after the last entry; then the walk may enter another file. Returns GCV_BAD_LINE and GCV_NUL as
+ * gcv_add_file does, and writes the file and the line to `*out`. The file ends there: the next call goes on after the
+ * entry that included it. After any other status the walk is unchanged. GCV_SHORT_BUFFER means that the texts need a
+ * capacity, which is written to `out->size`, and GCV_BAD_LENGTHS that the numbers in the walk are not those of a walk.
+ * The call allocates and frees memory, and returns GCV_NO_MEMORY if malloc fails. */
+GCV_RETURNS((1, 5)) gcv_next(gcv_walk *GCV_RESTRICT walk, const gcv_known *known, char *GCV_RESTRICT buffer,
+                             size_t capacity, gcv_step *GCV_RESTRICT out)
 {
     char none[1] = {0};
-    size_t length = value ? value_length : 0;
-    size_t file_length = includer->file ? includer->file_length : 0;
-    size_t real_dir_length = includer->real_dir ? includer->real_dir_length : 0;
-    size_t install_dir_length = includer->install_dir ? includer->install_dir_length : 0;
-    size_t home_length = includer->home ? includer->home_length : 0;
-    const char *real_home = includer->real_home ? includer->real_home : includer->home;
-    size_t real_home_length = includer->real_home ? includer->real_home_length : home_length;
-    size_t git_dir_length = includer->git_dir ? includer->git_dir_length : 0;
-    const char *real_git_dir = includer->real_git_dir ? includer->real_git_dir : includer->git_dir;
-    size_t real_git_dir_length = includer->real_git_dir ? includer->real_git_dir_length : git_dir_length;
-    size_t branch_length = includer->branch ? includer->branch_length : 0;
-    return gcv_raw_include(gcv_bytes(key, key_length), key_length, value ? 1 : 0, gcv_bytes(value, length), length,
-                           gcv_bytes(includer->file, file_length), file_length,
-                           gcv_bytes(includer->real_dir, real_dir_length), real_dir_length,
-                           includer->install_dir ? 1 : 0, gcv_bytes(includer->install_dir, install_dir_length),
-                           install_dir_length, includer->home ? 1 : 0, gcv_bytes(includer->home, home_length),
-                           home_length, includer->git_dir ? 1 : 0, gcv_bytes(includer->git_dir, git_dir_length),
-                           git_dir_length, gcv_bytes(real_git_dir, real_git_dir_length), real_git_dir_length,
-                           includer->branch ? 1 : 0, gcv_bytes(includer->branch, branch_length), branch_length,
-                           real_home ? 1 : 0, gcv_bytes(real_home, real_home_length), real_home_length,
-                           capacity == 0 ? none : buffer, capacity, size);
+    gcv_raw_known given = gcv_give_all(known);
+    gcv_raw_step step = {"", 0, 0, 0, 0, 0, 0, GCV_OK};
+    gcv_status status = GCV_BAD_LENGTHS;
+    if (walk->count <= GCV_MOST_FRAMES) {
+        status = gcv_raw_next(walk->frames, walk->count, &walk->count, &given, capacity == 0 ? none : buffer, capacity,
+                              &step);
+    }
+    if (status == GCV_OK || status == GCV_SHORT_BUFFER) {
+        out->size = step.size;
+    }
+    if (status == GCV_OK || status == GCV_BAD_LINE || status == GCV_NUL) {
+        out->file = step.name;
+        out->file_length = step.name_length;
+        out->line = step.line;
+    }
+    if (status == GCV_OK) {
+        out->key = buffer;
+        out->value = step.has_value == 1 ? buffer + step.value : NULL;
+        out->included = step.include == GCV_OK ? buffer + step.included : NULL;
+        out->include = step.include;
+    }
+    return status;
 }
 
 /* Paths. */

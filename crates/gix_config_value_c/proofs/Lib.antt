@@ -1,14 +1,13 @@
 pub mod Entries
-pub mod GivenRepository
+pub mod Frames
+pub mod GivenKnown
 pub mod Lookup
 pub mod NameTags
 pub mod NumbersApart
 pub mod OneAnswer
 pub mod OneComposition
-pub mod OneCondition
 pub mod OneEntry
 pub mod OneFile
-pub mod OneInclude
 pub mod OneMark
 pub mod OnePath
 pub mod OneText

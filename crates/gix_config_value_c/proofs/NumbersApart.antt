@@ -34,7 +34,8 @@ all_statuses =
     statuses.Ok ∷ statuses.Refused ∷ statuses.Overflow ∷ statuses.NoText ∷ statuses.TooManyNames ∷ statuses.Absent
     ∷ statuses.UnknownKind ∷ statuses.UnknownFault ∷ statuses.BadSuffix ∷ statuses.BadName ∷ statuses.BadFlag
     ∷ statuses.Ok ∷ statuses.BadLengths ∷ statuses.ShortBuffer ∷ statuses.NoMemory
-    ∷ statuses.BadLine ∷ statuses.Nul ∷ statuses.NoInclude ∷ statuses.NoValue ∷ statuses.NoDirectory ∷ []
+    ∷ statuses.BadLine ∷ statuses.Nul ∷ statuses.NoInclude ∷ statuses.NoValue ∷ statuses.NoDirectory
+    ∷ statuses.TooDeep ∷ []
 
 pub statuses_apart : TellsApart status_number
 statuses_apart = told_apart status_number (λ n. slice_get all_statuses n) again where

@@ -36,7 +36,7 @@ places_push start (x ∷ done) s =
     ∙ ap (λ n. places_from (start + length (setting_bytes x)) done ++ place_at n s ∷ []) e)
 
 -- one more item in each of two lists
-zip_push : {A B : Type 0} (R : A → B → Type 0) (xs : List A) (ys : List B) (x : A) (y : B)
+pub zip_push : {A B : Type 0} (R : A → B → Type 0) (xs : List A) (ys : List B) (x : A) (y : B)
     → AllZip R xs ys → R x y → AllZip R (xs ++ x ∷ []) (ys ++ y ∷ [])
 zip_push R [] [] x y all one = (one, tt)
 zip_push R [] (z ∷ zs) x y all one = absurd all

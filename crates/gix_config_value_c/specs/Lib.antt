@@ -10,6 +10,6 @@ pub mod Json
 pub mod Settings
 pub mod Files
 pub mod Paths
-pub mod Includes
+pub mod Walks
 pub mod Answers
 pub mod Reading

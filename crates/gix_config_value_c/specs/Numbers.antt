@@ -35,6 +35,7 @@ status_number statuses.Nul = 16
 status_number statuses.NoInclude = 17
 status_number statuses.NoValue = 18
 status_number statuses.NoDirectory = 19
+status_number statuses.TooDeep = 20
 
 -- the number of a kind
 abbrev pub kind_number : Kind → ℕ

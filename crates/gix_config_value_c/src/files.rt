@@ -44,10 +44,10 @@ pub struct GcvFile {
 
 /// An entry of a file, with its key as Git lists it and the text of its value.
 #[derive(Drop)]
-struct Setting<'t> {
-    key: Vec<u8>,
-    value: Option<CowSlice<'t, u8>>,
-    line: usize,
+pub(crate) struct Setting<'t> {
+    pub key: Vec<u8>,
+    pub value: Option<CowSlice<'t, u8>>,
+    pub line: usize,
 }
 
 /// The bytes of settings, one after the other, and their places.
@@ -59,7 +59,7 @@ struct Row {
 
 impl<'t> Setting<'t> {
     /// Returns the setting of an entry. It fails only if memory is refused.
-    fn of_entry(alloc: Global, entry: &Entry<'t>) -> Result<Self, AllocError>
+    pub(crate) fn of_entry(alloc: Global, entry: &Entry<'t>) -> Result<Self, AllocError>
         ensures { IfOk result (IsSettingOf (entry_of entry.now)) }
     {
         let value = match &entry.value {
@@ -75,7 +75,7 @@ impl<'t> Setting<'t> {
 }
 
 /// Appends a text and NUL.
-fn push_text(bytes: &mut Vec<u8>, text: &[u8]) -> Result<(), AllocError>
+pub(crate) fn push_text(bytes: &mut Vec<u8>, text: &[u8]) -> Result<(), AllocError>
     ensures { OnOk result (bytes.new.items ≡ bytes.old.items ++ ended text.now) }
 {
     bytes.extend_from_slice(text)?;
@@ -84,7 +84,10 @@ fn push_text(bytes: &mut Vec<u8>, text: &[u8]) -> Result<(), AllocError>
 }
 
 /// Appends the value of a setting and returns 1, or returns 0 if the setting has no value.
-fn push_value(bytes: &mut Vec<u8>, value: &Option<CowSlice<'_, u8>>) -> Result<u32, AllocError>
+pub(crate) fn push_value(
+    bytes: &mut Vec<u8>,
+    value: &Option<CowSlice<'_, u8>>,
+) -> Result<u32, AllocError>
     ensures bytes { OnOk result (bytes.new.items
         ≡ bytes.old.items ++ option_map_or ended (option_map cow_slice_items value.now) []) }
     ensures flag { IfOk result
@@ -164,7 +167,7 @@ fn put_row(row: &Row, bytes: &mut [u8], places: &mut [GcvPlace], out: &mut GcvFi
 }
 
 /// Returns the status for the fault of a refused line.
-fn fault_status(fault: Fault) -> u32
+pub(crate) fn fault_status(fault: Fault) -> u32
     ensures { result ≡ status_number (status_of fault) }
 {
     match fault {

@@ -1,5 +1,5 @@
 //! Path values: the mark of an optional path, and the directories that a path refers to.
-ghost use Rattle.std.specs.Prelude.{◌≡◌, ℕ, MatchOption, option_copied};
+ghost use Rattle.std.specs.Prelude.{ℕ, MatchOption, option_copied};
 ghost use Rattle.config_path.specs.Parts.{joint_text, joint_result};
 ghost use Rattle.gix_config_value.specs.Interpolation.PathResult.{text as whole_text};
 ghost use Rattle.gix_config_value_c.specs.Numbers.{flag_number};

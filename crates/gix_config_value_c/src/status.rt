@@ -41,4 +41,6 @@ pub enum Status {
     NoValue = 18,
     /// The path of an include begins with a user's name, or with a directory that is not given.
     NoDirectory = 19,
+    /// The file is more than ten includes deep.
+    TooDeep = 20,
 }

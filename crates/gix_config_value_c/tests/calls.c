@@ -3,7 +3,7 @@
 #include <pthread.h>
 #include <time.h>
 
-static area buffer_area, text_area;
+static area buffer_area, text_area, name_area, dir_area, walk_area;
 
 /* A number, and its text. */
 typedef struct word {
@@ -391,10 +391,10 @@ static void status_texts(void)
 {
     const char *unknown = gcv_status_text((gcv_status)11);
     count(strcmp(unknown, "unknown status") == 0 && gcv_status_text((gcv_status)UINT32_MAX) == unknown, unknown);
-    for (uint32_t status = GCV_OK; status <= GCV_NO_DIRECTORY; status++) {
+    for (uint32_t status = GCV_OK; status <= GCV_TOO_DEEP; status++) {
         const char *text = gcv_status_text((gcv_status)status);
         int differs = strlen(text) > 0;
-        for (uint32_t other = status + 1; other <= GCV_NO_DIRECTORY + 1; other++) {
+        for (uint32_t other = status + 1; other <= GCV_TOO_DEEP + 1; other++) {
             differs = differs && (status == 11 || other == 11 || strcmp(text, gcv_status_text((gcv_status)other)) != 0);
         }
         count(differs, text);
@@ -563,89 +563,255 @@ static void files(void)
           "a color of a subsection");
 }
 
-/* An entry, the file that it is in, and what its include may refer to. */
-typedef struct entry {
-    const char *key;
-    const char *value;
-    const gcv_includer *from;
-} entry;
+/* A walk, what includes may refer to, and where its next step goes, and the walk after that step. */
+typedef struct walked {
+    gcv_walk walk;
+    const gcv_known *known;
+    gcv_step *step;
+    gcv_walk *after;
+} walked;
 
-static gcv_status include(const void *state, char *buffer, size_t capacity, size_t *size)
+/* Whether both walks are at the same place. A frame has padding after `parts`. */
+static int is_same(const gcv_walk *first, const gcv_walk *second)
 {
-    const entry *of = (const entry *)state;
-    return gcv_include(of->key, strlen(of->key), of->value, of->value ? strlen(of->value) : 0, of->from, buffer, capacity, size);
+    HOLDS(first->count == second->count);
+    for (size_t at = 0; at < first->count && at < GCV_MOST_FRAMES; at++) {
+        HOLDS(memcmp(&first->frames[at], &second->frames[at], offsetof(gcv_frame, parts) + sizeof(uint32_t)) == 0);
+    }
+    return 1;
 }
+
+/* Whether a step that is no entry has written only what it may, and whether the walk has ended or is at the same place. */
+static int is_no_entry(const walked *of, gcv_status status)
+{
+    gcv_step wanted;
+    memset(&wanted, PATTERN, sizeof wanted);
+    if (status == GCV_BAD_LINE || status == GCV_NUL) {
+        wanted.file = of->step->file;
+        wanted.file_length = of->step->file_length;
+        wanted.line = of->step->line;
+        HOLDS(of->after->count < of->walk.count);
+    } else if (status == GCV_ABSENT) {
+        HOLDS(of->after->count == 0);
+    } else {
+        wanted.size = status == GCV_SHORT_BUFFER ? of->step->size : wanted.size;
+        HOLDS(is_same(&of->walk, of->after));
+    }
+    HOLDS(memcmp(of->step, &wanted, sizeof wanted) == 0);
+    return 1;
+}
+
+/* Takes the next step of a copy of the walk, whose frames in use end at a page. The buffer gets the three texts. */
+static gcv_status next(const void *state, char *buffer, size_t capacity, size_t *size)
+{
+    const walked *of = (const walked *)state;
+    size_t frames = of->walk.count > GCV_MOST_FRAMES ? GCV_MOST_FRAMES : of->walk.count;
+    size_t used = offsetof(gcv_walk, frames) + frames * sizeof(gcv_frame);
+    gcv_walk *walk = (gcv_walk *)(void *)(walk_area.end - used);
+    memcpy(walk, &of->walk, used);
+    memset(of->step, PATTERN, sizeof *of->step);
+    gcv_status status = gcv_next(walk, of->known, buffer, capacity, of->step);
+    memcpy(of->after, &of->walk, sizeof of->walk);
+    memcpy(of->after, walk, used);
+    if (status == GCV_OK || status == GCV_SHORT_BUFFER) {
+        *size = of->step->size;
+    }
+    return status == GCV_OK || is_no_entry(of, status) ? status : UNTOUCHED;
+}
+
+/* The walk goes on, and its next step has this status, whatever the capacity. Afterwards the walk has taken it. */
+static int ends(walked *of, gcv_status status, const char *file, size_t line)
+{
+    HOLDS(writes_nothing(buffer_area, next, of, status));
+    if (file) {
+        HOLDS(of->step->file_length == strlen(file) && memcmp(of->step->file, file, strlen(file)) == 0 && of->step->line == line);
+    }
+    of->walk = *of->after;
+    return 1;
+}
+
+/* The next step is an entry with these texts. A short buffer is told from each capacity below theirs. */
+static int steps(walked *of, const char *file, size_t line, const char *key, const char *value, gcv_status include, const char *name)
+{
+    char texts[1024];
+    const char *const parts[] = {key, value, name};
+    size_t starts[3], length = 0;
+    for (size_t at = 0; at < 3; at++) {
+        starts[at] = length;
+        length += parts[at] ? (size_t)sprintf(texts + length, "%s", parts[at]) + 1 : 0;
+    }
+    HOLDS(writes(buffer_area, next, of, texts, length));
+    HOLDS(of->step->file_length == strlen(file) && memcmp(of->step->file, file, strlen(file)) == 0 && of->step->line == line);
+    HOLDS(of->step->value == (value ? of->step->key + starts[1] : NULL) && of->step->include == include);
+    HOLDS(of->step->included == (name ? of->step->key + starts[2] : NULL));
+    of->walk = *of->after;
+    return 1;
+}
+
+/* Goes on in a file, whose directory has links resolved. */
+static gcv_status enters(walked *of, const char *file, const char *text)
+{
+    return gcv_enter(&of->walk, file, strlen(file), "/real/p", 7, text, strlen(text));
+}
+
+static const gcv_known nothing = {NULL, 0, NULL, 0, NULL, 0, NULL, 0, NULL, 0, NULL, 0};
+static const gcv_known all = {"/usr", 4, "/home/u", 7, "/w", 2, "/w/p/.git", 9, "/real/p/.git", 12, "main/x", 6};
+static const gcv_known kept = {NULL, 0, "/w", 2, NULL, 0, "/w/p/.git", 9, NULL, 0, NULL, 0};
 
 /* Includes as the section "Includes" of git-config(1) describes them. */
 static void includes(void)
 {
-    static const gcv_includer nothing = {NULL, 0, NULL, 0, NULL, 0, NULL, 0, NULL, 0, NULL, 0, NULL, 0, NULL, 0};
-    static const gcv_includer all = {"/J\xf6rg/.gitconfig", 16, "/real/p", 7, "/usr", 4, "/home/u", 7,
-                                     "/w", 2, "/w/p/.git", 9, "/real/p/.git", 12, "main/x", 6};
-    static const gcv_includer kept = {NULL, 0, NULL, 0, NULL, 0, "/w", 2, NULL, 0, "/w/p/.git", 9, NULL, 0, NULL, 0};
     static const struct {
-        entry of;
-        gcv_status status;
+        const char *text, *key, *value;
+        const gcv_known *known;
+        gcv_status include;
         const char *name;
     } rows[] = {
-        {{"include.path", "a.inc", &all}, GCV_OK, "/J\xf6rg/a.inc"},
-        {{"include.path", "", &all}, GCV_OK, "/J\xf6rg/"},
-        {{"include.path", "~/b", &all}, GCV_OK, "/home/u/b"},
-        {{"include.path", "%(prefix)/etc/c", &all}, GCV_OK, "/usr/etc/c"},
-        {{"include.path", "/d\xff", &all}, GCV_OK, "/d\xff"},
-        {{"include.path", "~bob/x", &all}, GCV_NO_DIRECTORY, NULL},
-        {{"include.path", NULL, &all}, GCV_NO_VALUE, NULL},
-        {{"include.paths", "a.inc", &all}, GCV_NO_INCLUDE, NULL},
-        {{"core.bare", NULL, &all}, GCV_NO_INCLUDE, NULL},
-        {{"", "", &all}, GCV_NO_INCLUDE, NULL},
-        {{"includeif.gitdir:/w/.path", "e", &all}, GCV_OK, "/J\xf6rg/e"},
-        {{"includeif.gitdir:p/.path", "e", &all}, GCV_OK, "/J\xf6rg/e"},
-        {{"includeif.gitdir:/real/p/.git.path", "e", &all}, GCV_OK, "/J\xf6rg/e"},
-        {{"includeif.gitdir:/W/.path", "e", &all}, GCV_NO_INCLUDE, NULL},
-        {{"includeif.gitdir/i:/W/.path", "e", &all}, GCV_OK, "/J\xf6rg/e"},
-        {{"includeif.gitdir:~/p/.path", "e", &all}, GCV_OK, "/J\xf6rg/e"},
-        {{"includeif.gitdir:~/q/.path", "e", &all}, GCV_NO_INCLUDE, NULL},
-        {{"includeif.gitdir:./.git.path", "e", &all}, GCV_OK, "/J\xf6rg/e"},
-        {{"includeif.gitdir:./g.path", "e", &all}, GCV_NO_INCLUDE, NULL},
-        {{"includeif.gitdir:/w/.path", NULL, &all}, GCV_NO_VALUE, NULL},
-        {{"includeif.gitdir:/v/.path", NULL, &all}, GCV_NO_INCLUDE, NULL},
-        {{"includeif.onbranch:main/.path", "e", &all}, GCV_OK, "/J\xf6rg/e"},
-        {{"includeif.onbranch:main.path", "e", &all}, GCV_NO_INCLUDE, NULL},
-        {{"includeif.hasconfig:remote.*.url:**.path", "e", &all}, GCV_NO_INCLUDE, NULL},
-        {{"include.path", "a.inc", &nothing}, GCV_OK, "a.inc"},
-        {{"include.path", "~/b", &nothing}, GCV_NO_DIRECTORY, NULL},
-        {{"include.path", "%(prefix)/c", &nothing}, GCV_NO_DIRECTORY, NULL},
-        {{"includeif.gitdir:/w/.path", "e", &nothing}, GCV_NO_INCLUDE, NULL},
-        {{"includeif.onbranch:**.path", "e", &nothing}, GCV_NO_INCLUDE, NULL},
-        {{"includeif.gitdir:/w/.path", "e", &kept}, GCV_OK, "e"},
-        {{"includeif.gitdir:~/p/.path", "e", &kept}, GCV_OK, "e"},
-        {{"includeif.gitdir:/real/.path", "e", &kept}, GCV_NO_INCLUDE, NULL},
-        {{"includeif.onbranch:**.path", "e", &kept}, GCV_NO_INCLUDE, NULL},
+        {"[include]path=a.inc", "include.path", "a.inc", &all, GCV_OK, "/J\xf6rg/a.inc"},
+        {"[Include]Path=", "include.path", "", &all, GCV_OK, "/J\xf6rg/"},
+        {"[include]path=~/b", "include.path", "~/b", &all, GCV_OK, "/home/u/b"},
+        {"[include]path=%(prefix)/etc/c", "include.path", "%(prefix)/etc/c", &all, GCV_OK, "/usr/etc/c"},
+        {"[include]path=\" /d\xff\"", "include.path", " /d\xff", &all, GCV_OK, "/J\xf6rg/ /d\xff"},
+        {"[include]path=/d\xff", "include.path", "/d\xff", &all, GCV_OK, "/d\xff"},
+        {"[include]path=~bob/x", "include.path", "~bob/x", &all, GCV_NO_DIRECTORY, NULL},
+        {"[include]path", "include.path", NULL, &all, GCV_NO_VALUE, NULL},
+        {"[include]path=a.inc", "include.path", "a.inc", NULL, GCV_NO_INCLUDE, NULL},
+        {"[include]path", "include.path", NULL, NULL, GCV_NO_INCLUDE, NULL},
+        {"[include]paths=a.inc", "include.paths", "a.inc", &all, GCV_NO_INCLUDE, NULL},
+        {"[include \"\"]path=a.inc", "include..path", "a.inc", &all, GCV_NO_INCLUDE, NULL},
+        {"[core]bare", "core.bare", NULL, &all, GCV_NO_INCLUDE, NULL},
+        {"path=x", "path", "x", &all, GCV_NO_INCLUDE, NULL},
+        {"[includeIf]path=e", "includeif.path", "e", &all, GCV_NO_INCLUDE, NULL},
+        {"[includeIf \"gitdir:/w/\"]path=e", "includeif.gitdir:/w/.path", "e", &all, GCV_OK, "/J\xf6rg/e"},
+        {"[includeIf \"gitdir:p/\"]path=e", "includeif.gitdir:p/.path", "e", &all, GCV_OK, "/J\xf6rg/e"},
+        {"[includeIf \"gitdir:/real/p/.git\"]path=e", "includeif.gitdir:/real/p/.git.path", "e", &all, GCV_OK, "/J\xf6rg/e"},
+        {"[includeIf \"gitdir:/W/\"]path=e", "includeif.gitdir:/W/.path", "e", &all, GCV_NO_INCLUDE, NULL},
+        {"[includeIf \"gitdir/i:/W/\"]path=e", "includeif.gitdir/i:/W/.path", "e", &all, GCV_OK, "/J\xf6rg/e"},
+        {"[includeIf \"gitdir:~/p/\"]path=e", "includeif.gitdir:~/p/.path", "e", &all, GCV_OK, "/J\xf6rg/e"},
+        {"[includeIf \"gitdir:~/q/\"]path=e", "includeif.gitdir:~/q/.path", "e", &all, GCV_NO_INCLUDE, NULL},
+        {"[includeIf \"gitdir:./.git\"]path=e", "includeif.gitdir:./.git.path", "e", &all, GCV_OK, "/J\xf6rg/e"},
+        {"[includeIf \"gitdir:./g\"]path=e", "includeif.gitdir:./g.path", "e", &all, GCV_NO_INCLUDE, NULL},
+        {"[includeIf \"gitdir:/w/\"]path", "includeif.gitdir:/w/.path", NULL, &all, GCV_NO_VALUE, NULL},
+        {"[includeIf \"gitdir:/v/\"]path", "includeif.gitdir:/v/.path", NULL, &all, GCV_NO_INCLUDE, NULL},
+        {"[includeIf \"onbranch:main/\"]path=e", "includeif.onbranch:main/.path", "e", &all, GCV_OK, "/J\xf6rg/e"},
+        {"[includeIf \"onbranch:main\"]path=e", "includeif.onbranch:main.path", "e", &all, GCV_NO_INCLUDE, NULL},
+        {"[includeIf \"hasconfig:remote.*.url:*\"]path=e", "includeif.hasconfig:remote.*.url:*.path", "e", &all, GCV_NO_INCLUDE, NULL},
+        {"[include]path=a.inc", "include.path", "a.inc", &nothing, GCV_OK, "/J\xf6rg/a.inc"},
+        {"[include]path=~/b", "include.path", "~/b", &nothing, GCV_NO_DIRECTORY, NULL},
+        {"[include]path=%(prefix)/c", "include.path", "%(prefix)/c", &nothing, GCV_NO_DIRECTORY, NULL},
+        {"[includeIf \"gitdir:/w/\"]path=e", "includeif.gitdir:/w/.path", "e", &nothing, GCV_NO_INCLUDE, NULL},
+        {"[includeIf \"onbranch:**\"]path=e", "includeif.onbranch:**.path", "e", &nothing, GCV_NO_INCLUDE, NULL},
+        {"[includeIf \"gitdir:/w/\"]path=e", "includeif.gitdir:/w/.path", "e", &kept, GCV_OK, "/J\xf6rg/e"},
+        {"[includeIf \"gitdir:~/p/\"]path=e", "includeif.gitdir:~/p/.path", "e", &kept, GCV_OK, "/J\xf6rg/e"},
+        {"[includeIf \"gitdir:/real/\"]path=e", "includeif.gitdir:/real/.path", "e", &kept, GCV_NO_INCLUDE, NULL},
+        {"[includeIf \"onbranch:**\"]path=e", "includeif.onbranch:**.path", "e", &kept, GCV_NO_INCLUDE, NULL},
     };
     for (size_t at = 0; at < sizeof rows / sizeof rows[0]; at++) {
-        if (rows[at].status == GCV_OK) {
-            count(writes(buffer_area, include, &rows[at].of, rows[at].name, strlen(rows[at].name)), rows[at].of.key);
-        } else {
-            count(writes_nothing(buffer_area, include, &rows[at].of, rows[at].status), rows[at].of.key);
-        }
-    }
-    for (size_t at = 0; at < 6; at++) {
-        uint32_t flags[6] = {1, 1, 1, 1, 1, 1};
-        char name[8] = "?";
-        size_t size = UNTOUCHED;
-        flags[at] = (uint32_t)at + 2;
-        count(gcv_raw_include("include.path", 12, flags[0], "a", 1, "", 0, "", 0, flags[1], "", 0, flags[2], "", 0, flags[3], "", 0,
-                              "", 0, flags[4], "", 0, flags[5], "", 0, name, sizeof name, &size) == GCV_BAD_FLAG &&
-                  size == UNTOUCHED && strcmp(name, "?") == 0,
-              "a bad flag of an include");
+        static const char file[] = "/J\xf6rg/.gitconfig";
+        size_t length = strlen(rows[at].text);
+        gcv_step step;
+        gcv_walk after;
+        walked of = {{0}, rows[at].known, &step, &after};
+        count(gcv_enter(&of.walk, lent(name_area, file, 16), 16, lent(dir_area, "/real/p", 7), 7, lent(text_area, rows[at].text, length),
+                        length) == GCV_OK &&
+                  steps(&of, file, 1, rows[at].key, rows[at].value, rows[at].include, rows[at].name) &&
+                  ends(&of, GCV_ABSENT, NULL, 0),
+              rows[at].text);
     }
 }
 
-/* A condition, what it is about, and what a thread finds out. */
+/* A file with another one in its place, with a byte order mark, and with lines that Git refuses. */
+static void walks(void)
+{
+    gcv_step step;
+    gcv_walk after;
+    walked of = {{0}, &nothing, &step, &after};
+    count(ends(&of, GCV_ABSENT, NULL, 0) && gcv_enter(&of.walk, NULL, 0, NULL, 0, NULL, 0) == GCV_OK && ends(&of, GCV_ABSENT, NULL, 0),
+          "no file, and an empty one");
+    count(enters(&of, "own", own) == GCV_OK && enters(&of, "user", user) == GCV_OK, "a file before another one");
+    for (size_t at = 0; at < 8; at++) {
+        const gcv_setting *wanted = &listed[at];
+        count(steps(&of, at < 4 ? "user" : "own", wanted->line, wanted->key, wanted->value, GCV_NO_INCLUDE, NULL), wanted->key);
+    }
+    count(ends(&of, GCV_ABSENT, NULL, 0), "the end of both files");
+    count(enters(&of, "e/main", "[a]k=1\n[include]path=s/o\nk=2\n[a]k=3") == GCV_OK &&
+              steps(&of, "e/main", 1, "a.k", "1", GCV_NO_INCLUDE, NULL) &&
+              steps(&of, "e/main", 2, "include.path", "s/o", GCV_OK, "e/s/o") &&
+              enters(&of, "e/s/o", "\xef\xbb\xbf[hit]\n\nk=1\nk") == GCV_OK &&
+              steps(&of, "e/s/o", 3, "hit.k", "1", GCV_NO_INCLUDE, NULL) &&
+              steps(&of, "e/s/o", 4, "hit.k", NULL, GCV_NO_INCLUDE, NULL) &&
+              steps(&of, "e/main", 3, "include.k", "2", GCV_NO_INCLUDE, NULL) &&
+              steps(&of, "e/main", 4, "a.k", "3", GCV_NO_INCLUDE, NULL) && ends(&of, GCV_ABSENT, NULL, 0),
+          "a file in another one");
+    count(enters(&of, "main", "[include]path=none\npath=o\npath\n[x \"A\"]k\n=") == GCV_OK &&
+              steps(&of, "main", 1, "include.path", "none", GCV_OK, "none") &&
+              steps(&of, "main", 2, "include.path", "o", GCV_OK, "o") && enters(&of, "o", "[b]k=1\nk=\"\nk=2") == GCV_OK &&
+              steps(&of, "o", 1, "b.k", "1", GCV_NO_INCLUDE, NULL) && ends(&of, GCV_BAD_LINE, "o", 2) &&
+              steps(&of, "main", 3, "include.path", NULL, GCV_NO_VALUE, NULL) &&
+              gcv_enter(&of.walk, "nul", 3, NULL, 0, "[b]\nk=1\0\nk=2", 12) == GCV_OK && ends(&of, GCV_NUL, "nul", 2) &&
+              steps(&of, "main", 4, "x.A.k", NULL, GCV_NO_INCLUDE, NULL) && ends(&of, GCV_BAD_LINE, "main", 5) &&
+              ends(&of, GCV_ABSENT, NULL, 0),
+          "lines that Git refuses");
+}
+
+/* A file that includes itself: Git follows it ten times. */
+static void depth(void)
+{
+    gcv_step step;
+    gcv_walk after;
+    walked of = {{0}, &nothing, &step, &after};
+    for (size_t deep = 0; deep < GCV_MOST_FRAMES; deep++) {
+        count(enters(&of, "main", "[include]path=main\nk=1") == GCV_OK && of.walk.count == deep + 1 &&
+                  steps(&of, "main", 1, "include.path", "main", GCV_OK, "main"),
+              "a file that includes itself");
+    }
+    after = of.walk;
+    count(enters(&of, "main", "[include]path=main") == GCV_TOO_DEEP && is_same(&of.walk, &after), "eleven includes deep");
+    for (size_t deep = GCV_MOST_FRAMES; deep > 0; deep--) {
+        count(steps(&of, "main", 2, "include.k", "1", GCV_NO_INCLUDE, NULL), "the rest of a file that includes itself");
+    }
+    count(ends(&of, GCV_ABSENT, NULL, 0), "the end of a file that includes itself");
+}
+
+/* Walks that no call made, and flags that are neither 0 nor 1. */
+static void overwritten(void)
+{
+    static const char text[] = "[a \"b\"]k=1\nk=2";
+    gcv_step step;
+    gcv_walk after;
+    walked made = {{0}, &nothing, &step, &after};
+    count(enters(&made, "main", text) == GCV_OK && steps(&made, "main", 1, "a.b.k", "1", GCV_NO_INCLUDE, NULL), text);
+    for (size_t at = 0; at < 6; at++) {
+        walked of = made;
+        gcv_frame *frame = &of.walk.frames[0];
+        of.walk.count = at == 0 ? 12 : at == 1 ? SIZE_MAX : 1;
+        frame->parts = at == 2 ? 3 : at == 3 ? UINT32_MAX : frame->parts;
+        frame->line = at == 4 ? SIZE_MAX - 1 : at == 5 ? (size_t)PTRDIFF_MAX + 2 : frame->line;
+        count(ends(&of, GCV_BAD_LENGTHS, NULL, 0), "a walk that was overwritten");
+        if (at < 2) {
+            count(enters(&of, "main", text) == GCV_TOO_DEEP && is_same(&of.walk, &after), "a walk that was overwritten, entered");
+        }
+    }
+    for (uint32_t at = 0; at < 6; at++) {
+        gcv_raw_known known = {"", 0, "", 0, "", 0, "", 0, "", 0, "", 0, 0, 0, 0, 0, 0, 1};
+        uint32_t *const flags[] = {&known.has_install_dir, &known.has_home,   &known.has_real_home,
+                                   &known.has_repository,  &known.has_branch, &known.follows};
+        gcv_raw_step raw = {"?", 1, UNTOUCHED, UNTOUCHED, UNTOUCHED, UNTOUCHED, UNTOUCHED, GCV_ABSENT};
+        gcv_raw_step before = raw;
+        char buffer[32] = "?";
+        after = made.walk;
+        *flags[at] = at + 2;
+        count(gcv_raw_next(after.frames, 1, &after.count, &known, buffer, sizeof buffer, &raw) == GCV_BAD_FLAG &&
+                  memcmp(&raw, &before, sizeof raw) == 0 && strcmp(buffer, "?") == 0 && is_same(&made.walk, &after),
+              "a bad flag of a walk");
+    }
+}
+
+/* The text of a file, what conditions are about, and what a thread finds out. */
 typedef struct asked {
-    const char *key;
-    gcv_includer from;
-    gcv_status status;
+    const char *text;
+    gcv_known known;
+    gcv_status include;
     double seconds;
 } asked;
 
@@ -653,12 +819,19 @@ static void *ask(void *state)
 {
     asked *of = (asked *)state;
     struct timespec began, ended;
-    char name[1];
-    size_t size;
+    size_t capacity = 2 * strlen(of->text);
+    char *buffer = (char *)malloc(capacity);
+    gcv_walk walk = {0};
+    gcv_step step;
+    step.include = GCV_REFUSED;
     clock_gettime(CLOCK_THREAD_CPUTIME_ID, &began);
-    of->status = gcv_include(of->key, strlen(of->key), "e", 1, &of->from, name, sizeof name, &size);
+    if (gcv_enter(&walk, "c", 1, NULL, 0, of->text, strlen(of->text)) == GCV_OK &&
+        gcv_next(&walk, &of->known, buffer, capacity, &step) == GCV_OK) {
+        of->include = step.include;
+    }
     clock_gettime(CLOCK_THREAD_CPUTIME_ID, &ended);
     of->seconds = (double)(ended.tv_sec - began.tv_sec) + (double)(ended.tv_nsec - began.tv_nsec) / 1e9;
+    free(buffer);
     return NULL;
 }
 
@@ -671,7 +844,7 @@ static void patterns(void)
         size_t times;
         const char *back;
         size_t letters;
-        gcv_status status;
+        gcv_status include;
     } rows[] = {
         {"onbranch:", "*a", 5, "*ab", 100, GCV_NO_INCLUDE},    {"onbranch:", "*a", 4, "*ab", 200, GCV_NO_INCLUDE},
         {"onbranch:", "*a", 50, "", 200, GCV_OK},              {"onbranch:", "*a", 60000, "", 60000, GCV_OK},
@@ -682,23 +855,23 @@ static void patterns(void)
     count(pthread_attr_init(&small) == 0 && pthread_attr_setstacksize(&small, 128 * 1024) == 0, "a stack of 128 kB");
     for (size_t at = 0; at < sizeof rows / sizeof rows[0]; at++) {
         size_t front = strlen(rows[at].front), once = strlen(rows[at].repeated), letters = rows[at].letters;
-        char *key = (char *)malloc(front + once * rows[at].times + strlen(rows[at].back) + sizeof "includeif..path");
+        char *text = (char *)malloc(front + once * rows[at].times + strlen(rows[at].back) + sizeof "[includeIf \"\"]path=e");
         char *tree = (char *)malloc(letters + sizeof "//.git");
-        char *end = key + sprintf(key, "includeif.%s", rows[at].front);
-        asked of = {key, {NULL, 0, NULL, 0, NULL, 0, NULL, 0, NULL, 0, tree, letters + 6, NULL, 0, tree + 1, letters}, GCV_REFUSED, 0};
+        char *end = text + sprintf(text, "[includeIf \"%s", rows[at].front);
+        asked of = {text, {NULL, 0, NULL, 0, NULL, 0, tree, letters + 6, NULL, 0, tree + 1, letters}, GCV_REFUSED, 0};
         pthread_t thread;
         for (size_t time = 0; time < rows[at].times; time++) {
             memcpy(end, rows[at].repeated, once);
             end += once;
         }
-        sprintf(end, "%s.path", rows[at].back);
+        sprintf(end, "%s\"]path=e", rows[at].back);
         memset(tree, 'a', letters + 1);
         tree[0] = '/';
         strcpy(tree + letters + 1, "/.git");
-        count(pthread_create(&thread, &small, ask, &of) == 0 && pthread_join(thread, NULL) == 0 && of.status == rows[at].status &&
+        count(pthread_create(&thread, &small, ask, &of) == 0 && pthread_join(thread, NULL) == 0 && of.include == rows[at].include &&
                   of.seconds < 0.1,
               rows[at].front);
-        free(key);
+        free(text);
         free(tree);
     }
     pthread_attr_destroy(&small);
@@ -708,6 +881,9 @@ int main(void)
 {
     buffer_area = new_area(4096);
     text_area = new_area(4096);
+    name_area = new_area(4096);
+    dir_area = new_area(4096);
+    walk_area = new_area(4096);
     bad_numbers();
     bad_names();
     shown_sets();
@@ -724,6 +900,9 @@ int main(void)
     words();
     files();
     includes();
+    walks();
+    depth();
+    overwritten();
     patterns();
     return finish();
 }

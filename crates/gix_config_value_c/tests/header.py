@@ -7,8 +7,8 @@ of each constant. The Python module includes the header, and has its own names f
 
 crates/gix_config_value_c/VERSION has the version. The header has to have the same, and so have CHANGELOG.md, the
 program config_check, the Python package, and the library that was built into PREFIX. The name of the shared library has
-the first number of the version, and below 1.0 the second one too. The length of the longest canonical text is also
-compared: it is LONGEST_TEXT of config_text."""
+the first number of the version, and below 1.0 the second one too. The length of the longest canonical text, and the
+number of files that a walk is in at most, are compared with the sources of config_text and config_file."""
 import pathlib
 import re
 import subprocess
@@ -28,9 +28,13 @@ PLACES = [
     (ROOT / "python/pyproject.toml", r'^version = "(.*)"$'),
 ]
 PARTS = [(HEADER, rf"^#define GCV_VERSION_{part} (\d+)$") for part in ("MAJOR", "MINOR", "PATCH")]
-# the length of the longest canonical text, and what has to have the same number
-LONGEST = (ROOT / "crates/config_text/src/value.rt", r"^pub const LONGEST_TEXT: usize = (\d+);$")
-LENGTHS = [(HEADER, r"^enum \{ GCV_LONGEST_TEXT = (\d+) \};$")]
+# constants of the header, and where the sources have the same number
+CONSTANTS = [
+    ((HEADER, r"^enum \{ GCV_LONGEST_TEXT = (\d+) \};$"),
+     (ROOT / "crates/config_text/src/value.rt", r"^pub const LONGEST_TEXT: usize = (\d+);$")),
+    ((HEADER, r"^enum \{ GCV_MOST_FRAMES = (\d+) \};$"),
+     (ROOT / "crates/config_file/src/walk.rt", r"^    frames: ArrayVec<Frame<'t>, (\d+)>,$")),
+]
 # by the first constant of an enum of the header, where else its numbers are: the beginning of the constants' names, a
 # file, the pattern of a name and a number in it, and the function from that number to the constant's value
 ENUMS = {
@@ -67,10 +71,12 @@ ZEROS = ("GCV_FAULT_NONE", "GCV_NO_SUFFIX", "GCV_NO_NAME")
 OTHER_NAMES = {"GCV_FAULT_ILL_FORMED_WHOLE": "GCV_FAULT_ILL_FORMED_PATH"}
 # the types of C for those of Rattle, and their sizes
 TYPES = {"i64": "int64_t", "u32": "uint32_t", "u8": "uint8_t", "usize": "size_t"}
-TYPES |= {f"Gcv{name.title()}": f"gcv_{name}" for name in ("integer", "name", "color", "entry", "place", "file")}
+TYPES |= {f"Gcv{it.title()}": f"gcv_{it}" for it in ("integer", "name", "color", "entry", "place", "file", "frame")}
+TYPES |= {f"Gcv{it.title()}": f"gcv_raw_{it}" for it in ("known", "step")}
 # the enums of C are numbers of 32 bits, and a text is of chars
 NUMBERED = re.compile(r"\bgcv_(status|kind|fault|suffix|tag)\b")
-SIZES = {"int64_t": (8, 8), "uint32_t": (4, 4), "uint8_t": (1, 1), "size_t": (8, 8)}
+SIZES = {"int64_t": (8, 8), "uint32_t": (4, 4), "uint8_t": (1, 1), "size_t": (8, 8), "const uint8_t *": (8, 8)}
+LIFETIMES = re.compile(r"<'[^>]*>|'\w+ ")
 
 
 def text_of(path):
@@ -106,21 +112,32 @@ def numbers():
                 yield f"the header, {name} of a {suffix} file", here.get(name), names.get(name)
 
 
-def fields_of(body, pattern):
-    return [(name, TYPES.get(kind, kind)) for name, kind in re.findall(pattern, body, re.MULTILINE)]
+def sources():
+    """The Rattle sources, without lifetimes."""
+    return LIFETIMES.sub("", "".join(text_of(path) for path in sorted((CRATE / "src").glob("*.rt"))))
+
+
+def fields_of(body):
+    """The fields of a struct of Rattle, as C has them. A slice is a pointer and a length."""
+    for name, kind in re.findall(r"^    pub (\w+): (.*),$", body, re.MULTILINE):
+        if kind == "&[u8]":
+            yield from ((name, "const uint8_t *"), (f"{name}_length", "size_t"))
+        else:
+            yield name, TYPES[kind]
 
 
 def structs():
     """The fields of each exported struct, in Rattle and in the header, and the offsets that C gives them."""
-    source = "".join(text_of(path) for path in sorted((CRATE / "src").glob("*.rt")))
-    header = text_of(HEADER)
-    found = re.findall(r"^#\[repr\(C\)\]\n(?:#[^\n]*\n)*pub struct (\w+) \{\n(.*?)^\}$", source, re.MULTILINE | re.DOTALL)
+    header = re.sub(r"\bchar\b", "uint8_t", text_of(HEADER))
+    found = re.findall(r"^#\[repr\(C\)\]\n(?:#[^\n]*\n)*pub struct (\w+) \{\n(.*?)^\}$", sources(),
+                       re.MULTILINE | re.DOTALL)
     # the structs in a struct come first
     for name, body in sorted(found, key=lambda it: it[1].count("Gcv")):
-        struct, wanted = TYPES[name], fields_of(body, r"^    pub (\w+): (\w+),$")
+        struct, wanted = TYPES[name], list(fields_of(body))
         told = re.search(rf"^typedef struct {struct} \{{\n(.*?)^\}} {struct};$", header, re.MULTILINE | re.DOTALL)
         told = NUMBERED.sub("uint32_t", told[1] if told else "")
-        given = [(name, kind) for kind, name in re.findall(r"^    (\w+) (\w+);", told, re.MULTILINE)]
+        given = re.findall(r"^    (\w+ |const \w+ \*)(\w+);", told, re.MULTILINE)
+        given = [(name, kind.strip()) for kind, name in given]
         yield f"the header, {struct}", given, wanted
         size, widest, offsets = 0, 1, {}
         for field, kind in wanted:
@@ -145,8 +162,7 @@ def parameters(words):
 
 def calls():
     """The result and the parameters of each exported call, in the header and in Rattle."""
-    source = "".join(text_of(path) for path in sorted((CRATE / "src").glob("*.rt")))
-    exported = re.findall(r'^pub extern "C" fn (\w+)\((.*?)\)(?: -> (\w+))?$', source, re.MULTILINE | re.DOTALL)
+    exported = re.findall(r'^pub extern "C" fn (\w+)\((.*?)\)(?: -> (\w+))?$', sources(), re.MULTILINE | re.DOTALL)
     declared = {}
     for result, name, words in re.findall(r"^(\w+) (gcv_raw_\w+)\((.*?)\);$", text_of(HEADER), re.MULTILINE | re.DOTALL):
         words = NUMBERED.sub("uint32_t", re.sub(r"\bchar\b", "uint8_t", words))
@@ -182,7 +198,7 @@ def built(prefix, version):
 
 def main():
     version = text_of(CRATE / "VERSION").strip()
-    told = [(PLACES, version), (LENGTHS, said(*LONGEST) or "a number")]
+    told = [(PLACES, version), *(([place], said(*source) or "a number") for place, source in CONSTANTS)]
     rows = [(str(path.relative_to(ROOT)), said(path, pattern), wanted)
             for places, wanted in told for path, pattern in places]
     rows += [(f"the header, part {at} of the version", said(*place), version.split(".")[at])

@@ -121,47 +121,63 @@ static gcv_status add_file(const void *state, char *buffer, size_t capacity, siz
     return status;
 }
 
-static gcv_status include(const void *state, char *buffer, size_t capacity, size_t *size)
+/* Takes the first step of a walk, at an entry that includes a file. */
+static gcv_status next(const void *state, char *buffer, size_t capacity, size_t *size)
 {
-    static const gcv_includer from = {"/e/config", 9, NULL, 0, NULL, 0, "/home/u", 7, NULL, 0, "/w/.git", 7, NULL, 0, "main", 4};
+    static const char text[] = "[includeIf \"onbranch:ma*\"]path=~/x\\t";
+    static const gcv_known known = {NULL, 0, "/home/u", 7, NULL, 0, "/w/.git", 7, NULL, 0, "main", 4};
+    gcv_walk walk = {0}, before;
+    gcv_step step;
     (void)state;
-    return gcv_include("includeif.onbranch:ma*.path", 27, "~/x", 3, &from, buffer, capacity, size);
+    step.size = UNTOUCHED;
+    if (gcv_enter(&walk, "/e/config", 9, NULL, 0, text, sizeof text - 1) != GCV_OK) {
+        return UNTOUCHED;
+    }
+    memcpy(&before, &walk, sizeof walk);
+    gcv_status status = gcv_next(&walk, &known, buffer, capacity, &step);
+    if (status == GCV_OK) {
+        *size = step.size;
+        return step.include == GCV_OK ? status : UNTOUCHED;
+    }
+    return step.size == UNTOUCHED && memcmp(&before, &walk, sizeof walk) == 0 ? status : UNTOUCHED;
 }
 
 /* The call asks for memory this many times. If one of these requests is refused, the call writes nothing, and frees
  * what it took. */
-static int asks(writer call, const char *text, unsigned long wanted)
+static int asks(writer call, const char *text, size_t length, unsigned long wanted)
 {
     size_t size;
     requests = refused_at = 0;
-    HOLDS(call_at(buffer_area, call, NULL, strlen(text), &size) == GCV_OK && size == strlen(text));
+    HOLDS(call_at(buffer_area, call, NULL, length, &size) == GCV_OK && size == length);
     HOLDS(memcmp(buffer_area.end - size, text, size) == 0);
     HOLDS(requests == wanted && blocks == 0);
     for (unsigned long at = 1; at <= wanted; at++) {
         requests = 0;
         refused_at = at;
-        HOLDS(call_at(buffer_area, call, NULL, strlen(text), &size) == GCV_NO_MEMORY);
-        HOLDS(size == UNTOUCHED && is_untouched(buffer_area, strlen(text), 0));
+        HOLDS(call_at(buffer_area, call, NULL, length, &size) == GCV_NO_MEMORY);
+        HOLDS(size == UNTOUCHED && is_untouched(buffer_area, length, 0));
         HOLDS(requests == at && blocks == 0);
     }
     refused_at = 0;
     return 1;
 }
 
+#define ASKS(call, text, wanted) count(asks(call, text, sizeof text - 1, wanted), #call)
+
 int main(void)
 {
     buffer_area = new_area(4096);
     blocks = 0;
-    count(asks(json_suffix, "\"k\"", 2), "json_suffix");
-    count(asks(json_integer, "-12582912", 1), "json_integer");
-    count(asks(json_boolean, "true", 1), "json_boolean");
-    count(asks(json_name, "\"#010203\"", 2), "json_name");
-    count(asks(json_attribute, "\"bold ul\"", 2), "json_attribute");
-    count(asks(interpolate, "/home/u/file", 0), "interpolate");
-    count(asks(interpolate_with, "/home/u/file", 1), "interpolate_with");
-    count(asks(read_and_show, "red bold", 0), "read_color and show_color");
-    count(asks(normalize, "16k", 0), "normalize");
-    count(asks(add_file, "a.b", 3), "add_file");
-    count(asks(include, "/home/u/x", 4), "include");
+    ASKS(json_suffix, "\"k\"", 2);
+    ASKS(json_integer, "-12582912", 1);
+    ASKS(json_boolean, "true", 1);
+    ASKS(json_name, "\"#010203\"", 2);
+    ASKS(json_attribute, "\"bold ul\"", 2);
+    ASKS(interpolate, "/home/u/file", 0);
+    ASKS(interpolate_with, "/home/u/file", 1);
+    ASKS(read_and_show, "red bold", 0);
+    ASKS(normalize, "16k", 0);
+    ASKS(add_file, "a.b", 3);
+    ASKS(next, "includeif.onbranch:ma*.path\0~/x\t\0/home/u/x\t\0", 10);
     return finish();
 }

@@ -194,7 +194,8 @@ for compiler in gcc clang g++ clang++; do
         holds "setting $by, has a default" answers 0 '4096, by default$' "$work/setting" core.other
         holds "setting $by, refuses" answers 1 '' "$work/setting" core.pager
         printf '[a]\n\tb = rde\n' > "$work/settings"
-        holds "config $by, refuses" answers 1 "$work/settings:2: a.b: Colors are" "$work/config" a.b /dev/null "$work/settings"
+        printf '[a]\n\tb = blue\n[include]\n\tpath = none\n\tpath = settings\n' > "$work/including"
+        holds "config $by, refuses" answers 1 "$work/settings:2: a.b: Colors are" "$work/config" a.b /dev/null "$work/including"
         printf '[a]\n\tb = red\n' > "$work/settings"
         holds "config $by, runs" answers 0 '.\[31mred' "$work/config" a.b "$work/settings" /dev/null
     done

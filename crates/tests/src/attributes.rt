@@ -1,7 +1,6 @@
 //! Sets of attributes. No contract covers the operators or what `iter` and `iter_names` yield, since
 //! `bitflag_items!` writes them.
 
-use crate::support::equal;
 use bitflags::Flags;
 use gix_config_value::color::Attribute;
 use std::test::Fail;
@@ -32,10 +31,10 @@ fn operators(a: Attribute, b: Attribute) -> [Operator; 8] {
 fn operators_are_the_calls(rt: HostRuntime) {
     let sets = [0, 1 << 1, 6, 3, Attribute::all().bits()].map(Attribute::from_bits_retain);
     for a in sets {
-        equal(&rt, !a, a.complement(), ("!", a, a));
+        assert!(rt; !a == a.complement());
         for b in sets {
             for (operator, given, wanted) in operators(a, b) {
-                equal(&rt, given, wanted, (operator, a, b));
+                assert!(rt; given == wanted, "{operator}");
             }
         }
     }
@@ -47,9 +46,9 @@ fn goes_over_the_constants_that_are_set(rt: HostRuntime) -> Result<(), Fail> {
     let items: Vec<Attribute> = set.iter().collect(rt.alloc())?;
     let unknown = Attribute::from_bits_retain(1);
     let wanted = [Attribute::BOLD, Attribute::DIM, unknown];
-    equal(&rt, items.as_slice(), wanted.as_slice(), "iter");
+    assert!(rt; items.as_slice() == wanted.as_slice());
     let names: Vec<(&str, Attribute)> = set.iter_names().collect(rt.alloc())?;
     let wanted = [("BOLD", Attribute::BOLD), ("DIM", Attribute::DIM)];
-    equal(&rt, names.as_slice(), wanted.as_slice(), "iter_names");
+    assert!(rt; names.as_slice() == wanted.as_slice());
     Ok(())
 }

@@ -15,7 +15,7 @@ use uses::push_default::{PushDefault, push_default};
 use uses::repository::{File, is_bare, read};
 
 /// The files of the system, the user and the repository. The expected results are those of Git 2.39.5.
-const FILES: [File<'static>; 3] = [
+static FILES: [File<'static>; 3] = [
     File {
         name: "system",
         bytes: b"[core]\n\tabbrev = 12\n[pack]\n\twindowMemory = 512M\n",
@@ -37,15 +37,23 @@ fn reads_settings_of_three_files(rt: HostRuntime) -> Result<(), Fail> {
     equal(&rt, is_bare(&settings)?, true, "core.bare");
     let memory = settings.get::<Amount>("PACK.windowmemory")?;
     equal(&rt, memory, Some(Amount(536_870_912)), "pack.windowMemory");
-    let rebase = settings.get::<Boolean>("branch.Main.rebase")?;
-    equal(&rt, rebase, Some(Boolean(false)), "branch.Main.rebase");
-    let rebase = settings.get::<Boolean>("branch.main.rebase")?;
-    equal(&rt, rebase, None, "branch.main.rebase");
-    let merge = Key::parse(b"branch.Main.merge")?;
-    let merges = settings.all(alloc, &merge)?;
-    equal(&rt, merges.len(), 2, "branch.Main.merge");
-    let last = settings.last(&merge).ok_or("no entry")?;
-    equal(&rt, last.text(), b"b".as_slice(), "branch.Main.merge");
+    for (key, wanted) in [
+        ("branch.Main.rebase", Some(Boolean(false))),
+        ("branch.main.rebase", None),
+    ] {
+        equal(&rt, settings.get::<Boolean>(key)?, wanted, key);
+    }
+    Ok(())
+}
+
+#[test]
+fn reads_all_values_of_a_key(rt: HostRuntime) -> Result<(), Fail> {
+    let settings = read(rt.alloc(), &FILES)?;
+    let key = Key::parse(b"branch.Main.merge")?;
+    let merges = settings.all(rt.alloc(), &key)?;
+    assert!(rt; merges.len() == 2);
+    let last = settings.last(&key).ok_or("no entry")?;
+    assert!(rt; last.text() == b"b".as_slice());
     Ok(())
 }
 
@@ -56,11 +64,16 @@ fn a_refusal_names_its_place(rt: HostRuntime) -> Result<(), Fail> {
     let Some(GetError::Refused(refused)) = settings.get::<Amount>("core.abbrev").err() else {
         return Err(Fail::new("a number"));
     };
-    equal(&rt, refused.setting.entry.line, 2, "core.abbrev");
-    equal(&rt, refused.setting.text(), b"08".as_slice(), "core.abbrev");
+    assert!(rt; refused.setting.text() == b"08".as_slice());
     let told = refused.to_string(alloc)?;
     let wanted = format!(in alloc; "user:2: Core.abbrev: {}", Fault::Integer.text())?;
     equal(&rt, told.as_str(), wanted.as_str(), "core.abbrev");
+    Ok(())
+}
+
+#[test]
+fn interpolates_the_path_of_a_setting(rt: HostRuntime) -> Result<(), Fail> {
+    let settings = read(rt.alloc(), &FILES)?;
     let key = Key::parse(b"core.excludesfile")?;
     let ignore = settings.last(&key).ok_or("no path")?;
     let context = Context {
@@ -69,56 +82,32 @@ fn a_refusal_names_its_place(rt: HostRuntime) -> Result<(), Fail> {
         ..Context::default()
     };
     let (_, parts) = ignore.path(context)?;
-    equal(
-        &rt,
-        parts.to_text(alloc)?.as_str(),
-        "/home/ann/ignore",
-        "core.excludesFile",
-    );
+    let path = parts.to_text(rt.alloc())?;
+    assert!(rt; path.as_str() == "/home/ann/ignore");
     Ok(())
 }
 
 #[test]
 fn an_invalid_line_is_told(rt: HostRuntime) -> Result<(), Fail> {
     let alloc = rt.alloc();
-    let file = File {
-        name: "broken",
-        bytes: b"[a]\n\tb = c\n[",
-    };
     let mut settings = Settings::new(alloc);
-    let refused = settings
-        .add_file(alloc, file.name.as_bytes(), file.bytes)
-        .err()
-        .ok_or("no error")?;
-    let told = format!(in alloc; "{refused}")?;
-    equal(
-        &rt,
-        told.as_str(),
-        "broken:4: bad config line",
-        "an open bracket",
-    );
-    equal(&rt, settings.entries.len(), 1, "an open bracket");
+    let told = match settings.add_file(alloc, b"broken", b"[a]\n\tb = c\n[") {
+        Ok(()) => String::new(alloc),
+        Err(error) => error.to_string(alloc)?,
+    };
+    assert!(rt; told.as_str() == "broken:4: bad config line");
+    assert!(rt; settings.entries.len() == 1);
     Ok(())
 }
 
 #[test]
 fn reads_a_kind_of_its_own(rt: HostRuntime) -> Result<(), Fail> {
     let text = normalize_as::<PushDefault>(BStr::from("tracking")).ok_or("refused")?;
-    equal(&rt, text.as_str(), "upstream", "tracking");
-    equal(
-        &rt,
-        normalize_as::<PushDefault>(BStr::from("Simple")),
-        None,
-        "Simple",
-    );
+    assert!(rt; text.as_str() == "upstream");
+    assert!(rt; normalize_as::<PushDefault>(BStr::from("Simple")).is_none());
     let entries: [(&[u8], &[u8]); 1] = [(b"push.default", b"matching")];
-    equal(
-        &rt,
-        push_default(&entries),
-        Ok(PushDefault::Matching),
-        "matching",
-    );
-    equal(&rt, push_default(&[]), Ok(PushDefault::Simple), "no entry");
+    assert!(rt; push_default(&entries) == Ok(PushDefault::Matching));
+    assert!(rt; push_default(&[]) == Ok(PushDefault::Simple));
     Ok(())
 }
 
@@ -145,11 +134,7 @@ fn interpolates_paths(rt: HostRuntime) -> Result<(), Fail> {
 
 #[test]
 fn has_defaults(rt: HostRuntime) {
-    equal(&rt, default_limit(), 10_485_760, "10m");
-    equal(
-        &rt,
-        default_warning().shown().as_str(),
-        "brightred bold",
-        "bold brightred",
-    );
+    assert!(rt; default_limit() == 10_485_760);
+    let warning = default_warning().shown();
+    assert!(rt; warning.as_str() == "brightred bold");
 }

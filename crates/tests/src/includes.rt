@@ -2,7 +2,7 @@
 ghost use Rattle.std.specs.Prelude.{◌≡◌, ⊤};
 ghost use Rattle.config_file.specs.Settings.{HoldsContent};
 
-use crate::support::{Host, equal};
+use crate::support::{equal, holds};
 use config_file::settings::IncludeFault;
 use config_file::{
     AddError, Content, Directories, Files, Include, Includes, Known, Place, Repository, Settings,
@@ -10,6 +10,7 @@ use config_file::{
 };
 use gix_config_value::{Boolean, Fault};
 use std::alloc::{AllocError, Global};
+use std::process::Abort;
 use std::test::Fail;
 use uses::setting_headline::{FirstFile, NoValue, value_of};
 
@@ -67,74 +68,102 @@ fn known(includes: Includes<'_>) -> Known<'_> {
 
 const ANYWHERE: Includes<'static> = Includes::AsGit(None);
 
-/// Asserts that a walk from the first file comes to the entries with these names, in this order, and returns
-/// how it ends.
-fn walks<'t>(
-    rt: &impl Host,
-    files: &'t [InMemory],
-    includes: Includes<'_>,
-    names: &str,
-) -> Result<Result<(), AddError<'t>>, Fail> {
-    let alloc = rt.alloc();
-    let (name, text) = *files.first().ok_or("no file")?;
-    let text = text.ok_or("no text")?;
-    let mut settings = Settings::new(alloc);
-    let ended = settings.add_with_includes(
-        alloc,
-        &Memory { files },
-        &known(includes),
-        place(name),
-        text.as_bytes(),
-    );
-    let mut told = String::new(alloc);
+/// A walk: the name and the text of the file that it begins in, the includes that it follows, the names of the
+/// entries that it comes to, and the error that ends it, if any.
+type Row = (InMemory, Includes<'static>, &'static str, &'static str);
+
+/// The names of the entries, each with a space behind it.
+fn names_of(alloc: Global, settings: &Settings<'_>) -> Result<Vec<u8>, AllocError> {
+    let mut names = Vec::new(alloc);
     for setting in &settings.entries {
-        told.push_str(str::from_utf8(setting.entry.key).ok().ok_or("a key")?)?;
-        told.push(' ')?;
+        names.extend_from_slice(setting.entry.key)?;
+        names.push(b' ')?;
     }
-    equal(rt, told.as_str(), names, name);
-    Ok(ended)
+    Ok(names)
 }
 
-#[test]
-fn included_entries_follow_the_entry_that_includes(rt: HostRuntime) -> Result<(), Fail> {
-    let files: [InMemory; 4] = [
-        (
-            "/r/a",
-            Some("[x]\n\ta = 1\n[include]\n\tpath = b\n[x]\n\tz = 1"),
-        ),
-        ("/r/b", Some("[x]\n\told = 1")),
-        (
-            "/r/b",
-            Some("[x]\n\tb = 1\n[include]\n\tpath = ./c\n[x]\n\ty = 1"),
-        ),
-        ("/r/./c", Some("[x]\n\tc = 1")),
-    ];
-    walks(&rt, &files, ANYWHERE, "a path b path c y z ")??;
-    walks(&rt, &files, Includes::All, "a path b path c y z ")??;
-    walks(&rt, &files, Includes::Skipped, "a path z ")??;
+/// Adds the entries of a walk among these files, and returns the text of its error, or nothing.
+fn add(
+    alloc: Global,
+    settings: &mut Settings<'static>,
+    files: &'static [InMemory],
+    row: &Row,
+) -> Result<String, AllocError> {
+    let ((name, text), includes, ..) = *row;
+    let first = text.unwrap_or_default().as_bytes();
+    let known = known(includes);
+    match settings.add_with_includes(alloc, &Memory { files }, &known, place(name), first) {
+        Ok(()) => Ok(String::new(alloc)),
+        Err(error) => error.to_string(alloc),
+    }
+}
+
+/// Asserts that each walk among these files comes to its entries in this order, and ends as it should.
+fn walks(
+    rt: &impl Abort,
+    alloc: Global,
+    files: &'static [InMemory],
+    rows: &[Row],
+) -> Result<(), AllocError> {
+    for row in rows {
+        let mut settings = Settings::new(alloc);
+        let error = add(alloc, &mut settings, files, row)?;
+        let names = names_of(alloc, &settings)?;
+        holds(rt, names.as_slice() == row.2.as_bytes(), row.2);
+        equal(rt, error.as_str(), row.3, row.2);
+    }
     Ok(())
 }
 
+/// A file that includes others.
+const NESTED: InMemory = (
+    "/r/a",
+    Some("[x]\n\ta = 1\n[include]\n\tpath = b\n[x]\n\tz = 1"),
+);
+
+static BELOW: [InMemory; 3] = [
+    ("/r/b", Some("[x]\n\told = 1")),
+    (
+        "/r/b",
+        Some("[x]\n\tb = 1\n[include]\n\tpath = ./c\n[x]\n\ty = 1"),
+    ),
+    ("/r/./c", Some("[x]\n\tc = 1")),
+];
+
+static FOLLOWED: [Row; 3] = [
+    (NESTED, ANYWHERE, "a path b path c y z ", ""),
+    (NESTED, Includes::All, "a path b path c y z ", ""),
+    (NESTED, Includes::Skipped, "a path z ", ""),
+];
+
 #[test]
-fn paths_begin_in_the_directory_of_their_file(rt: HostRuntime) -> Result<(), Fail> {
-    let files: [InMemory; 4] = [
-        (
-            "/r/a",
-            Some(
-                "[include]\n\tpath = ~/b\n\tpath = d/c\n\tpath = /e\n\tpath = missing\n[x]\n\tz = 1",
-            ),
-        ),
-        ("/home/ann/b", Some("[x]\n\tb = 1")),
-        ("/r/d/c", Some("[x]\n\tc = 1")),
-        ("/e", Some("[x]\n\te = 1")),
-    ];
-    walks(&rt, &files, ANYWHERE, "path b path c path e path z ")??;
-    Ok(())
+fn included_entries_follow_the_entry_that_includes(rt: HostRuntime) {
+    assert!(rt; walks(&rt, rt.alloc(), &BELOW, &FOLLOWED).is_ok());
 }
 
-/// A chain of files, each of which includes the next one.
-const CHAIN: [InMemory; 12] = [
-    ("/0", Some("[include]\n\tpath = 1\n[x]\n\ta = 1")),
+static ELSEWHERE: [InMemory; 3] = [
+    ("/home/ann/b", Some("[x]\n\tb = 1")),
+    ("/r/d/c", Some("[x]\n\tc = 1")),
+    ("/e", Some("[x]\n\te = 1")),
+];
+
+static PATHS: [Row; 1] = [(
+    (
+        "/r/a",
+        Some("[include]\n\tpath = ~/b\n\tpath = d/c\n\tpath = /e\n\tpath = missing\n[x]\n\tz = 1"),
+    ),
+    ANYWHERE,
+    "path b path c path e path z ",
+    "",
+)];
+
+#[test]
+fn paths_begin_in_the_directory_of_their_file(rt: HostRuntime) {
+    assert!(rt; walks(&rt, rt.alloc(), &ELSEWHERE, &PATHS).is_ok());
+}
+
+/// A chain of files, each of which includes the next one. The file 12 is missing.
+static CHAIN: [InMemory; 11] = [
     ("/1", Some("[include]\n\tpath = 2")),
     ("/2", Some("[include]\n\tpath = 3")),
     ("/3", Some("[include]\n\tpath = 4")),
@@ -144,84 +173,81 @@ const CHAIN: [InMemory; 12] = [
     ("/7", Some("[include]\n\tpath = 8")),
     ("/8", Some("[include]\n\tpath = 9")),
     ("/9", Some("[include]\n\tpath = 10")),
-    ("/10", Some("[x]\n\tb = 1\n[include]\n\tpath = 11")),
+    (
+        "/10",
+        Some("[x]\n\tb = 1\n[include]\n\tpath = 12\n\tpath = 11"),
+    ),
     ("/11", Some("[x]\n\tc = 1")),
 ];
 
+static DEPTHS: [Row; 2] = [
+    (
+        ("/1", Some("[include]\n\tpath = 2\n[x]\n\ta = 1")),
+        ANYWHERE,
+        "path path path path path path path path path b path path c a ",
+        "",
+    ),
+    (
+        ("/0", Some("[include]\n\tpath = 1\n[x]\n\ta = 1")),
+        ANYWHERE,
+        "path path path path path path path path path path b path path ",
+        "/10:5: files include each other too deep",
+    ),
+];
+
 #[test]
-fn follows_includes_ten_files_deep(rt: HostRuntime) -> Result<(), Fail> {
-    let paths = "path path path path path path path path path path ";
-    let alloc = rt.alloc();
-    let without = format!(in alloc; "{paths}b path a ")?;
-    walks(&rt, &CHAIN[..11], ANYWHERE, without.as_str())??;
-    let stopped = format!(in alloc; "{paths}b path ")?;
-    let error = walks(&rt, &CHAIN, ANYWHERE, stopped.as_str())?
-        .err()
-        .ok_or("no error")?;
-    let AddError::Include {
-        file,
-        line,
-        fault: IncludeFault::TooDeep,
-    } = error
-    else {
-        return Err(Fail::new("not too deep"));
-    };
-    equal(&rt, file, b"/10".as_slice(), "the file");
-    equal(&rt, line, 4, "the line");
-    Ok(())
+fn follows_includes_ten_files_deep(rt: HostRuntime) {
+    assert!(rt; walks(&rt, rt.alloc(), &CHAIN, &DEPTHS).is_ok());
 }
 
-/// Files where a walk stops, the entries before that, and the error.
-const STOPS: [(&[InMemory], &str, &str); 6] = [
+static UNREADABLE: [InMemory; 2] = [("/b", None), ("/c", Some("[x]\n\tc = 1\n["))];
+
+/// Files where a walk stops.
+static STOPS: [Row; 6] = [
     (
-        &[
-            (
-                "/a",
-                Some("[x]\n\ta = 1\n[include]\n\tpath = b\n[x]\n\tz = 1"),
-            ),
-            ("/b", None),
-        ],
+        (
+            "/a",
+            Some("[x]\n\ta = 1\n[include]\n\tpath = b\n[x]\n\tz = 1"),
+        ),
+        ANYWHERE,
         "a path ",
         "/a:4: Permission denied",
     ),
     (
-        &[("/a", Some("[include]\n\n\tpath\n[x]\n\tz = 1"))],
+        ("/a", Some("[include]\n\n\tpath\n[x]\n\tz = 1")),
+        ANYWHERE,
         "path ",
         "/a:3: an include has no value",
     ),
     (
-        &[("/a", Some("[include]\n\tpath = ~bob/x\n[x]\n\tz = 1"))],
+        ("/a", Some("[include]\n\tpath = ~bob/x\n[x]\n\tz = 1")),
+        ANYWHERE,
         "path ",
         "/a:2: the path of an include begins with an unknown directory",
     ),
     (
-        &[("/a", Some("[include]\n\tpath = %(prefix)/x\n[x]\n\tz = 1"))],
+        ("/a", Some("[include]\n\tpath = %(prefix)/x\n[x]\n\tz = 1")),
+        ANYWHERE,
         "path ",
         "/a:2: the path of an include begins with an unknown directory",
     ),
     (
-        &[
-            ("/a", Some("[include]\n\tpath = b\n[x]\n\tz = 1")),
-            ("/b", Some("[x]\n\tb = 1\n[")),
-        ],
-        "path b ",
-        "/b:4: bad config line",
+        ("/a", Some("[include]\n\tpath = c\n[x]\n\tz = 1")),
+        ANYWHERE,
+        "path c ",
+        "/c:4: bad config line",
     ),
     (
-        &[("/a", Some("[x]\n\ta = 1\n]"))],
+        ("/a", Some("[x]\n\ta = 1\n]")),
+        ANYWHERE,
         "a ",
         "/a:3: bad config line",
     ),
 ];
 
 #[test]
-fn stops_where_git_does(rt: HostRuntime) -> Result<(), Fail> {
-    for (files, names, wanted) in STOPS {
-        let error = walks(&rt, files, ANYWHERE, names)?.err().ok_or("no error")?;
-        let told = format!(in rt.alloc(); "{error}")?;
-        equal(&rt, told.as_str(), wanted, names);
-    }
-    Ok(())
+fn stops_where_git_does(rt: HostRuntime) {
+    assert!(rt; walks(&rt, rt.alloc(), &UNREADABLE, &STOPS).is_ok());
 }
 
 /// The repository of `/r/.git`, on the branch `main`.
@@ -233,7 +259,7 @@ const REPOSITORY: Includes<'static> = Includes::AsGit(Some(Repository {
 }));
 
 /// Conditions, and whether they hold in the repository.
-const CONDITIONS: [(&str, bool); 10] = [
+static CONDITIONS: [(&str, bool); 10] = [
     ("gitdir:/r/", true),
     ("gitdir:/R/", false),
     ("gitdir/i:/R/", true),
@@ -246,87 +272,104 @@ const CONDITIONS: [(&str, bool); 10] = [
     ("unknown:x", false),
 ];
 
+/// Whether a walk follows the include with this condition.
+fn is_followed(alloc: Global, condition: &str, includes: Includes<'_>) -> Result<bool, AllocError> {
+    let text = format!(in alloc; "[includeIf \"{condition}\"]\n\tpath = /b\n[x]\n\tz = 1")?;
+    let mut walk = Walk::new(place("/r/a"), text.as_bytes());
+    let step = walk.next(alloc, &known(includes))?;
+    Ok(matches!(&step, Step::Entry(_, _, Include::Named(_))))
+}
+
 #[test]
-fn follows_an_include_whose_condition_holds(rt: HostRuntime) -> Result<(), Fail> {
-    let alloc = rt.alloc();
-    for (condition, holds) in CONDITIONS {
-        let text = format!(in alloc; "[includeIf \"{condition}\"]\n\tpath = /b\n[x]\n\tz = 1")?;
-        for (includes, is_followed) in [
-            (REPOSITORY, holds),
+fn follows_an_include_whose_condition_holds(rt: HostRuntime) {
+    for (condition, holds) in &CONDITIONS {
+        for (includes, wanted) in [
+            (REPOSITORY, *holds),
             (ANYWHERE, false),
             (Includes::Skipped, false),
             (Includes::All, true),
         ] {
-            let mut walk = Walk::new(place("/r/a"), text.as_bytes());
-            let step = walk.next(alloc, &known(includes))?;
-            let given = matches!(&step, Step::Entry(_, _, Include::Named(_)));
-            equal(&rt, given, is_followed, (condition, holds));
+            let given = is_followed(rt.alloc(), condition, includes);
+            assert!(rt; given == Ok(wanted), "{condition}");
         }
     }
-    Ok(())
+}
+
+/// A word for a step of a walk: what stands in the way of an include, the name of an entry, or the file whose
+/// third line cannot be read.
+fn word_of<'t>(step: &Step<'t>) -> &'t [u8] {
+    match step {
+        Step::Entry(_, _, Include::MissingValue) => b"(no value)",
+        Step::Entry(_, _, Include::UnknownDirectory) => b"(unknown directory)",
+        Step::Entry(_, entry, _) => entry.key,
+        Step::Line(at, error) if error.line == 3 => at.name,
+        Step::Line(..) => b"(another line)",
+        Step::Ends => b"(end)",
+    }
+}
+
+/// Whether the next steps of the walk have these words.
+fn has_steps(alloc: Global, walk: &mut Walk<'_>, words: &[&str]) -> Result<bool, AllocError> {
+    for word in words {
+        let step = walk.next(alloc, &known(ANYWHERE))?;
+        if word_of(&step) != word.as_bytes() {
+            return Ok(false);
+        }
+    }
+    Ok(true)
 }
 
 #[test]
-fn a_walk_goes_on_after_a_stop(rt: HostRuntime) -> Result<(), Fail> {
-    let alloc = rt.alloc();
-    let known = known(ANYWHERE);
-    let mut walk = Walk::new(
-        place("/a"),
-        b"[include]\n\tpath\n\tpath = ~bob/x\n\tpath = b\n[x]\n\tz = 1",
-    );
-    let step = walk.next(alloc, &known)?;
-    assert!(rt; matches!(&step, Step::Entry(_, _, Include::MissingValue)));
-    let step = walk.next(alloc, &known)?;
-    assert!(rt; matches!(&step, Step::Entry(_, _, Include::UnknownDirectory)));
-    let step = walk.next(alloc, &known)?;
-    assert!(rt; matches!(&step, Step::Entry(_, _, Include::Named(_))));
+fn a_walk_goes_on_after_a_stop(rt: HostRuntime) {
+    let text = b"[include]\n\tpath\n\tpath = ~bob/x\n\tpath = b\n[x]\n\tz = 1";
+    let mut walk = Walk::new(place("/a"), text);
+    let first = ["(no value)", "(unknown directory)", "path"];
+    assert!(rt; has_steps(rt.alloc(), &mut walk, &first) == Ok(true));
     assert!(rt; walk.enter(place("/b"), b"[y]\n\tb = 1\n="));
-    let step = walk.next(alloc, &known)?;
-    assert!(rt; matches!(&step, Step::Entry(_, entry, _) if entry.key == b"b".as_slice()));
-    let Step::Line(at, error) = walk.next(alloc, &known)? else {
-        return Err(Fail::new("no error"));
-    };
-    equal(&rt, at.name, b"/b".as_slice(), "the file of the line");
-    equal(&rt, error.line, 3, "the line");
-    let step = walk.next(alloc, &known)?;
-    assert!(rt; matches!(&step, Step::Entry(_, entry, _) if entry.key == b"z".as_slice()));
-    let step = walk.next(alloc, &known)?;
-    assert!(rt; matches!(&step, Step::Ends));
-    let step = walk.next(alloc, &known)?;
-    assert!(rt; matches!(&step, Step::Ends));
-    Ok(())
-}
-
-/// The file that is read first and has the name and the text of this file in memory.
-fn first_file(file: InMemory) -> FirstFile<'static> {
-    let (name, text) = file;
-    FirstFile {
-        place: place(name),
-        text: text.unwrap_or_default().as_bytes(),
-    }
+    let rest = ["b", "/b", "z", "(end)", "(end)"];
+    assert!(rt; has_steps(rt.alloc(), &mut walk, &rest) == Ok(true));
 }
 
 /// Two first files, the second of which includes a third file.
-const FILES: [InMemory; 3] = [
-    ("/etc/a", Some("[core]\n\tbare = no\n\tx = 1\n[b]\n\tx")),
-    ("/r/b", Some("[include]\n\tpath = c\n[b]\n\tx = \"2 \"")),
-    ("/r/c", Some("[core]\n\tbare")),
+const FIRST: [FirstFile<'static>; 2] = [
+    FirstFile {
+        place: Place {
+            name: b"/etc/a",
+            real_dir: b"/etc",
+        },
+        text: b"[core]\n\tbare = no\n\tx = 1\n[b]\n\tx",
+    },
+    FirstFile {
+        place: Place {
+            name: b"/r/b",
+            real_dir: b"/r",
+        },
+        text: b"[include]\n\tpath = c\n[b]\n\tx = \"2 \"",
+    },
 ];
+
+static THIRD: [InMemory; 1] = [("/r/c", Some("[core]\n\tbare"))];
+
+/// The value of a key in these files.
+fn value_in(alloc: Global, key: &str) -> Result<Option<Boolean>, NoValue<'static>> {
+    let files = Memory { files: &THIRD };
+    value_of(alloc, &files, &known(ANYWHERE), &FIRST, key)
+}
 
 #[test]
 fn the_last_entry_of_all_files_decides(rt: HostRuntime) -> Result<(), Fail> {
-    let alloc = rt.alloc();
-    let files = Memory { files: &FILES };
-    let known = known(ANYWHERE);
-    let first = [first_file(FILES[0]), first_file(FILES[1])];
     for (key, wanted) in [
         ("core.bare", Some(Boolean(true))),
         ("core.x", Some(Boolean(true))),
         ("core.y", None),
     ] {
-        let given = value_of::<Memory<'_>, Boolean>(alloc, &files, &known, &first, key)?;
-        equal(&rt, given, wanted, key);
+        assert!(rt; value_in(rt.alloc(), key)? == wanted, "{key}");
     }
+    Ok(())
+}
+
+#[test]
+fn the_last_entry_of_all_files_is_refused(rt: HostRuntime) -> Result<(), Fail> {
     let Err(
         NoValue::Refused {
             file,
@@ -334,13 +377,11 @@ fn the_last_entry_of_all_files_decides(rt: HostRuntime) -> Result<(), Fail> {
             text,
             fault,
         },
-    ) = value_of::<Memory<'_>, Boolean>(alloc, &files, &known, &first, "b.x")
+    ) = value_in(rt.alloc(), "b.x")
     else {
         return Err(Fail::new("a refusal"));
     };
-    equal(&rt, file, b"/r/b".as_slice(), "the file");
-    equal(&rt, line, 4, "the line");
-    equal(&rt, text.as_slice(), b"2 ".as_slice(), "the text");
-    equal(&rt, fault, Fault::Boolean, "the fault");
+    assert!(rt; file == b"/r/b".as_slice() && line == 4);
+    assert!(rt; text.as_slice() == b"2 ".as_slice() && fault == Fault::Boolean);
     Ok(())
 }

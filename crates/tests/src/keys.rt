@@ -27,33 +27,43 @@ static REFUSED: [(&str, KeyError); 14] = [
 #[test]
 fn refuses_what_is_no_key(rt: HostRuntime) -> Result<(), Fail> {
     let settings = Settings::new(rt.alloc());
-    for (text, error) in REFUSED {
+    for (text, error) in &REFUSED {
         let Some(GetError::Key(given)) = settings.get::<Boolean>(text).err() else {
             return Err(Fail::new("a refused key"));
         };
-        equal(&rt, given, error, text);
+        equal(&rt, given, *error, *text);
     }
     Ok(())
 }
 
 const TEXT: &[u8] = b"[core]\n\tbare\n\tempty =\n[a \"B.c\"]\n\tk = 1\n\tk = 2";
 
+/// Keys, and their values in the text.
+static VALUES: [(&str, Option<Boolean>); 8] = [
+    ("core.bare", Some(Boolean(true))),
+    ("CORE.Bare", Some(Boolean(true))),
+    ("core.empty", Some(Boolean(false))),
+    ("core.x", None),
+    ("a.B.c.k", Some(Boolean(true))),
+    ("A.B.c.K", Some(Boolean(true))),
+    ("a.b.c.k", None),
+    ("core..bare", None),
+];
+
 #[test]
 fn gets_the_value_of_a_key(rt: HostRuntime) -> Result<(), Fail> {
     let mut settings = Settings::new(rt.alloc());
     settings.add_file(rt.alloc(), b"f", TEXT)?;
-    for (key, value) in [
-        ("core.bare", Some(Boolean(true))),
-        ("CORE.Bare", Some(Boolean(true))),
-        ("core.empty", Some(Boolean(false))),
-        ("core.x", None),
-        ("a.B.c.k", Some(Boolean(true))),
-        ("A.B.c.K", Some(Boolean(true))),
-        ("a.b.c.k", None),
-        ("core..bare", None),
-    ] {
-        equal(&rt, settings.get::<Boolean>(key)?, value, key);
+    for (key, value) in &VALUES {
+        equal(&rt, settings.get::<Boolean>(key)?, *value, *key);
     }
+    Ok(())
+}
+
+#[test]
+fn refuses_the_value_of_a_key(rt: HostRuntime) -> Result<(), Fail> {
+    let mut settings = Settings::new(rt.alloc());
+    settings.add_file(rt.alloc(), b"f", TEXT)?;
     let Some(GetError::Refused(refused)) = settings.get::<Integer>("core.bare").err() else {
         return Err(Fail::new("true is no integer"));
     };

@@ -10,6 +10,8 @@ mod callers;
 #[cfg(test)]
 mod files;
 #[cfg(test)]
+mod host;
+#[cfg(test)]
 mod includes;
 #[cfg(test)]
 mod keys;

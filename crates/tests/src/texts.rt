@@ -1,7 +1,7 @@
 //! The texts of errors, which no contract states, and one text of each kind of value, since no contract says
 //! that `Display` succeeds.
 
-use crate::support::{Host, equal};
+use crate::support::equal;
 use gix_config_value::canonical::UnknownKind;
 use gix_config_value::color::{Attribute, Name};
 use gix_config_value::integer::{Amount, Suffix};
@@ -9,14 +9,20 @@ use gix_config_value::json::JsonError;
 use gix_config_value::path::interpolate::{Class, Error, Place};
 use gix_config_value::program::RunError;
 use gix_config_value::{Boolean, Color, Fault, Integer};
-use std::alloc::AllocError;
-use std::fmt::{Debug, Display};
+use std::alloc::{AllocError, Global};
+use std::fmt::Display;
+use std::process::Abort;
 use std::test::Fail;
 
 /// Asserts that each value displays its text.
-fn display<T: Display + Copy + Debug>(rt: &impl Host, rows: &[(T, &str)]) -> Result<(), Fail> {
+fn display<T: Display>(
+    rt: &impl Abort,
+    alloc: Global,
+    rows: &[(T, &str)],
+) -> Result<(), AllocError> {
     for (value, text) in rows {
-        equal(rt, value.to_string(rt.alloc())?.as_str(), *text, *value);
+        let shown = value.to_string(alloc)?;
+        equal(rt, shown.as_str(), *text, *text);
     }
     Ok(())
 }
@@ -67,49 +73,51 @@ static PATH_ERRORS: [(Error<'static>, &str); 11] = [
 ];
 
 #[test]
-fn errors_have_texts(rt: HostRuntime) -> Result<(), Fail> {
-    display(&rt, &FAULTS)?;
-    display(
-        &rt,
-        &[
-            (JsonError::Overflow, OVERFLOW),
-            (JsonError::Memory(AllocError), "no memory"),
-        ],
-    )?;
-    display(
-        &rt,
-        &[
-            (RunError::Read, "cannot read"),
-            (RunError::Write, "cannot write"),
-            (RunError::Memory(AllocError), "no memory"),
-        ],
-    )?;
-    display(
-        &rt,
-        &[(
-            UnknownKind,
-            "Kinds are suffix, integer, amount, boolean, name, attribute and color",
-        )],
-    )?;
-    display(&rt, &PATH_ERRORS)
+fn errors_have_texts(rt: HostRuntime) {
+    assert!(rt; display(&rt, rt.alloc(), &FAULTS).is_ok());
+    assert!(rt; display(&rt, rt.alloc(), &PATH_ERRORS).is_ok());
 }
 
 #[test]
-fn values_have_texts(rt: HostRuntime) -> Result<(), Fail> {
+fn errors_of_calls_have_texts(rt: HostRuntime) -> Result<(), Fail> {
+    let (overflow, memory) = (JsonError::Overflow, JsonError::Memory(AllocError));
+    let shown = format!(in rt.alloc(); "{overflow}; {memory}")?;
+    assert!(rt; shown.as_str() == "integer suffix multiplication overflows `i64`; no memory");
+    let (read, write, memory) = (
+        RunError::Read,
+        RunError::Write,
+        RunError::Memory(AllocError),
+    );
+    let shown = format!(in rt.alloc(); "{read}; {write}; {memory}")?;
+    assert!(rt; shown.as_str() == "cannot read; cannot write; no memory");
+    let shown = UnknownKind.to_string(rt.alloc())?;
+    let kinds = "Kinds are suffix, integer, amount, boolean, name, attribute and color";
+    assert!(rt; shown.as_str() == kinds);
+    Ok(())
+}
+
+#[test]
+fn numbers_and_booleans_have_texts(rt: HostRuntime) -> Result<(), Fail> {
     let integer = Integer {
         value: 16,
         suffix: Some(Suffix::Kibi),
     };
+    let amount = Amount(-5);
+    let boolean = Boolean(true);
+    let shown = format!(in rt.alloc(); "{} {integer} {amount} {boolean}", Suffix::Mebi)?;
+    assert!(rt; shown.as_str() == "m 16k -5 true");
+    Ok(())
+}
+
+#[test]
+fn parts_of_colors_have_texts(rt: HostRuntime) -> Result<(), Fail> {
     let color = Color {
         foreground: Some(Name::Red),
         background: Some(Name::Blue),
         attributes: Attribute::BOLD,
     };
-    display(&rt, &[(Suffix::Mebi, "m")])?;
-    display(&rt, &[(integer, "16k")])?;
-    display(&rt, &[(Amount(-5), "-5")])?;
-    display(&rt, &[(Boolean(true), "true")])?;
-    display(&rt, &[(Name::Rgb(255, 17, 187), "#ff11bb")])?;
-    display(&rt, &[(Attribute::NO_UL, "noul")])?;
-    display(&rt, &[(color, "red blue bold")])
+    let name = Name::Rgb(255, 17, 187);
+    let shown = format!(in rt.alloc(); "{name} {}; {color}", Attribute::NO_UL)?;
+    assert!(rt; shown.as_str() == "#ff11bb noul; red blue bold");
+    Ok(())
 }

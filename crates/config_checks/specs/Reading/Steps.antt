@@ -1,5 +1,5 @@
 -- What the steps of a check count and write.
-use Rattle.std.specs.Prelude.{◌≡◌, ⊤, ℕ, ◌+◌, ◌^◌, ◌<◌, ◌≤◌, List, ◌++◌, Option, None, Some}
+use Rattle.std.specs.Prelude.{◌≡◌, ◌≢◌, ⊤, ℕ, ◌+◌, ◌^◌, ◌<◌, ◌≤◌, List, ◌∷◌, ◌++◌, Option, None, Some}
 use Rattle.std.specs.Io.KnownBytes.{Appends}
 use Rattle.config_file.specs.declared.errors.Error as errors
 use Rattle.config_checks.specs.declared.options.Options.{Options}
@@ -9,6 +9,18 @@ use Rattle.config_checks.specs.declared.check.Counts.{Counts}
 use Rattle.config_checks.specs.declared.check.CheckError.{CheckError}
 use Rattle.config_checks.specs.declared.check.CheckError.TheVariants.{Write, Memory}
 use Rattle.config_checks.specs.Report.{ReportsSetting, Report, EndsReport, HasSettings}
+
+-- the texts do not begin with the same byte
+abbrev pub AreApart : List ℕ → List ℕ → Type 0
+AreApart (x ∷ xs) (y ∷ ys) = x ≢ y
+AreApart a b = ⊤
+
+-- what two texts have after the longest text that both begin with
+pub record AreRests (a b x y : List ℕ) : Type 0 where
+  pub front : List ℕ
+  pub first : a ≡ front ++ x
+  pub second : b ≡ front ++ y
+  pub apart : AreApart x y
 
 -- no count is greater than that of the entries
 pub record AreWithin (s : Counts) : Type 0 where

@@ -3,7 +3,6 @@ ghost use Rattle.config_text.specs.Orders.{IsCopied};
 
 use crate::check::Counts;
 use crate::finding::Finding;
-use crate::key::Key;
 use crate::kind::Form;
 use crate::options::{Format, Options};
 use crate::outcome::Outcome;
@@ -12,9 +11,8 @@ use crate::row::Run;
 use crate::suggestion::UnknownKey;
 use crate::table::{BadRow, RowFault};
 
-/// A clone of a key, a form, a run of rows or the fault of a row is the same, and never fails.
+/// A clone of a form, a run of rows or the fault of a row is the same, and never fails.
 pub fn rows()
-    ensures keys { IsCopied ⟦<Key<'static> as Clone>⟧.is_clone ⟦<Key<'static> as Clone>⟧.is_infallible }
     ensures forms { IsCopied ⟦<Form as Clone>⟧.is_clone ⟦<Form as Clone>⟧.is_infallible }
     ensures runs { IsCopied ⟦<Run<'static, 'static> as Clone>⟧.is_clone
         ⟦<Run<'static, 'static> as Clone>⟧.is_infallible }

@@ -1,22 +1,15 @@
 -- What the steps of a walk add to settings.
-use Rattle.std.specs.Prelude.{◌≡◌, ◌≤◌, ℕ, Bool, true, false, List, [], ◌∷◌, ◌++◌, length, map, Result, Ok, Err, ⊤}
+use Rattle.std.specs.Prelude.{◌≡◌, ◌≤◌, ℕ, Bool, true, false, List, [], ◌∷◌, ◌++◌, length, map, Result, Ok, Err}
 use Rattle.std.specs.declared.alloc.AllocError.{AllocError}
 use Rattle.config_file.specs.File.{Entry}
-use Rattle.config_file.specs.Walk.{Content, Text, Missing, Unreadable, Item, Stops, Stop}
+use Rattle.config_file.specs.Walk.{Content, Item, Stops, Stop}
 use Rattle.config_file.specs.Settings.{Adds, TellsStop, found_item}
 use Rattle.config_file.specs.Reading.Walks.{Said, Passes}
 use Rattle.config_file.specs.declared.settings.AddError.{AddError}
 use Rattle.config_file.specs.declared.settings.AddError.TheVariants as error
-use Rattle.config_file.specs.declared.settings.IncludeFault.{IncludeFault}
-use Rattle.config_file.specs.declared.settings.IncludeFault.TheVariants as fault
-use Rattle.config_file.specs.declared.settings.Next.{Next}
-use Rattle.config_file.specs.declared.settings.Next.TheVariants as next
 use Rattle.config_file.specs.declared.settings.Setting.{Setting}
 use Rattle.config_file.specs.declared.walk.Frame.{Frame}
-use Rattle.config_file.specs.declared.walk.Include.{Include}
-use Rattle.config_file.specs.declared.walk.Include.TheVariants.{NotFollowed, MissingValue, UnknownDirectory, Named}
 use Rattle.config_file.specs.declared.walk.Known.{Known}
-use Rattle.config_file.specs.declared.walk.Place.{Place}
 
 -- an entry is added, or nothing if memory is refused
 abbrev pub AddsEntry : List ℕ × Entry → List Setting → List Setting → Result (Unit {0}) AllocError → Type 0

@@ -135,15 +135,6 @@ pub record AnswersUpTo (before after : RunState) (bytes rest : List ℕ) : Type 
   pub advances : Advances before after done
   pub none : after.line ≡ []
 
--- the input before the rest consists of whole lines, whose answers were appended to what was held; `ok` says
--- whether each of them is accepted
-pub record AnswersFront (input rest held holds : List ℕ) (ok : Bool) : Type 0 where
-  pub done : List ℕ
-  pub output : List ℕ
-  pub split : input ≡ done ++ rest
-  pub taken : CompletesLines [] true done [] ok output
-  pub appended : holds ≡ held ++ output
-
 -- the end of the input: the line begun is answered, unless it is empty, and all answers are written
 pub record EndsAnswered (before : RunState) (after : OutputState) (ok : Bool) : Type 0 where
   pub last : List ℕ

@@ -1,7 +1,7 @@
 //! Laws about what the calls return and write: from the same input a call has one answer.
 //!
 //! An answer is the status and whatever the call writes over the same old contents. Two answers from the same
-//! input are the same. Of these calls, those of JSON, files and includes take memory. Two of their answers
+//! input are the same. Of these calls, those of JSON and of files take memory. Two of their answers
 //! are the same if memory was refused to both or to neither.
 ghost use Rattle.std.specs.Prelude.{◌≡◌, ℕ, List, Some};
 ghost use Rattle.serde_json.specs.Data.{Data, string, boolean as truth};
@@ -27,7 +27,6 @@ ghost use Rattle.gix_config_value_c.specs.Buffers.{PutsText};
 ghost use Rattle.gix_config_value_c.specs.Colors.{ComposesInto};
 ghost use Rattle.gix_config_value_c.specs.Faults.{TellsFault};
 ghost use Rattle.gix_config_value_c.specs.Files.{ReadsFile};
-ghost use Rattle.gix_config_value_c.specs.Includes.{IncludesInto};
 ghost use Rattle.gix_config_value_c.specs.Json.{PutsJson, WritesJson, WritesProduct};
 ghost use Rattle.gix_config_value_c.specs.Numbers.{suffix_number, flag_number};
 ghost use Rattle.gix_config_value_c.specs.Paths.{CutsMark, InterpolatesInto};
@@ -111,12 +110,4 @@ pub fn files()
     ensures { (text : List ℕ) → HasOneResultByMemory
         (λ (out out' : List ℕ × List GcvPlace × GcvFile) status.
         ReadsFile text out.0 out'.0 out.1 out'.1 out.2 out'.2 status) }
-{}
-
-/// An entry has one answer about what it includes: the name of the file, or why it includes none.
-pub fn includes()
-    ensures { (key : List ℕ) (value : ℕ × List ℕ) (file real_dir : List ℕ)
-        (install_dir home git_dir : ℕ × List ℕ) (real_git_dir : List ℕ) (branch real_home : ℕ × List ℕ)
-        → HasOneAnswerByMemory (λ buffer buffer' size size' status. IncludesInto key value file real_dir
-        install_dir home git_dir real_git_dir branch real_home buffer buffer' size size' status) }
 {}

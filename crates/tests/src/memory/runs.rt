@@ -1,10 +1,9 @@
 //! Runs of the program in which the growth of a line is refused.
 
 use crate::support::six_lines::{ANSWERS, INPUT};
-use crate::support::{Host, Reader, Turn, Writer, can_starve, equal, spares, starved};
+use crate::support::{Reader, Turn, Writer, can_starve, is_starved, spares, starved};
 use gix_config_value::program::{RunError, run};
-use std::alloc::AllocError;
-use std::test::Fail;
+use std::alloc::{AllocError, Global};
 
 const REFUSED: Result<bool, RunError> = Err(RunError::Memory(AllocError));
 
@@ -24,61 +23,76 @@ fn whole_answers(output: &[u8]) -> Option<usize> {
 /// With 1000 bytes only the last line crosses the end of a read.
 static PIECES: [(usize, usize); 4] = [(1, 0), (3, 0), (20, 3), (1000, 5)];
 
+/// Runs the program on the input, of which each read returns this many bytes.
+fn run_in(alloc: Global, piece: usize, writer: &mut Writer) -> Result<bool, RunError> {
+    run(alloc, &mut Reader::new(INPUT, piece), writer)
+}
+
+/// Whether the growth of a line is refused after these answers, and one more block is enough for it.
+fn grows(alloc: Global, piece: usize, answered: usize) -> Result<bool, AllocError> {
+    let mut writer = Writer::new(alloc, 1000, usize::MAX)?;
+    // the growth of a line gets the eighth freed block of its size, and no earlier one
+    let mut blocks = spares(alloc, &[24; 8])?;
+    let hoard = starved(alloc)?;
+    let outcome = run_in(alloc, piece, &mut writer);
+    let written = whole_answers(&writer.held);
+    writer.held.clear();
+    blocks.clear();
+    let grown = run_in(alloc, piece, &mut writer);
+    drop(hoard);
+    let is_refused = outcome == REFUSED && written == Some(answered);
+    let is_whole = whole_answers(&writer.held) == Some(ANSWERS.len());
+    Ok(is_refused && grown == Ok(false) && is_whole)
+}
+
+/// Whether the answers before the growth are written first: if that fails too, the error says so.
+fn writes_first(alloc: Global, piece: usize, answered: usize) -> Result<bool, AllocError> {
+    let mut writer = Writer::new(alloc, 1000, usize::MAX)?;
+    writer.otherwise = Some((1, Turn::Fails));
+    let hoard = starved(alloc)?;
+    let outcome = run_in(alloc, piece, &mut writer);
+    let is_held = is_starved(alloc);
+    drop(hoard);
+    let is_right = match outcome {
+        Err(RunError::Write) => answered > 0,
+        Err(RunError::Memory(_)) => answered == 0,
+        _ => false,
+    };
+    Ok(is_held && is_right)
+}
+
+/// Whether the run succeeds with ample memory.
+fn succeeds(alloc: Global, piece: usize) -> Result<bool, AllocError> {
+    let mut writer = Writer::new(alloc, 1000, usize::MAX)?;
+    Ok(run_in(alloc, piece, &mut writer) == Ok(false))
+}
+
 #[test]
-fn refuses_the_growth_of_a_line(rt: HostRuntime) -> Result<(), Fail> {
-    let starves = can_starve(&rt)?;
+fn refuses_the_growth_of_a_line(rt: HostRuntime) {
     let alloc = rt.alloc();
     for (piece, answered) in PIECES {
-        let mut writer = Writer::new(alloc, 1000, usize::MAX)?;
-        let mut failing = Writer::new(alloc, 1000, usize::MAX)?;
-        failing.otherwise = Some((1, Turn::Fails));
-        let outcome = run(alloc, &mut Reader::new(INPUT, piece), &mut writer);
-        equal(&rt, outcome, Ok(false), ("ample", piece));
-        if !starves {
-            continue;
+        assert!(rt; succeeds(alloc, piece) == Ok(true), "{piece}");
+        if can_starve(&rt) {
+            assert!(rt; grows(alloc, piece, answered) == Ok(true), "{piece}");
+            assert!(rt; writes_first(alloc, piece, answered) == Ok(true), "{piece}");
         }
-        writer.held.clear();
-        // the growth of a line gets the eighth freed block of its size, and no earlier one
-        let mut blocks = spares(alloc, &[24; 8])?;
-        let hoard = starved(&rt)?;
-        let outcome = run(alloc, &mut Reader::new(INPUT, piece), &mut writer);
-        let unwritten = run(alloc, &mut Reader::new(INPUT, piece), &mut failing);
-        let written = whole_answers(&writer.held);
-        writer.held.clear();
-        blocks.clear();
-        let grown = run(alloc, &mut Reader::new(INPUT, piece), &mut writer);
-        drop(hoard);
-        equal(&rt, outcome, REFUSED, piece);
-        equal(&rt, written, Some(answered), piece);
-        // the buffered answers are written first, and if that fails too, the error says so
-        let wanted = if answered > 0 {
-            Err(RunError::Write)
-        } else {
-            REFUSED
-        };
-        equal(&rt, unwritten, wanted, piece);
-        equal(&rt, grown, Ok(false), piece);
-        equal(&rt, whole_answers(&writer.held), Some(ANSWERS.len()), piece);
     }
-    Ok(())
 }
 
-/// Asserts that the whole lines are answered, with ample memory or without memory.
-fn answers_whole_lines(rt: &impl Host, input: &[u8], starve: bool) -> Result<(), Fail> {
-    let alloc = rt.alloc();
+/// Whether the lines are answered, to the last of which an LF is added, with ample memory or without memory.
+fn answers_whole_lines(alloc: Global, starve: bool) -> Result<bool, AllocError> {
+    let mut input = Vec::from_slice(alloc, INPUT)?;
+    input.push(b'\n')?;
     let mut writer = Writer::new(alloc, 1000, usize::MAX)?;
-    let hoard = if starve { Some(starved(rt)?) } else { None };
-    let outcome = run(alloc, &mut Reader::new(input, usize::MAX), &mut writer);
+    let hoard = if starve { Some(starved(alloc)?) } else { None };
+    let outcome = run(alloc, &mut Reader::new(&input, usize::MAX), &mut writer);
+    let is_held = is_starved(alloc) == starve;
     drop(hoard);
-    equal(rt, outcome, Ok(false), starve);
-    equal(rt, whole_answers(&writer.held), Some(ANSWERS.len()), starve);
-    Ok(())
+    Ok(is_held && outcome == Ok(false) && whole_answers(&writer.held) == Some(ANSWERS.len()))
 }
 
 #[test]
-fn needs_no_memory_for_whole_lines(rt: HostRuntime) -> Result<(), Fail> {
-    let mut input = Vec::from_slice(rt.alloc(), INPUT)?;
-    input.push(b'\n')?;
-    answers_whole_lines(&rt, &input, false)?;
-    answers_whole_lines(&rt, &input, can_starve(&rt)?)
+fn needs_no_memory_for_whole_lines(rt: HostRuntime) {
+    assert!(rt; answers_whole_lines(rt.alloc(), false) == Ok(true));
+    assert!(rt; answers_whole_lines(rt.alloc(), can_starve(&rt)) == Ok(true));
 }

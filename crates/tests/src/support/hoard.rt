@@ -4,11 +4,8 @@
 //! A test makes each call once before that, so that the stack has grown as far as the call needs. Afterward
 //! it cannot grow, since no addresses are left.
 
-use crate::support::{Host, equal};
 use std::alloc::{AllocError, Global};
 use std::env;
-use std::fmt::Debug;
-use std::test::Fail;
 
 /// How many blocks a hoard has room for.
 const ROOM: usize = 1 << 17;
@@ -22,16 +19,14 @@ pub struct Hoard {
 
 /// Takes blocks, large ones first, until a request for one byte is refused. Also takes small blocks of each
 /// size, since the C library keeps freed blocks by their sizes.
-pub fn starved(rt: &impl Host) -> Result<Hoard, Fail> {
-    let mut blocks = Vec::with_capacity(rt.alloc(), ROOM)?;
+pub fn starved(alloc: Global) -> Result<Hoard, AllocError> {
+    let mut blocks = Vec::with_capacity(alloc, ROOM)?;
     for shift in 0..36u32 {
-        take_all(rt.alloc(), &mut blocks, (1usize << 46) >> shift);
+        take_all(alloc, &mut blocks, (1usize << 46) >> shift);
     }
     for eighths in 0..256usize {
-        take_all(rt.alloc(), &mut blocks, 2048 - 8 * eighths);
+        take_all(alloc, &mut blocks, 2048 - 8 * eighths);
     }
-    equal(rt, blocks.len() < ROOM, true, "the hoard is full");
-    is_starved(rt);
     Ok(Hoard { blocks })
 }
 
@@ -47,16 +42,18 @@ fn take_all(alloc: Global, blocks: &mut Vec<Vec<u8>>, size: usize) {
     }
 }
 
-/// Asserts that the next request for memory is refused, even for one byte.
-fn is_starved(rt: &impl Host) {
-    let is_refused = Vec::<u8>::with_capacity(rt.alloc(), 1).is_err();
-    equal(rt, is_refused, true, "memory is left");
+/// Whether the next request for memory is refused, even for one byte.
+pub fn is_starved(alloc: Global) -> bool {
+    Vec::<u8>::with_capacity(alloc, 1).is_err()
 }
 
 /// Whether the process can be starved. `rt try` runs it by a loader, with memory that cannot be used up.
 /// There the tests of refused memory only show the results with ample memory.
-pub fn can_starve(rt: &impl Host) -> Result<bool, Fail> {
-    Ok(!env::current_exe(rt)?.ends_with("ld-linux-x86-64.so.2"))
+pub fn can_starve(rt: &HostRuntime) -> bool {
+    match env::current_exe(rt) {
+        Ok(path) => !path.ends_with("ld-linux-x86-64.so.2"),
+        Err(_) => true,
+    }
 }
 
 /// A block of each size, to be freed later.
@@ -68,39 +65,58 @@ pub fn spares(alloc: Global, sizes: &[usize]) -> Result<Vec<Vec<u8>>, AllocError
     Ok(blocks)
 }
 
-/// Asserts that the result of the call is right with ample memory, and with only one block of this size. It
-/// has to be the error without memory, unless the size is 0, since then it has to be right too.
-pub fn asks_once<T, E, R, C, G>(
-    rt: &impl Host,
-    row: R,
+/// Whether the result of the call is right without memory, and with only one block of this size. Without memory
+/// it has to be the error, unless the size is 0.
+fn asks_once_when_starved<T, E, C, G>(
+    alloc: Global,
+    size: usize,
+    error: E,
+    call: &C,
+    is_right: &G,
+) -> Result<bool, AllocError>
+where
+    T: Drop,
+    E: Copy + PartialEq,
+    C: Fn() -> Result<T, E>,
+    G: Fn(&Result<T, E>) -> bool,
+    requires call { C.IsAlwaysCallable call.now }
+    requires is_right { G.IsAlwaysCallable is_right.now }
+{
+    let mut spare = spares(alloc, &[size])?;
+    let hoard = starved(alloc)?;
+    let without = call();
+    let is_held = is_starved(alloc);
+    spare.clear();
+    let given = call();
+    let is_used = is_starved(alloc);
+    drop(hoard);
+    let is_error = if size == 0 {
+        is_right(&without)
+    } else {
+        without.err() == Some(error)
+    };
+    Ok(is_held && is_used && is_error && is_right(&given))
+}
+
+/// Whether the result of the call is right with ample memory, and with only one block of this size. Without
+/// memory it has to be the error, unless the size is 0.
+pub fn asks_once<T, E, C, G>(
+    rt: &HostRuntime,
     size: usize,
     error: E,
     call: C,
     is_right: G,
-) -> Result<(), Fail>
+) -> Result<bool, AllocError>
 where
     T: Drop,
-    E: Copy + PartialEq + Debug,
-    R: Copy + Debug,
+    E: Copy + PartialEq,
     C: Fn() -> Result<T, E>,
     G: Fn(&Result<T, E>) -> bool,
     requires call { C.IsAlwaysCallable call }
     requires is_right { G.IsAlwaysCallable is_right }
 {
-    equal(rt, is_right(&call()), true, row);
-    if !can_starve(rt)? {
-        return Ok(());
+    if !is_right(&call()) {
+        return Ok(false);
     }
-    let mut spare = spares(rt.alloc(), &[size])?;
-    let hoard = starved(rt)?;
-    let starving = call();
-    is_starved(rt);
-    spare.clear();
-    let given = call();
-    is_starved(rt);
-    drop(hoard);
-    equal(rt, is_right(&given), true, row);
-    equal(rt, is_right(&starving), size == 0, row);
-    equal(rt, size == 0 || starving.err() == Some(error), true, row);
-    Ok(())
+    Ok(!can_starve(rt) || asks_once_when_starved(rt.alloc(), size, error, &call, &is_right)?)
 }

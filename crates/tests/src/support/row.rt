@@ -1,10 +1,15 @@
-//! The assertion of a row, written once, since each use of an assertion with a message has its own proof.
+//! The assertions of a row, written once, since each use of an assertion with a message has its own proof.
 
-use crate::support::Host;
 use std::fmt::Debug;
+use std::process::Abort;
+
+/// Asserts that this is so. Otherwise the test ends, and shows the row.
+pub fn holds(rt: &impl Abort, is_so: bool, row: &str) {
+    assert!(rt; is_so, "{row}");
+}
 
 /// Asserts that both values are equal. Otherwise the test ends, and shows both values and their row.
-pub fn equal<T, R>(rt: &impl Host, given: T, wanted: T, row: R)
+pub fn equal<T, R>(rt: &impl Abort, given: T, wanted: T, row: R)
 where
     T: Copy + PartialEq + Debug,
     R: Copy + Debug,

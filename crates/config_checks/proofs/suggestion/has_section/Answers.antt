@@ -2,6 +2,7 @@ use Rattle.std.proofs.Common.{arith, rules, sym, subst, refl, ◌∙◌}
 use Rattle.std.proofs.lemmas.List.{take_all}
 use Rattle.std.specs.List.{All}
 use Rattle.config_text.specs.SameWord.{SameWord}
+use Rattle.config_file.specs.KeyView.{key_of}
 use Rattle.config_checks.specs.Rows.{rows_of}
 use Rattle.config_checks.proofs.RunLemmas.{all_more, has_run}
 use Rattle.config_checks.proofs.suggestion.has_section.Goals as goal
@@ -12,7 +13,7 @@ loop-run-init c = λ k d inside. absurd (omega (arith, inside))
 pub loop-run-preserved : goal.loop-run-preserved
 loop-run-preserved c =
     let other : ¬ (SameWord c.run-item.result.section.now c.args.section.now) = search rules in
-    all_more (λ row. ¬ (SameWord row.key.section.now c.args.section.now)) c.args.runs.now c.loop-run.run-index c.run-item.result c.loop-run-test.true
+    all_more (λ row. ¬ (SameWord (key_of row.key).section c.args.section.now)) c.args.runs.now c.loop-run.run-index c.run-item.result c.loop-run-test.true
     (sym c.run-item.is) c.loop-run.invariant (λ k d inside same. other (sym (c.run-item.result.of_section k d inside) ∙ same))
 
 pub returns-then-is_same_word : goal.returns-then-is_same_word
@@ -22,9 +23,9 @@ returns-then-is_same_word c =
 
 pub returns : goal.returns
 returns c =
-    let none = subst (λ runs. All (λ row. ¬ (SameWord row.key.section.now c.args.section.now)) (rows_of runs))
+    let none = subst (λ runs. All (λ row. ¬ (SameWord (key_of row.key).section c.args.section.now)) (rows_of runs))
     (take_all c.loop-run.run-index c.args.runs.now (omega (arith, c.loop-run-test.false))) c.loop-run.invariant in (
       λ yes. absurd (search rules),
       λ (place, row, inside, stands, same).
-          absurd (none place row inside (subst (λ row. SameWord row.key.section.now c.args.section.now) (sym stands) same)),
+          absurd (none place row inside (subst (λ row. SameWord (key_of row.key).section c.args.section.now) (sym stands) same)),
     )

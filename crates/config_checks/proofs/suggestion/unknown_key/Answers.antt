@@ -1,4 +1,5 @@
 use Rattle.std.proofs.Common.{subst, MatchOption, IsTrue, rules}
+use Rattle.config_file.specs.KeyView.{key_of}
 use Rattle.config_checks.specs.Nearest.{AreFar, IsNearest}
 use Rattle.config_checks.specs.Rows.{rows_of}
 use Rattle.config_checks.specs.Suggestions.{RowEdits}
@@ -7,12 +8,12 @@ use Rattle.config_checks.proofs.suggestion.unknown_key.Goals as goal
 
 pub returns-in-Some-2 : goal.returns-in-Some-2
 returns-in-Some-2 c = record {
-  key = c.in-Some.key;
-  is_key = c.in-Some.ensures;
+  key = key_of c.in-Some.key;
+  cut = c.in-Some.ensures;
   unknown = c.requires;
   suggests = (
     c.in-Some-2.row.now,
-    subst (λ r. MatchOption r (AreFar (RowEdits c.in-Some.key) (rows_of c.args.runs.now)) (λ row. IsNearest (RowEdits c.in-Some.key) (rows_of c.args.runs.now) row.now))
+    subst (λ r. MatchOption r (AreFar (RowEdits (key_of c.in-Some.key)) (rows_of c.args.runs.now)) (λ row. IsNearest (RowEdits (key_of c.in-Some.key)) (rows_of c.args.runs.now) row.now))
         c.in-Some-2.is c.in_ok-row.ensures,
     c.filled_key.ensures,
   );
@@ -20,11 +21,11 @@ returns-in-Some-2 c = record {
 
 pub returns-in-None : goal.returns-in-None
 returns-in-None c = record {
-  key = c.in-Some.key;
-  is_key = c.in-Some.ensures;
+  key = key_of c.in-Some.key;
+  cut = c.in-Some.ensures;
   unknown = c.requires;
   suggests = (
-    subst (λ r. MatchOption r (AreFar (RowEdits c.in-Some.key) (rows_of c.args.runs.now)) (λ row. IsNearest (RowEdits c.in-Some.key) (rows_of c.args.runs.now) row.now))
+    subst (λ r. MatchOption r (AreFar (RowEdits (key_of c.in-Some.key)) (rows_of c.args.runs.now)) (λ row. IsNearest (RowEdits (key_of c.in-Some.key)) (rows_of c.args.runs.now) row.now))
         c.in-None.is c.in_ok-row.ensures,
     c.is_own.ensures.0 c.if-is_own.true,
   );
@@ -33,7 +34,7 @@ returns-in-None c = record {
 pub returns-in-None-2 : goal.returns-in-None-2
 returns-in-None-2 c =
     let wrong : ¬ (IsTrue c.is_own.result) = search rules in
-    foreign c.in-Some.key c.in-Some.ensures
-    (subst (λ r. MatchOption r (AreFar (RowEdits c.in-Some.key) (rows_of c.args.runs.now)) (λ row. IsNearest (RowEdits c.in-Some.key) (rows_of c.args.runs.now) row.now))
+    foreign (key_of c.in-Some.key) c.in-Some.ensures
+    (subst (λ r. MatchOption r (AreFar (RowEdits (key_of c.in-Some.key)) (rows_of c.args.runs.now)) (λ row. IsNearest (RowEdits (key_of c.in-Some.key)) (rows_of c.args.runs.now) row.now))
     c.in-None.is c.in_ok-row.ensures)
     (λ own. wrong (c.is_own.ensures.1 own))

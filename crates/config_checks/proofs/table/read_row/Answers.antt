@@ -1,5 +1,6 @@
 use Rattle.std.proofs.Common.{◌≡◌, ◌∷◌, List, ℕ, map, IfErr, rules}
 use Rattle.std.proofs.lemmas.Result.{IfErr-weaker}
+use Rattle.config_file.specs.KeyView.{key_of}
 use Rattle.config_checks.specs.Rows.{fields_of, IsNoRow, HasMarks, IsBadKind, IsBadRow}
 use Rattle.config_checks.proofs.TableLemmas.{bad_kind}
 use Rattle.config_checks.proofs.table.read_row.Goals as goal
@@ -16,5 +17,5 @@ returns-in_err-kind-clause-refused c =
     let marks : HasMarks marked c.cut_alone-alone.result.0 c.cut_warn-goes_on.result.0 (name.now ∷ words) = search rules in
     let bad : IfErr c.from_residual-in_err-kind.result (IsBadKind name.now words) = search rules in
     IfErr-weaker c.from_residual-in_err-kind.result _ (IsBadRow fields)
-    (λ fault is. bad_kind fields marked key.now name.now words c.in-Some-parse.key _ _ fault row parts
-    c.in-Some-parse.ensures marks is) bad
+    (λ fault is. bad_kind fields marked key.now name.now words (key_of c.in-Some-split.key) _ _ fault row parts
+    c.in-Some-split.ensures marks is) bad

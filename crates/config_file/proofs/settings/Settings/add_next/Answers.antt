@@ -17,14 +17,14 @@ returns-in-Line g c = (
     c.next.new.self.fits,
     line_next (g.S.Files.contents c.args.files.now) c.args.known.now c.args.walk.now.frames.items
         c.next.new.self.frames.items c.in-Line.place c.in-Line.error
-        (λ answers. rw c.in-Line.is at (c.in-Ok.ensures answers)),
+        (λ answers. rw c.in-Line.is at (c.in-Ok.ensures.takes answers)),
   ),
 )
 
 pub returns-in-Ends : goal.returns-in-Ends
 returns-in-Ends g c = ends_next (g.S.Files.contents c.args.files.now) c.args.known.now
     c.args.self.now.entries.items c.args.walk.now.frames.items c.next.new.self.frames.items
-    (λ answers. rw c.in-Ends.is at (c.in-Ok.ensures answers))
+    (λ answers. rw c.in-Ends.is at (c.in-Ok.ensures.takes answers))
 
 pub returns-in-Behind : goal.returns-in-Behind
 returns-in-Behind g c = (
@@ -32,7 +32,7 @@ returns-in-Behind g c = (
   c.in-Ok-add.ensures,
   passed_next (g.S.Files.contents c.args.files.now) c.args.known.now c.args.walk.now.frames.items
       c.next.new.self.frames.items c.in-Entry.place c.in-Entry.entry c.in-Entry.include
-      (λ answers. rw c.in-Entry.is at (c.in-Ok.ensures answers)) (rw c.in-Behind.is at c.in-Ok-next_of.ensures),
+      (λ answers. rw c.in-Entry.is at (c.in-Ok.ensures.takes answers)) (rw c.in-Behind.is at c.in-Ok-next_of.ensures),
 )
 
 pub returns-in-In : goal.returns-in-In
@@ -41,7 +41,7 @@ returns-in-In g c = (
   c.in-Ok-add.ensures,
   entered_next (g.S.Files.contents c.args.files.now) c.args.known.now c.args.walk.now.frames.items
       c.next.new.self.frames.items c.enter.new.self.frames.items c.in-Entry.place c.in-In.place c.in-Entry.entry
-      c.in-Entry.include c.in-In.text.now (λ answers. rw c.in-Entry.is at (c.in-Ok.ensures answers))
+      c.in-Entry.include c.in-In.text.now (λ answers. rw c.in-Entry.is at (c.in-Ok.ensures.takes answers))
       (rw c.in-In.is at c.in-Ok-next_of.ensures) (c.enter.ensures.entered (search rules)),
 )
 
@@ -57,7 +57,7 @@ returns-in-In-2 g c = (
     c.next.new.self.fits,
     deep_next (g.S.Files.contents c.args.files.now) c.args.known.now c.args.walk.now.frames.items
         c.next.new.self.frames.items c.in-Entry.place c.in-In.place c.in-Entry.entry c.in-Entry.include
-        c.in-In.text.now (λ answers. rw c.in-Entry.is at (c.in-Ok.ensures answers))
+        c.in-In.text.now (λ answers. rw c.in-Entry.is at (c.in-Ok.ensures.takes answers))
         (rw c.in-In.is at c.in-Ok-next_of.ensures) (search rules),
   ),
 )
@@ -66,7 +66,7 @@ pub returns-in-Stops : goal.returns-in-Stops
 returns-in-Stops g c =
     let (stop, tells, comes) = stop_comes (g.S.Files.contents c.args.files.now) c.args.known.now
     c.args.walk.now.frames.items c.next.new.self.frames.items c.in-Entry.place c.in-Entry.entry
-    c.in-Entry.include c.in-Stops.fault (λ answers. rw c.in-Entry.is at (c.in-Ok.ensures answers))
+    c.in-Entry.include c.in-Stops.fault (λ answers. rw c.in-Entry.is at (c.in-Ok.ensures.takes answers))
     (rw c.in-Stops.is at c.in-Ok-next_of.ensures) in (
       (c.in-Entry.place.name.now, entry_of c.in-Entry.entry) ∷ [],
       c.in-Entry.place.name.now,

@@ -5,22 +5,25 @@ use Rattle.config_file.proofs.Steps.{exhausted, invalid, takes}
 use Rattle.config_file.proofs.walk.Walk.next.Goals as goal
 
 pub frames-preserved : goal.frames-preserved
-frames-preserved c = λ answers items whole rest.
-    c.frames.invariant answers items whole (exhausted (Said answers) c.args.known.now c.frames.self.frames.items
-    c.pop.new.self.items c.in-Some.frame items whole (search rules) (search rules) c.in_default-next.ensures.steps.0 rest)
+frames-preserved c = (
+  λ answers items whole rest.
+      c.frames.invariant.0 answers items whole (exhausted (Said answers) c.args.known.now c.frames.self.frames.items
+      c.pop.new.self.items c.in-Some.frame items whole (search rules) (search rules) c.in_default-next.ensures.steps.0 rest),
+  search rules,
+)
 
-pub returns-in-Err : goal.returns-in-Err
-returns-in-Err c = λ answers items whole rest.
+pub returns-in-Err-clause-takes : goal.returns-in-Err-clause-takes
+returns-in-Err-clause-takes c = λ answers items whole rest.
     let gives = rw c.in-Err.is at c.in-Some-next.ensures.steps in
-    c.frames.invariant answers _ _ (invalid (Said answers) c.args.known.now c.frames.self.frames.items
+    c.frames.invariant.0 answers _ _ (invalid (Said answers) c.args.known.now c.frames.self.frames.items
     c.pop.new.self.items c.in-Some.frame c.in-Err.error items whole (search rules) (search rules) gives.0 rest)
 
-pub returns-in-Some : goal.returns-in-Some
-returns-in-Some c = λ answers.
+pub returns-in-Some-clause-takes : goal.returns-in-Some-clause-takes
+returns-in-Some-clause-takes c = λ answers.
     let next : Frame = record { place = c.in-Some.frame.place; entries = c.next.new.self } in
     takes answers c.args.known.now c.args.self.now.frames.items c.frames.self.frames.items _ c.pop.new.self.items
-    c.in-Some.frame next c.in-Ok.entry c.in_ok-include.include (c.frames.invariant answers) (search rules)
+    c.in-Some.frame next c.in-Ok.entry c.in_ok-include.include (c.frames.invariant.0 answers) (search rules)
     (search rules) refl (rw c.in-Ok.is at c.in-Some-next.ensures.steps) c.in_ok-include.ensures
 
-pub returns : goal.returns
-returns c = λ answers. (search rules, λ items whole has. c.frames.invariant answers items whole (search rules))
+pub returns-clause-takes : goal.returns-clause-takes
+returns-clause-takes c = λ answers. (search rules, λ items whole has. c.frames.invariant.0 answers items whole (search rules))

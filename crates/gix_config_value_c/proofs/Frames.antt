@@ -1,0 +1,74 @@
+-- The frames of a walk in C, one more at a time.
+use Rattle.std.proofs.Common.{arith, ◌≡◌, ◌<◌, ◌≤◌, ◌+◌, ◌++◌, ℕ, zero, suc, List, [], ◌∷◌, Option, None, Some}
+use Rattle.std.proofs.Common.{length, take, drop, subst, sym, ap, ◌∙◌, slice_index_or, slice_set}
+use Rattle.std.specs.List.{AllZip}
+use Rattle.std.proofs.lemmas.List.{take_more, take_more_set, length-take-le}
+use Rattle.std.proofs.lemmas.Slice.Zip.{AllZip-long}
+use Rattle.config_file.specs.declared.section.Section.{Section}
+use Rattle.config_file.specs.declared.section.Subsection.{Subsection}
+use Rattle.config_file.specs.declared.walk.Frame.{Frame}
+use Rattle.gix_config_value_c.specs.declared.walk.GcvFrame.{GcvFrame}
+use Rattle.gix_config_value_c.specs.Walks.{HoldsFrame, HoldsSection}
+use Rattle.gix_config_value_c.specs.Walks.HoldsSection.{plain, within}
+use Rattle.gix_config_value_c.proofs.Rows.{zip_push}
+
+-- each frame in C holds one of the walk
+pub held_at : (frames : List GcvFrame) (old : List Frame) (i : ℕ) (d : GcvFrame) → AllZip HoldsFrame frames old
+    → i < length frames → (f : Frame) × HoldsFrame (slice_index_or frames i d) f
+held_at [] old i d all less = absurd (omega (arith, less))
+held_at (c ∷ cs) [] i d all less = absurd all
+held_at (c ∷ cs) (f ∷ fs) zero d all less = (f, all.0)
+held_at (c ∷ cs) (f ∷ fs) (suc i) d all less = held_at cs fs i d all.1 (omega (arith, less))
+
+-- one more frame is taken from the array
+pub one_more : (frames : List GcvFrame) (old new : List Frame) (i : ℕ) (d : GcvFrame) (f : Frame)
+    → i < length frames → AllZip HoldsFrame (take i frames) old → HoldsFrame (slice_index_or frames i d) f
+    → new ≡ old ++ f ∷ [] → AllZip HoldsFrame (take (i + 1) frames) new
+one_more frames old new i d f less all has e =
+    subst (λ fs. AllZip HoldsFrame (take (i + 1) frames) fs) (sym e)
+    (subst (λ cs. AllZip HoldsFrame cs (old ++ f ∷ [])) (sym (take_more frames i d less))
+    (zip_push HoldsFrame (take i frames) old (slice_index_or frames i d) f all has))
+
+-- the array has more frames than a walk
+pub too_many : (frames : List GcvFrame) (old walk : List Frame) (i : ℕ) → i < length frames
+    → AllZip HoldsFrame (take i frames) walk → length walk ≡ 11 → AllZip HoldsFrame frames old → ¬ (length old ≤ 11)
+too_many frames old walk i less part full all fits =
+    let whole = AllZip-long HoldsFrame frames old all in
+    let some = AllZip-long HoldsFrame (take i frames) walk part in
+    let long : length (take i frames) ≡ i = length-take-le i frames (omega (arith, less)) in
+    omega (arith, whole, some, long, full, fits, less)
+
+-- one more frame is put into the array
+pub one_put : (frames : List GcvFrame) (walk : List Frame) (i : ℕ) (c : GcvFrame) (f : Frame) → i < length frames
+    → i < length walk → AllZip HoldsFrame (take i frames) (take i walk) → f ≡ slice_index_or walk i f → HoldsFrame c f
+    → AllZip HoldsFrame (take (i + 1) (slice_set frames i c)) (take (i + 1) walk)
+one_put frames walk i c f less inside all is has =
+    subst (λ fs. AllZip HoldsFrame (take (i + 1) (slice_set frames i c)) fs) (sym (take_more walk i f inside))
+    (subst (λ cs. AllZip HoldsFrame cs (take i walk ++ slice_index_or walk i f ∷ [])) (sym (take_more_set frames i c less))
+    (zip_push HoldsFrame (take i frames) (take i walk) c (slice_index_or walk i f) all
+    (subst (λ x. HoldsFrame c x) is has)))
+
+-- the frame holds this section, which has no subsection
+pub plain_of : (frame : GcvFrame) (s : Section) (section : Option Section) → section ≡ Some s → s.subsection ≡ None
+    → frame.section ≡ s.name → frame.parts ≡ 1 → HoldsSection frame section
+plain_of frame s section is alone name parts =
+    subst (HoldsSection frame) (sym is)
+    (subst (λ x. HoldsSection frame (Some (record { name = s.name; subsection = x }))) (sym alone)
+    (subst (λ x. HoldsSection frame (Some (record { name = x; subsection = None }))) name (plain parts)))
+
+-- the frame holds this section, which has this subsection
+pub within_of : (frame : GcvFrame) (s : Section) (sub : Subsection) (section : Option Section) → section ≡ Some s
+    → s.subsection ≡ Some sub → frame.section ≡ s.name → frame.subsection ≡ sub.raw → frame.parts ≡ 2
+    → HoldsSection frame section
+within_of frame s sub section is has name raw parts =
+    subst (HoldsSection frame) (sym is)
+    (subst (λ x. HoldsSection frame (Some (record { name = s.name; subsection = x }))) (sym has)
+    (subst (λ x. HoldsSection frame (Some (record { name = s.name; subsection = Some (record { raw = x }) }))) raw
+    (subst (λ x. HoldsSection frame (Some (record { name = x; subsection = Some (record { raw = frame.subsection }) }))) name
+    (within parts))))
+
+-- the texts of a step are at the front of the buffer
+pub put_text : (copied text buffer : List ℕ) (size : ℕ) → copied ≡ text → size ≡ length text
+    → copied ++ drop size buffer ≡ text ++ drop (length text) buffer
+put_text copied text buffer size same long =
+    ap (λ t. t ++ drop size buffer) same ∙ ap (λ n. text ++ drop n buffer) long

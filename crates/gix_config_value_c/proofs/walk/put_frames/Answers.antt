@@ -1,0 +1,41 @@
+use Rattle.std.proofs.Common.{arith, subst, refl, take, length, ap, ◌<◌, ◌+◌}
+use Rattle.std.specs.List.{AllZip}
+use Rattle.std.proofs.lemmas.List.{take_all}
+use Rattle.gix_config_value_c.specs.Walks.{HoldsFrame}
+use Rattle.gix_config_value_c.proofs.Frames.{one_put}
+use Rattle.gix_config_value_c.proofs.walk.put_frames.Goals as goal
+
+pub loop-frame-init : goal.loop-frame-init
+loop-frame-init c = (refl, tt)
+
+pub offset_bounds-frames-count : goal.offset_bounds-frames-count
+offset_bounds-frames-count c =
+    omega (arith, c.loop-frame.invariant.0, c.loop-frame-test.true, c.frames-frame-items.type_inv.1)
+
+pub bounds-frames-count : goal.bounds-frames-count
+bounds-frames-count c =
+    let same = ap length c.frames-frame-items.ensures in
+    omega (arith, same, c.loop-frame.invariant.0, c.loop-frame-test.true, c.requires, c.loop-frame.auto.frames)
+
+pub overflow_add-count : goal.overflow_add-count
+overflow_add-count c =
+    omega (arith, c.loop-frame.invariant.0, c.loop-frame-test.true, c.frames-frame-items.type_inv.0)
+
+pub loop-frame-preserved : goal.loop-frame-preserved
+loop-frame-preserved c =
+    let at = c.loop-frame.invariant.0 in
+    let same = ap length c.frames-frame-items.ensures in
+    let less : c.loop-frame.count < length c.loop-frame.frames =
+    omega (arith, same, at, c.loop-frame-test.true, c.requires, c.loop-frame.auto.frames) in (
+      ap (λ n. n + 1) at,
+      one_put c.loop-frame.frames c.frames-frame-items.result.now c.loop-frame.count c.held.result
+          c.frame-item.result less (omega (arith, at, c.loop-frame-test.true)) c.loop-frame.invariant.1
+          (rw at c.frame-item.is) c.held.ensures,
+    )
+
+pub returns : goal.returns
+returns c =
+    let all = take_all c.loop-frame.count c.frames-frame-items.result.now
+    (omega (arith, c.loop-frame.invariant.0, c.loop-frame-test.false)) in
+    subst (λ fs. AllZip HoldsFrame (take c.loop-frame.count c.loop-frame.frames) fs) c.frames-frame-items.ensures
+    (subst (λ fs. AllZip HoldsFrame (take c.loop-frame.count c.loop-frame.frames) fs) all c.loop-frame.invariant.1)
