@@ -4,8 +4,9 @@ Each input is measured in turn at its size and at twice that size. The result is
 minus that of an empty input. A ratio near 2 says that the time grows as the input does. A long line takes less time
 than the start of a process, so its input repeats it as often as the table says.
 
-The rows of includes double the number of the files that a file includes. In the last rows the pattern of a condition
-and the name of the branch are doubled both: a ratio near 4 says that the time grows as their product.
+The rows of includes double the number of the files that a file includes. In the rows after them the name of a section
+and the number of its keys, or the pattern of a condition and the name of the branch, are doubled both: a ratio near 4
+says that the time grows as their product.
 """
 import argparse
 import os
@@ -48,6 +49,15 @@ class Includes:
             pathlib.Path(self.folder, str(number)).write_text("[a]\n" + "\tb = 1\n" * entries, "ascii")
 
 
+class Section:
+    """A file with this many keys in a section whose name has as many letters, and the key that is asked for."""
+
+    def __init__(self, size):
+        self.made, self.file = tempfile.TemporaryDirectory(), tempfile.TemporaryFile()
+        self.words, self.folder = ["--file", "config", "s" * size + ".k"], self.made.name
+        pathlib.Path(self.folder, "config").write_text(f"[{'s' * size}]\n" + "k\n" * size, "ascii")
+
+
 def often(times, front, repeated, back=b""):
     """Makes this many lines, in each of which a part is repeated."""
     return lambda size: Lines((front + repeated * size + back + b"\n") * times)
@@ -76,6 +86,7 @@ INPUTS = [
     ("one line of 25 and 50 MB, `ul `", 25_000_000, lambda size: Lines(b"color " + b"ul " * (size // 3) + b"\n")),
     ("included files of 100 entries", 400, lambda size: Includes(size, 100)),
     ("included files of one entry", 3_000, lambda size: Includes(size, 1)),
+    ("keys of a section with a long name", 10_000, Section),
     ("`*a` for each letter", 50_000, lambda size: Condition("*a" * size, "a" * size)),
     ("`*a` for each letter, then `b`", 50_000, lambda size: Condition("*a" * size + "b", "a" * size)),
     ("`*`, half the letters, `b`", 5_000, lambda size: Condition("*" + "a" * (size // 2) + "b", "a" * size)),

@@ -85,8 +85,8 @@ impl<'a> Entries<'a> {
         }
     }
 
-    /// The entries of what is left of a text after this line, under the last header before it. They are none if
-    /// the lines could not be counted: if `line` and the length of `rest` sum to more than 2^63 + 1.
+    /// The entries of the rest of a text, which begins on this line and under this header. Returns `None` if the
+    /// lines could not be counted, that is if `line` and the length of `rest` sum to more than 2^63 + 1.
     pub fn resume(section: Option<Section<'a>>, line: usize, rest: &'a [u8]) -> Option<Self>
         ensures { MatchOption result (2 ^ 63 + 2 ≤ line + length rest.now)
             (λ entries. (entries.section ≡ section.entry) × (entries.line ≡ line) × (entries.rest ≡ rest.entry)) }

@@ -136,7 +136,7 @@ line_struct place error = record {
 -- with what is known, this step leads from the walk that the C frames hold to the walk of these frames
 abbrev pub StepsFrom : List GcvFrame → GcvKnown → Step → List Frame → Type 0
 StepsFrom frames given step new = (known : Known) × (old : List Frame) × IsKnown given known
-    × AllZip HoldsFrame frames old × ((answers : List (List ℕ × Content)) → Takes answers known old step new)
+    × (length old ≤ 11) × AllZip HoldsFrame frames old × ((answers : List (List ℕ × Content)) → Takes answers known old step new)
 
 -- the step is told: an entry with its texts, a line that is refused, or the end of the walk
 abbrev pub Tells : Step → List ℕ → List ℕ → GcvStep → GcvStep → ℕ → Type 0
@@ -149,12 +149,12 @@ Tells (step.Line place error) buffer buffer' out out' status = (buffer' ≡ buff
 Tells step.Ends buffer buffer' out out' status =
     (buffer' ≡ buffer) × (out' ≡ out) × (status ≡ status_number statuses.Absent)
 
--- A step is taken and told, and the first frames hold the walk that is left. Or the buffer is too short for the
+-- A step is taken and told, and the first frames hold the walk that is left, as many as are told. Or the buffer is too short for the
 -- texts of the entry, memory is refused, a flag is bad, or the frames hold no walk; then the walk stays as it is.
 pub data NextInto (frames : List GcvFrame) (count : ℕ) (known : GcvKnown) (buffer : List ℕ) (out : GcvStep)
     (frames' : List GcvFrame) (count' : ℕ) (buffer' : List ℕ) (out' : GcvStep) (status : ℕ) : Type 0 where
   told : (taken : Step) (new : List Frame) → StepsFrom frames known taken new
-      → AllZip HoldsFrame (take count' frames') new → Tells taken buffer buffer' out out' status
+      → count' ≡ length new → AllZip HoldsFrame (take count' frames') new → Tells taken buffer buffer' out out' status
       → NextInto frames count known buffer out frames' count' buffer' out' status
   short : (place : Place) (entry : code.Entry) (include : Include) (new : List Frame) (texts : Texts)
       → StepsFrom frames known (step.Entry place entry include) new → AreTextsOf (entry_of entry) include texts

@@ -192,7 +192,8 @@ fn walk_of<'t>(frames: &[GcvFrame<'t>]) -> Option<Walk<'t>>
 /// Puts the frames of a walk at the front of the array, and returns their number.
 fn put_frames<'t>(walk: &Walk<'t>, frames: &mut [GcvFrame<'t>]) -> usize
     requires { length walk.now.frames.items ≤ length frames.old }
-    ensures { AllZip HoldsFrame (take result frames.new) walk.now.frames.items }
+    ensures count { result ≡ length walk.now.frames.items }
+    ensures holds { AllZip HoldsFrame (take result frames.new) walk.now.frames.items }
 {
     let mut count = 0;
     for frame in walk.frames() {

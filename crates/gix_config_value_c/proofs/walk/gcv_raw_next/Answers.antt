@@ -12,6 +12,7 @@ returns-then-buffer-size c =
       c.in-Some.known,
       c.in-Some-walk_of.walk.frames.items,
       c.in-Some.ensures,
+      c.in-Some-walk_of.walk.fits,
       c.in-Some-walk_of.ensures,
       λ answers. rw c.in-Entry.is at (c.in-Ok.ensures.takes answers),
     ) c.in-Ok-texts_of.ensures
@@ -38,9 +39,10 @@ returns-else-buffer-size c =
       c.in-Some.known,
       c.in-Some-walk_of.walk.frames.items,
       c.in-Some.ensures,
+      c.in-Some-walk_of.walk.fits,
       c.in-Some-walk_of.ensures,
       λ answers. rw c.in-Entry.is at (c.in-Ok.ensures.takes answers),
-    ) c.put_frames.ensures (
+    ) c.put_frames.ensures.count c.put_frames.ensures.holds (
       c.in-Ok-texts_of.texts,
       c.in-Ok-texts_of.ensures,
       c.step_struct.ensures,
@@ -56,9 +58,10 @@ returns-in-Line c =
       c.in-Some.known,
       c.in-Some-walk_of.walk.frames.items,
       c.in-Some.ensures,
+      c.in-Some-walk_of.walk.fits,
       c.in-Some-walk_of.ensures,
       λ answers. rw c.in-Line.is at (c.in-Ok.ensures.takes answers),
-    ) c.put_frames-in-Line.ensures
+    ) c.put_frames-in-Line.ensures.count c.put_frames-in-Line.ensures.holds
     (refl, c.line_struct.ensures, c.fault_status.ensures)
 
 pub returns-in-Ends : goal.returns-in-Ends
@@ -67,6 +70,7 @@ returns-in-Ends c =
       c.in-Some.known,
       c.in-Some-walk_of.walk.frames.items,
       c.in-Some.ensures,
+      c.in-Some-walk_of.walk.fits,
       c.in-Some-walk_of.ensures,
       λ answers. rw c.in-Ends.is at (c.in-Ok.ensures.takes answers),
-    ) c.put_frames-in-Ends.ensures (refl, refl, refl)
+    ) c.put_frames-in-Ends.ensures.count c.put_frames-in-Ends.ensures.holds (refl, refl, refl)

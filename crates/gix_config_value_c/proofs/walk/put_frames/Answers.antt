@@ -33,8 +33,13 @@ loop-frame-preserved c =
           (rw at c.frame-item.is) c.held.ensures,
     )
 
-pub returns : goal.returns
-returns c =
+pub returns-clause-count : goal.returns-clause-count
+returns-clause-count c =
+    let same = ap length c.frames-frame-items.ensures in
+    omega (arith, same, c.loop-frame.invariant.0, c.loop-frame-test.false, c.loop-frame.auto.frame-index-end)
+
+pub returns-clause-holds : goal.returns-clause-holds
+returns-clause-holds c =
     let all = take_all c.loop-frame.count c.frames-frame-items.result.now
     (omega (arith, c.loop-frame.invariant.0, c.loop-frame-test.false)) in
     subst (λ fs. AllZip HoldsFrame (take c.loop-frame.count c.loop-frame.frames) fs) c.frames-frame-items.ensures
