@@ -236,9 +236,23 @@ CLASSES = [
 # the classes of whole files, by whose names config_file.py has the rules
 NUL = "a NUL outside a comment"
 BLANK = "a blank inside a value"
-HASCONFIG = "the condition hasconfig"
 REFTABLE = "a branch in a reftable"
-OF_FILES = {NUL: When(), BLANK: When(before=(2, 45)), HASCONFIG: When(), REFTABLE: When(since=(2, 45))}
+OF_FILES = {NUL: When(), BLANK: When(before=(2, 45)), REFTABLE: When(since=(2, 45))}
+# the classes of what is read in a folder, by whose names here.py has the rules
+NO_URL = "a remote whose URL is a key alone"
+PARTIAL = "a partial clone without a name"
+SAFE_PATH = "a safe folder by another path"
+EXTENSION = "an extension of a later Git"
+OF_COMMAND = "a command's condition on a relative folder"
+COMMAND_KEY = "blanks around a command's key"
+REFUSED_DIR = "the branch of a GIT_DIR that is not used"
+BARE = "a git directory of a work tree as a bare repository"
+NOWHERE = "a file .git that leads nowhere"
+NO_PATH = "a GIT_DIR that is no path"
+NO_TREE = "a work tree that is missing"
+OF_PLACES = {NO_URL: When(), PARTIAL: When(before=(2, 44)), SAFE_PATH: When(before=(2, 46)),
+             EXTENSION: When(before=(2, 48)), OF_COMMAND: When(since=(2, 55)), COMMAND_KEY: When(before=(2, 55)),
+             REFUSED_DIR: When(before=(2, 47)), BARE: When(before=(2, 45)), NOWHERE: When(), NO_PATH: When(), NO_TREE: When()}
 
 
 def dotted(version):
@@ -300,7 +314,7 @@ def main():
     page = PAGE.read_text(encoding="utf-8")
     rows = [row for table in tables(page) if table[0][0] == "Class" for row in table[1:]]
     known = {one.name: (one.when, [written(it.text) for it in one.shown if it.text]) for one in CLASSES}
-    known |= {name: (when, []) for name, when in OF_FILES.items()}
+    known |= {name: (when, []) for name, when in (OF_FILES | OF_PLACES).items()}
     faults = [f"{name}: {fault}" for name, (when, texts) in known.items()
               for fault in faults_of_class([row for row in rows if row[0] == name], when, texts)]
     faults += [f"{row[0]}: no class has this name" for row in rows if row[0] not in known]

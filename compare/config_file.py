@@ -32,7 +32,7 @@ import sys
 import tempfile
 
 import readers
-from classes import BLANK, HASCONFIG, NUL, OF_FILES, REFTABLE, is_expected
+from classes import BLANK, NUL, OF_FILES, REFTABLE, is_expected
 from programs import Wrong, counted
 
 ROWS = pathlib.Path(__file__).with_name("config_files.txt")
@@ -415,7 +415,7 @@ class Comparison:
     def follow_trees(self, folder):
         """Compares the folders of includes.txt."""
         for number, line in enumerate(lines_of_trees()):
-            known = ((HASCONFIG, "hasconfig"), (NUL, r"\x00"), (REFTABLE, "@reftable"))
+            known = ((NUL, r"\x00"), (REFTABLE, "@reftable"))
             difference = next((name for name, word in known if word in line), None)
             if difference is None or difference in self.expected:
                 self.follow("folders", Folder(folder / f"f{number}" / "R", line, self.git), difference)

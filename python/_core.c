@@ -592,11 +592,40 @@ static PyGetSetDef color_fields[] = {
     {NULL, NULL, NULL, NULL, NULL},
 };
 
-static PyObject *color_escape(PyObject *self, PyObject *Py_UNUSED(unused))
+/* What is left of a color with so many colors, of which None are all. ValueError if no terminal has so many. */
+static int reduce(PyObject *self, PyObject *colors, gcv_color *out)
 {
+    if (colors == Py_None) {
+        *out = ((Value *)self)->color;
+        return 1;
+    }
+    unsigned long depth = PyLong_AsUnsignedLong(colors);
+    if (PyErr_Occurred() && !PyErr_ExceptionMatches(PyExc_OverflowError))
+        return 0;
+    if (!PyErr_Occurred() && depth <= GCV_TRUE_COLOR &&
+        gcv_reduce_color(&((Value *)self)->color, (gcv_depth)depth, out) == GCV_OK)
+        return 1;
+    PyErr_Clear();
+    PyErr_Format(PyExc_ValueError, "a terminal has 16, 256 or 2**24 colors, and not %R", colors);
+    return 0;
+}
+
+static PyObject *color_reduced(PyObject *self, PyObject *colors)
+{
+    gcv_color color;
+    return reduce(self, colors, &color) ? value_of(color_type, &color) : NULL;
+}
+
+static PyObject *color_escape(PyObject *self, PyObject *args, PyObject *names)
+{
+    static char *keys[] = {"depth", NULL};
+    PyObject *depth = Py_None;
+    gcv_color color;
     char text[GCV_LONGEST_TEXT];
     size_t size = 0;
-    if (gcv_escape_color(&((Value *)self)->color, text, sizeof text, &size) != GCV_OK)
+    if (!PyArg_ParseTupleAndKeywords(args, names, "|O:escape", keys, &depth) || !reduce(self, depth, &color))
+        return NULL;
+    if (gcv_escape_color(&color, text, sizeof text, &size) != GCV_OK)
         return PyErr_Format(PyExc_SystemError, "a color has no sequence");
     return ascii(text, size);
 }
@@ -607,8 +636,11 @@ static PyMethodDef color_methods[] = {
     {"compose", color_compose, METH_O,
      "compose($self, other, /)\n--\n\nThe color of the text of this one, a space, and the text of the other one.\n"
      "ValueError if they have more than two names together."},
-    {"escape", color_escape, METH_NOARGS,
-     "escape($self, /)\n--\n\nThe escape sequence that gives a terminal this color, as Git writes it."},
+    {"reduced", color_reduced, METH_O,
+     "reduced($self, depth, /)\n--\n\nWhat a terminal with 16, 256 or 2**24 colors shows for this color."},
+    {"escape", (PyCFunction)(void (*)(void))color_escape, METH_VARARGS | METH_KEYWORDS,
+     "escape($self, /, depth=None)\n--\n\nThe escape sequence that gives a terminal this color, as Git writes it.\n"
+     "With a depth it is that of the color `reduced(depth)`."},
     SHARED_METHODS,
 };
 
@@ -622,6 +654,19 @@ static PyType_Slot color_slots[] = {
     {Py_tp_methods, color_methods},
     {0, NULL},
 };
+
+static PyObject *over(PyObject *Py_UNUSED(module), PyObject *args)
+{
+    PyObject *base, *top;
+    gcv_color color;
+    if (!PyArg_ParseTuple(args, "OO:over", &base, &top) ||
+        !is_of(base, color_type, "a Color is laid over a Color") ||
+        !is_of(top, color_type, "a Color is laid over a Color"))
+        return NULL;
+    if (gcv_over(&((Value *)base)->color, &((Value *)top)->color, &color) != GCV_OK)
+        return PyErr_Format(PyExc_SystemError, "a color has a name that is none");
+    return value_of(color_type, &color);
+}
 
 /* Texts of a kind */
 
@@ -871,6 +916,23 @@ static PyObject *entries_of(PyObject *Py_UNUSED(module), PyObject *args)
 
 /* The module */
 
+/* How many colors to write with, from a flag and three variables, each of them `bytes` or None. */
+static PyObject *terminal_depth(PyObject *Py_UNUSED(module), PyObject *args)
+{
+    int is_terminal;
+    PyObject *given[3];
+    const char *variables[3];
+    size_t length;
+    if (!PyArg_ParseTuple(args, "pOOO:terminal_depth", &is_terminal, &given[0], &given[1], &given[2]))
+        return NULL;
+    for (int at = 0; at < 3; at++)
+        variables[at] = part_of(given[at], &length);
+    if (PyErr_Occurred())
+        return NULL;
+    gcv_depth depth = gcv_terminal_depth(is_terminal, variables[0], variables[1], variables[2]);
+    return depth == GCV_NO_COLORS ? counted(Py_None) : PyLong_FromUnsignedLong(depth);
+}
+
 static PyMethodDef functions[] = {
     {"suffix", read_suffix, METH_O, "suffix(text, /)\n--\n\nThe suffix that a text names: 'k', 'm' or 'g'."},
     {"integer", read_amount, METH_O,
@@ -883,6 +945,10 @@ static PyMethodDef functions[] = {
      "normalize(kind, text, /)\n--\n\nThe canonical text of what a text of this kind means."},
     {"same", same, METH_VARARGS,
      "same(kind, first, second, /)\n--\n\nWhether two texts of this kind mean the same."},
+    {"over", over, METH_VARARGS,
+     "over(base, top, /)\n--\n\nThe color `base`, but with the names that `top` has, and without each attribute whose\n"
+     "opposite `top` has: what a user's color makes of a theme's."},
+    {"terminal_depth", terminal_depth, METH_VARARGS, NULL},
     {"encode", encoded, METH_O, NULL},
     {"cut_mark", mark_cut, METH_O, NULL},
     {"interpolate", interpolated, METH_VARARGS, NULL},

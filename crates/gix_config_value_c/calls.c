@@ -53,6 +53,8 @@ const char *gcv_status_text(gcv_status status)
         return "the path begins with a user's name, or with a directory that is not known";
     case GCV_TOO_DEEP:
         return "the file is more than ten includes deep";
+    case GCV_BAD_DEPTH:
+        return "no depth with colors has the number";
     }
     return "unknown status";
 }
@@ -123,90 +125,20 @@ gcv_status gcv_parse_color(const char *text, gcv_color *GCV_RESTRICT out, gcv_fa
     return gcv_read_color(or_true(text), strlen(or_true(text)), out, fault);
 }
 
-/* The part of an escape sequence that is built so far. */
-typedef struct sequence {
-    char text[GCV_LONGEST_TEXT];
-    size_t length;
-} sequence;
-
-static void put_digits(sequence *to, unsigned number)
+/* The bytes of a variable, which is null if it is not set. */
+static const char *or_empty(const char *variable)
 {
-    if (number >= 10) {
-        put_digits(to, number / 10);
-    }
-    to->text[to->length++] = (char)('0' + number % 10);
+    return variable ? variable : "";
 }
 
-static void put_number(sequence *to, unsigned number)
+gcv_depth gcv_terminal_depth(int is_terminal, const char *no_color, const char *term, const char *colorterm)
 {
-    to->text[to->length++] = ';';
-    put_digits(to, number);
-}
-
-/* Appends a code, after the beginning of the sequence or a separator. The code of reset is empty. */
-static void put_code(sequence *to, unsigned code)
-{
-    if (to->length > 0) {
-        to->text[to->length++] = ';';
-    } else {
-        to->text[to->length++] = '\033';
-        to->text[to->length++] = '[';
-    }
-    if (code != 0) {
-        put_digits(to, code);
-    }
-}
-
-/* Appends the codes of a name; `ground` is 0 for a foreground, and 10 for a background. */
-static void put_name(sequence *to, const gcv_name *name, unsigned ground)
-{
-    /* the place of a word among the eight basic colors, each followed by its bright one */
-    unsigned place = (unsigned)name->tag - GCV_BLACK;
-    unsigned number = name->tag == GCV_ANSI ? name->palette : place / 2 + 8 * (place % 2);
-    if (name->tag == GCV_DEFAULT) {
-        put_code(to, 39 + ground);
-    } else if (name->tag == GCV_RGB) {
-        put_code(to, 38 + ground);
-        put_number(to, 2);
-        put_number(to, name->red);
-        put_number(to, name->green);
-        put_number(to, name->blue);
-    } else if (name->tag >= GCV_BLACK && number < 16) {
-        put_code(to, (number < 8 ? 30 + number : 90 + number - 8) + ground);
-    } else if (name->tag == GCV_ANSI) {
-        put_code(to, 38 + ground);
-        put_number(to, 5);
-        put_number(to, number);
-    }
-}
-
-gcv_status gcv_escape_color(const gcv_color *value, char *GCV_RESTRICT buffer, size_t capacity, size_t *size)
-{
-    static const struct {
-        uint32_t bits;
-        unsigned code;
-    } codes[] = {{GCV_RESET, 0},       {GCV_BOLD, 1},      {GCV_DIM, 2},
-                 {GCV_ITALIC, 3},      {GCV_UL, 4},        {GCV_BLINK, 5},
-                 {GCV_REVERSE, 7},     {GCV_STRIKE, 9},    {GCV_NO_BOLD | GCV_NO_DIM, 22},
-                 {GCV_NO_ITALIC, 23},  {GCV_NO_UL, 24},    {GCV_NO_BLINK, 25},
-                 {GCV_NO_REVERSE, 27}, {GCV_NO_STRIKE, 29}};
-    sequence to = {{0}, 0};
-    size_t shown = 0;
-    gcv_status status = gcv_show_color(value, to.text, sizeof to.text, &shown);
-    if (status != GCV_OK) {
-        return status;
-    }
-    for (size_t at = 0; at < sizeof codes / sizeof codes[0]; at++) {
-        if (value->attributes & codes[at].bits) {
-            put_code(&to, codes[at].code);
-        }
-    }
-    put_name(&to, &value->foreground, 0);
-    put_name(&to, &value->background, 10);
-    if (to.length > 0) {
-        to.text[to.length++] = 'm';
-    }
-    return write_text(to.text, to.length, buffer, capacity, size);
+    gcv_depth depth = GCV_NO_COLORS;
+    gcv_status status = gcv_raw_terminal_depth(is_terminal != 0, no_color != NULL, or_empty(no_color),
+                                               strlen(or_empty(no_color)), term != NULL, or_empty(term),
+                                               strlen(or_empty(term)), colorterm != NULL, or_empty(colorterm),
+                                               strlen(or_empty(colorterm)), &depth);
+    return status == GCV_OK ? depth : GCV_NO_COLORS;
 }
 
 /* Interpolates a path of a user: it means what `~` and the rest mean with the home directory of that user. */

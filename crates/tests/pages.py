@@ -105,6 +105,18 @@ def attributes():
     yield "attributes in examples", examples_of, [[name, *texts[:1]] for name, _, *texts in table]
 
 
+def colors():
+    bits = {name: bit for name, bit, _ in rows("Attributes")}
+    known = [(re.findall(r"2 \^ (\d+)", line), literals(line)[0])
+             for line in spec("config_color", "Escape", "attribute_codes").split("\n") if '"' in line]
+    table = [cells for cells in rows("Escape sequences") if len(cells) == 2 and spans(cells[0])]
+    yield "codes of attributes", known, [([bits[f"`{name}`"] for name in spans(names)], "".join(spans(code)))
+                                         for names, code in table]
+    shades = re.findall(r"shade 0x(\w\w) 0x(\w\w) 0x(\w\w)", spec("config_color", "Depth", "xterm_colors"))
+    told = sentence("Fewer colors", r"XTerm-col\.ad: ([0-9a-f ]*)\.")
+    yield "the colors of xterm", ["".join(shade).lower() for shade in shades], told.split()
+
+
 def spaces():
     text = spec("config_color", "Space", "spellings")
     known = [bytes(int(byte, 0) for byte in row.split(" ∷ ")) for row in re.findall(r"\(([^()]*) ∷ \[\]\)", text)]
@@ -194,7 +206,7 @@ def reading():
 
 def main():
     results = examples.results()
-    for compared in (suffixes, integers, booleans, names, attributes, spaces, paths, answers, lengths, places, bodies, reading):
+    for compared in (suffixes, integers, booleans, names, attributes, colors, spaces, paths, answers, lengths, places, bodies, reading):
         try:
             for what, known, told in compared():
                 results.append((f"{what}: {known} in the code, {told} on the page", known == told))

@@ -1,10 +1,12 @@
-/* Prints the canonical text of a theme's entry: theme STYLE [OVERRIDE]
+/* Previews a theme's color: theme STYLE [OVERRIDE]
  *
- * Two spellings of the same style have the same canonical text. With an override the two styles are composed: its names
- * come after those of the style, and the attributes are united. */
+ * Prints the canonical text of the style, and on a terminal a sample of it. With an override, a name of it replaces that
+ * of the style, and an attribute its opposite, as a user's color does over the default of a theme. */
 #include <gix_config_value.h>
 #include <stdio.h>
+#include <stdlib.h>
 #include <string.h>
+#include <unistd.h>
 
 static int read_style(const char *text, gcv_color *style)
 {
@@ -15,13 +17,28 @@ static int read_style(const char *text, gcv_color *style)
     return 1;
 }
 
+/* Prints a sample in the colors that the terminal has. */
+static int print_sample(const gcv_color *style, gcv_depth depth)
+{
+    gcv_color reduced;
+    char sequence[GCV_LONGEST_TEXT];
+    size_t size = 0;
+    if (gcv_reduce_color(style, depth, &reduced) != GCV_OK ||
+        gcv_escape_color(&reduced, sequence, sizeof sequence, &size) != GCV_OK) {
+        return 1;
+    }
+    printf("  %.*ssample\033[m", (int)size, sequence);
+    return 0;
+}
+
 int main(int argc, char **argv)
 {
     gcv_color style;
-    gcv_color over;
+    gcv_color override;
     gcv_color both;
     char text[GCV_LONGEST_TEXT];
     size_t size = 0;
+    gcv_depth depth = gcv_terminal_depth(isatty(1), getenv("NO_COLOR"), getenv("TERM"), getenv("COLORTERM"));
     if (argc != 2 && argc != 3) {
         fprintf(stderr, "usage: %s STYLE [OVERRIDE]\n", argv[0]);
         return 2;
@@ -30,11 +47,7 @@ int main(int argc, char **argv)
         return 1;
     }
     if (argc == 3) {
-        if (!read_style(argv[2], &over)) {
-            return 1;
-        }
-        if (gcv_compose(&style, &over, &both) != GCV_OK) {
-            fprintf(stderr, "more than two colors\n");
+        if (!read_style(argv[2], &override) || gcv_over(&style, &override, &both) != GCV_OK) {
             return 1;
         }
         style = both;
@@ -42,6 +55,10 @@ int main(int argc, char **argv)
     if (gcv_show_color(&style, text, sizeof text, &size) != GCV_OK) {
         return 1;
     }
-    printf("%.*s\n", (int)size, text);
+    printf("%.*s", (int)size, text);
+    if (depth != GCV_NO_COLORS && print_sample(&style, depth) != 0) {
+        return 1;
+    }
+    printf("\n");
     return 0;
 }

@@ -15,11 +15,11 @@ A text is a `str`, or `bytes` or another buffer of bytes; anything else raises `
 """
 from . import _core
 from ._configuration import Configuration, Entry, read, read_repository
-from ._core import Attribute, Color, Name, boolean, integer, integer_parts, normalize, same, suffix
+from ._core import Attribute, Color, Name, boolean, integer, integer_parts, normalize, over, same, suffix
 from ._errors import InvalidFile, Refused
-from ._values import KINDS, cut_mark, home_of_user, interpolate, lookup
+from ._values import KINDS, cut_mark, home_of_user, interpolate, lookup, terminal_depth
 
 __version__ = _core.version
 __all__ = ["Attribute", "Color", "Configuration", "Entry", "InvalidFile", "KINDS", "Name", "Refused", "boolean",
-           "cut_mark", "home_of_user", "integer", "integer_parts", "interpolate", "lookup", "normalize", "read",
-           "read_repository", "same", "suffix"]
+           "cut_mark", "home_of_user", "integer", "integer_parts", "interpolate", "lookup", "normalize", "over", "read",
+           "read_repository", "same", "suffix", "terminal_depth"]

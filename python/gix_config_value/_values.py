@@ -1,5 +1,6 @@
-"""Lookups in settings, and paths."""
+"""Lookups in settings, paths, and how many colors a terminal has."""
 import os
+import sys
 
 from . import _core
 from ._core import Attribute, Color, Name, boolean, integer, suffix
@@ -80,3 +81,19 @@ def home_of_user(name):
         return pwd.getpwnam(name).pw_dir
     except (KeyError, ValueError):
         return None
+
+
+def terminal_depth(is_terminal=None, environ=None):
+    """How many colors a program writes with: 16, 256 or 2**24, or `None` if it writes none.
+
+    By default it writes to standard output, and has the environment `os.environ`. No terminal, `NO_COLOR` that is not
+    empty, and `TERM` that is absent or `dumb` mean no colors. Otherwise `COLORTERM` or the name in `TERM` tells the
+    depth, which `Color.escape` takes.
+
+    >>> terminal_depth(True, {"TERM": "xterm-256color"})
+    256
+    """
+    if is_terminal is None:
+        is_terminal = sys.stdout.isatty()
+    variables = map((os.environ if environ is None else environ).get, ("NO_COLOR", "TERM", "COLORTERM"))
+    return _core.terminal_depth(is_terminal, *(None if it is None else _core.encode(it) for it in variables))

@@ -19,7 +19,8 @@ import sys
 import unittest
 
 import gix_config_value as gcv
-from gix_config_value import Attribute, Color, Name, Refused, boolean, integer, integer_parts, interpolate, lookup
+from gix_config_value import (Attribute, Color, Name, Refused, boolean, integer, integer_parts, interpolate, lookup, over,
+                              terminal_depth)
 
 ROOT = pathlib.Path(__file__).resolve().parents[2]
 READERS = {"suffix": gcv.suffix, "amount": integer, "boolean": boolean, "name": Name, "attribute": Attribute.parse,
@@ -231,12 +232,35 @@ class Values(unittest.TestCase):
     def test_escape_sequences(self):
         words = "normal default black red green yellow blue magenta cyan white".split()
         names = [*words, *(f"bright{word}" for word in words[2:]), "0", "7", "8", "15", "16", "255", "#010203", "#0a00ff"]
-        texts = [*WORDS, *map(" ".join, zip(names, reversed(names))), " ".join(WORDS[:7]), " ".join(WORDS[8:]), "",
+        texts = [*WORDS, *names, *map(" ".join, itertools.product(names, names)), " ".join(WORDS[:7]), " ".join(WORDS[8:]), "",
                  "reset ul red", "bold #ffffff 231", "normal bold"]
         for text in texts:
             git = subprocess.run(["git", "-c", f"a.b={text}", "config", "--get-color", "a.b"], check=True,
                                  stdout=subprocess.PIPE)
             self.assertEqual(Color.parse(text).escape(), git.stdout.decode(), text)
+
+    def test_depths(self):
+        orange = Color.parse("bold #ff8800 #121212")
+        self.assertEqual([str(orange.reduced(depth)) for depth in (16, 256, 2 ** 24)],
+                         ["3 0 bold", "208 233 bold", str(orange)])
+        self.assertEqual((orange.escape(depth=256), orange.escape(None)),
+                         ("\x1b[1;38;5;208;48;5;233m", "\x1b[1;38;2;255;136;0;48;2;18;18;18m"))
+        for depth in (0, 8, -1, 257, 2 ** 32 + 16, 2 ** 64):
+            self.assertRaises(ValueError, orange.escape, depth)
+        self.assertRaises(TypeError, orange.escape, "16")
+        rows = [((False, {"TERM": "xterm"}), None), ((True, {}), None), ((True, {"TERM": "dumb"}), None),
+                ((True, {"TERM": "xterm", "NO_COLOR": "1"}), None), ((True, {"TERM": "xterm", "NO_COLOR": ""}), 16),
+                ((True, {"TERM": "linux"}), 16), ((True, {"TERM": "screen-256color"}), 256),
+                ((True, {"TERM": "xterm-direct"}), 2 ** 24), ((True, {"TERM": "xterm", "COLORTERM": "truecolor"}), 2 ** 24),
+                ((True, {"TERM": "xterm\udcff", "COLORTERM": "yes"}), 16)]
+        for given, wanted in rows:
+            self.assertEqual(terminal_depth(*given), wanted, given)
+
+    def test_over(self):
+        for base, top, wanted in [("bold red", "nobold blue", "blue nobold"), ("red", "bold", "red bold"), ("", "", ""),
+                                  ("red black ul", "normal", "normal black ul"), ("nodim", "dim reset", "dim reset")]:
+            self.assertEqual(str(over(Color.parse(base), Color.parse(top))), wanted, (base, top))
+        self.assertRaises(TypeError, over, Color.parse("red"), "blue")
 
     def test_as_values(self):
         for value in VALUES:

@@ -14,13 +14,12 @@ use config_checks::row::Row;
 use config_checks::table::{BadRow, read_rows};
 use config_file::{Content, Files, Include, Place, Step, Walk};
 use config_host::surroundings::Followed;
-use config_host::{ArgumentError, Disk, HostError, Surroundings, arguments, places};
+use config_host::{ArgumentError, Disk, HostError, Surroundings, arguments, files_here, terminal};
 use std::alloc::{AllocError, Global};
 use std::collections::BTreeSet;
-use std::env::VarError;
 use std::io::{self, BufWriter, ErrorKind, IsTerminal, Write};
 use std::process::ExitCode;
-use std::{env, fmt, fs};
+use std::{fmt, fs};
 use thiserror::Error;
 
 /// An argument without a value.
@@ -173,7 +172,7 @@ struct Checking<'c, 't> {
     rows: &'c [Row<'c>],
     options: Options,
     disk: Disk<'t, HostRuntime>,
-    surroundings: Surroundings,
+    surroundings: Surroundings<'t>,
     /// The real names of the files that are checked, or named and checked later.
     seen: BTreeSet<Vec<u8>>,
     outcome: Outcome,
@@ -295,7 +294,7 @@ impl<'t> Checking<'_, 't> {
                     add(&mut found, name.as_bytes().to_vec(alloc)?)?;
                 }
             }
-            None => found = places::files(self.rt, &self.disk)?,
+            None => found = files_here(&self.disk)?,
         }
         let mut files = Vec::new(alloc);
         for name in found {
@@ -333,19 +332,6 @@ fn check_all(
     }
 }
 
-/// Whether severities are written in red: on a terminal that is not dumb, unless `NO_COLOR` refuses colors.
-fn wants_color(rt: &HostRuntime) -> bool {
-    let refused = match env::var(rt, "NO_COLOR") {
-        Ok(value) => !value.is_empty(),
-        Err(error) => !matches!(error, VarError::NotPresent),
-    };
-    let is_dumb = match env::var(rt, "TERM") {
-        Ok(value) => value.as_str() == "dumb",
-        Err(_) => false,
-    };
-    rt.stdout().is_terminal() && !refused && !is_dumb
-}
-
 /// The severity of `--fail-on`.
 fn fails_on(matches: &ArgMatches<'_>) -> Severity {
     match matches.get_str("fail-on") {
@@ -363,6 +349,26 @@ fn format_of(matches: &ArgMatches<'_>) -> Format {
     }
 }
 
+/// Checks the files by these rows, and keeps their texts in `texts`.
+fn check_in<'t>(
+    rt: &'t HostRuntime,
+    texts: &'t Bump,
+    rows: &[Row<'_>],
+    options: Options,
+    matches: &ArgMatches<'_>,
+) -> Result<u8, Failure<'static>> {
+    let mut checking = Checking {
+        rt,
+        rows,
+        options,
+        disk: Disk::new(rt, texts),
+        surroundings: Surroundings::new(rt, Followed::Everything)?,
+        seen: BTreeSet::new(rt.alloc()),
+        outcome: Outcome::default(),
+    };
+    check_all(&mut checking, matches.get_strs("file"), fails_on(matches))
+}
+
 /// Checks the files by the rows of `--settings`, if any, and the built-in ones. Returns the exit status.
 fn run<'m>(rt: &HostRuntime, matches: &ArgMatches<'m>) -> Result<u8, Failure<'m>> {
     let alloc = rt.alloc();
@@ -372,19 +378,10 @@ fn run<'m>(rt: &HostRuntime, matches: &ArgMatches<'m>) -> Result<u8, Failure<'m>
     let options = Options {
         canonical: matches.get_flag("canonical"),
         format: format_of(matches),
-        color: wants_color(rt),
+        color: terminal::depth(rt, &rt.stdout())?.is_some(),
     };
     let texts = Bump::new(alloc);
-    let mut checking = Checking {
-        rt,
-        rows: &rows,
-        options,
-        disk: Disk::new(rt, &texts),
-        surroundings: Surroundings::new(rt, Followed::Everything)?,
-        seen: BTreeSet::new(alloc),
-        outcome: Outcome::default(),
-    };
-    check_all(&mut checking, matches.get_strs("file"), fails_on(matches))
+    check_in(rt, &texts, &rows, options, matches)
 }
 
 /// A text as a line, with its control characters shown safely.

@@ -109,7 +109,8 @@ def on_terminal(program, how, data, environment):
 
 
 def terminal(group, program, how):
-    """The severity is red on a terminal that is not dumb, unless NO_COLOR has a value, and nowhere else."""
+    """The severity is red on a terminal that TERM names, and not as dumb, unless NO_COLOR has a value, and nowhere
+    else."""
     environment = dict(os.environ, TERM="xterm")
     environment.pop("NO_COLOR", None)
     data = FINDING + b'[test] bool = "\x1b[31m"\nx\0'
@@ -119,6 +120,8 @@ def terminal(group, program, how):
     red = plain._replace(output=plain.output.replace(b" error: ", b" " + RED + b"error: " + PLAIN))
     for more, wanted in (({}, red), ({"NO_COLOR": ""}, red), ({"NO_COLOR": "0"}, plain), ({"TERM": "dumb"}, plain)):
         group.expect(("a terminal", more), wanted, on_terminal(program, how, data, environment | more))
+    nameless = {name: value for name, value in environment.items() if name != "TERM"}
+    group.expect("a terminal without TERM", plain, on_terminal(program, how, data, nameless))
     came = on_terminal(program, ["--format", "json", *how], data, environment)
     group.expect("JSON on a terminal", (1, 3, False), (came.status, came.output.count(b"\n"), b"\x1b" in came.output))
     group.expect("a pipe", plain, program.run(how, data, env=environment))

@@ -1,10 +1,12 @@
--- The composition of two colors, and relations for joined texts and for texts that mean the same.
-use Rattle.std.specs.Prelude.{◌≡◌, ℕ, ◌<◌, List, ◌∷◌, ◌++◌, length, Option, None, Some}
-use Rattle.std.specs.Option.{option_to_list}
+-- The composition of two colors, one color over another, and relations for joined texts and for texts that mean the same.
+use Rattle.std.specs.Prelude.{◌≡◌, ℕ, ◌<◌, ◌⊎◌, ◌↔◌, List, [], ◌∷◌, ◌++◌, length, Option, None, Some}
+use Rattle.std.specs.Option.{option_or, option_to_list}
+use Rattle.std.specs.Int.{bit_at}
 use Rattle.std.specs.Int.RustNames.{bit_or}
 use Rattle.config_color.specs.declared.color.Color.{Color}
 use Rattle.config_word.specs.declared.name.Name.{Name}
 use Rattle.config_color.specs.Color.{TextRead, Placed, ColorText}
+use Rattle.config_text.specs.OneOf.{OneOf}
 use Rattle.config_text.specs.Value.{IsAccepted, HasText}
 use Rattle.config_word.specs.Attribute.{AttributeText}
 
@@ -18,11 +20,37 @@ pub record Composition (a b c : Color) : Type 0 where
   pub placed : Placed (color_names a ++ color_names b) c.foreground c.background
   pub united : c.attributes.0 ≡ bit_or a.attributes.0 b.attributes.0
 
--- what `compose` returns: the composition, which has a text; or `None` if there are more than two names, and
--- then there is no composition
+-- there are more than two names, and so there is no composition
+abbrev pub HasTooManyNames : Color → Color → Type 0
+HasTooManyNames a b = (2 < length (color_names a ++ color_names b)) × ((c : Color) → ¬ (Composition a b c))
+
+-- what `compose` returns: the composition of two colors that have a text, and then it has a text too; or
+-- `None` if one of the two has no text, or if there are more than two names
 abbrev pub Composes : Color → Color → Option Color → Type 0
-Composes a b None = (2 < length (color_names a ++ color_names b)) × ((c : Color) → ¬ (Composition a b c))
-Composes a b (Some c) = Composition a b c × HasText ColorText c
+Composes a b None = (¬ (HasText ColorText a)) ⊎ (¬ (HasText ColorText b)) ⊎ HasTooManyNames a b
+Composes a b (Some c) =
+    HasText ColorText a × HasText ColorText b × Composition a b c × HasText ColorText c
+
+-- each attribute and its opposite, by their bits
+unfoldable pub opposites : List (ℕ × ℕ)
+opposites = (1, 22) ∷ (2, 21) ∷ (3, 23) ∷ (4, 24) ∷ (5, 25) ∷ (6, 26) ∷ (7, 27) ∷ []
+
+-- one of the two bits is that of an attribute, and the other that of its opposite
+abbrev pub AreOpposite : ℕ → ℕ → Type 0
+AreOpposite bit other = OneOf opposites (bit, other) ⊎ OneOf opposites (other, bit)
+
+-- the bit is set in `base`, and no opposite of it is set in `top`
+abbrev pub Stays : ℕ → ℕ → ℕ → Type 0
+Stays base top bit =
+    (bit_at base bit ≡ 1) × ((other : ℕ) → AreOpposite bit other → ¬ (bit_at top other ≡ 1))
+
+-- `c` is `top` over `base`: it has the names of `top` and, where that has none, those of `base`; and the bits
+-- of `top` with those of `base` that `top` does not take out
+pub record IsOver (base top c : Color) : Type 0 where
+  pub front : c.foreground ≡ option_or top.foreground base.foreground
+  pub back : c.background ≡ option_or top.background base.background
+  pub bits : (bit : ℕ) → (bit_at c.attributes.0 bit ≡ 1)
+      ↔ ((bit_at top.attributes.0 bit ≡ 1) ⊎ Stays base.attributes.0 top.attributes.0 bit)
 
 -- both texts have a color, and `c` is the composition of the two colors
 abbrev pub Joined : List ℕ → List ℕ → Color → Type 0

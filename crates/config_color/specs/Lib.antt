@@ -2,6 +2,9 @@ pub mod Space
 pub mod Words
 pub mod Color
 pub mod Composition
+pub mod Depth
+pub mod Terminal
+pub mod Escape
 pub mod Orders
 pub mod Reading
 pub mod Laws

@@ -1,2 +1,5 @@
 pub mod Split
 pub mod Color
+pub mod Escape
+pub mod Composition
+pub mod Depth

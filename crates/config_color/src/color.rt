@@ -1,13 +1,15 @@
 //! Colors: how text is drawn. A color is read from a text and shown as a text.
 ghost use Rattle.std.specs.Prelude.{◌↔◌, IsTrue, ◌≡◌, ◌+◌, ◌<◌, ◌≤◌, [], None, Some, length, slice_range};
-ghost use Rattle.std.specs.Prelude.{MatchOption};
+ghost use Rattle.std.specs.Prelude.{MatchOption, ◌==◌, false};
+ghost use Rattle.std.specs.Char.{is_ascii_digit};
+ghost use Rattle.config_word.specs.Reading.Item.{plus_sign};
 ghost use Rattle.std.specs.Cow.{cow_slice_items};
 ghost use Rattle.bstr.specs.Owned.{bstring_bytes};
 ghost use Rattle.config_text.specs.declared.errors.Fault.TheVariants as faults;
 ghost use Rattle.config_color.specs.Color.{ColorText, CanonicalColor, PartFits, color_shown, no_color};
 ghost use Rattle.config_color.specs.Laws.Color.{color_one_value, color_decided};
 ghost use Rattle.config_color.specs.Reading.Color.{next_name, with_item, read_from, names_shown};
-ghost use Rattle.config_color.specs.Reading.Color.{ArePlain, EndsWord};
+ghost use Rattle.config_color.specs.Reading.Color.{ArePlain, EndsWord, FirstWordEnds, IsTooLong};
 ghost use Rattle.config_color.specs.Laws.ColorShown.{color_equal, color_canonical_reads, color_one_text};
 ghost use Rattle.config_color.specs.Laws.ColorShown.{color_shown_is_text};
 ghost use Rattle.config_word.specs.contracts.name.NameValue.TheImpl.Laws.{equal_is_same-law as name_equal};
@@ -134,6 +136,7 @@ fn part_fits(part: Option<Name>)
 
 impl Color {
     /// Writes the shown names, with one space between them, into an empty text.
+    #[inline(always)]
     #[tactic(auto, using(config_word::specs::Laws::Name::name_short))]
     fn show_names(&self, text: &mut CanonicalText)
         requires { text.old.bytes ≡ [] }
@@ -168,6 +171,7 @@ impl Color {
     }
 
     /// Returns the color as it is shown, even if no text reads to it, in at most `LONGEST_TEXT` bytes.
+    #[inline(always)]
     pub fn shown(&self) -> CanonicalText
         ensures { result.bytes ≡ color_shown self.now }
     {
@@ -250,27 +254,37 @@ fn word_between(text: &[u8], start: usize, end: usize) -> Option<FirstWord>
     None
 }
 
-/// Finds the first word of a text. After its first bytes it skips whole runs, as long as they are plain.
+/// Returns whether a palette number can begin with this byte. Only such a word can be longer than `RUN`.
 #[inline(always)]
-fn first_word(text: &[u8]) -> FirstWord
-    ensures clear { IsWithoutSpace text.now result.length }
-    ensures within { result.length + result.space ≤ length text.now }
-    ensures parted { 0 < result.space
-        → Space (slice_range text.now result.length (result.length + result.space)) }
-    ensures last { result.space ≡ 0 → result.length ≡ length text.now }
+fn begins_number(first: u8) -> bool
+    ensures plus { result ≡ false → (first == plus_sign) ≡ false }
+    ensures digit { result ≡ false → is_ascii_digit first ≡ false }
+{
+    first == b'+' || first.is_ascii_digit()
+}
+
+/// Finds the first word of a text. After its first bytes it skips whole runs, as long as they are plain.
+/// Returns `None` if the word is longer than `RUN` and can be no palette number: then it is no item.
+#[inline(always)]
+fn first_word(text: &[u8]) -> Option<FirstWord>
+    ensures { MatchOption result (IsTooLong text.now)
+        (λ first. FirstWordEnds text.now first.length first.space) }
 {
     let near = text.len().min(RUN);
     if let Some(first) = word_between(text, 0, near) {
-        return first;
+        return Some(first);
+    }
+    if text.len() >= RUN && !begins_number(text[0]) {
+        return None;
     }
     let start = end_of_runs(text, near);
     if let Some(first) = word_between(text, start, text.len()) {
-        return first;
+        return Some(first);
     }
-    FirstWord {
+    Some(FirstWord {
         length: text.len(),
         space: 0,
-    }
+    })
 }
 
 /// Returns the text without the spaces at its front.
@@ -298,7 +312,7 @@ fn color_of(input: &[u8]) -> Option<Color>
     let mut color = Color::default();
     let mut rest = past_spaces(input);
     while !rest.is_empty() {
-        let first = first_word(rest);
+        let first = first_word(rest)?;
         let (text, after) = rest.split_at(first.length);
         color = color.with_word(text)?;
         rest = past_spaces(&after[first.space..]);

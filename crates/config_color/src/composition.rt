@@ -1,12 +1,15 @@
-//! The composition of two colors.
-ghost use Rattle.std.specs.Prelude.{◌≡◌};
+//! The composition of two colors, and one color over another.
+ghost use Rattle.std.specs.Prelude.{◌≡◌, map};
 ghost use Rattle.config_color.specs.Color.{ColorText};
 ghost use Rattle.config_color.specs.Reading.Color.{places_of};
-ghost use Rattle.config_color.specs.Composition.{Composes};
+ghost use Rattle.config_color.specs.Composition.{Composes, IsOver};
+ghost use Rattle.config_color.specs.Reading.Composition.{opposite_sets, opposites_from, pair_bits, taken};
 ghost use Rattle.config_text.specs.Value.{HasText};
 
 use crate::color::Color;
 use bitflags::Flags;
+use config_text::value::Value;
+use config_word::attribute::Attribute;
 use config_word::name::Name;
 
 /// Returns the names of `a` and then those of `b` as a foreground and a background, or `None` if there are
@@ -29,10 +32,8 @@ fn places(a: Color, b: Color) -> Option<(Option<Name>, Option<Name>)>
 
 /// Returns the color of a text of `a`, white space and a text of `b`: docs/GRAMMAR.md, Colors. The names of
 /// `a` and then those of `b` become its foreground and background, and it has the attributes of both. Returns
-/// `None` if there are more than two names.
-///
-/// Both colors must have a text, as [`Value::has_text`](config_text::value::Value::has_text) tells. A color
-/// that was read has a text, and so has the result.
+/// `None` if there are more than two names, or if one of the two colors has no text, as
+/// [`Value::has_text`](config_text::value::Value::has_text) tells.
 ///
 /// ```rust
 /// use gix_config_value::Color;
@@ -44,10 +45,11 @@ fn places(a: Color, b: Color) -> Option<(Option<Name>, Option<Name>)>
 /// assert_eq!(rt; compose(base, both), None); // three names
 /// ```
 pub fn compose(a: Color, b: Color) -> Option<Color>
-    requires first { HasText ColorText a }
-    requires second { HasText ColorText b }
     ensures { Composes a b result }
 {
+    if !a.has_text() || !b.has_text() {
+        return None;
+    }
     let (foreground, background) = places(a, b)?;
     let attributes = a.attributes.union(b.attributes);
     Some(Color {
@@ -55,4 +57,85 @@ pub fn compose(a: Color, b: Color) -> Option<Color>
         background,
         attributes,
     })
+}
+
+/// An attribute and its opposite.
+#[derive(Clone, Copy)]
+struct Opposites {
+    one: Attribute,
+    other: Attribute,
+}
+
+macro_rules! opposites {
+    ($one:ident, $other:ident) => {
+        Opposites { one: Attribute::$one, other: Attribute::$other }
+    };
+}
+
+/// Each attribute that has an opposite.
+const OPPOSITES: &[Opposites] = &[
+    opposites!(BOLD, NO_BOLD),
+    opposites!(DIM, NO_DIM),
+    opposites!(ITALIC, NO_ITALIC),
+    opposites!(UL, NO_UL),
+    opposites!(BLINK, NO_BLINK),
+    opposites!(REVERSE, NO_REVERSE),
+    opposites!(STRIKE, NO_STRIKE),
+];
+
+/// Returns each attribute that has an opposite.
+fn opposite_table() -> &'static [Opposites]
+    ensures { map pair_bits result.now ≡ opposite_sets }
+{
+    OPPOSITES
+}
+
+/// Returns the second attribute if the set has the first, and otherwise no attribute.
+fn opposite_of(set: Attribute, one: Attribute, other: Attribute) -> Attribute
+    ensures { result.0 ≡ taken set.0 one.0 other.0 }
+{
+    if !set.contains(one) {
+        return Attribute::empty();
+    }
+    other
+}
+
+/// Returns the opposites of the attributes of a set.
+fn opposites_of(set: Attribute) -> Attribute
+    ensures { result.0 ≡ opposites_from set.0 0 opposite_sets }
+{
+    let mut opposites = Attribute::empty();
+    for pair in opposite_table() {
+        let taken = opposite_of(set, pair.one, pair.other).union(opposite_of(
+            set, pair.other, pair.one,
+        ));
+        opposites = opposites.union(taken);
+    }
+    opposites
+}
+
+/// Returns `top` over `base`, as a theme and the changes of its user. The foreground and the background of
+/// `top` replace those of `base`, each if `top` has it, and `normal` is a name like the others. An attribute
+/// of `top` takes its opposite out of `base`, as `nobold` takes out `bold`. All other attributes of both
+/// stay: `reset`, bits without a constant, and two opposites that `top` has itself.
+///
+/// The result has a text if both colors have one: docs/GRAMMAR.md, Colors.
+///
+/// ```rust
+/// use gix_config_value::Color;
+/// use gix_config_value::color::over;
+///
+/// let (theme, user) = (Color::try_from("bold red")?, Color::try_from("nobold blue")?);
+/// assert_eq!(rt; over(theme, user), Color::try_from("blue nobold")?);
+/// ```
+pub fn over(base: Color, top: Color) -> Color
+    ensures over { IsOver base top result }
+    ensures text { HasText ColorText base → HasText ColorText top → HasText ColorText result }
+{
+    let stays = base.attributes.difference(opposites_of(top.attributes));
+    Color {
+        foreground: top.foreground.or(base.foreground),
+        background: top.background.or(base.background),
+        attributes: top.attributes.union(stays),
+    }
 }

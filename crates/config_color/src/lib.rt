@@ -6,8 +6,10 @@
 //! input. A color is shown by `Display`, and as a [`Value`] it has one canonical text, if any text reads to
 //! it.
 //!
-//! [`composition::compose`] combines two colors in the same way as reading a joined text of both, and
-//! [`space::space_at`] finds the Unicode white space between words.
+//! [`Color::escape`](color::Color::escape) writes the escape sequence that a terminal understands.
+//! [`composition::compose`] combines two colors in the same way as reading a joined text of both,
+//! [`composition::over`] lays one color over another, and [`space::space_at`] finds the Unicode white space
+//! between words.
 //!
 //! [`laws`] states which colors have a text, what the words of a text are, and how colors compare.
 //!
@@ -16,5 +18,8 @@
 
 pub mod color;
 pub mod composition;
+pub mod depth;
+pub mod escape;
 pub mod laws;
 pub mod space;
+pub mod terminal;

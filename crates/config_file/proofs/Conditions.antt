@@ -24,8 +24,6 @@ use Rattle.config_file.specs.declared.path.Directories.{Directories}
 use Rattle.config_file.specs.declared.include.Condition.{Condition}
 use Rattle.config_file.specs.declared.include.Condition.TheVariants.{Always}
 use Rattle.config_file.specs.declared.include.Includes.{Includes}
-use Rattle.config_file.specs.declared.include.Includes.TheVariants.{AsGit}
-use Rattle.config_file.specs.declared.include.Repository.{Repository}
 use Rattle.config_file.proofs.Patterns.{no_match}
 
 same_length : (i : Bool) (a b : List ℕ) → IsSameName i a b → length a ≡ length b
@@ -178,12 +176,13 @@ if_named includes dir entry name raw text c (Ok b) key is named spelled names if
     followed_if includes dir entry name raw text c b key is named spelled names iff
 if_named includes dir entry name raw text c (Err e) key is named spelled names iff = tt
 
-pub git_dir_holds : (includes : Includes) (dir : List ℕ) (condition same : Condition) (r : Repository) (b : Bool)
-    → includes ≡ AsGit (Some r) → condition ≡ same → (IsTrue b ↔ (Holds (AsGit (Some r)) dir same))
+-- a condition that holds under some includes holds under the same includes
+pub same_holds : (includes others : Includes) (dir : List ℕ) (condition same : Condition) (b : Bool)
+    → includes ≡ others → condition ≡ same → (IsTrue b ↔ (Holds others dir same))
     → IsTrue b ↔ (Holds includes dir condition)
-git_dir_holds includes dir condition same r b is named iff =
+same_holds includes others dir condition same b is named iff =
     subst (λ i. IsTrue b ↔ (Holds i dir condition)) (sym is)
-    (subst (λ k. IsTrue b ↔ (Holds (AsGit (Some r)) dir k)) (sym named) iff)
+    (subst (λ k. IsTrue b ↔ (Holds others dir k)) (sym named) iff)
 
 other_first : (home : Option (List ℕ)) (pattern : List ℕ) → LacksFront (codes "~") pattern
     → pattern ≡ at_home home pattern

@@ -176,7 +176,7 @@ another_section section q name sub none lacks = never (λ h.
     let (rest, f) = front_of section name q left none same in
     lacks (lower rest) f)
 
-after_front : (section bytes name : List ℕ) (q left : Option (List ℕ))
+pub after_front : (section bytes name : List ℕ) (q left : Option (List ℕ))
     → lower name ≡ lower section ++ lower bytes
     → stem_of section q ++ 46 ∷ [] ≡ (lower name ++ dotted left) ++ 46 ∷ []
     → dotted q ≡ lower bytes ++ dotted left

@@ -3,12 +3,11 @@ use Rattle.std.proofs.Common.{◌≡◌, ◌≤◌, ◌<◌, ◌+◌, ◌++◌, 
 use Rattle.std.proofs.Common.{IsTrue, rules, refl, sym, subst, ap, arith, zero, suc}
 use Rattle.std.specs.List.{slice_get, AllWithin}
 use Rattle.std.proofs.lemmas.Option.{get_or_from_slice_get, slice_get-get_or}
-use Rattle.std.proofs.lemmas.Bool.{false≢true}
-use Rattle.std.proofs.Math.Seq.{take-suc}
 use Rattle.std.proofs.lemmas.List.{take_all}
 use Rattle.config_file.specs.Key.{Key, HasKey}
 use Rattle.config_file.specs.Listing.{IsListed}
-use Rattle.config_file.specs.Settings.{AreListed, IsLast, AllWithKey, none, has, lacks}
+use Rattle.config_file.specs.Settings.{AreListed, IsLast, AllWithKey, Picks, IsBelow}
+use Rattle.config_file.proofs.Picked.{picks_next}
 use Rattle.config_file.specs.Views.{entry_of}
 use Rattle.config_file.specs.declared.settings.Setting.{Setting}
 use Rattle.config_file.proofs.Patterns.{no_match}
@@ -29,13 +28,19 @@ Tests setting key b = (text : List ℕ)
     → IsListed (entry_of setting.entry).section (entry_of setting.entry).key text
     → (IsTrue b ↔ HasKey (entry_of setting.entry) key)
 
+-- one of the settings is listed
+pub listed_at : (settings : List Setting) (i : ℕ) (setting : Setting)
+    → slice_get settings i ≡ Some setting → i < length settings → AreListed settings
+    → (text : List ℕ) × IsListed (entry_of setting.entry).section (entry_of setting.entry).key text
+listed_at settings i setting at within listed =
+    subst (λ s. (text : List ℕ) × IsListed (entry_of s.entry).section (entry_of s.entry).key text)
+    (get_or_from_slice_get settings i setting setting at) (listed i setting within)
+
 tested : (settings : List Setting) (key : Key) (i : ℕ) (setting : Setting) (b : Bool)
     → slice_get settings i ≡ Some setting → i < length settings → AreListed settings → Tests setting key b
     → (IsTrue b ↔ HasKey (entry_of setting.entry) key)
 tested settings key i setting b at within listed tests =
-    let (text, is) = subst (λ s. (text : List ℕ) × IsListed (entry_of s.entry).section (entry_of s.entry).key text)
-    (get_or_from_slice_get settings i setting setting at) (listed i setting within) in
-    tests text is
+    let (text, is) = listed_at settings i setting at within listed in tests text is
 
 pub found : (settings : List Setting) (key : Key) (i low : ℕ) (setting : Setting) (b : Bool)
     → slice_get settings i ≡ Some setting → i < length settings → low ≡ i + 1 → b ≡ true → Tests setting key b
@@ -63,43 +68,32 @@ not_found settings key i low setting b at within above is_false tests later list
       | inr more ↦ later listed k d (omega (arith, above, more)) to
     ]
 
-pub all_has : {key : Key} {settings all : List Setting} (setting : Setting) → HasKey (entry_of setting.entry) key
-    → AllWithKey key settings all → AllWithKey key (settings ++ setting ∷ []) (all ++ setting ∷ [])
-all_has setting is none = has is none
-all_has setting is (has h rest) = has h (all_has setting is rest)
-all_has setting is (lacks l rest) = lacks l (all_has setting is rest)
-
-pub all_lacks : {key : Key} {settings all : List Setting} (setting : Setting)
-    → ¬ (HasKey (entry_of setting.entry) key) → AllWithKey key settings all
-    → AllWithKey key (settings ++ setting ∷ []) all
-all_lacks setting not none = lacks not none
-all_lacks setting not (has h rest) = has h (all_lacks setting not rest)
-all_lacks setting not (lacks l rest) = lacks l (all_lacks setting not rest)
-
-is_true : (b : Bool) → b ≡ true → IsTrue b
-is_true true e = search rules
-is_true false e = absurd (false≢true e)
+-- whether a setting is below a prefix, by what a test of a listed entry says
+abbrev pub TestsBelow : List ℕ → Setting → Bool → Type 0
+TestsBelow prefix setting b = (text : List ℕ)
+    → IsListed (entry_of setting.entry).section (entry_of setting.entry).key text
+    → (IsTrue b ↔ IsBelow prefix setting)
 
 pub all_next : {key : Key} {all : List Setting} (settings : List Setting) (i : ℕ) (setting : Setting) (next : List Setting)
     (b : Bool) → slice_get settings i ≡ Some setting → i < length settings → Tests setting key b
     → ((b ≡ true) × (next ≡ all ++ setting ∷ [])) ⊎ ((b ≡ false) × (next ≡ all))
     → (AreListed settings → AllWithKey key (take i settings) all) → AreListed settings
     → AllWithKey key (take (i + 1) settings) next
-all_next {key = key} {all = all} settings i setting next b at within tests either before listed =
-    let one : i + 1 ≡ suc i = omega arith in
-    let turn : take (i + 1) settings ≡ take i settings ++ setting ∷ [] =
-    ap (λ n. take n settings) one ∙ take-suc settings i setting within
-    ∙ ap (λ s. take i settings ++ s ∷ []) (get_or_from_slice_get settings i setting setting at) in
-    let holds = tested settings key i setting b at within listed tests in
-    subst (λ s. AllWithKey key s next) (sym turn) (elim either [
-      | inl is ↦ subst (λ n. AllWithKey key (take i settings ++ setting ∷ []) n) (sym is.1)
-          (all_has setting (holds.0 (is_true b is.0)) (before listed))
-      | inr is ↦ subst (λ n. AllWithKey key (take i settings ++ setting ∷ []) n) (sym is.1)
-          (all_lacks setting (no_match b is.0 holds) (before listed))
-    ])
+all_next settings i setting next b at within tests either before listed =
+    let (text, is) = listed_at settings i setting at within listed in
+    picks_next settings i setting next b at within (tests text is) either (before listed)
 
-pub all_done : {key : Key} {all : List Setting} (settings : List Setting) (i : ℕ) → length settings ≤ i
-    → (AreListed settings → AllWithKey key (take i settings) all) → AreListed settings
-    → AllWithKey key settings all
-all_done {key = key} {all = all} settings i past is listed =
-    subst (λ s. AllWithKey key s all) (take_all i settings past) (is listed)
+pub below_next : (prefix : List ℕ) {all : List Setting} (settings : List Setting) (i : ℕ) (setting : Setting)
+    (next : List Setting) (b : Bool) → slice_get settings i ≡ Some setting → i < length settings
+    → TestsBelow prefix setting b
+    → ((b ≡ true) × (next ≡ all ++ setting ∷ [])) ⊎ ((b ≡ false) × (next ≡ all))
+    → (AreListed settings → Picks (IsBelow prefix) (take i settings) all) → AreListed settings
+    → Picks (IsBelow prefix) (take (i + 1) settings) next
+below_next prefix settings i setting next b at within tests either before listed =
+    let (text, is) = listed_at settings i setting at within listed in
+    picks_next settings i setting next b at within (tests text is) either (before listed)
+
+pub picks_done : {P : Setting → Type 0} {all : List Setting} (settings : List Setting) (i : ℕ) → length settings ≤ i
+    → (AreListed settings → Picks P (take i settings) all) → AreListed settings → Picks P settings all
+picks_done {P = P} {all = all} settings i past is listed =
+    subst (λ s. Picks P s all) (take_all i settings past) (is listed)

@@ -1,8 +1,9 @@
--- Sections as Git lists them.
+-- Sections and keys as Git lists them.
 use Rattle.std.proofs.Common.{◌≡◌, ℕ, List, [], ◌∷◌, ◌++◌, Option, Some, None, map, refl, sym, ap, ◌∙◌, subst, append_assoc}
 use Rattle.std.specs.Char.{to_ascii_lowercase}
 use Rattle.config_file.specs.Subsection.{SpellsSubsection}
-use Rattle.config_file.specs.Listing.{IsListedSection, plain, quoted}
+use Rattle.config_file.specs.Header.{Section}
+use Rattle.config_file.specs.Listing.{IsListed, IsListedSection, plain, quoted, alone, in_section}
 
 plain_only : {name listed : List ℕ} → IsListedSection (name, None) listed
     → listed ≡ map to_ascii_lowercase name ++ 46 ∷ []
@@ -29,3 +30,28 @@ pub quoted_appended : {name raw listed : List ℕ} {sub : Option (List ℕ)} (ol
 quoted_appended {name = name} {listed = listed} {sub = sub} old lowered dotted spelled_out new h some e f written g =
     let (spelled, s, whole) = quoted_only (subst (λ s. IsListedSection (name, s) listed) some h) in
     joined old (map to_ascii_lowercase name) spelled lowered dotted spelled_out new listed e f (written spelled s) g whole
+
+alone_only : {key listed : List ℕ} → IsListed None key listed → listed ≡ map to_ascii_lowercase key
+alone_only alone = refl
+
+in_section_only : {section : Section} {key listed : List ℕ} → IsListed (Some section) key listed
+    → (front : List ℕ) × IsListedSection section front × (listed ≡ front ++ map to_ascii_lowercase key)
+in_section_only (in_section {listed = front} s) = (front, s, refl)
+
+pub alone_appended : {key listed : List ℕ} {section : Option Section} (old new : List ℕ)
+    → IsListed section key listed → section ≡ None
+    → new ≡ old ++ map to_ascii_lowercase key → new ≡ old ++ listed
+alone_appended {key = key} {listed = listed} old new h none e =
+    e ∙ ap (◌++◌ old) (sym (alone_only (subst (λ s. IsListed s key listed) none h)))
+
+joined_key : (old front key between new listed : List ℕ) → between ≡ old ++ front
+    → new ≡ between ++ key → listed ≡ front ++ key → new ≡ old ++ listed
+joined_key old front key between new listed e f whole = rw (f, e, whole) (append_assoc old front key)
+
+pub section_appended : {section : Section} {key listed : List ℕ} {whole : Option Section} (old between new : List ℕ)
+    → IsListed whole key listed → whole ≡ Some section
+    → ((front : List ℕ) → IsListedSection section front → between ≡ old ++ front)
+    → new ≡ between ++ map to_ascii_lowercase key → new ≡ old ++ listed
+section_appended {key = key} {listed = listed} old between new h some written e =
+    let (front, s, is) = in_section_only (subst (λ s. IsListed s key listed) some h) in
+    joined_key old front (map to_ascii_lowercase key) between new listed (written front s) e is

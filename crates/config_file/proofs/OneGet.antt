@@ -7,7 +7,8 @@ use Rattle.std.proofs.lemmas.Option.{same_Some, get_or_from_slice_get, slice_get
 use Rattle.std.proofs.lemmas.Bool.{cases_order}
 use Rattle.config_text.specs.declared.errors.Fault.{Fault}
 use Rattle.config_file.specs.Key.{Key, HasKey, IsKey, RefusesKey}
-use Rattle.config_file.specs.Settings.{IsLast, LacksKey, Gets, HasOneReading, IsSameAnswer, text_of}
+use Rattle.config_file.specs.Settings.{IsLast, LacksKey, IsUnset, IsDecided, Gets, HasOneReading, IsSameAnswer}
+use Rattle.config_file.specs.Settings.{text_of, value_text}
 use Rattle.config_file.specs.Views.{entry_of}
 use Rattle.config_file.specs.declared.key.KeyError.{KeyError}
 use Rattle.config_file.specs.declared.settings.Setting.{Setting}
@@ -52,67 +53,88 @@ key_or_refused : (text : List ℕ) {a : Key} {e : KeyError} → IsKey text a →
 key_or_refused text {a = a} {e = e} is refused =
     let same : ◌≡◌ {A = Result Key KeyError} (Ok a) (Err e) = one_answer text (Ok a) (Err e) is refused in cc
 
-same_last : (settings : List Setting) (text : List ℕ) {k l : Key} {a b : Setting} → IsKey text k
-    → IsKey text l
-    → IsLast settings k a → IsLast settings l b → a ≡ b
-same_last settings text {k = k} {b = b} is so first second =
+one_decided : (settings : List Setting) (text : List ℕ) {a b : Setting} → IsDecided settings text a
+    → IsDecided settings text b → a ≡ b
+one_decided settings text {b = b} (k, is, first) (l, so, second) =
     one_last settings k first
     (subst (λ x. IsLast settings x b) (sym (same_key text is so)) second)
 
-last_and_none : (settings : List Setting) (text : List ℕ) {k l : Key} {a : Setting} → IsKey text k
-    → IsKey text l
-    → IsLast settings k a → LacksKey settings l → ⊥
-last_and_none settings text {k = k} is so last lacks =
+decided_or_unset : (settings : List Setting) (text : List ℕ) {a : Setting} → IsDecided settings text a
+    → IsUnset settings text → ⊥
+decided_or_unset settings text (k, is, last) (l, so, lacks) =
     last_or_none settings k last
     (subst (λ x. LacksKey settings x) (sym (same_key text is so)) lacks)
+
+decided_or_refused : (settings : List Setting) (text : List ℕ) {a : Setting} {e : KeyError}
+    → IsDecided settings text a → RefusesKey text e → ⊥
+decided_or_refused settings text (k, is, last) refused = key_or_refused text is refused
+
+unset_or_refused : (settings : List Setting) (text : List ℕ) {e : KeyError}
+    → IsUnset settings text → RefusesKey text e → ⊥
+unset_or_refused settings text (k, is, lacks) refused = key_or_refused text is refused
 
 pub one_get : {V : Type 0} (grammar : List ℕ → V → Type 0) (refusal : List ℕ → Fault → Type 0)
     (settings : List Setting) (text : List ℕ) (a b : Result (Option V) GetError)
     → HasOneReading grammar refusal
     → Gets grammar refusal settings text a → Gets grammar refusal settings text b → IsSameAnswer a b
 one_get grammar refusal settings text (Ok None) (Ok None) one is so = refl
-one_get grammar refusal settings text (Ok None) (Ok (Some w)) one (k, is, lacks) (l, s, so, last, given) =
-    absurd (last_and_none settings text so is last lacks)
-one_get grammar refusal settings text (Ok None) (Err (get.Refused r)) one
-    (k, is, lacks) (l, so, last, given, none) =
-    absurd (last_and_none settings text so is last lacks)
-one_get grammar refusal settings text (Ok None) (Err (get.Key e)) one (k, is, lacks) refused =
-    absurd (key_or_refused text is refused)
-one_get grammar refusal settings text (Ok (Some v)) (Ok None) one (k, s, is, last, given) (l, so, lacks) =
-    absurd (last_and_none settings text is so last lacks)
-one_get grammar refusal settings text (Ok (Some v)) (Ok (Some w)) one
-    (k, s, is, first, given) (l, t, so, second, also) =
-    let same = same_last settings text is so first second in
+one_get grammar refusal settings text (Ok None) (Ok (Some v)) one is (s, so, given) =
+    absurd (decided_or_unset settings text so is)
+one_get grammar refusal settings text (Ok None) (Err (get.Refused r)) one is (so, some, given, none) =
+    absurd (decided_or_unset settings text so is)
+one_get grammar refusal settings text (Ok None) (Err (get.NoValue r)) one is (so, alone, none) =
+    absurd (decided_or_unset settings text so is)
+one_get grammar refusal settings text (Ok None) (Err (get.Key e)) one is refused =
+    absurd (unset_or_refused settings text is refused)
+one_get grammar refusal settings text (Ok (Some v)) (Ok None) one (s, is, given) so =
+    absurd (decided_or_unset settings text is so)
+one_get grammar refusal settings text (Ok (Some v)) (Ok (Some w)) one (s, is, given) (t, so, also) =
+    let same = one_decided settings text is so in
     ap (λ x. Some x) (one.one_value (text_of t) v w (subst (λ x. grammar (text_of x) v) same given) also)
-one_get grammar refusal settings text (Ok (Some v)) (Err (get.Refused r)) one
-    (k, s, is, first, given) (l, so, second, also, none) =
-    absurd (none v (subst (λ x. grammar (text_of x) v) (same_last settings text is so first second) given))
-one_get grammar refusal settings text (Ok (Some v)) (Err (get.Key e)) one (k, s, is, last, given) refused =
-    absurd (key_or_refused text is refused)
-one_get grammar refusal settings text (Err (get.Refused r)) (Ok None) one
-    (k, is, last, given, none) (l, so, lacks) =
-    absurd (last_and_none settings text is so last lacks)
-one_get grammar refusal settings text (Err (get.Refused r)) (Ok (Some w)) one
-    (k, is, first, given, none) (l, t, so, second, also) =
-    absurd (none w (subst (λ x. grammar (text_of x) w) (same_last settings text so is second first) also))
+one_get grammar refusal settings text (Ok (Some v)) (Err (get.Refused r)) one (s, is, given) (so, some, also, none) =
+    absurd (none v (subst (λ x. grammar (text_of x) v) (one_decided settings text is so) given))
+one_get grammar refusal settings text (Ok (Some v)) (Err (get.NoValue r)) one (s, is, given) (so, alone, none) =
+    absurd (none v (subst (λ x. grammar (text_of x) v) (one_decided settings text is so) given))
+one_get grammar refusal settings text (Ok (Some v)) (Err (get.Key e)) one (s, is, given) refused =
+    absurd (decided_or_refused settings text is refused)
+one_get grammar refusal settings text (Err (get.Refused r)) (Ok None) one (is, some, given, none) so =
+    absurd (decided_or_unset settings text is so)
+one_get grammar refusal settings text (Err (get.Refused r)) (Ok (Some w)) one (is, some, given, none) (t, so, also) =
+    absurd (none w (subst (λ x. grammar (text_of x) w) (one_decided settings text so is) also))
 one_get grammar refusal settings text (Err (get.Refused r)) (Err (get.Refused q)) one
-    (k, is, first, given, none) (l, so, second, also, nor) =
-    let same = same_last settings text is so first second in (
+    (is, some, given, none) (so, too, also, nor) =
+    let same = one_decided settings text is so in (
       same,
       one.one_fault (text_of q.setting.now) r.fault q.fault nor
           (subst (λ x. refusal (text_of x) r.fault) same given) also,
     )
-one_get grammar refusal settings text (Err (get.Refused r)) (Err (get.Key e)) one
-    (k, is, last, given, none) refused =
-    absurd (key_or_refused text is refused)
-one_get grammar refusal settings text (Err (get.Key e)) (Ok None) one refused (l, so, lacks) =
-    absurd (key_or_refused text so refused)
-one_get grammar refusal settings text (Err (get.Key e)) (Ok (Some w)) one refused (l, t, so, last, given) =
-    absurd (key_or_refused text so refused)
-one_get grammar refusal settings text (Err (get.Key e)) (Err (get.Refused r)) one
-    refused (l, so, last, given, none) =
-    absurd (key_or_refused text so refused)
+one_get grammar refusal settings text (Err (get.Refused r)) (Err (get.NoValue q)) one
+    (is, some, given, none) (so, alone, nor) =
+    absurd (some (subst (λ x. value_text x ≡ None) (sym (one_decided settings text is so)) alone))
+one_get grammar refusal settings text (Err (get.Refused r)) (Err (get.Key e)) one (is, some, given, none) refused =
+    absurd (decided_or_refused settings text is refused)
+one_get grammar refusal settings text (Err (get.NoValue r)) (Ok None) one (is, alone, none) so =
+    absurd (decided_or_unset settings text is so)
+one_get grammar refusal settings text (Err (get.NoValue r)) (Ok (Some w)) one (is, alone, none) (t, so, also) =
+    absurd (none w (subst (λ x. grammar (text_of x) w) (one_decided settings text so is) also))
+one_get grammar refusal settings text (Err (get.NoValue r)) (Err (get.Refused q)) one
+    (is, alone, none) (so, some, also, nor) =
+    absurd (some (subst (λ x. value_text x ≡ None) (one_decided settings text is so) alone))
+one_get grammar refusal settings text (Err (get.NoValue r)) (Err (get.NoValue q)) one (is, alone, none) (so, too, nor) =
+    one_decided settings text is so
+one_get grammar refusal settings text (Err (get.NoValue r)) (Err (get.Key e)) one (is, alone, none) refused =
+    absurd (decided_or_refused settings text is refused)
+one_get grammar refusal settings text (Err (get.Key e)) (Ok None) one refused so =
+    absurd (unset_or_refused settings text so refused)
+one_get grammar refusal settings text (Err (get.Key e)) (Ok (Some w)) one refused (t, so, given) =
+    absurd (decided_or_refused settings text so refused)
+one_get grammar refusal settings text (Err (get.Key e)) (Err (get.Refused r)) one refused (so, some, given, none) =
+    absurd (decided_or_refused settings text so refused)
+one_get grammar refusal settings text (Err (get.Key e)) (Err (get.NoValue r)) one refused (so, alone, none) =
+    absurd (decided_or_refused settings text so refused)
 one_get grammar refusal settings text (Err (get.Key e)) (Err (get.Key f)) one refused also =
     let same : ◌≡◌ {A = Result Key KeyError} (Err e) (Err f) =
     one_answer text (Err e) (Err f) refused also in
     cc
+one_get grammar refusal settings text (Err (get.NoWord r)) b one is so = absurd is
+one_get grammar refusal settings text a (Err (get.NoWord r)) one is so = absurd so

@@ -12,7 +12,7 @@ use Rattle.config_file.specs.Value.{SpellsValue}
 use Rattle.config_file.specs.Listing.{IsListed, alone, in_section, plain, quoted}
 use Rattle.config_file.specs.Include as include
 use Rattle.config_file.specs.Include.{Names, Holds, IsSameCondition, IsPathIn, EntryFollows, IsGitDir}
-use Rattle.config_file.specs.Include.{IsOnBranch}
+use Rattle.config_file.specs.Include.{IsOnBranch, HasUrl}
 use Rattle.config_file.specs.Path as path
 use Rattle.config_file.specs.Path.{Expands, BeginsUnknown, IsIncludedName, is_rest}
 use Rattle.config_file.specs.Walk.{IsNameOf, SpellsName, SpellsUnknown}
@@ -93,19 +93,20 @@ same_condition_holds : (includes : Includes) (dir : List ℕ) (a b : Condition) 
     → Holds includes dir a → Holds includes dir b
 same_condition_holds Skipped dir a b same holds = absurd holds
 same_condition_holds All dir a b same holds = tt
-same_condition_holds (AsGit r) dir Always Always same holds = tt
-same_condition_holds (AsGit None) dir (GitDir a) b same holds = absurd holds
-same_condition_holds (AsGit None) dir (GitDirIgnoringCase a) b same holds = absurd holds
-same_condition_holds (AsGit None) dir (OnBranch a) b same holds = absurd holds
-same_condition_holds (AsGit r) dir (HasRemoteUrl a) b same holds = absurd holds
-same_condition_holds (AsGit r) dir Unknown b same holds = absurd holds
-same_condition_holds (AsGit (Some r)) dir (GitDir a) (GitDir b) same holds =
+same_condition_holds (AsGit r u) dir Always Always same holds = tt
+same_condition_holds (AsGit None u) dir (GitDir a) b same holds = absurd holds
+same_condition_holds (AsGit None u) dir (GitDirIgnoringCase a) b same holds = absurd holds
+same_condition_holds (AsGit None u) dir (OnBranch a) b same holds = absurd holds
+same_condition_holds (AsGit r u) dir (HasRemoteUrl a) (HasRemoteUrl b) same holds =
+    subst (λ p. HasUrl p u) same holds
+same_condition_holds (AsGit r u) dir Unknown b same holds = absurd holds
+same_condition_holds (AsGit (Some r) u) dir (GitDir a) (GitDir b) same holds =
     subst (λ p. IsGitDir false dir p r) same holds
-same_condition_holds (AsGit (Some r)) dir (GitDirIgnoringCase a) (GitDirIgnoringCase b) same holds =
+same_condition_holds (AsGit (Some r) u) dir (GitDirIgnoringCase a) (GitDirIgnoringCase b) same holds =
     subst (λ p. IsGitDir true dir p r) same holds
-same_condition_holds (AsGit (Some r)) dir (OnBranch a) (OnBranch b) same holds =
+same_condition_holds (AsGit (Some r) u) dir (OnBranch a) (OnBranch b) same holds =
     subst (λ p. IsOnBranch p (option_map (λ branch. branch.now) r.branch)) same holds
-same_condition_holds (AsGit r) dir a b same holds = cc
+same_condition_holds (AsGit r u) dir a b same holds = cc
 
 -- the bytes of the subsection of an entry that Git lists spell a text
 spells : {section : Option Section} {key listed written raw : List ℕ} → IsListed section key listed

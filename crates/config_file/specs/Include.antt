@@ -2,14 +2,17 @@
 use Rattle.std.specs.Prelude.{◌≡◌, ℕ, Bool, true, false, if◌then◌else◌, ◌==◌, ◌&&◌, List, ◌++◌, ◌∷◌, codes, nat_eq}
 use Rattle.std.specs.Prelude.{Option, None, Some, ◌⊎◌, ⊤, map, option_copied, option_map}
 use Rattle.std.specs.Char.{to_ascii_lowercase}
-use Rattle.std.specs.List.{ends_with, starts_with}
+use Rattle.std.specs.List.{Any, ends_with, starts_with}
 use Rattle.config_text.specs.Bytes.{LacksFront}
 use Rattle.config_file.specs.declared.include.Condition.{Condition}
 use Rattle.config_file.specs.declared.include.Condition.TheVariants.{Always, GitDir, GitDirIgnoringCase, OnBranch, HasRemoteUrl, Unknown}
 use Rattle.config_file.specs.declared.include.Repository.{Repository}
 use Rattle.config_file.specs.declared.include.Includes.{Includes}
 use Rattle.config_file.specs.declared.include.Includes.TheVariants.{Skipped, AsGit, All}
+use Rattle.config_file.specs.declared.include.Urls.{Urls}
+use Rattle.config_file.specs.declared.include.Urls.TheVariants.{Sought, Known}
 use Rattle.config_file.specs.File.{Entry}
+use Rattle.config_file.specs.Key.{HasKey, key}
 use Rattle.config_file.specs.Subsection.{SpellsSubsection}
 use Rattle.config_file.specs.Path.{is_rest}
 use Rattle.config_file.specs.Pattern.{MatchesText}
@@ -74,15 +77,25 @@ abbrev pub IsOnBranch : List ℕ → Option (List ℕ) → Type 0
 IsOnBranch pattern None = ⊥
 IsOnBranch pattern (Some branch) = MatchesText false (below pattern) branch
 
--- the condition holds in a file of this directory; outside a repository, only `Always` does
+-- the pattern, as it is written, matches the URL of some remote, or these URLs are being sought
+abbrev pub HasUrl : List ℕ → Urls → Type 0
+HasUrl pattern Sought = ⊤
+HasUrl pattern (Known urls) = Any (λ url. MatchesText false pattern url.now) urls.now
+
+-- the condition holds in a file of this directory; no condition on a repository holds outside of one
 abbrev pub Holds : Includes → List ℕ → Condition → Type 0
 Holds Skipped dir condition = ⊥
 Holds All dir condition = ⊤
-Holds (AsGit repository) dir Always = ⊤
-Holds (AsGit (Some r)) dir (GitDir pattern) = IsGitDir false dir pattern.now r
-Holds (AsGit (Some r)) dir (GitDirIgnoringCase pattern) = IsGitDir true dir pattern.now r
-Holds (AsGit (Some r)) dir (OnBranch pattern) = IsOnBranch pattern.now (option_map (λ branch. branch.now) r.branch)
+Holds (AsGit repository urls) dir Always = ⊤
+Holds (AsGit repository urls) dir (HasRemoteUrl pattern) = HasUrl pattern.now urls
+Holds (AsGit (Some r) urls) dir (GitDir pattern) = IsGitDir false dir pattern.now r
+Holds (AsGit (Some r) urls) dir (GitDirIgnoringCase pattern) = IsGitDir true dir pattern.now r
+Holds (AsGit (Some r) urls) dir (OnBranch pattern) = IsOnBranch pattern.now (option_map (λ branch. branch.now) r.branch)
 Holds _ _ _ = ⊥
+
+-- the entry is the URL of a remote: it has the key `remote.NAME.url`, whatever the name
+abbrev pub IsRemoteUrl : Entry → Type 0
+IsRemoteUrl entry = (name : List ℕ) × HasKey entry (key (codes "remote") (Some name) (codes "url"))
 
 -- the key of the entry is `path`, and its section has this name and this subsection; case does not count
 abbrev pub IsPathIn : List ℕ → Option (List ℕ) → Entry → Type 0

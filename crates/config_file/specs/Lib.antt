@@ -3,12 +3,17 @@ pub mod Runs
 pub mod Subsection
 pub mod Header
 pub mod Errors
+pub mod Shown
+pub mod Scope
 pub mod Value
 pub mod File
 pub mod Listing
 pub mod Key
 pub mod KeyView
+pub mod Url
+pub mod UrlView
 pub mod Spelling
+pub mod Command
 pub mod Settings
 pub mod Set
 pub mod Pattern
@@ -16,5 +21,6 @@ pub mod Path
 pub mod Include
 pub mod Walk
 pub mod Views
+pub mod Deciding
 pub mod Left
 pub mod Reading

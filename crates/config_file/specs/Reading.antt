@@ -3,3 +3,6 @@ pub mod Spellings
 pub mod Walks
 pub mod Places
 pub mod Adds
+pub mod Commands
+pub mod Urls
+pub mod Fits

@@ -1,10 +1,13 @@
 -- Settings: the entries of files in order, each with the text of its value for a reader.
-use Rattle.std.specs.Prelude.{◌≡◌, Bool, true, false, ℕ, List, ◌∷◌, [], ◌++◌, ◌+◌, length, Option, Some, None, map, codes, option_map}
+use denote.Ref.{Bor}
+use Rattle.std.specs.Prelude.{◌≡◌, ◌≢◌, Contains, Bool, true, false, ℕ, List, ◌∷◌, [], ◌++◌, ◌+◌, length, Option, Some, None, map, codes, option_map}
 use Rattle.std.specs.Prelude.{Result, Ok, Err, ⊤}
+use Rattle.std.specs.Char.{to_ascii_lowercase}
 use Rattle.std.specs.Cow.{cow_slice_items}
 use Rattle.std.specs.Fmt.{decimal}
 use Rattle.std.specs.List.{slice_get, All, AllWithin, AllZip}
 use Rattle.std.specs.Option.{option_map_or}
+use Rattle.config_text.specs.Faults as reasons
 use Rattle.config_text.specs.Refusals.{ReadsOr}
 use Rattle.config_text.specs.Value.{IsRefused}
 use Rattle.config_text.specs.declared.errors.Fault.{Fault}
@@ -17,8 +20,9 @@ use Rattle.config_path.specs.Path.{Marked}
 use Rattle.config_file.specs.Errors.{error_shown, name_shown, shown_at}
 use Rattle.config_file.specs.File.{Entry, IsFile}
 use Rattle.config_file.specs.Header.{Section}
-use Rattle.config_file.specs.Key.{Key, HasKey, IsKey, RefusesKey}
+use Rattle.config_file.specs.Key.{Key, HasKey, IsCut, IsKey, RefusesKey, key_error_text}
 use Rattle.config_file.specs.Listing.{IsListed}
+use Rattle.config_file.specs.Shown.{quoted}
 use Rattle.config_file.specs.Value.{Ending, SpellsValue}
 use Rattle.config_file.specs.Views.{entry_of}
 use Rattle.config_file.specs.Walk.{Content, Text, Missing, Unreadable, Stop, Line, NoValue, Unknown, NotRead, TooDeep}
@@ -27,6 +31,7 @@ use Rattle.config_file.specs.declared.errors.Error.{Error}
 use Rattle.config_file.specs.declared.files.Content.{Content as Given}
 use Rattle.config_file.specs.declared.files.Content.TheVariants as given
 use Rattle.config_file.specs.declared.settings.Setting.{Setting}
+use Rattle.config_file.specs.declared.settings.Settings.{Settings}
 use Rattle.config_file.specs.declared.settings.Refused.{Refused}
 use Rattle.config_file.specs.declared.settings.AddError.{AddError}
 use Rattle.config_file.specs.declared.settings.AddError.TheVariants as error
@@ -54,6 +59,11 @@ place_shown setting =
     name_shown setting.file.now ++ codes ":" ++ decimal entry.line ++ codes ": " ++ written_section entry.section
     ++ name_shown entry.key ++ codes ": "
 
+-- `: ` and the text of a value in quotes, or nothing for a key alone
+abbrev pub text_shown : Option (List ℕ) → List ℕ
+text_shown None = []
+text_shown (Some text) = codes ": " ++ quoted text
+
 -- why Git does not go on after an entry that includes a file, in words
 abbrev pub include_fault_text : IncludeFault → List ℕ
 include_fault_text fault.MissingValue = codes "an include has no value"
@@ -75,6 +85,17 @@ value_text setting = option_map cow_slice_items setting.value
 abbrev pub text_of : Setting → List ℕ
 text_of setting = option_map_or (λ text. text) (value_text setting) (codes "true")
 
+-- `FILE:LINE: KEY: reason`, and the text if there is one
+abbrev pub refused_shown : Setting → List ℕ → List ℕ
+refused_shown setting reason = place_shown setting ++ reason ++ text_shown (value_text setting)
+
+-- why a key has no value: the reason that it is no key, or a refusal of its setting
+abbrev pub get_error_shown : GetError → List ℕ
+get_error_shown (get.Key error) = key_error_text error
+get_error_shown (get.NoValue setting) = place_shown setting.now ++ codes "no value"
+get_error_shown (get.Refused refused) = refused_shown refused.setting.now (reasons.fault_text refused.fault)
+get_error_shown (get.NoWord setting) = refused_shown setting.now (codes "not one of the allowed words")
+
 -- the value is the text that these bytes spell, and a key alone has no value
 abbrev pub IsValueOf : Option (List ℕ) → Option (List ℕ) → Type 0
 IsValueOf None value = value ≡ None
@@ -89,6 +110,12 @@ pub record IsSettingOf (found : List ℕ × Entry) (setting : Setting) : Type 0 
 -- the new settings are the old ones, followed by one for each of these entries
 abbrev pub Adds : List (List ℕ × Entry) → List Setting → List Setting → Type 0
 Adds found old new = (added : List Setting) × (new ≡ old ++ added) × AllZip IsSettingOf found added
+
+-- the new settings are the old ones, followed by some that have the scope of the old ones, which stays
+abbrev pub AddsInScope : Settings → Settings → Type 0
+AddsInScope old new = (new.scope ≡ old.scope)
+    × ((added : List Setting) × (new.entries.items ≡ old.entries.items ++ added)
+    × All (λ setting. setting.scope ≡ old.scope) added)
 
 -- the entries of the text begin with these
 abbrev pub HasFirst : List ℕ → List Entry → Type 0
@@ -220,24 +247,79 @@ IsLast settings key setting = (i : ℕ) × (slice_get settings i ≡ Some settin
     × HasKey (entry_of setting.entry) key
     × AllWithin (λ later. ¬ (HasKey (entry_of later.entry) key)) settings (i + 1) (length settings)
 
+-- these are all settings of which this is true, in order
+pub data Picks {X : Type 0} (P : X → Type 0) : List X → List X → Type 0 where
+  none : Picks P [] []
+  takes : {x : X} {all picked : List X} → P x → Picks P all picked → Picks P (x ∷ all) (x ∷ picked)
+  leaves : {x : X} {all picked : List X} → ¬ (P x) → Picks P all picked → Picks P (x ∷ all) picked
+
 -- these are all settings that have the key, in order
-pub data AllWithKey (key : Key) : List Setting → List Setting → Type 0 where
-  none : AllWithKey key [] []
-  has : {setting : Setting} {settings all : List Setting} → HasKey (entry_of setting.entry) key
-      → AllWithKey key settings all → AllWithKey key (setting ∷ settings) (setting ∷ all)
-  lacks : {setting : Setting} {settings all : List Setting} → ¬ (HasKey (entry_of setting.entry) key)
-      → AllWithKey key settings all → AllWithKey key (setting ∷ settings) all
+abbrev pub AllWithKey : Key → List Setting → List Setting → Type 0
+AllWithKey key = Picks (λ setting. HasKey (entry_of setting.entry) key)
+
+-- Git lists the setting under a key that begins with this prefix
+abbrev pub IsBelow : List ℕ → Setting → Type 0
+IsBelow prefix setting =
+    (rest : List ℕ) × IsListed (entry_of setting.entry).section (entry_of setting.entry).key (prefix ++ rest)
+
+-- Git lists the setting under a key with this section, ignoring ASCII case, and with this subsection
+pub record HasSubsection (section : List ℕ) (setting : Setting) (subsection : List ℕ) : Type 0 where
+  pub text : List ℕ
+  pub key : Key
+  pub is_listed : IsListed (entry_of setting.entry).section (entry_of setting.entry).key text
+  pub is_cut : IsCut text key
+  pub same_section : map to_ascii_lowercase key.section ≡ map to_ascii_lowercase section
+  pub has_subsection : key.subsection ≡ Some subsection
+
+-- the setting has no subsection in this section
+abbrev pub LacksSubsection : List ℕ → Setting → Type 0
+LacksSubsection section setting = (subsection : List ℕ) → ¬ (HasSubsection section setting subsection)
+
+-- These are the subsections of a section, each once, in the order in which they come first: the one of the first
+-- setting, and then those of the later settings without it.
+pub data AreSubsections (section : List ℕ) : List Setting → List (List ℕ) → Type 0 where
+  no_settings : AreSubsections section [] []
+  lacks : {setting : Setting} {settings : List Setting} {found : List (List ℕ)}
+      → LacksSubsection section setting → AreSubsections section settings found
+      → AreSubsections section (setting ∷ settings) found
+  has : {setting : Setting} {settings : List Setting} {subsection : List ℕ} {found others : List (List ℕ)}
+      → HasSubsection section setting subsection → AreSubsections section settings found
+      → Picks (λ other. other ≢ subsection) found others
+      → AreSubsections section (setting ∷ settings) (subsection ∷ others)
+
+-- the text is a key that no setting has
+abbrev pub IsUnset : List Setting → List ℕ → Type 0
+IsUnset settings text = (key : Key) × IsKey text key × LacksKey settings key
+
+-- the text is a key, and this is the last setting that has it
+abbrev pub IsDecided : List Setting → List ℕ → Setting → Type 0
+IsDecided settings text setting = (key : Key) × IsKey text key × IsLast settings key setting
 
 -- the value of the last setting that has this key, or its refusal; no value if none has it
 abbrev pub Gets : {V : Type 0} → (List ℕ → V → Type 0) → (List ℕ → Fault → Type 0) → List Setting → List ℕ
     → Result (Option V) GetError → Type 0
-Gets grammar refusal settings text (Ok None) = (key : Key) × IsKey text key × LacksKey settings key
-Gets grammar refusal settings text (Ok (Some v)) = (key : Key) × (setting : Setting) × IsKey text key
-    × IsLast settings key setting × grammar (text_of setting) v
-Gets grammar refusal settings text (Err (get.Refused refused)) = (key : Key) × IsKey text key
-    × IsLast settings key refused.setting.now × refusal (text_of refused.setting.now) refused.fault
+Gets grammar refusal settings text (Ok None) = IsUnset settings text
+Gets grammar refusal settings text (Ok (Some v)) =
+    (setting : Setting) × IsDecided settings text setting × grammar (text_of setting) v
+Gets grammar refusal settings text (Err (get.NoValue setting)) = IsDecided settings text setting.now
+    × (value_text setting.now ≡ None) × IsRefused grammar (text_of setting.now)
+Gets grammar refusal settings text (Err (get.Refused refused)) = IsDecided settings text refused.setting.now
+    × (value_text refused.setting.now ≢ None) × refusal (text_of refused.setting.now) refused.fault
     × IsRefused grammar (text_of refused.setting.now)
 Gets grammar refusal settings text (Err (get.Key error)) = RefusesKey text error
+Gets grammar refusal settings text (Err (get.NoWord _)) = ⊥
+
+-- the text of the last setting that has this key, if it is one of these words, or its refusal
+abbrev pub GetsWord : List (List ℕ) → List Setting → List ℕ → Result (Option (Bor (List ℕ))) GetError → Type 0
+GetsWord words settings text (Ok None) = IsUnset settings text
+GetsWord words settings text (Ok (Some word)) = (setting : Setting) × IsDecided settings text setting
+    × (value_text setting ≡ Some word.now) × Contains words word.now
+GetsWord words settings text (Err (get.NoValue setting)) =
+    IsDecided settings text setting.now × (value_text setting.now ≡ None)
+GetsWord words settings text (Err (get.NoWord setting)) = IsDecided settings text setting.now
+    × ((value : List ℕ) × (value_text setting.now ≡ Some value) × ¬ (Contains words value))
+GetsWord words settings text (Err (get.Key error)) = RefusesKey text error
+GetsWord words settings text (Err (get.Refused _)) = ⊥
 
 -- a text has at most one value, and is refused with at most one fault
 pub record HasOneReading {V : Type 0} (grammar : List ℕ → V → Type 0) (refusal : List ℕ → Fault → Type 0)
@@ -250,6 +332,7 @@ pub record HasOneReading {V : Type 0} (grammar : List ℕ → V → Type 0) (ref
 abbrev pub IsSameAnswer : {V : Type 0} → Result (Option V) GetError → Result (Option V) GetError → Type 0
 IsSameAnswer (Ok a) (Ok b) = a ≡ b
 IsSameAnswer (Err (get.Key a)) (Err (get.Key b)) = a ≡ b
+IsSameAnswer (Err (get.NoValue a)) (Err (get.NoValue b)) = a.now ≡ b.now
 IsSameAnswer (Err (get.Refused a)) (Err (get.Refused b)) =
     (a.setting.now ≡ b.setting.now) × (a.fault ≡ b.fault)
 IsSameAnswer _ _ = ⊥

@@ -76,19 +76,51 @@ impl<'a> Entry<'a> {
         self.key.eq_ignore_ascii_case(key)
     }
 
-    /// The key as `git config --list` shows it: section and key in lower case, and the text of the subsection
-    /// unchanged. It fails only if memory is refused.
+    /// The key as `git config --list` shows it, in a new vector: what [`Entry::push_key`] appends. It fails only
+    /// if memory is refused.
+    ///
+    /// ```rust
+    /// use config_file::reader::Entries;
+    ///
+    /// let entry = Entries::new(b"[Core] Bare").next().expect(&rt, "an entry").expect(&rt, "no error");
+    /// assert!(rt; entry.key_text(alloc)?.as_slice() == b"core.bare".as_slice());
+    /// ```
     pub fn key_text(&self, alloc: Global) -> Result<Vec<u8>, AllocError>
         ensures { (listed : List ℕ)
             → IsListed (option_map section_of self.now.section) self.now.key.now listed
             → IfOk result (λ text. text.items ≡ listed) }
     {
         let mut text = Vec::with_capacity(alloc, USUAL_LENGTH)?;
-        if let Some(section) = &self.section {
-            push_section(&mut text, section)?;
-        }
-        push_lower(&mut text, self.key)?;
+        self.push_key(&mut text)?;
         Ok(text)
+    }
+
+    /// Appends the key as `git config --list` shows it: section and key in lower case, and the text of the
+    /// subsection unchanged. A caller that lists many entries reuses one vector, and so asks rarely for memory. It
+    /// fails only if memory is refused; then part of the key may have been appended.
+    ///
+    /// ```rust
+    /// use config_file::reader::Entries;
+    ///
+    /// let text = b"[remote \"Up\"] URL = x";
+    /// let entry = Entries::new(text).next().expect(&rt, "an entry").expect(&rt, "no error");
+    /// let mut line = Vec::new(alloc);
+    /// line.extend_from_slice(b"key: ")?;
+    /// entry.push_key(&mut line)?;
+    /// assert!(rt; line.as_slice() == b"key: remote.Up.url".as_slice());
+    /// ```
+    pub fn push_key(&self, text: &mut Vec<u8>) -> Result<(), AllocError>
+        ensures { (listed : List ℕ)
+            → IsListed (option_map section_of self.now.section) self.now.key.now listed
+            → OnOk result (text.new.items ≡ text.old.items ++ listed) }
+    {
+        if let Some(section) = &self.section {
+            push_section(text, section)?;
+            push_lower(text, self.key)?;
+            return Ok(());
+        }
+        push_lower(text, self.key)?;
+        Ok(())
     }
 }
 

@@ -1,11 +1,13 @@
 //! The entries that include a file: their conditions.
-ghost use Rattle.std.specs.Prelude.{◌↔◌, ◌≡◌, ◌++◌, IsTrue, IfOk, OnOk, option_map, option_copied};
+ghost use Rattle.std.specs.Prelude.{◌↔◌, ◌≡◌, ◌++◌, ℕ, List, IsTrue, IfOk, OnOk, option_map, option_copied};
 ghost use Rattle.config_file.specs.Include as spec;
-ghost use Rattle.config_file.specs.Include.{Names, IsGitDir, IsOnBranch, Holds, EntryFollows};
-ghost use Rattle.config_file.specs.Include.{IsSameName, MatchesBelow, MatchesDir};
+ghost use Rattle.config_file.specs.Include.{Names, IsGitDir, IsOnBranch, HasUrl, Holds, EntryFollows};
+ghost use Rattle.config_file.specs.Include.{IsSameName, MatchesBelow, MatchesDir, IsRemoteUrl};
+ghost use Rattle.config_file.specs.Listing.{IsListed};
 ghost use Rattle.config_file.specs.Views.{entry_of};
 
 use crate::entry::Entry;
+use crate::key::strip_ignoring_case;
 use crate::path::{Directories, expand, joined};
 use crate::pattern::matches;
 use std::alloc::{AllocError, Global};
@@ -181,13 +183,77 @@ impl Repository<'_> {
     }
 }
 
+/// Whether an entry is the URL of a remote, because Git lists it as `remote.NAME.url`. The case of the section
+/// and of the key does not count, and a header like `[remote.name]` has a name too. It may be a key alone, which
+/// has no URL: Git crashes there if it looks for URLs.
+///
+/// ```rust
+/// use config_file::{Entries, is_remote_url};
+///
+/// let mut entries = Entries::new(b"[remote \"origin\"]\n\turl = git@example.org:b\n\tfetch = x");
+/// let first = entries.next().expect(&rt, "an entry").expect(&rt, "no error");
+/// let second = entries.next().expect(&rt, "an entry").expect(&rt, "no error");
+/// assert!(rt; is_remote_url(&first));
+/// assert!(rt; !is_remote_url(&second));
+/// ```
+pub fn is_remote_url(entry: &Entry<'_>) -> bool
+    ensures { (text : List ℕ) → IsListed (entry_of entry.now).section (entry_of entry.now).key text
+        → (IsTrue result ↔ (IsRemoteUrl (entry_of entry.now))) }
+{
+    let Some(section) = &entry.section else {
+        return false;
+    };
+    if !entry.key.eq_ignore_ascii_case(b"url") {
+        return false;
+    }
+    match strip_ignoring_case(section.name, b"remote") {
+        Some([]) => section.subsection.is_some(),
+        Some([first, ..]) => *first == b'.',
+        None => false,
+    }
+}
+
+/// The URLs of remotes, which `hasconfig:remote.*.url:` asks about.
+///
+/// Git reads all files twice if one has such a condition. The first time the URLs are sought, and the second
+/// time they are known.
+///
+/// ```rust
+/// use config_file::Urls;
+///
+/// let urls: [&[u8]; 2] = [b"git@example.org:b", b"https://example.com/a"];
+/// assert!(rt; Urls::Known(&urls).have(b"https://example.com/**"));
+/// assert!(rt; !Urls::Known(&urls).have(b"https://example.com/"));
+/// assert!(rt; Urls::Sought.have(b"https://example.com/"));
+/// ```
+#[derive(Clone, Copy)]
+pub enum Urls<'r> {
+    /// They are being sought, and each such condition holds.
+    Sought,
+    /// The values of all entries `remote.NAME.url`, in any order.
+    Known(&'r [&'r [u8]]),
+}
+
+impl Urls<'_> {
+    /// Whether the pattern of `hasconfig:remote.*.url:` matches one of the URLs, or they are being sought.
+    /// Nothing is added to the pattern, and case counts.
+    pub fn have(self, pattern: &[u8]) -> bool
+        ensures { IsTrue result ↔ (HasUrl pattern.now self.entry) }
+    {
+        match self {
+            Urls::Sought => true,
+            Urls::Known(urls) => urls.iter().any(|url| matches(pattern, url, false)),
+        }
+    }
+}
+
 /// Which includes a walk follows.
 #[derive(Clone, Copy)]
 pub enum Includes<'r> {
     /// None of them.
     Skipped,
-    /// Those that Git follows in this repository, or outside of any repository. `HasRemoteUrl` never holds.
-    AsGit(Option<Repository<'r>>),
+    /// Those that Git follows in this repository, or outside of any repository, with these URLs of remotes.
+    AsGit(Option<Repository<'r>>, Urls<'r>),
     /// All of them, whatever their conditions.
     All,
 }
@@ -203,17 +269,19 @@ impl Includes<'_> {
     ) -> Result<bool, AllocError>
         ensures { IfOk result (λ holds. IsTrue holds ↔ (Holds self.entry real_dir.now condition.entry)) }
     {
-        let Includes::AsGit(repository) = self else {
+        let Includes::AsGit(repository, urls) = self else {
             return Ok(matches!(self, Includes::All));
         };
         if let Condition::Always = condition {
             return Ok(true);
         }
+        if let Condition::HasRemoteUrl(pattern) = condition {
+            return Ok(urls.have(pattern));
+        }
         let Some(repository) = repository else {
             return Ok(false);
         };
         match condition {
-            Condition::Always => Ok(true),
             Condition::GitDir(pattern) => Ok(repository.is_git_dir(
                 alloc, real_dir, pattern, false,
             )?),
@@ -221,7 +289,8 @@ impl Includes<'_> {
                 Ok(repository.is_git_dir(alloc, real_dir, pattern, true)?)
             }
             Condition::OnBranch(pattern) => Ok(repository.is_on_branch(alloc, pattern)?),
-            Condition::HasRemoteUrl(_) | Condition::Unknown => Ok(false),
+            // the last two have returned above
+            Condition::Unknown | Condition::Always | Condition::HasRemoteUrl(_) => Ok(false),
         }
     }
 

@@ -304,7 +304,7 @@ fn strip_lower<'t>(text: &'t [u8], front: &[u8]) -> Option<&'t [u8]>
 }
 
 /// What follows these bytes in a name, ignoring ASCII case.
-fn strip_ignoring_case<'n>(name: &'n [u8], front: &[u8]) -> Option<&'n [u8]>
+pub(crate) fn strip_ignoring_case<'n>(name: &'n [u8], front: &[u8]) -> Option<&'n [u8]>
     ensures { MatchOption result
         (LacksFront (map to_ascii_lowercase front.now) (map to_ascii_lowercase name.now))
         (λ rest. map to_ascii_lowercase name.now

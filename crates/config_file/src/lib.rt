@@ -11,6 +11,7 @@
 #![tactic(auto)]
 
 mod bytes;
+pub mod command;
 pub mod entry;
 pub mod errors;
 pub mod files;
@@ -21,21 +22,27 @@ pub mod laws;
 pub mod path;
 pub mod pattern;
 pub mod reader;
+pub mod scope;
 pub mod section;
 mod set;
 pub mod settings;
+mod shown;
 pub mod spelling;
+pub mod url;
 pub mod value;
 pub mod walk;
 
+pub use crate::command::{CommandError, count_of, push_parameters, push_setting};
 pub use crate::entry::Entry;
 pub use crate::errors::Error as FileError;
 pub use crate::files::{Content, Files};
-pub use crate::include::{Condition, Includes, Repository};
+pub use crate::include::{Condition, Includes, Repository, Urls, is_remote_url};
 pub use crate::key::{Key, KeyError};
 pub use crate::path::Directories;
 pub use crate::reader::Entries;
+pub use crate::scope::Scope;
 pub use crate::settings::{
     AddError, GetError, IncludeFault, Next, Refused, Setting, Settings, next_of,
 };
+pub use crate::url::Url;
 pub use crate::walk::{Frame, Include, Known, Place, Step, Walk};

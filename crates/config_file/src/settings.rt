@@ -1,13 +1,18 @@
 //! The settings of several files, in order. The last entry of a key decides its value.
-ghost use Rattle.std.specs.Prelude.{◌≡◌, ◌++◌, [], Some, MatchOption, IfOk, IsUtf8, map, option_map};
+ghost use Rattle.std.specs.Prelude.{◌≡◌, ◌++◌, ◌∷◌, ◌↔◌, List, ℕ, [], Some, MatchOption, IfOk, OnOk, IsTrue, IsUtf8};
+ghost use Rattle.std.specs.Prelude.{◌≢◌, Contains, MatchBool, map, option_map};
 ghost use Rattle.std.specs.Option.{ForSome};
 ghost use Rattle.config_path.specs.Interpolation.{known_in};
-ghost use Rattle.config_file.specs.Settings.{place_shown, add_error_shown, include_fault_text, text_of, path_bytes};
+ghost use Rattle.config_file.specs.Settings.{place_shown, text_shown, refused_shown, get_error_shown};
+ghost use Rattle.config_file.specs.Settings.{add_error_shown, include_fault_text, value_text, text_of, path_bytes};
 ghost use Rattle.config_file.specs.Settings.{IsSettingOf, Tells, ReadsSetting, IsPathOfSetting};
-ghost use Rattle.config_file.specs.Settings.{AddsFile, AddsWalk, IsNext};
-ghost use Rattle.config_file.specs.Reading.Adds.{AddsEntry, AddsNext};
-ghost use Rattle.config_file.specs.Settings.{AreListed, LacksKey, IsLast, AllWithKey, Gets};
+ghost use Rattle.config_file.specs.Settings.{AddsFile, AddsWalk, AddsInScope, IsNext};
+ghost use Rattle.config_file.specs.Reading.Adds.{AddsEntry, AddsNext, AddsOnce, Decides};
+ghost use Rattle.config_file.specs.Settings.{AreListed, LacksKey, IsLast, AllWithKey, Gets, GetsWord};
+ghost use Rattle.config_file.specs.Settings.{Picks, IsBelow, HasSubsection, LacksSubsection, AreSubsections};
+ghost use Rattle.config_file.specs.declared.scope.Scope.TheVariants.{Command};
 ghost use Rattle.config_file.specs.KeyView.{key_of};
+ghost use Rattle.config_file.specs.Listing.{IsListed};
 ghost use Rattle.config_file.specs.Views.{entry_of};
 
 use crate::entry::Entry;
@@ -15,6 +20,8 @@ use crate::errors::Error as FileError;
 use crate::files::{Content, Files};
 use crate::key::{Key, KeyError};
 use crate::reader::Entries;
+use crate::scope::Scope;
+use crate::shown::Quoted;
 use crate::walk::{Include, Known, Place, Step, Walk};
 use bstr::BStr;
 use config_path::interpolate::{Context, Error as PathError};
@@ -26,10 +33,12 @@ use std::alloc::{AllocError, Global};
 use std::borrow::CowSlice;
 use std::{error, fmt};
 
-/// An entry of a file, and the text of its value. Both are borrowed from the text of the file, but for a value
-/// that is quoted, escaped or continued.
+/// An entry of a file, and the text of its value. Both are borrowed from the text of the file, but for a
+/// value that is quoted, escaped or continued.
 #[derive(Debug, Drop)]
 pub struct Setting<'t> {
+    /// Where Git has the file from.
+    pub scope: Scope,
     /// The name of the file.
     pub file: &'t [u8],
     /// The entry.
@@ -47,14 +56,15 @@ pub struct Refused<'s, 't, F> {
     pub fault: F,
 }
 
-impl<F: fmt::Display> fmt::Display for Refused<'_, '_, F> {
-    ghost output = { λ refused. option_map
-        (λ reason. place_shown refused.setting.now ++ reason)
-        (F.output refused.fault) };
+/// Displays as the place of a setting: `FILE:LINE: KEY: `.
+#[derive(Clone, Copy)]
+struct PlaceOf<'s, 't>(&'s Setting<'t>);
 
-    /// Writes `FILE:LINE: KEY: reason`, with the key as it is written in the file.
+impl fmt::Display for PlaceOf<'_, '_> {
+    ghost output = { λ place. Some (place_shown place.0.now) };
+
     fn fmt<W: fmt::Write>(&self, f: &mut fmt::Formatter<W>) -> fmt::Result {
-        let Setting { file, entry, .. } = self.setting;
+        let Setting { file, entry, .. } = self.0;
         write!(f, "{}:{}: ", BStr::new(file), entry.line)?;
         if let Some(section) = &entry.section {
             write!(f, "{}.", BStr::new(section.name))?;
@@ -62,7 +72,39 @@ impl<F: fmt::Display> fmt::Display for Refused<'_, '_, F> {
                 write!(f, "{}.", BStr::new(subsection.raw))?;
             }
         }
-        write!(f, "{}: {}", BStr::new(entry.key), self.fault)
+        write!(f, "{}: ", BStr::new(entry.key))
+    }
+}
+
+/// Displays as `: ` and the text of a setting in quotes, or as nothing for a key alone.
+#[derive(Clone, Copy)]
+struct TextOf<'s, 't>(&'s Setting<'t>);
+
+impl fmt::Display for TextOf<'_, '_> {
+    ghost output = { λ text. Some (text_shown (value_text text.0.now)) };
+
+    fn fmt<W: fmt::Write>(&self, f: &mut fmt::Formatter<W>) -> fmt::Result {
+        match &self.0.value {
+            Some(text) => write!(f, ": {}", Quoted(text)),
+            None => Ok(()),
+        }
+    }
+}
+
+impl<F: fmt::Display> fmt::Display for Refused<'_, '_, F> {
+    ghost output = { λ refused. option_map (refused_shown refused.setting.now) (F.output refused.fault) };
+
+    /// Writes `FILE:LINE: KEY: reason: "text"`, with the key as it is written in the file. In the text
+    /// control characters and bytes that are not UTF-8 are written as `\xNN`. No text follows the reason for
+    /// a key alone.
+    fn fmt<W: fmt::Write>(&self, f: &mut fmt::Formatter<W>) -> fmt::Result {
+        write!(
+            f,
+            "{}{}{}",
+            PlaceOf(self.setting),
+            self.fault,
+            TextOf(self.setting)
+        )
     }
 }
 
@@ -143,20 +185,69 @@ impl error::Error for AddError<'_> {}
 pub enum GetError<'s, 't> {
     /// The text is no key.
     Key(KeyError),
+    /// Its last setting is a key alone, which the type does not accept.
+    NoValue(&'s Setting<'t>),
     /// The text of its last setting has no value of the type.
     Refused(Refused<'s, 't, Fault>),
+    /// The text of its last setting is none of the words: [`Settings::one_of`].
+    NoWord(&'s Setting<'t>),
 }
 
+impl fmt::Display for GetError<'_, '_> {
+    ghost output = { λ error. Some (get_error_shown error) };
+
+    /// Writes the reason that a text is no key, or `FILE:LINE: KEY: reason`, followed by `: "text"` if the
+    /// setting has a text, as a [`Refused`] is written.
+    fn fmt<W: fmt::Write>(&self, f: &mut fmt::Formatter<W>) -> fmt::Result {
+        match self {
+            GetError::Key(error) => write!(f, "{error}"),
+            GetError::NoValue(setting) => write!(f, "{}no value", PlaceOf(setting)),
+            GetError::Refused(Refused { setting, fault }) => {
+                write!(f, "{}{}{}", PlaceOf(setting), fault.text(), TextOf(setting))
+            }
+            GetError::NoWord(setting) => {
+                write!(
+                    f,
+                    "{}not one of the allowed words{}",
+                    PlaceOf(setting),
+                    TextOf(setting)
+                )
+            }
+        }
+    }
+}
+
+impl error::Error for GetError<'_, '_> {}
+
 impl<'t> Setting<'t> {
-    /// The setting of an entry of a file. It fails only if memory is refused.
+    /// The setting of an entry of a file, with the scope `Command`. It fails only if memory is refused.
     pub fn of_entry(alloc: Global, file: &'t [u8], entry: Entry<'t>) -> Result<Self, AllocError>
-        ensures { IfOk result (IsSettingOf (file.now, entry_of entry.entry)) }
+        ensures entry { IfOk result (IsSettingOf (file.now, entry_of entry.entry)) }
+        ensures scope { IfOk result (λ setting. setting.scope ≡ Command) }
+    {
+        Self::with_scope(alloc, Scope::Command, file, entry)
+    }
+
+    /// The setting of an entry of a file of this scope.
+    fn with_scope(
+        alloc: Global,
+        scope: Scope,
+        file: &'t [u8],
+        entry: Entry<'t>,
+    ) -> Result<Self, AllocError>
+        ensures entry { IfOk result (IsSettingOf (file.now, entry_of entry.entry)) }
+        ensures scope { IfOk result (λ setting. setting.scope ≡ scope) }
     {
         let value = match &entry.value {
             Some(value) => Some(value.text(alloc)?),
             None => None,
         };
-        Ok(Self { file, entry, value })
+        Ok(Self {
+            scope,
+            file,
+            entry,
+            value,
+        })
     }
 
     /// The text for a reader: that of the value, or `true` for a key alone.
@@ -186,6 +277,37 @@ impl<'t> Setting<'t> {
         match V::try_read(self.text()) {
             Ok(value) => Ok(value),
             Err(fault) => Err(self.refused(fault)),
+        }
+    }
+
+    /// Whether Git lists the setting under a key that begins with this.
+    fn is_below(&self, alloc: Global, prefix: &[u8]) -> Result<bool, AllocError>
+        ensures { (text : List ℕ)
+            → IsListed (entry_of self.now.entry).section (entry_of self.now.entry).key text
+            → IfOk result (λ is_below. IsTrue is_below ↔ IsBelow prefix.now self.now) }
+    {
+        let key = self.entry.key_text(alloc)?;
+        Ok(key.starts_with(prefix))
+    }
+
+    /// The subsection of the key under which Git lists the setting, if the key has this section and a
+    /// subsection.
+    fn subsection_in(&self, alloc: Global, section: &[u8]) -> Result<Option<Vec<u8>>, AllocError>
+        ensures { (text : List ℕ)
+            → IsListed (entry_of self.now.entry).section (entry_of self.now.entry).key text
+            → IfOk result (λ found. MatchOption found (LacksSubsection section.now self.now)
+            (λ subsection. HasSubsection section.now self.now subsection.items)) }
+    {
+        let text = self.entry.key_text(alloc)?;
+        let Some(key) = Key::split(&text) else {
+            return Ok(None);
+        };
+        if !key.section().eq_ignore_ascii_case(section) {
+            return Ok(None);
+        }
+        match key.subsection() {
+            Some(subsection) => Ok(Some(Vec::from_slice(alloc, subsection)?)),
+            None => Ok(None),
         }
     }
 
@@ -254,6 +376,8 @@ fn last_of<'s, 't>(settings: &'s [Setting<'t>], key: &Key<'_>) -> Option<&'s Set
 pub struct Settings<'t> {
     /// The settings, in order.
     pub entries: Vec<Setting<'t>>,
+    /// The scope of the settings that are added from now on.
+    pub scope: Scope,
 }
 
 /// How a walk goes on after an entry.
@@ -290,34 +414,41 @@ pub fn next_of<'t, S: Files<'t>>(
 }
 
 impl<'t> Settings<'t> {
-    /// Settings without any entry.
+    /// Settings without any entry. Those that are added get the scope `Command`, as those of a file that Git
+    /// is given by `--file`, until the field `scope` is set to another one.
     pub fn new(alloc: Global) -> Settings<'t>
-        ensures { result.entries.items ≡ [] }
+        ensures entries { result.entries.items ≡ [] }
+        ensures scope { result.scope ≡ Command }
     {
         Settings {
             entries: Vec::new(alloc),
+            scope: Scope::Command,
         }
     }
 
     /// Adds the setting of an entry.
     fn add(&mut self, alloc: Global, file: &'t [u8], entry: Entry<'t>) -> Result<(), AllocError>
-        ensures { AddsEntry (file.now, entry_of entry.entry) self.old.entries.items self.new.entries.items result }
+        ensures adds { AddsEntry (file.now, entry_of entry.entry) self.old.entries.items self.new.entries.items
+            result }
+        ensures scope { AddsInScope self.old self.new }
     {
-        let setting = Setting::of_entry(alloc, file, entry)?;
+        let setting = Setting::with_scope(alloc, self.scope, file, entry)?;
         match self.entries.push(setting) {
             Ok(()) => Ok(()),
             Err(_) => Err(AllocError),
         }
     }
 
-    /// Adds the entries of a file, which decide over earlier ones. Its includes are entries as others are.
+    /// Adds the entries of a file, which decide over earlier ones, with the scope that the field `scope` has.
+    /// Its includes are entries as others are.
     pub fn add_file(
         &mut self,
         alloc: Global,
         file: &'t [u8],
         text: &'t [u8],
     ) -> Result<(), AddError<'t>>
-        ensures { AddsFile file.now text.now self.old.entries.items self.new.entries.items result }
+        ensures adds { AddsFile file.now text.now self.old.entries.items self.new.entries.items result }
+        ensures scope { AddsInScope self.old self.new }
     {
         for entry in Entries::new(text) {
             let entry = match entry {
@@ -333,7 +464,7 @@ impl<'t> Settings<'t> {
     }
 
     /// Adds the entries of a file, and those of the files that it includes, in Git's order. They decide over
-    /// earlier ones. It stops where Git does.
+    /// earlier ones, and have the scope that the field `scope` has. It stops where Git does.
     pub fn add_with_includes<S: Files<'t>>(
         &mut self,
         alloc: Global,
@@ -342,8 +473,9 @@ impl<'t> Settings<'t> {
         place: Place<'t>,
         text: &'t [u8],
     ) -> Result<(), AddError<'t>>
-        ensures { AddsWalk (S.contents files.now) known.now place.entry text.now
+        ensures adds { AddsWalk (S.contents files.now) known.now place.entry text.now
             self.old.entries.items self.new.entries.items result }
+        ensures scope { AddsInScope self.old self.new }
     {
         let mut walk = Walk::new(place, text);
         'steps: for _ in 0..u64::MAX {
@@ -366,8 +498,9 @@ impl<'t> Settings<'t> {
         known: &Known<'_>,
         walk: &mut Walk<'t>,
     ) -> Result<bool, AddError<'t>>
-        ensures { AddsNext (S.contents files.now) known.now walk.old.frames.items walk.new.frames.items
+        ensures adds { AddsNext (S.contents files.now) known.now walk.old.frames.items walk.new.frames.items
             self.old.entries.items self.new.entries.items result }
+        ensures scope { AddsInScope self.old self.new }
     {
         let step = match walk.next(alloc, known) {
             Ok(step) => step,
@@ -424,21 +557,203 @@ impl<'t> Settings<'t> {
         Ok(all)
     }
 
+    /// The settings of a scope, in order. It fails only if memory is refused.
+    ///
+    /// ```rust
+    /// use config_file::{Scope, Settings};
+    ///
+    /// let mut settings = Settings::new(alloc);
+    /// settings.scope = Scope::Global;
+    /// assert!(rt; settings.add_file(alloc, b"/home/ann/.gitconfig", b"[core]\n\tbare").is_ok());
+    /// settings.scope = Scope::Local;
+    /// assert!(rt; settings.add_file(alloc, b".git/config", b"[core]\n\tbare = no").is_ok());
+    /// let local = settings.in_scope(alloc, Scope::Local)?;
+    /// assert_eq!(rt; local.len(), 1);
+    /// assert_eq!(rt; local[0].text(), b"no".as_slice());
+    /// ```
+    pub fn in_scope(&self, alloc: Global, scope: Scope) -> Result<Vec<&Setting<'t>>, AllocError>
+        ensures { IfOk result (λ all. Picks (λ setting. setting.scope ≡ scope) self.now.entries.items
+            (map (λ setting. setting.now) all.items)) }
+    {
+        let mut all = Vec::new(alloc);
+        for setting in &self.entries {
+            if setting.scope == scope {
+                all.push(setting)?;
+            }
+        }
+        Ok(all)
+    }
+
+    /// The settings that Git lists under a key that begins with this prefix, in order: all of the branch
+    /// `main` for `branch.main.`, and all of `remote` for `remote.`. The prefix is compared byte by byte, so
+    /// its section and its name have to be in lower case, as `git config --list` shows them. It fails only if
+    /// memory is refused.
+    ///
+    /// ```rust
+    /// use config_file::Settings;
+    ///
+    /// let mut settings = Settings::new(alloc);
+    /// let text = b"[branch \"main\"]\n\trebase\n\tremote = o\n[branch \"mainline\"]\n\tremote = p";
+    /// assert!(rt; settings.add_file(alloc, b".git/config", text).is_ok());
+    /// let of_main = settings.below(alloc, b"branch.main.")?;
+    /// assert_eq!(rt; of_main.len(), 2);
+    /// assert_eq!(rt; of_main[1].text(), b"o".as_slice());
+    /// ```
+    pub fn below(&self, alloc: Global, prefix: &[u8]) -> Result<Vec<&Setting<'t>>, AllocError>
+        ensures { AreListed self.now.entries.items → IfOk result
+            (λ all. Picks (IsBelow prefix.now) self.now.entries.items (map (λ setting. setting.now) all.items)) }
+    {
+        let mut all = Vec::new(alloc);
+        for setting in &self.entries {
+            let is_below = setting.is_below(alloc, prefix)?;
+            if is_below {
+                all.push(setting)?;
+            }
+        }
+        Ok(all)
+    }
+
+    /// The texts of the different subsections of a section, each once, in the order in which they come first:
+    /// for `remote` the names of all remotes. The case of the section does not count, and that of a
+    /// subsection does. A setting without a subsection has none to give. It fails only if memory is refused.
+    ///
+    /// ```rust
+    /// use config_file::Settings;
+    ///
+    /// let mut settings = Settings::new(alloc);
+    /// let text = b"[remote \"b\"]\n\turl = x\n[Remote \"a\"]\n\turl = y\n[remote \"b\"]\n\tprune";
+    /// assert!(rt; settings.add_file(alloc, b".git/config", text).is_ok());
+    /// let remotes = settings.subsections(alloc, b"remote")?;
+    /// assert_eq!(rt; remotes.len(), 2);
+    /// assert_eq!(rt; remotes[0].as_slice(), b"b".as_slice());
+    /// ```
+    pub fn subsections(&self, alloc: Global, section: &[u8]) -> Result<Vec<Vec<u8>>, AllocError>
+        ensures { AreListed self.now.entries.items → IfOk result
+            (λ found. AreSubsections section.now self.now.entries.items (map (λ text. text.items) found.items)) }
+    {
+        let mut found = Vec::new(alloc);
+        for setting in &self.entries {
+            let subsection = setting.subsection_in(alloc, section)?;
+            add_once(&mut found, subsection)?;
+        }
+        Ok(found)
+    }
+
+    /// The last setting of a key that is given as text, or `None` if no entry has it.
+    fn deciding(&self, key: &str) -> Result<Option<&Setting<'t>>, KeyError>
+        ensures { AreListed self.now.entries.items → Decides self.now.entries.items key.now result }
+    {
+        let key = Key::parse(key.as_bytes())?;
+        Ok(self.last(&key))
+    }
+
     /// The value of the last entry of a key, such as `branch.main.rebase`, or `None` if no entry has it.
+    ///
+    /// ```rust
+    /// use config_file::{GetError, Settings};
+    /// use gix_config_value::Color;
+    ///
+    /// let mut settings = Settings::new(alloc);
+    /// assert!(rt; settings.add_file(alloc, b"config", b"[color \"diff\"]\n\told\n\tnew = rde").is_ok());
+    /// let error = settings.get::<Color>("color.diff.old").unwrap_err();
+    /// assert!(rt; matches!(error, GetError::NoValue(_)));
+    /// assert_eq!(rt; error.to_string(alloc)?.as_str(), "config:2: color.diff.old: no value");
+    /// ```
     pub fn get<V: TryRead>(&self, key: &str) -> Result<Option<V>, GetError<'_, 't>>
         ensures { AreListed self.now.entries.items
             → Gets V.grammar V.refusal self.now.entries.items key.now result }
     {
-        let key = match Key::parse(key.as_bytes()) {
-            Ok(key) => key,
+        let setting = match self.deciding(key) {
+            Ok(Some(setting)) => setting,
+            Ok(None) => return Ok(None),
             Err(error) => return Err(GetError::Key(error)),
-        };
-        let Some(setting) = self.last(&key) else {
-            return Ok(None);
         };
         match setting.read() {
             Ok(value) => Ok(Some(value)),
+            Err(_) if setting.value.is_none() => Err(GetError::NoValue(setting)),
             Err(refused) => Err(GetError::Refused(refused)),
         }
     }
+
+    /// The value of the last entry of a key, which has to be one of these words, byte by byte, or `None` if
+    /// no entry has the key. Any other text is refused as `NoWord`, and a key alone as `NoValue`.
+    ///
+    /// ```rust
+    /// use config_file::Settings;
+    ///
+    /// let mut settings = Settings::new(alloc);
+    /// assert!(rt; settings.add_file(alloc, b"config", b"[push]\n\tdefault = Simple").is_ok());
+    /// let error = settings.one_of("push.default", &["current", "simple"]).unwrap_err();
+    /// let shown = "config:2: push.default: not one of the allowed words: \"Simple\"";
+    /// assert_eq!(rt; error.to_string(alloc)?.as_str(), shown);
+    /// ```
+    pub fn one_of<'w>(
+        &self,
+        key: &str,
+        words: &[&'w str],
+    ) -> Result<Option<&'w str>, GetError<'_, 't>>
+        ensures { AreListed self.now.entries.items
+            → GetsWord (map (λ word. word.now) words.now) self.now.entries.items key.now result }
+    {
+        let setting = match self.deciding(key) {
+            Ok(Some(setting)) => setting,
+            Ok(None) => return Ok(None),
+            Err(error) => return Err(GetError::Key(error)),
+        };
+        let Some(text) = &setting.value else {
+            return Err(GetError::NoValue(setting));
+        };
+        match word_of(words, text) {
+            Some(word) => Ok(Some(word)),
+            None => Err(GetError::NoWord(setting)),
+        }
+    }
+}
+
+/// Whether a word is this text, byte by byte.
+fn is_word(word: &str, text: &[u8]) -> bool
+    ensures { MatchBool result (word.now ≡ text.now) (word.now ≢ text.now) }
+{
+    word.as_bytes() == text
+}
+
+/// The word that is this text, byte by byte, or `None` if none is.
+fn word_of<'w>(words: &[&'w str], text: &[u8]) -> Option<&'w str>
+    ensures { MatchOption result (¬ (Contains (map (λ word. word.now) words.now) text.now))
+        (λ word. Contains (map (λ word. word.now) words.now) text.now × (word.now ≡ text.now)) }
+{
+    for word in words {
+        if is_word(word, text) {
+            return Some(word);
+        }
+    }
+    None
+}
+
+/// Whether a text is among these.
+fn is_among(texts: &[Vec<u8>], text: &[u8]) -> bool
+    ensures { MatchBool result (Contains (map (λ text. text.items) texts.now) text.now)
+        (¬ (Contains (map (λ text. text.items) texts.now) text.now)) }
+{
+    for other in texts {
+        if other.as_slice() == text {
+            return true;
+        }
+    }
+    false
+}
+
+/// Adds a text, if there is one, unless it is already among these.
+fn add_once(found: &mut Vec<Vec<u8>>, text: Option<Vec<u8>>) -> Result<(), AllocError>
+    ensures { OnOk result (AddsOnce (option_map (λ text. text.items) text)
+        (map (λ text. text.items) found.old.items) (map (λ text. text.items) found.new.items)) }
+{
+    let Some(text) = text else {
+        return Ok(());
+    };
+    if is_among(found, &text) {
+        return Ok(());
+    }
+    found.push(text)?;
+    Ok(())
 }

@@ -145,11 +145,11 @@ pub enum Step<'t> {
 /// all the same. A walk takes no memory, and it borrows from the texts.
 ///
 /// ```rust
-/// use config_file::{Directories, Include, Includes, Known, Place, Step, Walk};
+/// use config_file::{Directories, Include, Includes, Known, Place, Step, Urls, Walk};
 ///
 /// let known = Known {
 ///     directories: Directories { home: None, install_dir: None },
-///     includes: Includes::AsGit(None),
+///     includes: Includes::AsGit(None, Urls::Known(&[])),
 /// };
 /// let place = Place { name: b"/etc/gitconfig", real_dir: b"/etc" };
 /// let mut walk = Walk::new(place, b"[include]\n\tpath = more\n[core]\n\tbare");

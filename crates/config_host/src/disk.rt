@@ -34,6 +34,9 @@ pub enum ReadError {
     /// It is longer than [`LONGEST`].
     #[error("it is longer than 1 GiB")]
     Length,
+    /// Its name does not begin at the root, and it is included by a setting that is in no file.
+    #[error("relative config includes must come from files")]
+    Relative,
     /// The system refuses it.
     #[error("{0}")]
     System(io::Error),
@@ -64,8 +67,13 @@ impl ReadError {
         matches!(self, ReadError::System(error) if error.kind() == ErrorKind::OutOfMemory)
     }
 
+    /// Whether the system lets the user of this program not read the file.
+    pub fn is_denied(&self) -> bool {
+        matches!(self, ReadError::System(error) if error.kind() == ErrorKind::PermissionDenied)
+    }
+
     /// Whether there is no such file, or its name is below a file.
-    fn is_missing(&self) -> bool {
+    pub fn is_missing(&self) -> bool {
         matches!(self, ReadError::System(error)
             if matches!(error.kind(), ErrorKind::NotFound | ErrorKind::NotADirectory))
     }
@@ -178,14 +186,62 @@ fn name_from_root<R: Host>(host: &R, name: &[u8]) -> io::Result<Vec<u8>> {
 /// The files of a host, whose texts are kept in memory until all of them are given up together.
 #[derive(Drop)]
 pub struct Disk<'t, R> {
-    host: &'t R,
-    texts: &'t Bump,
+    pub(crate) host: &'t R,
+    pub(crate) texts: &'t Bump,
+    /// The folder in which each name begins that does not begin at the root. There is none if each has to.
+    folder: Option<&'t [u8]>,
 }
 
 impl<'t, R: Host> Disk<'t, R> {
-    /// The files of this host, whose texts are kept there.
+    /// The files of this host, whose texts are kept there. Names begin in the current folder.
     pub fn new(host: &'t R, texts: &'t Bump) -> Disk<'t, R> {
-        Disk { host, texts }
+        Disk {
+            host,
+            texts,
+            folder: Some(b""),
+        }
+    }
+
+    /// The same files, with names that begin in this folder. An empty one is the current folder.
+    pub fn within(&self, folder: &[u8]) -> Result<Disk<'t, R>, AllocError> {
+        Ok(Disk {
+            host: self.host,
+            texts: self.texts,
+            folder: Some(self.kept(folder)?),
+        })
+    }
+
+    /// The same files.
+    pub fn again(&self) -> Disk<'t, R> {
+        Disk {
+            host: self.host,
+            texts: self.texts,
+            folder: self.folder,
+        }
+    }
+
+    /// The same files, each of which has to be named from the root, as in the settings of a command.
+    pub fn from_root(&self) -> Disk<'t, R> {
+        Disk {
+            host: self.host,
+            texts: self.texts,
+            folder: None,
+        }
+    }
+
+    /// A copy of these bytes that is kept.
+    pub fn kept(&self, bytes: &[u8]) -> Result<&'t [u8], AllocError> {
+        Ok(self.texts.try_alloc_slice_copy(bytes)?)
+    }
+
+    /// The name by which the system opens the file of this name.
+    pub fn opened_name(&self, name: &[u8]) -> Result<Vec<u8>, ReadError> {
+        match self.folder {
+            None if !name.starts_with(b"/") => Err(ReadError::Relative),
+            // an empty name would become that of the folder
+            Some(folder) if !name.is_empty() => Ok(inside(self.host, folder, name)?),
+            _ => Ok(copied(self.host, name)?),
+        }
     }
 
     /// The bytes to the end of what is read, at most [`LONGEST`]. If the length is not known, as that of a
@@ -202,14 +258,20 @@ impl<'t, R: Host> Disk<'t, R> {
 
     /// The bytes of the file of this name, which has to be one that may be included if `is_first` is false.
     fn read_file(&self, name: &[u8], is_first: bool) -> Result<&'t [u8], ReadError> {
-        let file = opened(self.host, text_of(name)?, is_first)?;
+        let name = self.opened_name(name)?;
+        let file = opened(self.host, text_of(&name)?, is_first)?;
         let length = known_length(&file, is_first)?;
         self.text(file, length)
     }
 
     /// The name of a file from the root, without links as far as the system knows it.
     pub fn real_name(&self, name: &[u8]) -> Result<Vec<u8>, AllocError> {
-        match name_from_root(self.host, name) {
+        let real = match self.opened_name(name) {
+            Ok(opened) => name_from_root(self.host, &opened),
+            Err(error) if error.is_memory() => return Err(AllocError),
+            Err(_) => copied(self.host, name),
+        };
+        match real {
             Ok(real) => Ok(real),
             Err(_) => Err(AllocError),
         }
@@ -226,7 +288,7 @@ impl<'t, R: Host> Disk<'t, R> {
         };
         Ok(Place {
             name: self.texts.try_alloc_slice_copy(name)?,
-            real_dir: self.texts.try_alloc_slice_copy(folder)?,
+            real_dir: self.kept(folder)?,
         })
     }
 
@@ -238,6 +300,9 @@ impl<'t, R: Host> Disk<'t, R> {
 
     /// Why the file of this name is not read, as a text that is kept.
     fn reason(&self, name: &[u8], error: &ReadError) -> Result<&'t str, AllocError> {
+        if let ReadError::Relative = error {
+            return Ok("relative config includes must come from files");
+        }
         let name = BStr::new(name);
         let text = format!(in self.host.alloc(); "cannot read {name}: {error}")?;
         self.texts.try_alloc_str(&text)

@@ -1,21 +1,36 @@
 //! Where a program runs: the one room with input. No contract can say what a system returns.
 //!
+//! - [`settings_here`] reads all that Git reads in a folder, in one call.
 //! - [`environment`] gives arguments and variables as bytes, and [`names`] the paths that they spell.
 //! - [`disk`] reads files, and refuses those that would take all memory.
-//! - [`repository`] finds the repository, and [`places`] the files that Git reads in a folder.
+//! - [`repository`] finds the repository as [`search`] does by [`head`], [`owner`] and [`format`].
+//! - [`sources`] lists what Git reads, with the settings of a [`command`], and [`reading`] follows includes.
 //! - [`surroundings`] holds what includes ask about, and [`shown`] writes messages without control
 //!   characters.
+//! - [`terminal`] tells whether to write colors, and how many.
 #![tactic(auto)]
 
+pub mod command;
 pub mod disk;
 pub mod environment;
+pub mod error;
+pub mod format;
+pub mod head;
+pub mod here;
 pub mod laws;
+pub mod lines;
 pub mod names;
-pub mod places;
+pub mod owner;
+pub mod reading;
 pub mod repository;
+pub mod search;
 pub mod shown;
+pub mod sources;
 pub mod surroundings;
+pub mod terminal;
 
 pub use crate::disk::{Disk, ReadError};
 pub use crate::environment::{ArgumentError, Host, HostError, arguments};
+pub use crate::error::{HereError, Refusal};
+pub use crate::here::{Here, files_here, read_here, settings_here};
 pub use crate::surroundings::Surroundings;

@@ -57,6 +57,22 @@ pub fn inside<R: Host>(host: &R, folder: &[u8], name: &[u8]) -> io::Result<Vec<u
     Ok(whole)
 }
 
+/// The name of a file below a folder, with a `/` between them whatever the folder is, as Git joins them.
+pub fn below<R: Host>(host: &R, folder: &[u8], name: &[u8]) -> io::Result<Vec<u8>> {
+    let mut whole = copied(host, folder)?;
+    whole.push(b'/')?;
+    whole.extend_from_slice(name)?;
+    Ok(whole)
+}
+
+/// What the system knows of the file of this name, which may be a link, or `None`.
+pub fn known_of_link<R: Host>(host: &R, name: &[u8]) -> io::Result<Option<Metadata>> {
+    answer(match text_of(name) {
+        Ok(name) => fs::symlink_metadata(host, name),
+        Err(error) => Err(error),
+    })
+}
+
 /// What the system knows of the file of this name, or `None`.
 pub fn known_of<R: Host>(host: &R, name: &[u8]) -> io::Result<Option<Metadata>> {
     answer(match text_of(name) {

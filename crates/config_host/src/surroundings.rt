@@ -1,14 +1,14 @@
 //! What includes ask about the place in which a program runs.
 
-use crate::environment::{Host, HostError, variable};
+use crate::environment::{Host, variable};
 use crate::names::resolved;
-use crate::repository::{self, Repository};
 use bstr::ByteSlice;
-use config_file::{Directories, Includes, Known, Repository as Conditions};
-use std::alloc::{AllocError, Global};
+use config_file::{Directories, Includes, Known, Repository as Conditions, Urls};
+use std::alloc::AllocError;
+use std::io;
 
-/// Whether a text has a section of conditions. Its name follows a `[` at once.
-fn has_conditions(text: &[u8]) -> bool {
+/// Whether a text has a section whose name begins with this. The name follows a `[` at once.
+fn has_section(text: &[u8], name: &[u8]) -> bool {
     let mut rest = text;
     for _ in 0..text.len() {
         let at = rest.find_byte(b'[').unwrap_or(rest.len());
@@ -16,13 +16,28 @@ fn has_conditions(text: &[u8]) -> bool {
             break;
         };
         rest = after;
-        if let Some((name, _)) = rest.split_at_checked(b"includeif".len()) {
-            if name.eq_ignore_ascii_case(b"includeif") {
+        if let Some((front, _)) = rest.split_at_checked(name.len()) {
+            if front.eq_ignore_ascii_case(name) {
                 return true;
             }
         }
     }
     false
+}
+
+/// Whether a text has a section of includes.
+pub fn has_includes(text: &[u8]) -> bool {
+    has_section(text, b"include")
+}
+
+/// Whether a text has a section of conditions.
+pub fn has_conditions(text: &[u8]) -> bool {
+    has_section(text, b"includeif")
+}
+
+/// Whether a text may have a condition on the URLs of remotes. A backslash may be within its name.
+fn may_ask_for_urls(text: &[u8]) -> bool {
+    has_conditions(text) && (text.contains_str(b"hasconfig:") || text.contains(&b'\\'))
 }
 
 /// Which includes a program follows.
@@ -36,19 +51,40 @@ pub enum Followed {
     Everything,
 }
 
-/// What includes ask about: the home directory, and the repository once a text asks about it.
+/// A repository: what conditions of includes ask about it, and where its settings are.
 #[derive(Drop)]
-pub struct Surroundings {
+pub struct Repository {
+    /// The absolute path of the git directory, with its links resolved.
+    pub real_git_dir: Vec<u8>,
+    /// The absolute path of the git directory, with its links kept.
+    pub git_dir: Vec<u8>,
+    /// The name of the branch without `refs/heads/`, or `None` if HEAD names no branch, as in a repository
+    /// whose references are in a reftable.
+    pub branch: Option<Vec<u8>>,
+    /// The name of the git directory, as Git shows it: from the folder in which Git works.
+    pub named_dir: Vec<u8>,
+    /// The name of the folder that all work trees share, as Git shows it.
+    pub common_dir: Vec<u8>,
+    /// Whether each work tree has a file of its own.
+    pub has_worktree_files: bool,
+}
+
+/// What includes ask about: the home directory, the repository, and the URLs of remotes.
+#[derive(Drop)]
+pub struct Surroundings<'t> {
     followed: Followed,
     home: Option<Vec<u8>>,
     real_home: Option<Vec<u8>>,
     repository: Option<Repository>,
+    urls: Vec<&'t [u8]>,
     is_known: bool,
+    are_sought: bool,
 }
 
-impl Surroundings {
-    /// The home directory of this run, if includes are followed.
-    pub fn new<R: Host>(host: &R, followed: Followed) -> Result<Surroundings, AllocError> {
+impl<'t> Surroundings<'t> {
+    /// The home directory of this run, if includes are followed. The repository is not known yet, and there
+    /// is no URL.
+    pub fn new<R: Host>(host: &R, followed: Followed) -> Result<Surroundings<'t>, AllocError> {
         let home = match followed {
             Followed::Nothing => None,
             _ => variable(host, "HOME")?,
@@ -58,16 +94,29 @@ impl Surroundings {
             home,
             real_home: None,
             repository: None,
+            urls: Vec::new(host.alloc()),
             is_known: false,
+            are_sought: false,
         })
     }
 
-    /// Finds the repository if this text has a condition, before a walk comes to it.
-    pub fn prepare<R: Host>(&mut self, host: &R, text: &[u8]) -> Result<(), HostError> {
-        if self.is_known || self.followed != Followed::AsGit || !has_conditions(text) {
-            return Ok(());
-        }
-        self.repository = repository::find(host)?;
+    /// Whether this text asks about a repository, and it is not known yet.
+    pub fn lack(&self, text: &[u8]) -> bool {
+        !self.is_known && self.followed == Followed::AsGit && has_conditions(text)
+    }
+
+    /// Whether this text may ask about the URLs of remotes, and they were not sought yet.
+    pub fn lack_urls(&self, text: &[u8]) -> bool {
+        !self.are_sought && self.followed == Followed::AsGit && may_ask_for_urls(text)
+    }
+
+    /// Takes this as the repository, or knows that there is none.
+    pub fn set_repository<R: Host>(
+        &mut self,
+        host: &R,
+        repository: Option<Repository>,
+    ) -> io::Result<()> {
+        self.repository = repository;
         if let Some(home) = &self.home {
             self.real_home = Some(resolved(host, home, home)?);
         }
@@ -75,8 +124,28 @@ impl Surroundings {
         Ok(())
     }
 
+    /// Takes these as the URLs of all remotes.
+    pub fn set_urls(&mut self, urls: Vec<&'t [u8]>) {
+        self.urls = urls;
+        self.are_sought = true;
+    }
+
+    /// The repository, or `None` if there is none, or if it is not known yet.
+    pub fn repository(&self) -> Option<&Repository> {
+        self.repository.as_ref()
+    }
+
     /// What a walk knows.
     pub fn known(&self) -> Known<'_> {
+        self.knowing(Urls::Known(&self.urls))
+    }
+
+    /// What a walk knows that looks for the URLs of remotes: each condition on them holds.
+    pub fn seeking(&self) -> Known<'_> {
+        self.knowing(Urls::Sought)
+    }
+
+    fn knowing<'s>(&'s self, urls: Urls<'s>) -> Known<'s> {
         Known {
             directories: Directories {
                 home: self.home.as_deref(),
@@ -84,7 +153,7 @@ impl Surroundings {
             },
             includes: match self.followed {
                 Followed::Nothing => Includes::Skipped,
-                Followed::AsGit => Includes::AsGit(self.conditions()),
+                Followed::AsGit => Includes::AsGit(self.conditions(), urls),
                 Followed::Everything => Includes::All,
             },
         }

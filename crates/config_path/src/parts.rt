@@ -95,6 +95,7 @@ impl<'a, 'p> Parts<'a, 'p> {
 }
 
 /// Returns the bytes as text. Fails with `IllFormed`, which holds the place and all the bytes.
+#[inline(always)]
 fn text_at<'p>(place: Place, bytes: &'p [u8]) -> Result<&'p str, Error<'p>>
     ensures { MatchResult result
         (λ text. (text.now ≡ bytes.now) × IsUtf8 bytes.now)
@@ -295,6 +296,9 @@ pub fn form_of(value: &[u8]) -> Form<'_>
 {
     if value.is_empty() {
         return Form::Empty;
+    }
+    if !matches!(value, [b'%' | b'~', ..]) {
+        return Form::Other(value);
     }
     if let Some(rest) = value.strip_prefix(PREFIX) {
         return Form::BelowPrefix(rest);

@@ -50,6 +50,9 @@ pub struct Path {
 pub fn cut_mark(bytes: &[u8]) -> (bool, &[u8])
     ensures { Marked bytes.now result.0 result.1.now }
 {
+    if !matches!(bytes, [b':', ..]) {
+        return (false, bytes);
+    }
     match bytes.strip_prefix(MARK) {
         Some(path) => (true, path),
         None => (false, bytes),

@@ -1,228 +1,352 @@
-//! Lists the entries of files, or prints one value of them.
+//! Lists the entries of texts, or prints values of them.
 
-use crate::arguments::Request;
-use bstr::BStr;
+use crate::output::{Ending, Origin, push_as_git, push_entry, tell, tell_refusal};
+use crate::request::{Request, Style, Texts};
+use crate::shown::{Homes, Outcome, Shown, put_value};
+use crate::sources::{COMMAND, Opened, open_texts};
+use crate::wanted::{Patterns, Unclear, Wanted};
 use bumpalo::Bump;
-use config_file::{AddError, Entry, IncludeFault, Key, Next, Setting, Step, Walk, next_of};
-use config_host::{Disk, HostError, Surroundings, shown};
-use gix_config_value::canonical::{Kind, normalize, refusal};
-use std::alloc::{AllocError, Global};
-use std::fmt;
+use config_file::{Entries, Setting, Walk, push_setting};
+use config_host::here::prepare;
+use config_host::reading::next_entry;
+use config_host::sources::Source;
+use config_host::{Disk, HereError, HostError, Surroundings};
+use gix_config_value::Color;
+use std::alloc::AllocError;
 use std::io::{self, BufWriter, Write};
+use std::mem;
 
 /// How many bytes of output are buffered before they are written.
 const ROOM: usize = 65536;
 
-/// How a run over files ends. Its number is the exit status, which is Git's.
-#[derive(Clone, Copy, PartialEq)]
-enum Ending {
-    /// All is listed, or the value is printed.
-    Done = 0,
-    /// No entry has the key, or it is no key.
-    Absent = 1,
-    /// A file, a line or a value is refused.
-    Refused = 128,
-}
-
-/// Writes a message on standard error.
-pub fn tell<M: fmt::Display + Drop>(rt: &HostRuntime, message: M) -> io::Result<()> {
-    let message = format!(in rt.alloc(); "{message}")?;
-    rt.stderr()
-        .write_all(&shown::line_of(rt.alloc(), &message)?)
-}
-
-/// Writes an entry after its file and its line.
-fn write_entry<W: Write>(
-    alloc: Global,
-    writer: &mut W,
-    file: &[u8],
-    entry: &Entry<'_>,
-    null: bool,
-) -> io::Result<()> {
-    let (place, equals, end) = if null {
-        ("\0", "\n", "\0")
-    } else {
-        (": ", "=", "\n")
-    };
-    writer.write_all(file)?;
-    write!(writer, ":{}{place}", entry.line)?;
-    writer.write_all(entry.key_text(alloc)?.as_slice())?;
-    if let Some(value) = &entry.value {
-        writer.write_all(equals.as_bytes())?;
-        writer.write_all(value.text(alloc)?.as_slice())?;
-    }
-    writer.write_all(end.as_bytes())
-}
-
-/// A run over the requested files.
+/// A setting of the key that is asked for.
 #[derive(Drop)]
-struct Reading<'r, 't, W: Write + Drop> {
+struct Found<'t> {
+    origin: Origin,
+    setting: Setting<'t>,
+}
+
+/// A run over the requested texts.
+#[derive(Drop)]
+struct Reading<'r, 'm, 'a, 'p, 't, W: Write + Drop> {
     rt: &'t HostRuntime,
     disk: Disk<'t, HostRuntime>,
-    surroundings: Surroundings,
+    surroundings: Surroundings<'t>,
+    sources: Vec<Source<'t>>,
+    homes: Homes<'t>,
     writer: W,
-    /// Whether a NUL follows each entry and each value.
-    null: bool,
-    /// The key whose last entry is kept. Without a key the entries are listed.
-    key: Option<Key<'r>>,
-    last: Option<(&'t [u8], Entry<'t>)>,
+    request: &'r Request<'m, 'a>,
+    wanted: Wanted<'a, 'p>,
+    /// The settings of the key that is asked for. Without a key the entries are listed.
+    found: Vec<Found<'t>>,
+    /// A value as it is shown, and a line of output.
+    text: Vec<u8>,
+    line: Vec<u8>,
 }
 
-impl<'t, W: Write + Drop> Reading<'_, 't, W> {
-    /// Lists an entry, or keeps it if it has the key.
-    fn take(&mut self, file: &'t [u8], entry: Entry<'t>) -> io::Result<()> {
-        match &self.key {
-            Some(key) => {
-                if key.is_of(&entry) {
-                    self.last = Some((file, entry));
-                }
-                Ok(())
-            }
-            None => write_entry(self.rt.alloc(), &mut self.writer, file, &entry, self.null),
+/// Where a setting is that the walk over this text comes to.
+fn origin_of(source: &Source<'_>, setting: &Setting<'_>) -> Origin {
+    if source.is_file || setting.file != source.place.name {
+        return Origin::File;
+    }
+    if setting.file == COMMAND {
+        Origin::Command
+    } else {
+        Origin::Input
+    }
+}
+
+impl<'t, W: Write + Drop> Reading<'_, '_, '_, '_, 't, W> {
+    /// Keeps a setting of the key. Without a word the last one is enough.
+    fn keep(&mut self, found: Found<'t>) -> io::Result<()> {
+        if self.request.style == Style::Places {
+            self.found.clear();
+        }
+        match self.found.push(found) {
+            Ok(()) => Ok(()),
+            Err(_) => Err(io::Error::from(AllocError)),
         }
     }
 
-    /// Takes the next entry of a walk, and goes on in the file that it includes. Returns false at the end,
-    /// and an error within the result where Git stops.
-    fn step(&mut self, walk: &mut Walk<'t>) -> Result<Result<bool, AddError<'t>>, HostError> {
-        let alloc = self.rt.alloc();
-        let (file, entry, include) = match walk.next(alloc, &self.surroundings.known())? {
-            Step::Entry(place, entry, include) => (place.name, entry, include),
-            Step::Line(place, error) => {
-                let file = place.name;
-                return Ok(Err(AddError::Line { file, error }));
-            }
-            Step::Ends => return Ok(Ok(false)),
+    /// Appends a setting to the line as Git writes it, or replaces the one before it if one is wanted.
+    /// Returns what becomes of its value.
+    fn show(&mut self, found: &Found<'_>) -> io::Result<Outcome> {
+        self.text.clear();
+        let shown = if self.request.shows_values {
+            self.request.shown
+        } else {
+            Shown::Text
         };
-        let line = entry.line;
-        let next = next_of(alloc, &self.disk, include)?;
-        self.take(file, entry)?;
-        let fault = match next {
-            Next::Behind => return Ok(Ok(true)),
-            Next::Stops(fault) => fault,
-            Next::In(place, text) => {
-                self.surroundings.prepare(self.rt, text)?;
-                if walk.enter(place, text) {
-                    return Ok(Ok(true));
-                }
-                IncludeFault::TooDeep
-            }
-        };
-        Ok(Err(AddError::Include { file, line, fault }))
+        let outcome = put_value(self.rt, &self.homes, shown, &found.setting, &mut self.text)?;
+        if outcome == Outcome::Missing || outcome == Outcome::Refused {
+            return Ok(outcome);
+        }
+        if !self.request.all {
+            self.line.clear();
+        }
+        push_as_git(
+            self.rt.alloc(),
+            &mut self.line,
+            self.request,
+            found.origin,
+            &found.setting,
+            &self.text,
+            outcome == Outcome::Text,
+        )?;
+        Ok(outcome)
     }
 
-    /// Takes the entries of a file, and of those that it includes. Reports where Git stops.
-    fn file(&mut self, name: &str) -> Result<Ending, HostError> {
-        let (place, text) = match self.disk.first(name.as_bytes()) {
-            Ok(found) => found,
-            Err(error) if error.is_memory() => return Err(HostError::from(AllocError)),
-            Err(error) => {
-                tell(self.rt, format_args!("{name}: {error}"))?;
-                return Ok(Ending::Refused);
-            }
+    /// Lists a setting, or keeps it if it has the key. As in Git, a list leaves out what is none of its type.
+    fn take(&mut self, source: &Source<'t>, setting: Setting<'t>) -> io::Result<()> {
+        if !self.wanted.has(self.rt.alloc(), &setting)? {
+            return Ok(());
+        }
+        if self.request.key.is_some() {
+            let origin = origin_of(source, &setting);
+            return self.keep(Found { origin, setting });
+        }
+        self.line.clear();
+        if self.request.style == Style::Places {
+            push_entry(self.rt.alloc(), &mut self.line, self.request, &setting)?;
+        } else {
+            let origin = origin_of(source, &setting);
+            self.show(&Found { origin, setting })?;
+        }
+        self.writer.write_all(&self.line)
+    }
+
+    /// Takes the next entry of a walk, and goes on in the file that it includes. Returns false at the end.
+    fn step(
+        &mut self,
+        disk: &Disk<'t, HostRuntime>,
+        source: &Source<'t>,
+        walk: &mut Walk<'t>,
+    ) -> Result<bool, HereError<'t>> {
+        let Some(taken) = next_entry(disk, &self.surroundings.known(), walk)? else {
+            return Ok(false);
         };
-        self.surroundings.prepare(self.rt, text)?;
-        let mut walk = Walk::new(place, text);
+        let mut setting = Setting::of_entry(self.rt.alloc(), taken.place.name, taken.entry)?;
+        setting.scope = source.scope;
+        self.take(source, setting)?;
+        if let Some(stop) = taken.stop {
+            return Err(HereError::Stops(stop));
+        }
+        if let Some(text) = taken.entered {
+            self.prepare(text)?;
+        }
+        Ok(true)
+    }
+
+    /// Finds what the conditions of a text ask about.
+    fn prepare(&mut self, text: &[u8]) -> Result<(), HereError<'t>> {
+        prepare(&self.disk, &mut self.surroundings, &self.sources, text)
+    }
+
+    /// Takes the entries of a text, and of the files that it includes, up to where Git stops.
+    fn walk(&mut self, source: &Source<'t>) -> Result<(), HereError<'t>> {
+        self.prepare(source.text)?;
+        let disk = if source.is_file {
+            self.disk.again()
+        } else {
+            self.disk.from_root()
+        };
+        let mut walk = Walk::new(source.place, source.text);
         for _ in 0..u64::MAX {
-            match self.step(&mut walk)? {
-                Ok(true) => {}
-                Ok(false) => break,
+            if !self.step(&disk, source, &mut walk)? {
+                break;
+            }
+        }
+        Ok(())
+    }
+
+    /// Takes the entries of all texts. Reports where Git stops in each file that is named; in what Git reads
+    /// here nothing follows such a place.
+    fn walk_all(&mut self, opened: Ending) -> Result<Ending, HostError> {
+        let mut ending = opened;
+        for index in 0..self.sources.len() {
+            let Some(source) = self.sources.get(index) else {
+                break;
+            };
+            let source = *source;
+            match self.walk(&source) {
+                Ok(()) => {}
+                Err(HereError::Host(error)) => return Err(error),
                 Err(stop) => {
                     tell(self.rt, stop)?;
-                    return Ok(Ending::Refused);
+                    ending = Ending::Refused;
+                    if !matches!(self.request.texts, Texts::Named(_)) {
+                        break;
+                    }
                 }
             }
         }
-        Ok(Ending::Done)
+        Ok(ending)
     }
 
-    /// Prints the value of the last entry of a key: its text, or the canonical text of a kind. Without a kind,
-    /// a key without `=` has an empty line, as in Git. Reports a key that no entry has and a text that the
-    /// kind refuses.
-    fn print(&mut self, key: &str, kind: Option<Kind>) -> io::Result<Ending> {
-        let Some((file, entry)) = self.last else {
-            tell(self.rt, format_args!("{key}: no entry has this key"))?;
+    /// Appends a setting of the key to the answer, or replaces the one before it. Returns whether it has a
+    /// value; one that is none of its type is reported.
+    fn answer_one(&mut self, found: &Found<'_>) -> io::Result<Ending> {
+        match self.show(found)? {
+            Outcome::Missing => Ok(Ending::Absent),
+            Outcome::Refused => {
+                tell_refusal(self.rt, &found.setting, self.request.shown)?;
+                Ok(Ending::Refused)
+            }
+            _ => Ok(Ending::Done),
+        }
+    }
+
+    /// Appends the default value of the key, if there is one.
+    fn answer_default(&mut self, key: &str) -> Result<Ending, HostError> {
+        let Some(default) = self.request.default else {
+            if self.request.style == Style::Places {
+                tell(self.rt, format_args!("{key}: no entry has this key"))?;
+            }
             return Ok(Ending::Absent);
         };
-        let setting = Setting::of_entry(self.rt.alloc(), file, entry)?;
-        let text = BStr::new(setting.text());
-        match kind {
-            None if entry.value.is_none() => {}
-            None => self.writer.write_all(text.as_bytes())?,
-            Some(kind) => match normalize(kind, text) {
-                Some(canonical) => self.writer.write_all(canonical.as_str().as_bytes())?,
-                None => {
-                    if let Some(refusal) = refusal(kind, text) {
-                        tell(self.rt, setting.refused(refusal))?;
-                    }
-                    return Ok(Ending::Refused);
-                }
-            },
+        let alloc = self.rt.alloc();
+        let mut text = Vec::new(alloc);
+        let written = push_setting(alloc, &mut text, key.as_bytes(), Some(default.as_bytes()));
+        match (written, Entries::new(&text).next()) {
+            (Ok(()), Some(Ok(entry))) => {
+                let setting = Setting::of_entry(alloc, COMMAND, entry)?;
+                let origin = Origin::Command;
+                Ok(self.answer_one(&Found { origin, setting })?)
+            }
+            _ => Err(HostError::from(AllocError)),
         }
-        self.writer
-            .write_all(if self.null { b"\0" } else { b"\n" })?;
-        Ok(Ending::Done)
+    }
+
+    /// Writes the values of the key.
+    fn answer_key(&mut self, key: &str) -> Result<Ending, HostError> {
+        let mut ending = Ending::Absent;
+        let found = mem::replace(&mut self.found, Vec::new(self.rt.alloc()));
+        for one in &found {
+            match self.answer_one(one)? {
+                Ending::Done => ending = Ending::Done,
+                Ending::Refused => return Ok(Ending::Refused),
+                _ => {}
+            }
+        }
+        if ending == Ending::Absent {
+            ending = self.answer_default(key)?;
+        }
+        if ending == Ending::Done {
+            self.writer.write_all(&self.line)?;
+        }
+        Ok(ending)
     }
 }
 
-/// The key that is asked for. Reports a text that is none.
-fn key_of<'k>(rt: &HostRuntime, key: &'k str) -> io::Result<Option<Key<'k>>> {
-    match Key::parse(key.as_bytes()) {
-        Ok(parsed) => Ok(Some(parsed)),
-        Err(error) => {
+/// Reports why it cannot be said which entries a request asks for. Returns how the run ends.
+fn tell_unclear(
+    rt: &HostRuntime,
+    request: &Request<'_, '_>,
+    why: Unclear,
+) -> Result<Ending, HostError> {
+    let key = request.key.unwrap_or("");
+    match why {
+        Unclear::Key(error) => {
             tell(rt, format_args!("{key}: {error}"))?;
-            Ok(None)
+            Ok(Ending::Absent)
         }
+        Unclear::Pattern => {
+            tell(
+                rt,
+                format_args!("config_value: a pattern of this key or value is invalid: {key}"),
+            )?;
+            Ok(Ending::NoPattern)
+        }
+        Unclear::Memory => Err(HostError::from(AllocError)),
     }
 }
 
-/// Answers the request for this key, if one is asked for. The texts of the files are kept in `texts`.
-fn answer_in<'t>(
+/// Answers the request for the wanted entries. The texts of the files are kept in `texts`. If a file is not
+/// read completely, no value is printed, since a later line could have another one.
+fn answer_in<'t, 'a>(
     rt: &'t HostRuntime,
     texts: &'t Bump,
-    request: &Request<'_, '_>,
-    key: Option<Key<'_>>,
-) -> Result<Ending, HostError> {
+    request: &Request<'_, 'a>,
+    wanted: Wanted<'a, '_>,
+) -> Result<Ending, HereError<'t>> {
+    let Opened {
+        disk,
+        surroundings,
+        sources,
+        ending,
+    } = open_texts(rt, texts, request)?;
     let mut reading = Reading {
         rt,
-        disk: Disk::new(rt, texts),
-        surroundings: Surroundings::new(rt, request.followed)?,
+        homes: Homes::new(rt, &disk, request.shown)?,
+        disk,
+        surroundings,
+        sources,
         writer: BufWriter::with_capacity(rt.alloc(), ROOM, rt.stdout())?,
-        null: request.null,
-        key,
-        last: None,
+        request,
+        wanted,
+        found: Vec::new(rt.alloc()),
+        text: Vec::new(rt.alloc()),
+        line: Vec::new(rt.alloc()),
     };
-    let mut ending = Ending::Done;
-    for file in request.files {
-        if reading.file(*file)? == Ending::Refused {
-            ending = Ending::Refused;
-        }
-    }
+    let mut ending = reading.walk_all(ending)?;
     if let Some(key) = request.key {
         if ending == Ending::Done {
-            ending = reading.print(key, request.kind)?;
+            ending = reading.answer_key(key)?;
         }
     }
     reading.writer.flush()?;
     Ok(ending)
 }
 
-/// Answers the request. If a file is not read completely, no value is printed, since a later line could have
-/// another one.
-fn answer(rt: &HostRuntime, request: &Request<'_, '_>) -> Result<Ending, HostError> {
-    let key = match request.key {
-        Some(key) => match key_of(rt, key)? {
-            Some(key) => Some(key),
-            None => return Ok(Ending::Absent),
-        },
-        None => None,
-    };
-    let texts = Bump::new(rt.alloc());
-    answer_in(rt, &texts, request, key)
+/// The default that is a color of its own, since no key is asked for: Git's older `--get-color` had it so.
+fn bare_color<'a>(request: &Request<'_, 'a>) -> Option<&'a str> {
+    if request.key == Some("") && request.shown == Shown::Escape {
+        request.default
+    } else {
+        None
+    }
 }
 
-/// Answers the request, and returns the status: 0 if everything succeeds, 1 if no entry has the key or it is
-/// no key, 128 if a file cannot be read or a line or a value is refused, and 2 after an error of the output, of
+/// Writes the escape sequence of a color, and nothing after it.
+fn answer_color(rt: &HostRuntime, color: &str) -> Result<Ending, HostError> {
+    match Color::try_from(color) {
+        Ok(color) => {
+            rt.stdout().write_all(color.escape().as_str().as_bytes())?;
+            Ok(Ending::Done)
+        }
+        Err(error) => {
+            tell(rt, format_args!("{color}: {}", error.fault))?;
+            Ok(Ending::NoColor)
+        }
+    }
+}
+
+/// Answers the request.
+fn answer(rt: &HostRuntime, request: &Request<'_, '_>) -> Result<Ending, HostError> {
+    if let Some(color) = bare_color(request) {
+        return answer_color(rt, color);
+    }
+    let alloc = rt.alloc();
+    let patterns = match Patterns::new(alloc, request) {
+        Ok(patterns) => patterns,
+        Err(why) => return tell_unclear(rt, request, why),
+    };
+    let wanted = match Wanted::new(alloc, request, &patterns) {
+        Ok(wanted) => wanted,
+        Err(why) => return tell_unclear(rt, request, why),
+    };
+    let texts = Bump::new(rt.alloc());
+    match answer_in(rt, &texts, request, wanted) {
+        Ok(ending) => Ok(ending),
+        Err(HereError::Host(error)) => Err(error),
+        Err(stop) => {
+            tell(rt, stop)?;
+            Ok(Ending::Refused)
+        }
+    }
+}
+
+/// Answers the request, and returns the status: that of [`Ending`], or 2 after an error of the output, of
 /// memory or of the environment.
 pub fn run(rt: &HostRuntime, request: &Request<'_, '_>) -> u8 {
     match answer(rt, request) {

@@ -3,53 +3,100 @@
 
 mod arguments;
 mod files;
+mod output;
+mod request;
+mod shown;
+mod sources;
+mod wanted;
+mod words;
 
-use crate::arguments::{Request, command};
-use clap::ArgMatches;
-use config_host::arguments;
+use crate::words::{Misuse, Word, Words, word_command, words_of};
+use clap::Command;
+use clap::error::ErrorKind;
+use config_host::environment::arguments as arguments_of;
 use gix_config_value::program;
+use std::alloc::AllocError;
 use std::fmt;
 use std::process::ExitCode;
 
 /// The status of a run that cannot read its arguments, print its usage or get memory for them.
 const FAILED: u8 = 2;
 
-/// Answers the lines of standard input if no file is named. Otherwise lists the files, or prints one value.
-fn run(rt: &HostRuntime, matches: &ArgMatches<'_>) -> u8 {
-    match Request::new(matches) {
-        Some(request) => files::run(rt, &request),
-        None => {
-            let outcome = program::run(rt.alloc(), &mut rt.stdin(), &mut rt.stdout());
-            program::status(&outcome)
-        }
-    }
-}
+/// The status after a wrong usage, which is Git's.
+const MISUSED: u8 = 129;
 
 /// Prints the usage, or what is wrong with the arguments.
 fn print_usage(rt: &HostRuntime, error: &clap::Error) -> u8 {
     match error.print(rt) {
-        Ok(()) => error.exit_code() as u8,
+        Ok(()) if error.kind() == ErrorKind::OutOfMemory => FAILED,
+        Ok(()) if error.use_stderr() => MISUSED,
+        Ok(()) => 0,
         Err(_) => FAILED,
     }
 }
 
 /// Prints why the arguments cannot be read.
 fn refuse<M: fmt::Display + Drop>(rt: &HostRuntime, message: M) -> u8 {
-    let _ = files::tell(rt, format_args!("config_value: {message}"));
+    let _ = output::tell(rt, format_args!("config_value: {message}"));
     FAILED
 }
 
+/// Prints what is wrong with the arguments of a word.
+fn misuse(rt: &HostRuntime, misuse: Misuse) -> u8 {
+    match output::tell(rt, format_args!("config_value: {misuse}")) {
+        Ok(()) => misuse.status(),
+        Err(_) => FAILED,
+    }
+}
+
+/// Lists entries or prints values, as a word asks.
+fn run_word(rt: &HostRuntime, words: &Words<'_>) -> Result<u8, AllocError> {
+    let command = word_command(rt.alloc(), words.word)?;
+    let matches = match command.try_get_matches_from(&words.rest) {
+        Ok(matches) => matches,
+        Err(error) => return Ok(print_usage(rt, &error)),
+    };
+    Ok(
+        match words::request_of(words.word, &matches, &words.commands) {
+            Ok(request) => files::run(rt, &request),
+            Err(why) => misuse(rt, why),
+        },
+    )
+}
+
+/// Answers the lines of standard input if no file, no key and no list is asked for. Otherwise lists entries,
+/// or prints one value.
+fn run_plain(rt: &HostRuntime, words: &Words<'_>) -> Result<u8, AllocError> {
+    let command: Command<'_> = arguments::command(rt.alloc())?;
+    let matches = match command.try_get_matches_from(&words.rest) {
+        Ok(matches) => matches,
+        Err(error) => return Ok(print_usage(rt, &error)),
+    };
+    Ok(match arguments::request_of(&matches, &words.commands) {
+        Some(request) => files::run(rt, &request),
+        None => {
+            let outcome = program::run(rt.alloc(), &mut rt.stdin(), &mut rt.stdout());
+            program::status(&outcome)
+        }
+    })
+}
+
+/// Does what these arguments ask.
+fn run(rt: &HostRuntime, arguments: &[String]) -> Result<u8, AllocError> {
+    let words = words_of(rt.alloc(), arguments)?;
+    match words.word {
+        Word::Nothing => run_plain(rt, &words),
+        _ => run_word(rt, &words),
+    }
+}
+
 fn main(rt: HostRuntime) -> ExitCode {
-    let arguments = match arguments(&rt) {
+    let arguments = match arguments_of(&rt) {
         Ok(arguments) => arguments,
         Err(error) => return ExitCode::from(refuse(&rt, error)),
     };
-    let command = match command(rt.alloc()) {
-        Ok(command) => command,
-        Err(_) => return ExitCode::from(refuse(&rt, "out of memory")),
-    };
-    ExitCode::from(match command.try_get_matches_from(arguments.as_slice()) {
-        Ok(matches) => run(&rt, &matches),
-        Err(error) => print_usage(&rt, &error),
+    ExitCode::from(match run(&rt, &arguments) {
+        Ok(status) => status,
+        Err(_) => refuse(&rt, "out of memory"),
     })
 }

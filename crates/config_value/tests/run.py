@@ -1,13 +1,16 @@
 #!/usr/bin/env python3
-"""Files, names and repositories that are unusual: python3 run.py PROGRAM [--git COMMAND].
+"""The words of the command line, and files, names and repositories that are unusual: python3 run.py PROGRAM [--git
+COMMAND].
 
 PROGRAM is config_value. Which entries are right is asked of a Git: the installed one, or that of --git. Git keeps names
-as bytes; the program refuses names that are not UTF-8 where it has to open them. The last line is 'N passed, M failed'.
+as bytes; the program refuses names that are not UTF-8 where it has to open them. What the words answer is in words.tsv,
+and of types a Git 2.55 is asked if the folder NEWER_GITS has it. The last line is 'N passed, M failed'.
 """
 import argparse
 import os
 import pathlib
 import resource
+import shlex
 import shutil
 import subprocess
 import sys
@@ -18,6 +21,20 @@ NOT_UTF8, NO_FOLDER = b"n\xff", b"d\xff"
 HIT = b"[hit]\n\tk = 1\n"
 # the memory that a program may take for a small file, and the address space that is too small for a large one, in bytes
 SMALL, ADDRESSES, LARGE = 50_000_000, 100_000_000, 200_000_000
+WORDS = pathlib.Path(__file__).with_name("words.tsv")
+ESCAPES = ((r"\n", "\n"), (r"\t", "\t"), (r"\e", "\x1b"), (r"\0", "\0"))
+# the options of words that older Gits have too, as flags of their own
+OLDER = {"-f", "f", "-", "absent", "-z", "--all", "--show-origin", "--show-scope"}
+# texts that have a value of each type, or none, without those that the page of differences names
+TYPED = {
+    "bool": ("yes", "ON", "", "0", "0x10", "10k", "maybe", "-1", "tru"),
+    "int": ("10k", "0x1fM", "017", "-5", "9223372036854775807", "9223372036854775808", "1kb", "", "08"),
+    "bool-or-int": ("yes", "", "10k", "0", "off", "nope", "0x10", "1"),
+    "bool-or-str": ("yes", "", "10k", "0", "nope", "a b", "Off"),
+    "path": ("~/x", "~", "/abs", "rel", "~nobody-here/x", ":(optional)/no/such", ":(optional)/", "a~b"),
+    "color": ("bold red", "red blue", "#ff0000", "208", "256", "no-bold", "reset", "default", "red blue green"),
+    "expiry-date": ("never", "false", "all", "now"),
+}
 
 
 class Tests:
@@ -200,6 +217,30 @@ def repositories(tests):
         tests.compare(f"a ceiling {ceilings}", at, folder=b"outer/a/b", more=more, holds=holds)
 
 
+def here(tests):
+    """What Git reads in a folder, without a file that is named."""
+    tests.git_dir(b"here/.git")
+    tests.write(b"here/.git/config",
+                b"[core]\n\trepositoryformatversion = 0\n[a]\n\tsize = 0x10\n\twrong = x\n\talone\n")
+    os.makedirs(tests.path(b"here/deep"))
+    counted = {b"GIT_CONFIG_COUNT": b"1", b"GIT_CONFIG_KEY_0": b"a.size", b"GIT_CONFIG_VALUE_0": b"1k"}
+    for more in ({}, counted):
+        for key, words in ((b"a.size", ["--type=int"]), (b"a.wrong", ["--type=int"]), (b"a.alone", []), (b"a.no", [])):
+            ours = tests.run(tests.program, *(["--type=amount"] if words else []), key, folder=b"here/deep", more=more)
+            git = tests.run(tests.git, "config", *words, "--get", key, folder=b"here/deep", more=more)
+            tests.expect(f"{key} here", (git.returncode, git.stdout), (ours.returncode, ours.stdout))
+    listed = tests.run(tests.program, "--list", "--show-scope", folder=b"here/deep", more=counted).stdout
+    tests.expect("a list", b"local\t.git/config:2: core.repositoryformatversion=0\nlocal\t.git/config:4: a.size=0x10\n"
+                 b"local\t.git/config:5: a.wrong=x\nlocal\t.git/config:6: a.alone\n"
+                 b"command\tcommand line:1: a.size=1k\n", listed)
+    missing = {b"GIT_CONFIG_COUNT": b"1"}
+    tests.refuse("a missing key", ["--list"], b"missing config key GIT_CONFIG_KEY_0", more=missing, folder=b"here")
+    tests.git_dir(b"newer/.git")
+    tests.write(b"newer/.git/config", b"[core]\n\trepositoryformatversion = 2\n")
+    told = b"config_value: Expected git repo version <= 1, found 2"
+    tests.refuse("a newer repository", ["--list"], told, 0, folder=b"newer")
+
+
 def memory(tests):
     """What the memory grows with, and what is said if it is refused."""
     section = b"s" * 20_000
@@ -220,6 +261,76 @@ def memory(tests):
     tests.expect("no memory for a file", (2, b"config_value: out of memory\n"), (run.returncode, run.stderr))
 
 
+def plain(text):
+    """A text without the escapes of words.tsv."""
+    for escape, byte in ESCAPES:
+        text = text.replace(escape, byte)
+    return text
+
+
+def words(tests):
+    """The words `get` and `list` answer as Git 2.55.0 does, and where older Gits have a flag for a word, as they do."""
+    texts = {}
+    for line in WORDS.read_text("utf-8").splitlines():
+        if line.startswith("# ") and line[2:].partition(": ")[0].isupper():
+            name, _, text = line[2:].partition(": ")
+            texts[name] = plain(text).encode()
+        if line.startswith("#"):
+            continue
+        arguments, name, status, output = line.split("\t")
+        asked = [plain(word) for word in shlex.split(arguments)]
+        tests.write(b"w/f", texts[name])
+        wanted = (int(status), plain(output).encode())
+        home = {b"HOME": b"/nonexistent"}
+        run = tests.run(tests.program, *asked, folder=b"w", more=home)
+        tests.expect(f"{arguments} of {name}", wanted, (run.returncode, run.stdout))
+        word, *options = asked
+        if word in ("get", "list") and {option for option in options if "." not in option} <= OLDER:
+            flag = "--list" if word == "list" else "--get-all" if "--all" in options else "--get"
+            options = [option for option in options if option != "--all"]
+            run = tests.run(tests.git, "config", flag, *options, folder=b"w", more=home)
+            tests.expect(f"{arguments} of {name}, in an older Git", wanted, (run.returncode, run.stdout))
+
+
+def flags(tests):
+    """Git's older flags, the settings of `-c` and of scopes, and standard input."""
+    tests.git_dir(b"flags/.git")
+    tests.write(b"flags/.git/config", b"[core]\n\trepositoryformatversion = 0\n[a]\n\tk = 1k\n\tk = yes\n\tp = ~/x\n")
+    tests.write(b"flags/home/.gitconfig", b"[a]\n\tk = 7\n\tg = of home\n")
+    more = {b"HOME": tests.path(b"flags/home")}
+    for asked in ("--get a.k", "--get-all a.k", "--get a.no", "--bool a.k", "--int a.k", "--get --path a.p", "-l",
+                  "-l --show-scope --show-origin", "-z --get a.k", "--global --get a.k", "--local --get-all a.k",
+                  "-l -z", "--worktree -l", "--get --default 5 --int a.no", "-l --name-only", "--global -l",
+                  "--get --type=bool a.k"):
+        ours = tests.run(tests.program, *asked.split(), folder=b"flags", more=more)
+        git = tests.run(tests.git, "config", *asked.split(), folder=b"flags", more=more)
+        tests.expect(asked, (git.returncode, git.stdout), (ours.returncode, ours.stdout))
+    for asked in ("-c a.k=3 -c b.C.d --get-all a.k", "-c a.k=3 -c b.C.d -l --show-origin", "-c =x --get a.k",
+                  "-c a.k= --get a.k", "-c k=x --get a.k", "-c a.k=yes --get --bool a.k"):
+        settings, option, rest = asked.partition(" -l" if " -l" in asked else " --get")
+        ours = tests.run(tests.program, *asked.split(), folder=b"flags", more=more)
+        git = tests.run(tests.git, *settings.split(), "config", *(option + rest).split(), folder=b"flags", more=more)
+        tests.expect(asked, (git.returncode, git.stdout), (ours.returncode, ours.stdout))
+    for option, wanted in (("get -f - --show-origin a.k", b"standard input:\t2\n"), ("-f - a.k", b"2\n")):
+        shell = ["sh", "-c", f'printf "[a]k=2" | "$0" {option}', tests.program]
+        tests.expect(option, wanted, tests.run(*shell).stdout)
+
+
+def types(tests):
+    """Values of types, beside a newer Git."""
+    git = pathlib.Path(os.environ.get("NEWER_GITS", "nowhere"), "sid", "git")
+    if not git.exists():
+        print("types: skipped, since NEWER_GITS names no folder with a newer Git")
+        return
+    values = [(kind, value) for kind, texts in TYPED.items() for value in texts]
+    tests.write(b"typed", b"[t]\n" + b"".join(b'\tk%d = "%s"\n' % (number, value.encode())
+                                             for number, (_, value) in enumerate(values)))
+    for number, (kind, value) in enumerate(values):
+        asked = ["get", "-f", "typed", f"--type={kind}", f"t.k{number}"]
+        ours, theirs = tests.run(tests.program, *asked), tests.run(git, "config", *asked)
+        tests.expect(f"{value!r} as {kind}", (theirs.returncode, theirs.stdout), (ours.returncode, ours.stdout))
+
+
 def main():
     arguments = argparse.ArgumentParser()
     arguments.add_argument("program", type=os.path.abspath)
@@ -227,7 +338,7 @@ def main():
     arguments = arguments.parse_args()
     with tempfile.TemporaryDirectory() as folder:
         tests = Tests(arguments.program, arguments.git, os.path.realpath(folder))
-        for part in (endless, names, folders, shown, statuses, repositories, memory):
+        for part in (words, flags, types, endless, names, folders, shown, statuses, repositories, here, memory):
             part(tests)
     print(f"{tests.passed} passed, {tests.failed} failed")
     return 1 if tests.failed else 0

@@ -1,4 +1,5 @@
 pub mod NameOrder
 pub mod SeveralAttributes
 pub mod OnLiterals
+pub mod HexDigits
 mod StandardFacts

@@ -42,6 +42,12 @@ name_shown BrightWhite = codes "brightwhite"
 name_shown (Ansi n) = decimal n
 name_shown (Rgb r g b) = codes "#" ++ hex_pair r ++ hex_pair g ++ hex_pair b
 
+-- a name that is shown by its numbers: a palette number, or red, green and blue
+abbrev pub HasNumbers : Name → Type 0
+HasNumbers (Ansi _) = ⊤
+HasNumbers (Rgb _ _ _) = ⊤
+HasNumbers _ = ⊥
+
 -- the eighteen names that are words
 unfoldable pub word_names : List Name
 word_names =

@@ -1,5 +1,5 @@
 //! Sets of text attributes.
-ghost use Rattle.std.specs.Prelude.{⊤, ◌≡◌, ◌+◌, ◌≤◌, ◌++◌, ◌↔◌, List, ℕ, length, map, IsTrue, Some};
+ghost use Rattle.std.specs.Prelude.{MatchOption, ⊤, ◌≡◌, ◌+◌, ◌≤◌, ◌++◌, ◌↔◌, List, ℕ, length, map, IsTrue, Some};
 ghost use Rattle.config_text.specs.declared.errors.Fault.TheVariants as faults;
 ghost use Rattle.config_word.specs.Attribute.{AttributeText, CanonicalAttribute, attribute_flags};
 ghost use Rattle.config_word.specs.Attribute.{attribute_shown};
@@ -177,6 +177,19 @@ impl Attribute {
             }
         }
         is_first
+    }
+
+    /// Returns the word that the set is shown as if it is one of the constants, and otherwise `None`.
+    #[inline(always)]
+    pub fn word(self) -> Option<&'static str>
+        ensures { MatchOption result ⊤ (λ word. word.now ≡ attribute_shown self.0) }
+    {
+        for shown in shown_words() {
+            if shown.attribute == self {
+                return Some(shown.word);
+            }
+        }
+        None
     }
 
     /// Appends the words of the known bits that are set, by rising bit, with one space between. There must be

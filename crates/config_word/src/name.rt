@@ -2,8 +2,10 @@
 ghost use Rattle.std.specs.Prelude.{◌≡◌, ◌+◌, ◌<◌, ◌≤◌, ◌∷◌, [], ◌++◌, length, Some};
 ghost use Rattle.std.specs.Char.{digit_char};
 ghost use Rattle.config_text.specs.declared.errors.Fault.TheVariants as faults;
+ghost use Rattle.std.specs.Prelude.{MatchOption};
 ghost use Rattle.std.specs.List.{slice_get};
-ghost use Rattle.config_word.specs.Name.{NameText, CanonicalName, hex_pair, name_shown, word_names};
+ghost use Rattle.config_word.specs.declared.name.Name.TheVariants as names;
+ghost use Rattle.config_word.specs.Name.{NameText, CanonicalName, HasNumbers, name_shown, word_names};
 ghost use Rattle.config_word.specs.Orders.{name_place};
 ghost use Rattle.config_word.specs.Laws.Name.{name_canonical_reads, name_decided, name_one_text};
 ghost use Rattle.config_word.specs.Laws.Name.{name_one_value, name_shown_is_text};
@@ -91,37 +93,56 @@ pub enum Name {
 /// The length in bytes of the longest word of a name, `brightmagenta`.
 pub const LONGEST_NAME: usize = 13;
 
-/// Appends the two lower-case hexadecimal digits of a byte.
-fn push_hex(text: &mut CanonicalText, byte: u8)
-    requires { length text.old.bytes + 2 ≤ LONGEST_TEXT }
-    ensures { text.new.bytes ≡ text.old.bytes ++ hex_pair byte }
+/// Returns the lower-case hexadecimal digit of a number below 16.
+#[inline(always)]
+fn digit_byte(number: u8) -> u8
+    requires { number < 16 }
+    ensures { result ≡ digit_char number }
 {
-    text.push_str(hex_digit(byte / 16));
-    text.push_str(hex_digit(byte % 16));
+    if number < 10 {
+        b'0' + number
+    } else {
+        b'a' - 10 + number
+    }
 }
 
-/// Returns the lower-case hexadecimal digit of a number below 16.
-fn hex_digit(number: u8) -> &'static str
-    requires { number < 16 }
-    ensures { result.now ≡ digit_char number ∷ [] }
+/// Returns red, green and blue as they are shown: `#` and two digits for each. A caller that writes bytes
+/// needs no canonical text for them.
+#[inline(always)]
+pub fn rgb_bytes(red: u8, green: u8, blue: u8) -> [u8; 7]
+    ensures { result ≡ name_shown (names.Rgb red green blue) }
 {
-    match number {
-        0 => "0",
-        1 => "1",
-        2 => "2",
-        3 => "3",
-        4 => "4",
-        5 => "5",
-        6 => "6",
-        7 => "7",
-        8 => "8",
-        9 => "9",
-        10 => "a",
-        11 => "b",
-        12 => "c",
-        13 => "d",
-        14 => "e",
-        _ => "f",
+    [
+        b'#',
+        digit_byte(red / 16),
+        digit_byte(red % 16),
+        digit_byte(green / 16),
+        digit_byte(green % 16),
+        digit_byte(blue / 16),
+        digit_byte(blue % 16),
+    ]
+}
+
+/// Appends a palette number. It is a function of its own, since a function clears the room of its buffers at
+/// entry, and most names need none.
+#[inline(never)]
+fn push_palette(text: &mut CanonicalText, number: u8)
+    requires { length text.old.bytes + LONGEST_NAME ≤ LONGEST_TEXT }
+    ensures { text.new.bytes ≡ text.old.bytes ++ name_shown (names.Ansi number) }
+{
+    text.push_str(Buffer::new().format(number));
+}
+
+/// Appends red, green and blue, as a function of its own for the same reason.
+#[inline(never)]
+fn push_rgb(text: &mut CanonicalText, red: u8, green: u8, blue: u8)
+    requires { length text.old.bytes + LONGEST_NAME ≤ LONGEST_TEXT }
+    ensures { text.new.bytes ≡ text.old.bytes ++ name_shown (names.Rgb red green blue) }
+{
+    let bytes = rgb_bytes(red, green, blue);
+    // the bytes are ASCII, so this never fails
+    if let Ok(shown) = str::from_utf8(&bytes) {
+        text.push_str(shown);
     }
 }
 
@@ -185,6 +206,34 @@ impl Name {
         }
     }
 
+    /// Returns the word that the name is shown as, or `None` if it is shown by its numbers.
+    #[inline(always)]
+    pub fn word(self) -> Option<&'static str>
+        ensures { MatchOption result (HasNumbers self) (λ word. word.now ≡ name_shown self) }
+    {
+        match self {
+            Name::Normal => Some("normal"),
+            Name::Default => Some("default"),
+            Name::Black => Some("black"),
+            Name::BrightBlack => Some("brightblack"),
+            Name::Red => Some("red"),
+            Name::BrightRed => Some("brightred"),
+            Name::Green => Some("green"),
+            Name::BrightGreen => Some("brightgreen"),
+            Name::Yellow => Some("yellow"),
+            Name::BrightYellow => Some("brightyellow"),
+            Name::Blue => Some("blue"),
+            Name::BrightBlue => Some("brightblue"),
+            Name::Magenta => Some("magenta"),
+            Name::BrightMagenta => Some("brightmagenta"),
+            Name::Cyan => Some("cyan"),
+            Name::BrightCyan => Some("brightcyan"),
+            Name::White => Some("white"),
+            Name::BrightWhite => Some("brightwhite"),
+            Name::Ansi(_) | Name::Rgb(_, _, _) => None,
+        }
+    }
+
     /// Appends the name as it is shown. There must be room for `LONGEST_NAME` bytes. Colors use it to append
     /// their names.
     #[inline(always)]
@@ -192,38 +241,11 @@ impl Name {
         requires { length text.old.bytes + LONGEST_NAME ≤ LONGEST_TEXT }
         ensures { text.new.bytes ≡ text.old.bytes ++ name_shown self }
     {
-        let word = match self {
-            Name::Normal => "normal",
-            Name::Default => "default",
-            Name::Black => "black",
-            Name::BrightBlack => "brightblack",
-            Name::Red => "red",
-            Name::BrightRed => "brightred",
-            Name::Green => "green",
-            Name::BrightGreen => "brightgreen",
-            Name::Yellow => "yellow",
-            Name::BrightYellow => "brightyellow",
-            Name::Blue => "blue",
-            Name::BrightBlue => "brightblue",
-            Name::Magenta => "magenta",
-            Name::BrightMagenta => "brightmagenta",
-            Name::Cyan => "cyan",
-            Name::BrightCyan => "brightcyan",
-            Name::White => "white",
-            Name::BrightWhite => "brightwhite",
-            Name::Ansi(number) => {
-                text.push_str(Buffer::new().format(number));
-                return;
-            }
-            Name::Rgb(red, green, blue) => {
-                text.push('#');
-                push_hex(text, red);
-                push_hex(text, green);
-                push_hex(text, blue);
-                return;
-            }
-        };
-        text.push_str(word);
+        match self {
+            Name::Ansi(number) => push_palette(text, number),
+            Name::Rgb(red, green, blue) => push_rgb(text, red, green, blue),
+            _ => text.push_str(self.word().unwrap_or("")),
+        }
     }
 
     /// Returns the name as it is shown, which is its canonical text, in at most `LONGEST_NAME` bytes.

@@ -20,7 +20,7 @@
 //! | `config_integer` | [`integer`]: suffixes, integers, amounts |
 //! | `config_boolean` | [`boolean`]: truth values |
 //! | `config_word` | [`color`]: `Name`, `Attribute`, `Item`, `word` |
-//! | `config_color` | [`color`]: `Color`, `space_at`; [`canonical::compose`] |
+//! | `config_color` | [`color`]: `Color`, `Escape`, `over`, `Depth`, `Terminal`, `space_at`; [`canonical::compose`] |
 //! | `config_path` | [`path`]: paths, interpolation, the passwd text |
 //!
 //! This crate itself has [`canonical::Kind`], a kind chosen at run time, with [`canonical::normalize`],
@@ -66,7 +66,11 @@ pub mod integer {
 /// Color names, attributes and colors.
 pub mod color {
     pub use config_color::color::Color;
+    pub use config_color::composition::over;
+    pub use config_color::depth::Depth;
+    pub use config_color::escape::{Escape, LONGEST_ESCAPE};
     pub use config_color::space::space_at;
+    pub use config_color::terminal::Terminal;
     pub use config_word::attribute::Attribute;
     pub use config_word::item::{Item, word};
     pub use config_word::name::Name;

@@ -88,7 +88,8 @@ typedef GCV_ENUM(gcv_status) {
     GCV_NO_INCLUDE = 17,    /* the entry includes no file */
     GCV_NO_VALUE = 18,      /* the entry includes a file, but has no value */
     GCV_NO_DIRECTORY = 19,  /* the path of an include begins with a user's name, or a directory that is null */
-    GCV_TOO_DEEP = 20       /* the file is more than ten includes deep */
+    GCV_TOO_DEEP = 20,      /* the file is more than ten includes deep */
+    GCV_BAD_DEPTH = 21      /* the number is not that of a depth with colors */
 } gcv_status;
 
 /* The kinds of values. */
@@ -129,6 +130,14 @@ typedef GCV_ENUM(gcv_suffix) {
     GCV_MEBI = 2, /* m, 1024 * 1024 */
     GCV_GIBI = 3  /* g, 1024 * 1024 * 1024 */
 } gcv_suffix;
+
+/* How many colors a terminal has. */
+typedef GCV_ENUM(gcv_depth) {
+    GCV_NO_COLORS = 0, /* a program writes without colors */
+    GCV_ANSI16 = 16,
+    GCV_ANSI256 = 256,
+    GCV_TRUE_COLOR = 16777216
+} gcv_depth;
 
 /* The tag of a name. */
 typedef GCV_ENUM(gcv_tag) {
@@ -433,11 +442,13 @@ GCV_CHECKED gcv_status gcv_parse_int64(const char *text, int64_t *GCV_RESTRICT o
 GCV_CHECKED gcv_status gcv_parse_color(const char *text, gcv_color *GCV_RESTRICT out, gcv_fault *fault)
     GCV_NONNULL((2));
 
-/* Writes the escape sequence that Git sends to a terminal for this color, at most GCV_LONGEST_TEXT bytes: its
- * attributes, reset first, then its foreground and its background. It is empty for a color that changes nothing.
- * Returns GCV_BAD_NAME as gcv_show_color does. */
-GCV_CHECKED gcv_status gcv_escape_color(const gcv_color *value, char *GCV_RESTRICT buffer, size_t capacity,
-                                        size_t *size) GCV_NONNULL((1, 4));
+/* Returns how many colors a program writes with, from whether its output is a terminal and from the variables NO_COLOR,
+ * TERM and COLORTERM of its environment, each null if it is not set. These decide, the first that applies:
+ * - no terminal, NO_COLOR that is not empty, or TERM that is not set or `dumb`: GCV_NO_COLORS
+ * - COLORTERM `truecolor` or `24bit`, or TERM that ends in `-direct`: GCV_TRUE_COLOR
+ * - TERM with `256color` in it: GCV_ANSI256
+ * - any other terminal: GCV_ANSI16 */
+gcv_depth gcv_terminal_depth(int is_terminal, const char *no_color, const char *term, const char *colorterm);
 
 /* Finds a user, whose name is UTF-8 and need not end with NUL. Returns the home directory, which ends with NUL and must
  * stay valid until the path call returns, or null if there is no such user. */
@@ -466,6 +477,7 @@ gcv_status gcv_raw_show_boolean(uint32_t value, char *buffer, size_t capacity, s
 gcv_status gcv_raw_show_name(const gcv_name *value, char *buffer, size_t capacity, size_t *size);
 gcv_status gcv_raw_show_attribute(uint32_t bits, char *buffer, size_t capacity, size_t *size);
 gcv_status gcv_raw_show_color(const gcv_color *value, char *buffer, size_t capacity, size_t *size);
+gcv_status gcv_raw_escape_color(const gcv_color *value, char *buffer, size_t capacity, size_t *size);
 gcv_status gcv_raw_json_suffix(gcv_suffix suffix, char *buffer, size_t capacity, size_t *size);
 gcv_status gcv_raw_json_integer(const gcv_integer *value, char *buffer, size_t capacity, size_t *size);
 gcv_status gcv_raw_json_boolean(uint32_t value, char *buffer, size_t capacity, size_t *size);
@@ -476,6 +488,12 @@ gcv_status gcv_raw_normalize(gcv_kind kind, const char *text, size_t length, cha
 gcv_status gcv_raw_same(gcv_kind kind, const char *first, size_t first_length, const char *second, size_t second_length,
                         uint32_t *out);
 gcv_status gcv_raw_compose(const gcv_color *first, const gcv_color *second, gcv_color *out);
+gcv_status gcv_raw_over(const gcv_color *base, const gcv_color *top, gcv_color *out);
+gcv_status gcv_raw_reduce_color(const gcv_color *value, gcv_depth depth, gcv_color *out);
+gcv_status gcv_raw_terminal_depth(uint32_t is_terminal, uint32_t has_no_color, const char *no_color,
+                                   size_t no_color_length, uint32_t has_term, const char *term, size_t term_length,
+                                   uint32_t has_colorterm, const char *colorterm, size_t colorterm_length,
+                                   gcv_depth *out);
 gcv_status gcv_raw_lookup(gcv_kind kind, const char *bytes, size_t bytes_length, const size_t *lengths,
                           size_t lengths_count, const char *name, size_t name_length, gcv_entry *out);
 gcv_status gcv_raw_read_file(const char *text, size_t length, char *bytes, size_t capacity, gcv_place *places,
@@ -610,6 +628,15 @@ GCV_RETURNS((1, 4)) gcv_show_color(const gcv_color *value, char *GCV_RESTRICT bu
     return gcv_raw_show_color(value, capacity == 0 ? none : buffer, capacity, size);
 }
 
+/* Writes the escape sequence that Git sends to a terminal for this color: its attributes, reset first, then its
+ * foreground and its background. It is empty for a color that changes nothing. `\033[m` ends a color. Returns
+ * GCV_BAD_NAME as gcv_show_color does. */
+GCV_RETURNS((1, 4)) gcv_escape_color(const gcv_color *value, char *GCV_RESTRICT buffer, size_t capacity, size_t *size)
+{
+    char none[1] = {0};
+    return gcv_raw_escape_color(value, capacity == 0 ? none : buffer, capacity, size);
+}
+
 /* Values as JSON, without white space: a number, true or false, or the shown text as a string. These calls allocate
  * memory for the text, and free it. They return GCV_NO_MEMORY if malloc fails. */
 
@@ -674,6 +701,21 @@ GCV_RETURNS((6)) gcv_same(gcv_kind kind, const char *first, size_t first_length,
 GCV_RETURNS((1, 2, 3)) gcv_compose(const gcv_color *first, const gcv_color *second, gcv_color *GCV_RESTRICT out)
 {
     return gcv_raw_compose(first, second, out);
+}
+
+/* Writes to `*out` the color `base`, but with the names that `top` has, and without each attribute whose opposite `top`
+ * has: what a user's color makes of a theme's. Returns GCV_BAD_NAME as gcv_show_color does. */
+GCV_RETURNS((1, 2, 3)) gcv_over(const gcv_color *base, const gcv_color *top, gcv_color *GCV_RESTRICT out)
+{
+    return gcv_raw_over(base, top, out);
+}
+
+/* Writes to `*out` what a terminal of this depth shows for a color: red, green and blue become the nearest number of its
+ * palette, and with 16 colors so does a number above 15. Returns GCV_BAD_NAME as gcv_show_color does, and GCV_BAD_DEPTH
+ * if the depth has no colors. */
+GCV_RETURNS((1, 3)) gcv_reduce_color(const gcv_color *value, gcv_depth depth, gcv_color *GCV_RESTRICT out)
+{
+    return gcv_raw_reduce_color(value, depth, out);
 }
 
 /* Looks for the last entry of exactly this name, which decides. `bytes` are the names and texts of all entries, each

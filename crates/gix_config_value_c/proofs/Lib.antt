@@ -5,10 +5,12 @@ pub mod Lookup
 pub mod NameTags
 pub mod NumbersApart
 pub mod OneAnswer
+pub mod OneColor
 pub mod OneComposition
 pub mod OneEntry
 pub mod OneFile
 pub mod OneMark
+pub mod OnePart
 pub mod OnePath
 pub mod OneText
 pub mod Rows

@@ -1,8 +1,11 @@
 -- No two values have the same number, since each value is found again from its number.
 use Rattle.std.proofs.Common.{◌≡◌, ◌≢◌, ◌≤◌, ◌<◌, ◌⊎◌, inl, inr, ℕ, ◌-◌, List, [], ◌∷◌, Option, None, Some, Bool, true, false, codes, refl, sym, ap, ◌∙◌, arith}
 use Rattle.std.specs.List.{slice_get}
+use Rattle.std.specs.Prelude.{nat_lt, if◌then◌else◌}
 use Rattle.std.proofs.lemmas.Option.{same_Some}
 use Rattle.config_boolean.specs.declared.boolean.Boolean.{Boolean}
+use Rattle.config_color.specs.declared.depth.Depth.{Depth}
+use Rattle.config_color.specs.declared.depth.Depth.TheVariants.{Ansi16, Ansi256, TrueColor}
 use Rattle.config_integer.specs.declared.suffix.Suffix.{Suffix}
 use Rattle.config_integer.specs.declared.suffix.Suffix.TheVariants.{Kibi, Mebi, Gibi}
 use Rattle.config_text.specs.Faults.{fault_text}
@@ -22,6 +25,7 @@ use Rattle.gix_config_value_c.specs.declared.status.Status.{Status}
 use Rattle.gix_config_value_c.specs.declared.status.Status.TheVariants as statuses
 use Rattle.gix_config_value_c.specs.Answers.{TellsApart}
 use Rattle.gix_config_value_c.specs.Numbers.{status_number, kind_number, suffix_number, flag_number, fault_number}
+use Rattle.gix_config_value_c.specs.Numbers.{depth_number}
 use Rattle.gix_config_value_c.specs.Faults.{place_number, path_fault_number, numbered_text}
 
 -- if each value is found again from what `f` makes of it, then `f` tells values apart
@@ -35,7 +39,7 @@ all_statuses =
     ∷ statuses.UnknownKind ∷ statuses.UnknownFault ∷ statuses.BadSuffix ∷ statuses.BadName ∷ statuses.BadFlag
     ∷ statuses.Ok ∷ statuses.BadLengths ∷ statuses.ShortBuffer ∷ statuses.NoMemory
     ∷ statuses.BadLine ∷ statuses.Nul ∷ statuses.NoInclude ∷ statuses.NoValue ∷ statuses.NoDirectory
-    ∷ statuses.TooDeep ∷ []
+    ∷ statuses.TooDeep ∷ statuses.BadDepth ∷ []
 
 pub statuses_apart : TellsApart status_number
 statuses_apart = told_apart status_number (λ n. slice_get all_statuses n) again where
@@ -62,6 +66,16 @@ suffixes_apart = told_apart suffix_number (λ n. slice_get all_suffixes n) again
   again None = refl
   again (Some Kibi) = refl
   again (Some s) = refl
+
+pub depths_apart : TellsApart depth_number
+depths_apart = told_apart depth_number found again where
+  found : ℕ → Option Depth
+  found n = if nat_lt n 17 then Some Ansi16 else if nat_lt n 257 then Some Ansi256 else Some TrueColor
+
+  again : (d : Depth) → found (depth_number d) ≡ Some d
+  again Ansi16 = refl
+  again Ansi256 = refl
+  again TrueColor = refl
 
 pub flags_apart : TellsApart flag_number
 flags_apart = told_apart flag_number (λ n. slice_get (false ∷ true ∷ []) n) again where

@@ -13,10 +13,10 @@ use Rattle.gix_config_value_c.specs.Structs.{color_struct}
 use Rattle.gix_config_value_c.specs.Values.{IsNoValue}
 use Rattle.gix_config_value_c.proofs.StructsApart.{colors_apart}
 
-same_first : (a b : GcvColor) (v w x y : Color) → AreColors a b v w → AreColors a b x y → x ≡ v
+pub same_first : (a b : GcvColor) (v w x y : Color) → AreColors a b v w → AreColors a b x y → x ≡ v
 same_first a b v w x y p q = colors_apart x v (sym q.0 ∙ p.0)
 
-same_second : (a b : GcvColor) (v w x y : Color) → AreColors a b v w → AreColors a b x y → y ≡ w
+pub same_second : (a b : GcvColor) (v w x y : Color) → AreColors a b v w → AreColors a b x y → y ≡ w
 same_second a b v w x y p q = colors_apart y w (sym q.1 ∙ p.1)
 
 -- a composition of any two colors with these structs is the composition of `v` and `w`
@@ -32,7 +32,7 @@ has_texts : (a b : GcvColor) (v w x y : Color) → AreColors a b v w → HasText
 has_texts a b v w x y p first second q (inl never) = never (subst (λ z. HasText ColorText z) (sym (same_first a b v w x y p q)) first)
 has_texts a b v w x y p first second q (inr never) = never (subst (λ z. HasText ColorText z) (sym (same_second a b v w x y p q)) second)
 
-are_values : (a b : GcvColor) (v w : Color) → AreColors a b v w → ¬ (IsNoValue color_struct a ⊎ IsNoValue color_struct b)
+pub are_values : (a b : GcvColor) (v w : Color) → AreColors a b v w → ¬ (IsNoValue color_struct a ⊎ IsNoValue color_struct b)
 are_values a b v w p (inl never) = never v p.0
 are_values a b v w p (inr never) = never w p.1
 

@@ -1,11 +1,14 @@
--- The composition of two colors in C.
+-- Two colors as one, and fewer colors, in C.
 use Rattle.std.specs.Prelude.{◌≡◌, ◌⊎◌, ℕ, None, Some}
 use Rattle.config_color.specs.declared.color.Color.{Color}
+use Rattle.config_color.specs.declared.depth.Depth.{Depth}
+use Rattle.config_color.specs.Composition.{IsOver}
+use Rattle.config_color.specs.Depth.{ReducedColor}
 use Rattle.gix_config_value.specs.Color.{ColorText}
 use Rattle.gix_config_value.specs.Composition.{Composes}
 use Rattle.gix_config_value.specs.Value.{HasText}
 use Rattle.gix_config_value_c.specs.declared.status.Status.TheVariants as statuses
-use Rattle.gix_config_value_c.specs.Numbers.{status_number}
+use Rattle.gix_config_value_c.specs.Numbers.{status_number, depth_number}
 use Rattle.gix_config_value_c.specs.declared.structs.GcvColor.{GcvColor}
 use Rattle.gix_config_value_c.specs.Structs.{color_struct}
 use Rattle.gix_config_value_c.specs.Values.{IsNoValue, LeavesAlone}
@@ -32,3 +35,21 @@ pub data ComposesInto (a b out out' : GcvColor) (status : ℕ) : Type 0 where
       → LeavesAlone statuses.NoText out out' status → ComposesInto a b out out' status
   bad_name : IsNoValue color_struct a ⊎ IsNoValue color_struct b → LeavesAlone statuses.BadName out out' status
       → ComposesInto a b out out' status
+
+-- `top` over `base` is put into `out`; or a struct represents no color, and `out` is left alone
+pub data LaysOver (a b out out' : GcvColor) (status : ℕ) : Type 0 where
+  laid : (base top both : Color) → AreColors a b base top → IsOver base top both → out' ≡ color_struct both
+      → status ≡ status_number statuses.Ok → LaysOver a b out out' status
+  bad_name : IsNoValue color_struct a ⊎ IsNoValue color_struct b → LeavesAlone statuses.BadName out out' status
+      → LaysOver a b out out' status
+
+-- what is left of the color at the depth is put into `out`; or no depth has so many colors, or the struct
+-- represents no color, and `out` is left alone
+pub data ReducesInto (a : GcvColor) (colors : ℕ) (out out' : GcvColor) (status : ℕ) : Type 0 where
+  reduced : (color less : Color) (depth : Depth) → a ≡ color_struct color → colors ≡ depth_number depth
+      → ReducedColor depth color less → out' ≡ color_struct less → status ≡ status_number statuses.Ok
+      → ReducesInto a colors out out' status
+  bad_depth : (color : Color) → a ≡ color_struct color → IsNoValue depth_number colors
+      → LeavesAlone statuses.BadDepth out out' status → ReducesInto a colors out out' status
+  bad_name : IsNoValue color_struct a → LeavesAlone statuses.BadName out out' status
+      → ReducesInto a colors out out' status

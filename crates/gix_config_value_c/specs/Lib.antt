@@ -10,6 +10,7 @@ pub mod Json
 pub mod Settings
 pub mod Files
 pub mod Paths
+pub mod Terminals
 pub mod Walks
 pub mod Answers
 pub mod Reading

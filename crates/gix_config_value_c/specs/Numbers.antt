@@ -1,5 +1,7 @@
--- The numbers that represent statuses, kinds, suffixes, truth values and faults in C.
+-- The numbers that represent statuses, kinds, suffixes, depths, truth values and faults in C.
 use Rattle.std.specs.Prelude.{◌≡◌, ◌≢◌, ℕ, Bool, true, false, Option, None, Some}
+use Rattle.config_color.specs.declared.depth.Depth.{Depth}
+use Rattle.config_color.specs.declared.depth.Depth.TheVariants as depths
 use Rattle.config_integer.specs.declared.suffix.Suffix.{Suffix}
 use Rattle.config_integer.specs.declared.suffix.Suffix.TheVariants.{Kibi, Mebi, Gibi}
 use Rattle.config_text.specs.declared.errors.Fault.{Fault}
@@ -36,6 +38,7 @@ status_number statuses.NoInclude = 17
 status_number statuses.NoValue = 18
 status_number statuses.NoDirectory = 19
 status_number statuses.TooDeep = 20
+status_number statuses.BadDepth = 21
 
 -- the number of a kind
 abbrev pub kind_number : Kind → ℕ
@@ -53,6 +56,17 @@ suffix_number None = 0
 suffix_number (Some Kibi) = 1
 suffix_number (Some Mebi) = 2
 suffix_number (Some Gibi) = 3
+
+-- the number of a depth: how many colors it has
+abbrev pub depth_number : Depth → ℕ
+depth_number depths.Ansi16 = 16
+depth_number depths.Ansi256 = 256
+depth_number depths.TrueColor = 16777216
+
+-- the number of a depth, and 0 for no colors
+abbrev pub written_depth : Option Depth → ℕ
+written_depth None = 0
+written_depth (Some depth) = depth_number depth
 
 -- the number of a truth value
 abbrev pub flag_number : Bool → ℕ

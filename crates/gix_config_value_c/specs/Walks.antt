@@ -1,6 +1,7 @@
 -- Walks over a file and what it includes, in C.
 use Rattle.std.specs.Prelude.{◌≡◌, ◌≤◌, ◌<◌, ◌^◌, ◌+◌, ℕ, List, ◌++◌, ◌∷◌, [], Option, None, Some, option_copied}
 use Rattle.std.specs.Prelude.{length, take, drop}
+use Rattle.std.specs.Borrow.{Bor}
 use Rattle.std.specs.List.{AllZip}
 use Rattle.std.specs.Option.{option_map_or}
 use Rattle.config_file.specs.File.{Entry}
@@ -12,6 +13,7 @@ use Rattle.config_file.specs.declared.errors.Error.{Error}
 use Rattle.config_file.specs.declared.include.Includes.{Includes}
 use Rattle.config_file.specs.declared.include.Includes.TheVariants.{AsGit, Skipped}
 use Rattle.config_file.specs.declared.include.Repository.{Repository}
+use Rattle.config_file.specs.declared.include.Urls.TheVariants as urls_of
 use Rattle.config_file.specs.declared.section.Section.{Section}
 use Rattle.config_file.specs.declared.walk.Frame.{Frame}
 use Rattle.config_file.specs.declared.walk.Include.{Include}
@@ -76,11 +78,11 @@ IsRepository known (Some r) = IsGiven (known.has_repository, known.git_dir.now) 
     × IsGiven (known.has_branch, known.branch.now) (option_copied r.branch)
     × IsGiven (known.has_real_home, known.real_home.now) (option_copied r.real_home)
 
--- which includes are followed
+-- which includes are followed; no URL of a remote is known
 pub data AreIncludes (known : GcvKnown) : Includes → Type 0 where
   skipped : known.follows ≡ 0 → AreIncludes known Skipped
-  as_git : (repository : Option Repository) → known.follows ≡ 1 → IsRepository known repository
-      → AreIncludes known (AsGit repository)
+  as_git : (repository : Option Repository) (urls : Bor (List (Bor (List ℕ)))) → known.follows ≡ 1
+      → IsRepository known repository → urls.now ≡ [] → AreIncludes known (AsGit repository (urls_of.Known urls))
 
 -- this is known, by its flags
 pub record IsKnown (known : GcvKnown) (is : Known) : Type 0 where

@@ -6,6 +6,7 @@ use crate::status::Status;
 
 /// Writes a text to the front of the buffer, and its length into `length`. If the buffer is shorter than the
 /// text, only that length is written.
+#[inline(always)]
 pub(crate) fn put(text: &[u8], buffer: &mut [u8], length: &mut usize) -> u32
     ensures { PutsText text.now buffer.old buffer.new length.new result }
 {

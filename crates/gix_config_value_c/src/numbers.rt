@@ -1,8 +1,10 @@
-//! The numbers that represent kinds, suffixes and truth values in C.
+//! The numbers that represent kinds, suffixes, depths and truth values in C.
 ghost use Rattle.std.specs.Prelude.{◌≡◌, Some};
 ghost use Rattle.gix_config_value_c.specs.Numbers.{kind_number, suffix_number, flag_number, StandsFor};
+ghost use Rattle.gix_config_value_c.specs.Numbers.{written_depth, depth_number};
 
 use gix_config_value::canonical::Kind;
+use gix_config_value::color::Depth;
 use gix_config_value::integer::Suffix;
 
 /// Returns the kind with this number, or `None` if no kind has it.
@@ -54,6 +56,30 @@ pub(crate) fn suffix_of(number: u32) -> Option<Option<Suffix>>
     }
     let suffix = unit_of(number)?;
     Some(Some(suffix))
+}
+
+/// Returns the depth with this number, or `None` if no depth has it.
+pub(crate) fn depth_of(number: u32) -> Option<Depth>
+    ensures { StandsFor depth_number number result }
+{
+    match number {
+        16 => Some(Depth::Ansi16),
+        256 => Some(Depth::Ansi256),
+        16777216 => Some(Depth::TrueColor),
+        _ => None,
+    }
+}
+
+/// Returns the number of a depth, or 0 for no colors.
+pub(crate) fn written_depth(depth: Option<Depth>) -> u32
+    ensures { result ≡ written_depth depth }
+{
+    match depth {
+        None => 0,
+        Some(Depth::Ansi16) => 16,
+        Some(Depth::Ansi256) => 256,
+        Some(Depth::TrueColor) => 16777216,
+    }
 }
 
 /// Returns the number of a truth value.

@@ -43,4 +43,6 @@ pub enum Status {
     NoDirectory = 19,
     /// The file is more than ten includes deep.
     TooDeep = 20,
+    /// No depth of colors has this number.
+    BadDepth = 21,
 }

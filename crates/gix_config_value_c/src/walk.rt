@@ -18,7 +18,8 @@ use crate::status::Status;
 use config_file::errors::Error;
 use config_file::section::{Section, Subsection};
 use config_file::{
-    Directories, Entries, Entry, Frame, Include, Includes, Known, Place, Repository, Step, Walk,
+    Directories, Entries, Entry, Frame, Include, Includes, Known, Place, Repository, Step, Urls,
+    Walk,
 };
 use std::alloc::{AllocError, Global};
 
@@ -245,7 +246,7 @@ fn known_of<'k>(known: &GcvKnown<'k>) -> Option<Known<'k>>
     let repository = repository_of(git_dir, known.real_git_dir, branch, real_home);
     Some(Known {
         directories,
-        includes: Includes::AsGit(repository),
+        includes: Includes::AsGit(repository, Urls::Known(&[])),
     })
 }
 

@@ -103,6 +103,9 @@ static void bad_names(void)
             count(writes_nothing(buffer_area, show_color, &color, GCV_BAD_NAME), "a bad color shown");
             count(gcv_compose(&color, &plain, &out) == GCV_BAD_NAME && memcmp(&out, &before, sizeof out) == 0, "compose, first");
             count(gcv_compose(&plain, &color, &out) == GCV_BAD_NAME && memcmp(&out, &before, sizeof out) == 0, "compose, second");
+            count(gcv_over(&color, &plain, &out) == GCV_BAD_NAME && memcmp(&out, &before, sizeof out) == 0, "over, base");
+            count(gcv_over(&plain, &color, &out) == GCV_BAD_NAME && memcmp(&out, &before, sizeof out) == 0, "over, top");
+            count(gcv_reduce_color(&color, GCV_ANSI16, &out) == GCV_BAD_NAME && memcmp(&out, &before, sizeof out) == 0, "reduce");
         }
     }
 }
@@ -334,6 +337,51 @@ static void escape_sequences(void)
         count(gcv_read_color(rows[at][0], strlen(rows[at][0]), &color, NULL) == GCV_OK &&
                   writes(buffer_area, escape_color, &color, wanted, strlen(wanted)),
               rows[at][0]);
+    }
+}
+
+/* Colors over colors, fewer colors, and how many a terminal has. */
+static void depths(void)
+{
+    static const struct {
+        const char *base, *top;
+        gcv_depth depth;
+        const char *shown;
+    } rows[] = {{"bold red", "nobold blue", GCV_TRUE_COLOR, "blue nobold"},
+                {"red black", "#ff8800", GCV_ANSI256, "208 black"},
+                {"#ff8800", "ul", GCV_ANSI16, "3 ul"},
+                {"208", "dim nodim", GCV_ANSI256, "208 dim nodim"}};
+    gcv_color out = {{GCV_RED, 0, 0, 0, 0}, {0, 0, 0, 0, 0}, 0}, before = out;
+    for (size_t at = 0; at < sizeof rows / sizeof rows[0]; at++) {
+        gcv_color base, top, both, less;
+        count(gcv_read_color(rows[at].base, strlen(rows[at].base), &base, NULL) == GCV_OK &&
+                  gcv_read_color(rows[at].top, strlen(rows[at].top), &top, NULL) == GCV_OK &&
+                  gcv_over(&base, &top, &both) == GCV_OK && gcv_reduce_color(&both, rows[at].depth, &less) == GCV_OK &&
+                  writes(buffer_area, show_color, &less, rows[at].shown, strlen(rows[at].shown)),
+              rows[at].shown);
+    }
+    for (size_t at = 0; at < 4; at++) {
+        count(gcv_reduce_color(&before, (gcv_depth)no_numbers[at], &out) == GCV_BAD_DEPTH &&
+                  memcmp(&out, &before, sizeof out) == 0,
+              "no depth");
+    }
+    count(gcv_reduce_color(&before, GCV_NO_COLORS, &out) == GCV_BAD_DEPTH, "no colors");
+    count(gcv_terminal_depth(1, NULL, "xterm", NULL) == GCV_ANSI16, "xterm");
+    count(gcv_terminal_depth(1, "", "xterm-256color", NULL) == GCV_ANSI256, "xterm-256color");
+    count(gcv_terminal_depth(1, NULL, "xterm", "24bit") == GCV_TRUE_COLOR, "24bit");
+    count(gcv_terminal_depth(0, NULL, "xterm", "24bit") == GCV_NO_COLORS, "no terminal");
+    count(gcv_terminal_depth(1, "0", "xterm", "24bit") == GCV_NO_COLORS, "NO_COLOR");
+    count(gcv_terminal_depth(1, NULL, NULL, "24bit") == GCV_NO_COLORS, "no TERM");
+    uint32_t flags[4] = {1, 0, 1, 0};
+    for (size_t at = 0; at < 4; at++) {
+        uint32_t right = flags[at];
+        gcv_depth depth = GCV_ANSI256;
+        flags[at] = 2;
+        count(gcv_raw_terminal_depth(flags[0], flags[1], "", 0, flags[2], "xterm", 5, flags[3], "", 0, &depth) ==
+                      GCV_BAD_FLAG &&
+                  depth == GCV_ANSI256,
+              "a bad flag");
+        flags[at] = right;
     }
 }
 
@@ -896,6 +944,7 @@ int main(void)
     parsed();
     users();
     escape_sequences();
+    depths();
     fields();
     words();
     files();

@@ -57,6 +57,11 @@ ENUMS = {
         ("GCV_", CRATE / "src/numbers.rt", r"^        Some\(Suffix::(\w+)\) => (\d+),$", int),
         ("GCV_", NUMBERS, r"^suffix_number \(Some (\w+)\) = (\d+)$", int),
     ],
+    "GCV_NO_COLORS": [
+        ("GCV_", CRATE / "src/numbers.rt", r"^        (?P<number>\d+) => Some\(Depth::(?P<name>\w+)\),$", int),
+        ("GCV_", CRATE / "src/numbers.rt", r"^        Some\(Depth::(\w+)\) => (\d+),$", int),
+        ("GCV_", NUMBERS, r"^depth_number depths\.(\w+) = (\d+)$", int),
+    ],
     "GCV_NO_NAME": [
         # the tag of a name is one more than its place
         ("GCV_", WORDS / "specs/Orders.antt", r"^name_place \(?(\w+)[^)=]*\)? = (\d+)$", lambda place: int(place) + 1),
@@ -66,15 +71,15 @@ ENUMS = {
     ],
 }
 BITS = re.compile(r"^#define (GCV_\w+) (0x[0-9a-f]{8})u$", re.MULTILINE)
-# the constants that are 0: the fault of a refused suffix, an integer without a suffix, a color without a name
-ZEROS = ("GCV_FAULT_NONE", "GCV_NO_SUFFIX", "GCV_NO_NAME")
+# the constants that are 0: the fault of a refused suffix, an integer without a suffix, no colors, a color without a name
+ZEROS = ("GCV_FAULT_NONE", "GCV_NO_SUFFIX", "GCV_NO_COLORS", "GCV_NO_NAME")
 OTHER_NAMES = {"GCV_FAULT_ILL_FORMED_WHOLE": "GCV_FAULT_ILL_FORMED_PATH"}
 # the types of C for those of Rattle, and their sizes
 TYPES = {"i64": "int64_t", "u32": "uint32_t", "u8": "uint8_t", "usize": "size_t"}
 TYPES |= {f"Gcv{it.title()}": f"gcv_{it}" for it in ("integer", "name", "color", "entry", "place", "file", "frame")}
 TYPES |= {f"Gcv{it.title()}": f"gcv_raw_{it}" for it in ("known", "step")}
 # the enums of C are numbers of 32 bits, and a text is of chars
-NUMBERED = re.compile(r"\bgcv_(status|kind|fault|suffix|tag)\b")
+NUMBERED = re.compile(r"\bgcv_(status|kind|fault|suffix|depth|tag)\b")
 SIZES = {"int64_t": (8, 8), "uint32_t": (4, 4), "uint8_t": (1, 1), "size_t": (8, 8), "const uint8_t *": (8, 8)}
 LIFETIMES = re.compile(r"<'[^>]*>|'\w+ ")
 

@@ -77,7 +77,7 @@ archive=$prefix/lib/libgix_config_value.a
 holds "the header" python3 "$tests/header.py" "$prefix"
 
 # the library exports exactly the calls that the header declares, and needs only the symbols of docs/C.md
-sed -nE 's/^(GCV_RETURNS|GCV_CALL|GCV_CHECKED|gcv_status|void|const char).*[ *](gcv_[a-z0-9_]+)\(.*/\2/p' \
+sed -nE 's/^(GCV_RETURNS|GCV_CALL|GCV_CHECKED|gcv_status|gcv_depth|void|const char).*[ *](gcv_[a-z0-9_]+)\(.*/\2/p' \
     "$prefix/include/gix_config_value.h" | sort > "$work/declared"
 nm -g --defined-only "$archive" | sed -n 's/.* [A-Z] //p' | sort > "$work/shown"
 holds "the archive shows the calls of the header" diff "$work/declared" "$work/shown"
@@ -186,8 +186,8 @@ for compiler in gcc clang g++ clang++; do
             holds "$example $by" "$compiler" $language $warnings -I"$prefix/include" -o "$work/$example" \
                 "$root/examples/c/$example.c" -x none "$@"
         done
-        holds "theme $by, runs" answers 0 'red #ffffff bold ul$' "$work/theme" 'bold red' 'ul #fff'
-        holds "theme $by, refuses" answers 1 '' "$work/theme" 'red blue' green
+        holds "theme $by, runs" answers 0 '#ffffff bold ul$' "$work/theme" 'bold red' 'ul #fff'
+        holds "theme $by, refuses" answers 1 '' "$work/theme" red 'green yellow blue'
         holds "check $by, runs" answers 0 '16k$' "$work/check" integer 0x10k
         holds "check $by, refuses" answers 1 'refused: Booleans need' "$work/check" boolean maybe
         holds "setting $by, runs" answers 0 '16384, by entry 1$' "$work/setting" core.limit

@@ -5,14 +5,17 @@ use bstr::BStr;
 use config_file::settings::GetError;
 use config_file::{Key, Settings};
 use gix_config_value::canonical::normalize_as;
+use gix_config_value::color::Depth;
 use gix_config_value::integer::Amount;
 use gix_config_value::path::interpolate::{Context, absent};
-use gix_config_value::{Boolean, Fault, Path};
+use gix_config_value::{Boolean, Color, Fault, Path};
 use std::test::Fail;
+use uses::headline::color_of_both;
 use uses::literals::{default_limit, default_warning};
 use uses::paths::{path_at_home, path_of_user};
 use uses::push_default::{PushDefault, push_default};
 use uses::repository::{File, is_bare, read};
+use uses::theme::{drawn, preview};
 
 /// The files of the system, the user and the repository. The expected results are those of Git 2.39.5.
 static FILES: [File<'static>; 3] = [
@@ -66,7 +69,7 @@ fn a_refusal_names_its_place(rt: HostRuntime) -> Result<(), Fail> {
     };
     assert!(rt; refused.setting.text() == b"08".as_slice());
     let told = refused.to_string(alloc)?;
-    let wanted = format!(in alloc; "user:2: Core.abbrev: {}", Fault::Integer.text())?;
+    let wanted = format!(in alloc; "user:2: Core.abbrev: {}: \"08\"", Fault::Integer.text())?;
     equal(&rt, told.as_str(), wanted.as_str(), "core.abbrev");
     Ok(())
 }
@@ -137,4 +140,28 @@ fn has_defaults(rt: HostRuntime) {
     assert!(rt; default_limit() == 10_485_760);
     let warning = default_warning().shown();
     assert!(rt; warning.as_str() == "brightred bold");
+}
+
+#[test]
+fn composes_colors_that_it_has_read(rt: HostRuntime) -> Result<(), Fail> {
+    let both = |front, back| color_of_both(BStr::from(front), BStr::from(back));
+    let color = both("bold red", "ul blue").ok_or("no color")?;
+    assert!(rt; color.shown().as_str() == "red blue bold ul");
+    assert!(rt; both("red blue", "green").is_none());
+    assert!(rt; both("red", "Bold").is_none());
+    Ok(())
+}
+
+#[test]
+fn previews_a_theme(rt: HostRuntime) -> Result<(), Fail> {
+    let default = Color::try_from("bold red")?;
+    let user = Color::try_from("nobold #ff8800")?;
+    for (user, wanted) in [
+        (Some(user), "old \u{1b}[22;38;5;208msample\u{1b}[m"),
+        (None, "old \u{1b}[1;31msample\u{1b}[m"),
+    ] {
+        let line = preview(rt.alloc(), "old", drawn(default, user, Depth::Ansi256))?;
+        equal(&rt, line.as_str(), wanted, "a preview");
+    }
+    Ok(())
 }

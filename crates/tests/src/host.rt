@@ -5,8 +5,10 @@ use bumpalo::Bump;
 use config_file::{Content, Files as Texts};
 use config_host::disk::Disk;
 use config_host::environment::{HostError, arguments, variable};
+use config_host::error::HereError;
 use config_host::names::exists;
-use config_host::{places, repository, shown};
+use config_host::repository::find;
+use config_host::{files_here, read_here, shown};
 use std::alloc::{Alloc, AllocError, Allocator, Global};
 use std::cell::Cell;
 use std::env::{Env, FillError};
@@ -16,13 +18,15 @@ use std::io::{self, ErrorKind};
 use std::path::PathBuf;
 use std::test::Fail;
 
-/// The system of a test. The call with the number `fails_at` is refused, and GIT_DIR is `git_dir`.
+/// The system of a test. The call with the number `fails_at` is refused, and GIT_DIR is `git_dir`, if that is
+/// not empty. It has these other variables.
 #[derive(Drop)]
-struct Faulty<'r> {
+pub struct Faulty<'r> {
     rt: &'r HostRuntime,
     calls: Cell<usize>,
     fails_at: usize,
     git_dir: &'r [u8],
+    variables: &'r [(&'r str, &'r str)],
 }
 
 impl<'r> Faulty<'r> {
@@ -32,6 +36,18 @@ impl<'r> Faulty<'r> {
             calls: Cell::new(0),
             fails_at,
             git_dir,
+            variables: &[],
+        }
+    }
+
+    /// A system that refuses nothing, and has these variables.
+    pub fn with(rt: &'r HostRuntime, variables: &'r [(&'r str, &'r str)]) -> Faulty<'r> {
+        Faulty {
+            rt,
+            calls: Cell::new(0),
+            fails_at: usize::MAX,
+            git_dir: b"",
+            variables,
         }
     }
 
@@ -78,10 +94,16 @@ impl Env for Faulty<'_> {
     }
 
     fn var(&self, name: &str, buf: &mut [u8]) -> Result<usize, FillError> {
+        for (known, value) in self.variables {
+            if *known == name {
+                return copied(value.as_bytes(), buf);
+            }
+        }
         match name {
-            "GIT_DIR" => copied(self.git_dir, buf),
+            "GIT_DIR" if !self.git_dir.is_empty() => copied(self.git_dir, buf),
             "LONG" => copied(&[b'a'; 1000], buf),
             "GIT_CONFIG_NOSYSTEM" => copied(b"yes", buf),
+            "GIT_CONFIG_PARAMETERS" if !self.git_dir.is_empty() => copied(b"'a.c'='d'", buf),
             _ => Err(FillError::NotPresent),
         }
     }
@@ -168,7 +190,7 @@ const HELD: [(&str, &[u8]); 4] = [
     ),
     (
         "config_host.refused_memory/held/config",
-        b"[extensions]\n\tworktreeConfig\n",
+        b"[core]\n\trepositoryformatversion = 0\n[extensions]\n\tworktreeConfig\n",
     ),
     (
         "config_host.refused_memory/held/config.worktree",
@@ -189,18 +211,10 @@ fn make(rt: &HostRuntime) -> io::Result<()> {
     Ok(())
 }
 
-/// Whether the repository is found, and its branch.
-fn finds(host: &Faulty<'_>) -> Result<bool, HostError> {
-    match repository::find(host)? {
-        Some(found) => Ok(found.branch.as_deref() == Some(b"\xff".as_slice())),
-        None => Ok(false),
-    }
-}
-
 /// Whether both files of the repository are listed.
 fn lists(host: &Faulty<'_>) -> Result<bool, HostError> {
     let texts = Bump::new(host.alloc());
-    let files = places::files(host, &Disk::new(host, &texts))?;
+    let files = files_here(&Disk::new(host, &texts))?;
     Ok(files.len() == 2)
 }
 
@@ -213,12 +227,22 @@ fn reads(host: &Faulty<'_>) -> Result<bool, HostError> {
     }
 }
 
+/// Whether the settings of both files of the repository are read, and that of the command.
+fn reads_here(host: &Faulty<'_>) -> Result<bool, HostError> {
+    let texts = Bump::new(host.alloc());
+    match read_here(host, &texts, b"") {
+        Ok(here) => Ok(here.settings.entries.len() == 4 && here.refusal.is_none()),
+        Err(HereError::Host(error)) => Err(error),
+        Err(_) => Ok(false),
+    }
+}
+
 /// Whether the call of this number has the right result.
 fn is_right(host: &Faulty<'_>, call: usize) -> Result<bool, HostError> {
     match call {
-        0 => finds(host),
-        1 => lists(host),
-        _ => reads(host),
+        0 => lists(host),
+        1 => reads(host),
+        _ => reads_here(host),
     }
 }
 
@@ -238,7 +262,7 @@ fn is_told(host: &Faulty<'_>, outcome: Result<bool, HostError>) -> bool {
 fn refused_memory(rt: HostRuntime) -> Result<(), Fail> {
     make(&rt)?;
     for fails_at in 0..100 {
-        for call in 0..3 {
+        for call in 0..4 {
             let host = Faulty::new(&rt, fails_at, LINK);
             let outcome = is_right(&host, call);
             assert!(&rt; is_told(&host, outcome), "{call} at {fails_at}");
@@ -276,7 +300,8 @@ fn names_that_are_not_utf8(rt: HostRuntime) -> Result<(), Fail> {
     let host = unrefused(&rt);
     let argument = told(rt.alloc(), arguments(&host).err())?;
     assert!(&rt; argument.as_str() == "\u{fffd}: the argument is not UTF-8");
-    let variable = told(rt.alloc(), repository::find(&host).err())?;
+    let texts = Bump::new(rt.alloc());
+    let variable = told(rt.alloc(), find(&Disk::new(&host, &texts), b"").err())?;
     assert!(&rt; variable.as_str() == "GIT_DIR is not UTF-8");
     Ok(())
 }

@@ -5,8 +5,8 @@ ghost use Rattle.config_file.specs.Settings.{HoldsContent};
 use crate::support::{equal, holds};
 use config_file::settings::IncludeFault;
 use config_file::{
-    AddError, Content, Directories, Files, Include, Includes, Known, Place, Repository, Settings,
-    Step, Walk,
+    AddError, Content, Directories, Entries, Files, Include, Includes, Known, Place, Repository,
+    Settings, Step, Urls, Walk, is_remote_url,
 };
 use gix_config_value::{Boolean, Fault};
 use std::alloc::{AllocError, Global};
@@ -66,7 +66,7 @@ fn known(includes: Includes<'_>) -> Known<'_> {
     }
 }
 
-const ANYWHERE: Includes<'static> = Includes::AsGit(None);
+const ANYWHERE: Includes<'static> = Includes::AsGit(None, Urls::Known(&[]));
 
 /// A walk: the name and the text of the file that it begins in, the includes that it follows, the names of the
 /// entries that it comes to, and the error that ends it, if any.
@@ -251,12 +251,14 @@ fn stops_where_git_does(rt: HostRuntime) {
 }
 
 /// The repository of `/r/.git`, on the branch `main`.
-const REPOSITORY: Includes<'static> = Includes::AsGit(Some(Repository {
+const REPOSITORY: Repository<'static> = Repository {
     real_git_dir: b"/r/.git",
     git_dir: b"/r/.git",
     branch: Some(b"main"),
     real_home: Some(b"/home/ann"),
-}));
+};
+
+const IN_REPOSITORY: Includes<'static> = Includes::AsGit(Some(REPOSITORY), Urls::Known(&[]));
 
 /// Conditions, and whether they hold in the repository.
 static CONDITIONS: [(&str, bool); 10] = [
@@ -284,7 +286,7 @@ fn is_followed(alloc: Global, condition: &str, includes: Includes<'_>) -> Result
 fn follows_an_include_whose_condition_holds(rt: HostRuntime) {
     for (condition, holds) in &CONDITIONS {
         for (includes, wanted) in [
-            (REPOSITORY, *holds),
+            (IN_REPOSITORY, *holds),
             (ANYWHERE, false),
             (Includes::Skipped, false),
             (Includes::All, true),
@@ -292,6 +294,97 @@ fn follows_an_include_whose_condition_holds(rt: HostRuntime) {
             let given = is_followed(rt.alloc(), condition, includes);
             assert!(rt; given == Ok(wanted), "{condition}");
         }
+    }
+}
+
+/// URLs of remotes, a pattern, and whether Git 2.39.5 and 2.55.0 follow an include that asks for it. They answer
+/// the same in a repository and outside of any.
+static REMOTES: [(&[&[u8]], &str, bool); 20] = [
+    (&[], "**", false),
+    (&[b""], "**", true),
+    (&[b""], "", true),
+    (&[b"x"], "", false),
+    (&[b"x"], "*", true),
+    (&[b"https://x/y/z"], "https://x/**", true),
+    (&[b"https://x/"], "https://x/**", true),
+    (&[b"https://x"], "https://x/**", false),
+    (&[b"https://x/y/z"], "https://x/*", false),
+    (&[b"git@host:o/r"], "git@[a-z]*:o/?", true),
+    // a URL after the first one counts, and each alone
+    (&[b"a", b"https://x/y", b"b"], "https://x/**", true),
+    (&[b"a", b"b"], "ab", false),
+    (&[b"a", b"b"], "b", true),
+    // case counts
+    (&[b"https://x/y"], "https://X/**", false),
+    // no `**` is added after a `/`, and no `**/` before a name
+    (&[b"https://x/y"], "https://x/", false),
+    (&[b"https://x/"], "https://x/", true),
+    (&[b"https://x/y"], "y", false),
+    // `~` is no home directory, and `.` no directory of a file
+    (&[b"/home/ann/y"], "~/y", false),
+    (&[b"~/y"], "~/y", true),
+    (&[b"./y"], "./y", true),
+];
+
+/// Whether a walk follows the include that asks for a URL with this pattern, in the repository and outside.
+fn asks_for_url(alloc: Global, pattern: &str, urls: Urls<'_>) -> Result<(bool, bool), AllocError> {
+    let condition = format!(in alloc; "hasconfig:remote.*.url:{pattern}")?;
+    let inside = is_followed(alloc, &condition, Includes::AsGit(Some(REPOSITORY), urls))?;
+    let outside = is_followed(alloc, &condition, Includes::AsGit(None, urls))?;
+    Ok((inside, outside))
+}
+
+#[test]
+fn follows_an_include_that_asks_for_a_url_of_a_remote(rt: HostRuntime) {
+    for (urls, pattern, wanted) in &REMOTES {
+        let given = asks_for_url(rt.alloc(), pattern, Urls::Known(urls));
+        assert!(rt; given == Ok((*wanted, *wanted)), "{pattern}");
+        let sought = asks_for_url(rt.alloc(), pattern, Urls::Sought);
+        assert!(rt; sought == Ok((true, true)), "{pattern}");
+    }
+}
+
+#[test]
+fn other_conditions_do_not_ask_for_urls(rt: HostRuntime) {
+    for (condition, wanted) in [
+        ("gitdir:/R/", false),
+        ("onbranch:**", false),
+        ("hasconfig:remote.*.URL:**", false),
+        ("hasconfig:**", false),
+    ] {
+        let includes = Includes::AsGit(None, Urls::Sought);
+        assert!(rt;
+            is_followed(rt.alloc(), condition, includes) == Ok(wanted),
+            "{condition}"
+        );
+    }
+}
+
+/// Files of one entry, and whether Git 2.39.5 and 2.55.0 see the URL of a remote in it.
+static URLS: [(&str, bool); 15] = [
+    ("[remote \"o\"]\n\turl = x", true),
+    ("[REMOTE \"o\"]\n\tURL = x", true),
+    ("[remote \"\"]\n\turl = x", true),
+    ("[remote \"a.b\"]\n\turl = x", true),
+    ("[remote.a]\n\turl = x", true),
+    ("[Remote.A]\n\tUrl = x", true),
+    ("[remote.a \"b\"]\n\turl = x", true),
+    ("[remote.]\n\turl = x", true),
+    ("[remote]\n\turl = x", false),
+    ("[remotes \"o\"]\n\turl = x", false),
+    ("[remote-x.o]\n\turl = x", false),
+    ("[xremote \"o\"]\n\turl = x", false),
+    ("[remote \"o\"]\n\turls = x", false),
+    ("[remote \"o.url\"]\n\tx = x", false),
+    ("url = x", false),
+];
+
+#[test]
+fn tells_the_url_of_a_remote(rt: HostRuntime) {
+    for (text, wanted) in &URLS {
+        let entry = Entries::new(text.as_bytes()).next();
+        let given = matches!(&entry, Some(Ok(entry)) if is_remote_url(entry));
+        assert!(rt; given == *wanted, "{text}");
     }
 }
 

@@ -64,10 +64,14 @@ fn gets_the_value_of_a_key(rt: HostRuntime) -> Result<(), Fail> {
 fn refuses_the_value_of_a_key(rt: HostRuntime) -> Result<(), Fail> {
     let mut settings = Settings::new(rt.alloc());
     settings.add_file(rt.alloc(), b"f", TEXT)?;
-    let Some(GetError::Refused(refused)) = settings.get::<Integer>("core.bare").err() else {
-        return Err(Fail::new("true is no integer"));
+    let Some(GetError::Refused(refused)) = settings.get::<Integer>("core.empty").err() else {
+        return Err(Fail::new("an empty text is no integer"));
     };
-    equal(&rt, refused.setting.entry.line, 2, "core.bare");
-    equal(&rt, refused.setting.text(), b"true".as_slice(), "core.bare");
+    equal(&rt, refused.setting.entry.line, 3, "core.empty");
+    let Some(GetError::NoValue(setting)) = settings.get::<Integer>("core.bare").err() else {
+        return Err(Fail::new("a key alone is no integer"));
+    };
+    equal(&rt, setting.entry.line, 2, "core.bare");
+    equal(&rt, setting.text(), b"true".as_slice(), "core.bare");
     Ok(())
 }

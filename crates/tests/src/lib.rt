@@ -8,7 +8,15 @@ mod attributes;
 #[cfg(test)]
 mod callers;
 #[cfg(test)]
+mod command;
+#[cfg(test)]
+mod depth;
+#[cfg(test)]
+mod escape;
+#[cfg(test)]
 mod files;
+#[cfg(test)]
+mod here;
 #[cfg(test)]
 mod host;
 #[cfg(test)]
@@ -23,3 +31,5 @@ mod program;
 mod support;
 #[cfg(test)]
 mod texts;
+#[cfg(test)]
+mod url;

@@ -15,7 +15,7 @@ ghost use Rattle.uses.specs.Headline.{Headline, JoinedHeadline};
 
 use bstr::BStr;
 use gix_config_value::Boolean;
-use gix_config_value::canonical::{CanonicalText, Value};
+use gix_config_value::canonical::{CanonicalText, Value, compose};
 use gix_config_value::color::{Attribute, Color, Name};
 use gix_config_value::integer::{Amount, Integer, Suffix};
 use gix_config_value::laws::headline::{joined, meaning, one_meaning};
@@ -92,4 +92,12 @@ pub fn color_of_joined(joined_texts: BStr<'_>) -> Option<Color>
 {
     joined();
     Color::read(joined_texts)
+}
+
+/// The color of two texts that are read one by one and composed, as if white space joined them. `compose` asks
+/// for no proof that the colors have texts.
+pub fn color_of_both(front: BStr<'_>, back: BStr<'_>) -> Option<Color>
+    ensures { JoinedHeadline (bstr_bytes front.entry) (bstr_bytes back.entry) result }
+{
+    compose(Color::read(front)?, Color::read(back)?)
 }

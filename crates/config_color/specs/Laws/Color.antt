@@ -2,7 +2,7 @@
 -- most one color.
 use Rattle.std.proofs.Common.{◌≡◌, ◌≢◌, take, drop, slice_range, ℕ, ◌+◌, ◌<◌, ◌≤◌, ◌⊎◌, inl, inr, List, []}
 use Rattle.std.proofs.Common.{◌∷◌, ◌++◌, length, Option, Some, None, refl, sym, ap, subst, ◌∙◌, append_assoc}
-use Rattle.std.proofs.Common.{arith}
+use Rattle.std.proofs.Common.{arith, zero, suc, ◌-◌, length-take-le}
 use Rattle.std.specs.Int.RustNames.{bit_or}
 use Rattle.std.specs.Int.Bits.{or_zero_l, or_zero_r}
 use Rattle.std.proofs.lemmas.Bool.Decides.{nat_tests}
@@ -15,17 +15,19 @@ use Rattle.config_word.specs.declared.item.Item.{Item}
 use Rattle.config_word.specs.declared.item.Item.TheVariants as items
 use Rattle.config_word.specs.Attribute.{AttributeText}
 use Rattle.config_color.specs.Color.{WordsRead, TextRead, Placed, ColorText, no_color}
-use Rattle.config_color.specs.Reading.Color.{word_item, next_name, with_item, read_from, color_of}
+use Rattle.config_color.specs.Reading.Color.{IsTooLong, word_item, next_name, with_item}
+use Rattle.config_color.specs.Reading.Color.{read_from, color_of}
 use Rattle.std.specs.Option.{option_and_then, option_to_list}
 use Rattle.config_word.specs.Name.{NameText}
 use Rattle.config_text.specs.Value.{IsAccepted, IsRefused, Reads}
 use Rattle.config_text.specs.Laws.Value.{IsValueOf}
 use Rattle.config_text.specs.Laws.Value.{decided_by, one_value_by, read_by, reads_by}
 use Rattle.config_word.specs.Item.{ItemText}
-use Rattle.config_word.specs.Laws.Item.{item-law, item_one_value, not_both}
+use Rattle.config_word.specs.Laws.Item.{item-law, item_one_value, long_refused, not_both}
 use Rattle.config_color.specs.Words.{piece}
 use Rattle.config_color.specs.Reading.Split.{IsWithoutSpace, words}
 use Rattle.config_color.specs.Laws.Split.{words_are, words_only, words_step, words_last, eqb_told}
+use Rattle.config_color.specs.Laws.Split.{first_end}
 use Rattle.config_color.specs.Space.{Space}
 
 word_item-value : IsValueOf ItemText word_item
@@ -380,3 +382,21 @@ pub walk_done : (input : List ℕ) (c : Color) → read_from no_color (words inp
     → ColorText input c
 unfolding words
 walk_done input c same = color_of-value.derived input c same
+
+-- a word that is too long is read as no item
+too_long : (c : Color) (text : List ℕ) (n : ℕ) → IsTooLong text → 16 ≤ n → n ≤ length text
+    → read_from c (piece (take n text)) ≡ None
+unfolding word_item
+too_long c [] n long l m = absurd (omega (arith, long.0))
+too_long c (x ∷ text) zero long l m = absurd (omega arith)
+too_long c (x ∷ text) (suc n) long l m =
+    rw (long_refused x (take n text) (omega (arith, length-take-le n text)) long.2 long.3) refl
+
+-- a text whose next word is too long is refused
+pub walk_too_long : (input rest : List ℕ) (c : Color)
+    → read_from no_color (words input) ≡ read_from c (words rest) → IsTooLong rest
+    → Reads ColorText input None
+walk_too_long input rest c same long =
+    let end = first_end (length rest - 16) 16 rest (omega (arith, long.0)) long.1 in
+    walk_refused input rest c end.before end.space same end.clear end.within end.parted end.last
+    (too_long c rest end.before long end.later (omega (arith, end.within)))

@@ -15,7 +15,7 @@ use Rattle.config_color.specs.Laws.Color.{WordsRead-one, Placed-words, Placed-sh
 use Rattle.config_color.specs.Laws.Color.{same_color, color_one_value, color_decided}
 use Rattle.config_color.specs.Reading.Color.{places_of}
 use Rattle.config_color.specs.Composition.{color_names, Composition, Composes, Joined, HaveTooManyNames}
-use Rattle.config_color.specs.Composition.{SameWords}
+use Rattle.config_color.specs.Composition.{HasTooManyNames, SameWords}
 use Rattle.config_color.specs.Space.{Space}
 use Rattle.config_text.specs.Value.{IsAccepted, IsRefused, HasText, Compares}
 use Rattle.config_color.specs.Reading.Split.{words}
@@ -216,7 +216,7 @@ places_compose a b f g (s, p) (t, q) e =
     (background_beside t b q) e
 
 pub places_refuse : (a b : Color) → HasText ColorText a → HasText ColorText b
-    → places_of a.foreground a.background b.foreground b.background ≡ None → Composes a b None
+    → places_of a.foreground a.background b.foreground b.background ≡ None → HasTooManyNames a b
 places_refuse a b (s, p) (t, q) e =
     let l = places_none a.foreground a.background b.foreground b.background (background_beside s a p)
     (background_beside t b q) e in (
@@ -227,12 +227,18 @@ places_refuse a b (s, p) (t, q) e =
       )),
     )
 
+-- no composition has a text where `compose` returns `None`
+none_given : (a b d : Color) → Composes a b None → Composes a b (Some d) → ⊥
+none_given a b d (inl none) (p, q, k, t) = none p
+none_given a b d (inr (inl none)) (p, q, k, t) = none q
+none_given a b d (inr (inr many)) (p, q, k, t) = many.1 d k
+
 -- `compose` has only one result for two colors
 pub composes_one : (a b : Color) (r s : Option Color) → Composes a b r → Composes a b s → r ≡ s
 composes_one a b None None p q = refl
-composes_one a b None (Some d) p q = absurd (p.1 d q.0)
-composes_one a b (Some c) None p q = absurd (q.1 c p.0)
-composes_one a b (Some c) (Some d) (k, t) (m, u) =
+composes_one a b None (Some d) p q = absurd (none_given a b d p q)
+composes_one a b (Some c) None p q = absurd (none_given a b c q p)
+composes_one a b (Some c) (Some d) (_, _, k, t) (_, _, m, u) =
     let placed = Placed-one (color_names a ++ color_names b) c.foreground c.background d.foreground
     d.background k.placed m.placed in
     ap Some (same_color c d placed.0 placed.1 (k.united ∙ sym m.united))

@@ -3,10 +3,12 @@
 use Rattle.std.proofs.Common.{◌≡◌, ℕ, zero, suc, ◌+◌, ◌-◌, ◌<◌, ◌≤◌, ◌==◌, ◌⊎◌, inl, inr, Bool, true, false}
 use Rattle.std.proofs.Common.{List, [], ◌∷◌, ◌++◌, length, map, get_or, take, drop, slice_range, Option, Some}
 use Rattle.std.proofs.Common.{replicate, None, refl, sym, ap, subst, ◌∙◌, append_assoc, arith}
+use Rattle.std.proofs.Common.{length-append, length-drop}
 use Rattle.std.specs.Bool.{Decides}
 use Rattle.std.specs.Option.{option_or}
-use Rattle.std.proofs.lemmas.Bool.Decides.{Decides-eqb}
-use Rattle.std.proofs.lemmas.List.{append-nil, take-append-drop, drop-drop, take_all, take_rest}
+use Rattle.std.proofs.lemmas.Bool.Decides.{Decides-eqb, leb_tells}
+use Rattle.std.proofs.lemmas.List.{append-nil, take-append-drop, drop-drop, nil_from_length, take_all, take_rest}
+use Rattle.std.proofs.Math.Seq.{take-append_seam}
 use Rattle.config_text.specs.OneOf.{OneOf}
 use Rattle.config_color.specs.Space.{spellings, Space}
 use Rattle.config_color.specs.Laws.Space.{no_empty}
@@ -357,3 +359,83 @@ joined_words before space rest ws vs s w v =
     ∙ (ap (λ xs. xs ++ words rest) (sym (words_only w)) ∙ ap (λ ys. ws ++ ys) (sym (words_only v)))) in
     subst (λ (xs : List (List ℕ)). Words (before ++ space ++ rest) xs) same
     (words_are (before ++ space ++ rest))
+
+-- what begins with one of the rows has something after one of them
+after_one_some : (rows : List (List ℕ)) (row rest : List ℕ) → OneOf rows row
+    → after_one rows (row ++ rest) ≡ None → ⊥
+after_one_some [] row rest o e = absurd o
+after_one_some (first ∷ rows) row rest (inl same) e =
+    let k : after first (row ++ rest) ≡ Some rest =
+    ap (λ t. after first (t ++ rest)) same ∙ after_append first rest in
+    let m = rw k at e in cc
+after_one_some (first ∷ rows) row rest (inr o) e =
+    told (after first (row ++ rest)) e (after_one_some rows row rest o) where
+      told : (x : Option (List ℕ)) → option_or x (after_one rows (row ++ rest)) ≡ None
+          → (after_one rows (row ++ rest) ≡ None → ⊥) → ⊥
+      told (Some t) f more = cc
+      told None f more = more f
+
+-- if `after_space` returns no rest, the text does not begin with white space
+no_space_begins : (text : List ℕ) → after_space text ≡ None → (space rest : List ℕ) → Space space
+    → ¬ (text ≡ space ++ rest)
+unfolding after_space spellings
+no_space_begins text e space rest s same =
+    after_one_some spellings space rest s (ap (after_one spellings) (sym same) ∙ e)
+
+-- where the first word of a text ends, at or after place `from`, and how many bytes the white space after it has
+pub record FirstEnd (text : List ℕ) (from : ℕ) : Type 0 where
+  pub before : ℕ
+  pub space : ℕ
+  pub later : from ≤ before
+  pub clear : IsWithoutSpace text before
+  pub within : before + space ≤ length text
+  pub parted : 0 < space → Space (slice_range text before (before + space))
+  pub last : space ≡ 0 → before ≡ length text
+
+-- if no white space begins before place `from`, the first word ends there or later
+pub first_end : (n from : ℕ) (text : List ℕ) → from + n ≡ length text → IsWithoutSpace text from
+    → FirstEnd text from
+first_end zero from text e clear =
+    record {
+      before = from;
+      space = 0;
+      later = omega arith;
+      clear = clear;
+      within = omega arith;
+      parted = λ h. absurd (omega arith);
+      last = λ h. omega arith;
+    }
+first_end (suc n) from text e clear =
+    told (after_space (drop from text)) refl (λ c. first_end n (suc from) text (omega arith) c) where
+      told : (o : Option (List ℕ)) → after_space (drop from text) ≡ o
+          → (IsWithoutSpace text (suc from) → FirstEnd text (suc from)) → FirstEnd text from
+      told (Some rest) h more =
+          let found = after_space_is (drop from text) rest h in
+          let size = ap length found.2 in
+          let part : slice_range text from (from + length found.0) ≡ found.0 =
+          let same : from + length found.0 - from ≡ length found.0 = omega arith in
+          rw same (ap (take (length found.0)) found.2 ∙ take-append_seam found.0 rest) in
+          record {
+            before = from;
+            space = length found.0;
+            later = omega arith;
+            clear = clear;
+            within = omega (arith, size, length-drop from text, length-append found.0 rest);
+            parted = λ l. subst Space (sym part) found.1;
+            last = λ z. absurd (no_empty (subst Space (nil_from_length found.0 z) found.1));
+          }
+      told None h more =
+          let end = more (λ k l space rest s. elim (leb_tells from k) [
+            | inl q ↦ let here : k ≡ from = omega (arith, q.1) in
+                rw here (no_space_begins (drop from text) h space rest s)
+            | inr q ↦ clear k q.1 space rest s
+          ]) in
+          record {
+            before = end.before;
+            space = end.space;
+            later = omega (arith, end.later);
+            clear = end.clear;
+            within = end.within;
+            parted = end.parted;
+            last = end.last;
+          }

@@ -1,7 +1,8 @@
 -- A function that reads color texts from the front, as the code does. `Laws.Color` proves that it computes
 -- `ColorText`. Only the contracts of private functions cite it.
 use Rattle.std.specs.Prelude.{ℕ, ◌+◌, ◌<◌, ◌≤◌, List, [], ◌∷◌, ◌++◌, length, slice_index, slice_range, Option}
-use Rattle.std.specs.Prelude.{None, Some}
+use Rattle.std.specs.Prelude.{None, Some, ◌≡◌, ◌==◌, false}
+use Rattle.std.specs.Char.{is_ascii_digit}
 use Rattle.std.specs.Int.RustNames.{bit_or}
 use Rattle.std.specs.List.{join_with_byte}
 use Rattle.std.specs.Option.{option_and_then}
@@ -13,7 +14,7 @@ use Rattle.config_word.specs.declared.item.Item.TheVariants as items
 use Rattle.config_color.specs.Color.{no_color, part_shown}
 use Rattle.config_color.specs.Space.{Space}
 use Rattle.config_color.specs.Reading.Split.{IsWithoutSpace}
-use Rattle.config_word.specs.Reading.Item.{item_of}
+use Rattle.config_word.specs.Reading.Item.{item_of, plus_sign}
 use Rattle.config_color.specs.Reading.Split.{words}
 
 -- the item that a word means
@@ -70,3 +71,17 @@ abbrev pub EndsWord : List ℕ → ℕ → ℕ → Type 0
 EndsWord text before space =
     IsWithoutSpace text before × (before + space ≤ length text) × (0 < space)
     × Space (slice_range text before (before + space))
+
+-- the first word of the text is longer than the longest word, and does not begin as a palette number does
+abbrev pub IsTooLong : List ℕ → Type 0
+IsTooLong text =
+    (16 ≤ length text) × IsWithoutSpace text 16 × ((slice_index text 0 == plus_sign) ≡ false)
+    × (is_ascii_digit (slice_index text 0) ≡ false)
+
+-- the first word of the text has `before` bytes, and the white space after it `space` bytes; without white
+-- space the word is the whole text
+pub record FirstWordEnds (text : List ℕ) (before space : ℕ) : Type 0 where
+  pub clear : IsWithoutSpace text before
+  pub within : before + space ≤ length text
+  pub parted : 0 < space → Space (slice_range text before (before + space))
+  pub last : space ≡ 0 → before ≡ length text

@@ -1,10 +1,12 @@
 //! Laws about colors and about the words of their texts.
 ghost use Rattle.std.specs.Prelude.{◌≡◌, ◌↔◌, ◌⊎◌, ◌++◌, ℕ, List, Option, None};
 ghost use Rattle.config_color.specs.declared.color.Color.{Color};
-ghost use Rattle.config_color.specs.Color.{ColorText, PartFits, AreKnown};
-ghost use Rattle.config_color.specs.Composition.{Composes, Joined, HaveTooManyNames, Moves, SameWords};
+ghost use Rattle.config_color.specs.Color.{ColorText, CanonicalColor, PartFits, AreKnown};
+ghost use Rattle.config_color.specs.Composition.{Composes, IsOver, Joined, HaveTooManyNames};
+ghost use Rattle.config_color.specs.Composition.{Moves, SameWords};
+ghost use Rattle.config_color.specs.Escape.{escape_sequence};
 ghost use Rattle.config_color.specs.Space.{Space};
-ghost use Rattle.config_text.specs.Value.{HasText, IsRefused};
+ghost use Rattle.config_text.specs.Value.{HasText, IsRefused, IsTextOf};
 ghost use Rattle.config_color.specs.Words.{Words};
 
 /// A color has a text exactly if each of its set bits has a constant, and it has no background
@@ -44,7 +46,8 @@ pub fn joined()
         ↔ (IsRefused ColorText front ⊎ IsRefused ColorText back ⊎ HaveTooManyNames front back) }
 {}
 
-/// `compose` has one result for two colors: their only composition, or `None` if they have no composition.
+/// `compose` has one result for two colors: their only composition; or `None` if one of them has no text, or if
+/// they have no composition.
 pub fn one_composition()
     ensures { (a b : Color) (r s : Option Color) → Composes a b r → Composes a b s → r ≡ s }
 {}
@@ -61,4 +64,15 @@ pub fn same_words()
 pub fn moved_words()
     ensures { (t u : List ℕ) (ws vs : List (List ℕ)) (c : Color) → Words t ws → Words u vs
         → Moves ws vs → (ColorText t c) ↔ (ColorText u c) }
+{}
+
+/// Colors with the same canonical text have the same escape sequence.
+pub fn one_sequence()
+    ensures { (c d : Color) (text : List ℕ) → IsTextOf ColorText CanonicalColor c text
+        → IsTextOf ColorText CanonicalColor d text → escape_sequence c ≡ escape_sequence d }
+{}
+
+/// `over` has one result for two colors.
+pub fn one_layering()
+    ensures { (base top c d : Color) → IsOver base top c → IsOver base top d → c ≡ d }
 {}

@@ -1,10 +1,13 @@
 -- What the steps of a walk add to settings.
-use Rattle.std.specs.Prelude.{◌≡◌, ◌≤◌, ℕ, Bool, true, false, List, [], ◌∷◌, ◌++◌, length, map, Result, Ok, Err}
+use denote.Ref.{Bor}
+use Rattle.std.specs.Prelude.{◌≡◌, ◌≤◌, ◌⊎◌, Contains, Option, None, Some, ℕ, Bool, true, false, List, [], ◌∷◌, ◌++◌, length, map, Result, Ok, Err}
 use Rattle.std.specs.declared.alloc.AllocError.{AllocError}
 use Rattle.config_file.specs.File.{Entry}
 use Rattle.config_file.specs.Walk.{Content, Item, Stops, Stop}
-use Rattle.config_file.specs.Settings.{Adds, TellsStop, found_item}
+use Rattle.config_file.specs.Key.{RefusesKey}
+use Rattle.config_file.specs.Settings.{Adds, IsUnset, IsDecided, TellsStop, found_item}
 use Rattle.config_file.specs.Reading.Walks.{Said, Passes}
+use Rattle.config_file.specs.declared.key.KeyError.{KeyError}
 use Rattle.config_file.specs.declared.settings.AddError.{AddError}
 use Rattle.config_file.specs.declared.settings.AddError.TheVariants as error
 use Rattle.config_file.specs.declared.settings.Setting.{Setting}
@@ -15,6 +18,17 @@ use Rattle.config_file.specs.declared.walk.Known.{Known}
 abbrev pub AddsEntry : List ℕ × Entry → List Setting → List Setting → Result (Unit {0}) AllocError → Type 0
 AddsEntry found old new (Ok _) = Adds (found ∷ []) old new
 AddsEntry found old new (Err _) = new ≡ old
+
+-- the text, if there is one, is among these, or it is put behind them
+abbrev pub AddsOnce : Option (List ℕ) → List (List ℕ) → List (List ℕ) → Type 0
+AddsOnce None old new = new ≡ old
+AddsOnce (Some text) old new = (Contains old text × (new ≡ old)) ⊎ (¬ (Contains old text) × (new ≡ old ++ text ∷ []))
+
+-- what the text of a key is: a key that no setting has, a key that this setting decides, or no key
+abbrev pub Decides : List Setting → List ℕ → Result (Option (Bor Setting)) KeyError → Type 0
+Decides settings text (Ok None) = IsUnset settings text
+Decides settings text (Ok (Some setting)) = IsDecided settings text setting.now
+Decides settings text (Err error) = RefusesKey text error
 
 -- what the first relation says of the file of a name, the second says too
 abbrev pub Within : (List ℕ → Content → Type 0) → (List ℕ → Content → Type 0) → Type 0

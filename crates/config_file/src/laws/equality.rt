@@ -6,9 +6,10 @@ ghost use Rattle.config_file.specs.Include.{IsSameCondition};
 use crate::entry::Entry;
 use crate::errors::{Error, Fault};
 use crate::files::Content;
-use crate::include::{Condition, Includes, Repository};
+use crate::include::{Condition, Includes, Repository, Urls};
 use crate::key::{Key, KeyError};
 use crate::path::{Directories, Expanded};
+use crate::scope::Scope;
 use crate::section::{Section, Subsection};
 use crate::settings::{AddError, GetError, IncludeFault, Refused};
 use crate::value::Value;
@@ -24,6 +25,12 @@ pub fn faults()
 pub fn errors()
     ensures equality { Equates (◌≡◌) ⟦<Error as PartialEq>⟧.eq }
     ensures clones { IsCopied ⟦<Error as Clone>⟧.is_clone ⟦<Error as Clone>⟧.is_infallible }
+{}
+
+/// Scopes are equal exactly if they are the same.
+pub fn scopes()
+    ensures equality { Equates (◌≡◌) ⟦<Scope as PartialEq>⟧.eq }
+    ensures clones { IsCopied ⟦<Scope as Clone>⟧.is_clone ⟦<Scope as Clone>⟧.is_infallible }
 {}
 
 /// Refusals of keys are equal exactly if they are the same.
@@ -63,6 +70,7 @@ pub fn walks()
         ⟦<Content<'static> as Clone>⟧.is_infallible }
     ensures includes { IsCopied ⟦<Includes<'static> as Clone>⟧.is_clone
         ⟦<Includes<'static> as Clone>⟧.is_infallible }
+    ensures urls { IsCopied ⟦<Urls<'static> as Clone>⟧.is_clone ⟦<Urls<'static> as Clone>⟧.is_infallible }
     ensures repositories { IsCopied ⟦<Repository<'static> as Clone>⟧.is_clone
         ⟦<Repository<'static> as Clone>⟧.is_infallible }
     ensures directories { IsCopied ⟦<Directories<'static> as Clone>⟧.is_clone

@@ -2,9 +2,9 @@
 use Rattle.std.proofs.Common.{◌≡◌, ℕ, zero, suc, ◌+◌, ◌*◌, ◌^◌, ◌<◌, ◌≤◌, ◌⊎◌, ◌↔◌, inl, inr, Bool, true}
 use Rattle.std.proofs.Common.{false, cond, ◌||◌, List, [], ◌∷◌, ◌++◌, map, filter, flat_map, length, take}
 use Rattle.std.proofs.Common.{drop, codes, refl, sym, ap, ◌∙◌, arith, lit≤, ◌==◌, nat_le, bit_and}
-use Rattle.std.proofs.Common.{bytes_eq, IsTrue}
+use Rattle.std.proofs.Common.{bytes_eq, IsTrue, slice_index_or}
 use Rattle.std.proofs.Math.Bool.{or-true}
-use Rattle.std.proofs.lemmas.Bool.{leb-true}
+use Rattle.std.proofs.lemmas.Bool.{and_parts, leb-true}
 use Rattle.std.proofs.lemmas.Bool.Decides.{Decides-eqb, nat_tests}
 use Rattle.std.proofs.lemmas.Grind.{flat_map-append}
 use Rattle.std.proofs.lemmas.List.{append-nil, length-append, map-append, take-append-drop}
@@ -280,3 +280,24 @@ constant_told a = (to, from) where
 
   from : HasText AttributeText a → IsTrue (list_any (λ (row : ℕ × List ℕ). row.0 == a.0) shown_rows)
   from h = let k = text-constant h.0 a h.1 in one-any a.0 attributes k.0 k.1 k.2
+
+-- ---- the word of one row
+
+-- whether the value of a row is shown as its word
+abbrev pub is_shown : ℕ × List ℕ → Bool
+is_shown row = bytes_eq (attribute_shown row.0) row.1
+
+-- the value of each row is shown as its word
+pub rows-shown : list_all is_shown shown_rows ≡ true
+unfolding attributes
+rows-shown = refl
+
+-- if the value of each row from place `i` on is shown as its word, so is the value of the row at this place
+pub row-shown : (rows : List Shown) (i : ℕ) (d : Shown) (bits : ℕ) → i < length rows
+    → list_all is_shown (map shown_row (drop i rows)) ≡ true → (slice_index_or rows i d).attribute.0 ≡ bits
+    → (slice_index_or rows i d).word.now ≡ attribute_shown bits
+row-shown [] i d bits l h e = absurd (omega arith)
+row-shown (row ∷ rows) zero d bits l h e =
+    let k = and_parts (is_shown (shown_row row)) (list_all is_shown (map shown_row rows)) h in
+    sym ((bytes_eq-Decides (attribute_shown row.attribute.0) row.word.now).0 k.0) ∙ ap attribute_shown e
+row-shown (row ∷ rows) (suc i) d bits l h e = row-shown rows i d bits (omega arith) h e

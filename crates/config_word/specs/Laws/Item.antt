@@ -546,3 +546,40 @@ pub known_reads : (t : List ℕ) (r : Option Item) → r ≡ known t → Reads A
 known_reads t (Some (items.Attribute a)) e = known-derived t (items.Attribute a) (sym e)
 known_reads t (Some (items.Name n)) e = λ a p. let k = attribute-known t a p in cc
 known_reads t None e = λ a p. let k = attribute-known t a p in cc
+
+-- ---- long words
+
+-- each word of the table has at most 13 bytes
+words-short : list_all (λ row. nat_le (length row.0) 13) word_table ≡ true
+unfolding attributes word_names
+words-short = refl
+
+-- no row of short words has a longer word
+found-longer : (n : ℕ) (rows : List WordRow) (t : List ℕ)
+    → list_all (λ (row : WordRow). nat_le (length row.0) 13) rows ≡ true → 13 < n
+    → found (of_length n rows) t ≡ None
+found-longer n [] t h l = refl
+found-longer n (row ∷ rows) t h l =
+    let k = and_parts (nat_le (length row.0) 13) (list_all (λ (r : WordRow). nat_le (length r.0) 13) rows) h in
+    let short = leb-true (length row.0) 13 k.0 in
+    let other : (length row.0 == n) ≡ false = grind (arith, nat_tests) in
+    rw other (found-longer n rows t k.1 l)
+
+-- more than six digits are no color
+rgb-longer : (ds : List ℕ) → 6 < length ds → rgb_of ds ≡ None
+rgb-longer [] h = absurd (omega arith)
+rgb-longer (a ∷ []) h = absurd (omega arith)
+rgb-longer (a ∷ b ∷ []) h = absurd (omega arith)
+rgb-longer (a ∷ b ∷ c ∷ []) h = absurd (omega arith)
+rgb-longer (a ∷ b ∷ c ∷ d ∷ []) h = absurd (omega arith)
+rgb-longer (a ∷ b ∷ c ∷ d ∷ e ∷ []) h = absurd (omega arith)
+rgb-longer (a ∷ b ∷ c ∷ d ∷ e ∷ f ∷ []) h = absurd (omega arith)
+rgb-longer (a ∷ b ∷ c ∷ d ∷ e ∷ f ∷ g ∷ ds) h = refl
+
+-- a text that is longer than the longest word is no item, unless it begins as a palette number does
+pub long_refused : (c : ℕ) (cs : List ℕ) → 13 ≤ length cs → (c == 43) ≡ false → is_ascii_digit c ≡ false
+    → item_of (c ∷ cs) ≡ None
+long_refused c cs l plus digit = told (c == 35) refl where
+  told : (x : Bool) → (c == 35) ≡ x → item_of (c ∷ cs) ≡ None
+  told true e = rw (e, rgb-longer cs (omega arith)) refl
+  told false e = rw (e, plus, digit) (found-longer (length (c ∷ cs)) word_table (c ∷ cs) words-short (omega arith))

@@ -14,6 +14,7 @@ ghost use Rattle.gix_config_value.specs.Amount.{AmountText, AmountFault};
 ghost use Rattle.gix_config_value.specs.Boolean.{BooleanText, boolean_shown};
 ghost use Rattle.gix_config_value.specs.Name.{NameText, name_shown};
 ghost use Rattle.gix_config_value.specs.Attribute.{AttributeText};
+ghost use Rattle.config_color.specs.Escape.{escape_sequence};
 ghost use Rattle.gix_config_value.specs.Color.{ColorText, color_shown};
 ghost use Rattle.gix_config_value_c.specs.declared.status.Status.TheVariants as statuses;
 ghost use Rattle.gix_config_value_c.specs.declared.files.GcvFile.{GcvFile};
@@ -24,7 +25,7 @@ ghost use Rattle.gix_config_value_c.specs.declared.structs.GcvColor.{GcvColor};
 ghost use Rattle.gix_config_value_c.specs.Answers.{HasOneResult, HasOneAnswer, HasOneAnswerByMemory};
 ghost use Rattle.gix_config_value_c.specs.Answers.{HasOneResultByMemory};
 ghost use Rattle.gix_config_value_c.specs.Buffers.{PutsText};
-ghost use Rattle.gix_config_value_c.specs.Colors.{ComposesInto};
+ghost use Rattle.gix_config_value_c.specs.Colors.{ComposesInto, LaysOver, ReducesInto};
 ghost use Rattle.gix_config_value_c.specs.Faults.{TellsFault};
 ghost use Rattle.gix_config_value_c.specs.Files.{ReadsFile};
 ghost use Rattle.gix_config_value_c.specs.Json.{PutsJson, WritesJson, WritesProduct};
@@ -33,10 +34,12 @@ ghost use Rattle.gix_config_value_c.specs.Paths.{CutsMark, InterpolatesInto};
 ghost use Rattle.gix_config_value_c.specs.Readers.{ReadsInto, Faults, NoFault};
 ghost use Rattle.gix_config_value_c.specs.Settings.{LooksUpInto};
 ghost use Rattle.gix_config_value_c.specs.Structs.{integer_struct, name_struct, color_struct};
+ghost use Rattle.gix_config_value_c.specs.Terminals.{TellsDepth};
 ghost use Rattle.gix_config_value_c.specs.Texts.{NormalizesInto, ComparesInto};
 ghost use Rattle.gix_config_value_c.specs.Values.{Shows, Multiplies};
 
-use config_color::laws::colors::one_composition;
+use config_color::laws::colors::{one_composition, one_layering};
+use config_color::laws::depths::{one_depth, one_reduction};
 
 /// Each reader has one answer to a text: one value, or one fault.
 pub fn readers()
@@ -68,6 +71,8 @@ pub fn shown()
         → HasOneAnswer (Shows (λ v. flag_number v.0) boolean_shown statuses.BadFlag n) }
     ensures names { (c : GcvName) → HasOneAnswer (Shows name_struct name_shown statuses.BadName c) }
     ensures colors { (c : GcvColor) → HasOneAnswer (Shows color_struct color_shown statuses.BadName c) }
+    ensures sequences { (c : GcvColor)
+        → HasOneAnswer (Shows color_struct escape_sequence statuses.BadName c) }
 {}
 
 /// Each value has one JSON text, unless memory is refused to one of two calls only.
@@ -82,12 +87,16 @@ pub fn json()
         (WritesJson name_struct (λ n. string (name_shown n)) statuses.BadName c) }
 {}
 
-/// Each of these calls has one answer: normal forms, comparisons, compositions, lookups, products, the texts
-/// of faults, and paths. The answer to a path includes the buffer and the number of a fault.
+/// Each of these calls has one answer: normal forms, comparisons, two colors as one, reduced colors, depths,
+/// lookups, products, the texts of faults, and paths. The answer to a path includes the buffer and the number of a fault.
 pub fn calls()
     ensures normalizes { (number : ℕ) (t : List ℕ) → HasOneAnswer (NormalizesInto number t) }
     ensures compares { (number : ℕ) (a b : List ℕ) → HasOneResult (ComparesInto number a b) }
     ensures composes { (a b : GcvColor) → HasOneResult (ComposesInto a b) }
+    ensures lays { (a b : GcvColor) → HasOneResult (LaysOver a b) }
+    ensures reduces { (c : GcvColor) (depth : ℕ) → HasOneResult (ReducesInto c depth) }
+    ensures depths { (is_terminal : ℕ) (no_color term colorterm : ℕ × List ℕ)
+        → HasOneResult (TellsDepth is_terminal no_color term colorterm) }
     ensures looks_up { (number : ℕ) (bytes lengths name : List ℕ)
         → HasOneResult (LooksUpInto number bytes lengths name) }
     ensures multiplies { (c : GcvInteger) → HasOneResult (Multiplies c) }
@@ -97,6 +106,9 @@ pub fn calls()
         out.0 out'.0 size size' out.1 out'.1 status) }
 {
     one_composition();
+    one_layering();
+    one_reduction();
+    one_depth();
 }
 
 /// The mark of an optional path is cut off in one way.

@@ -3,10 +3,11 @@ use Rattle.config_file.specs.Views.{entry_of}
 use Rattle.config_file.specs.Walk.{Line, TooDeep}
 use Rattle.config_file.proofs.Adding.{adds_none}
 use Rattle.config_file.proofs.Coming.{line_next, ends_next, passed_next, entered_next, deep_next, stop_comes}
+use Rattle.config_file.proofs.Scopes.{scope_none}
 use Rattle.config_file.proofs.settings.Settings.add_next.Goals as goal
 
-pub returns-in-Line : goal.returns-in-Line
-returns-in-Line g c = (
+pub returns-in-Line-clause-adds : goal.returns-in-Line-clause-adds
+returns-in-Line-clause-adds g c = (
   [],
   c.in-Line.place.name.now,
   Line c.in-Line.error,
@@ -21,36 +22,36 @@ returns-in-Line g c = (
   ),
 )
 
-pub returns-in-Ends : goal.returns-in-Ends
-returns-in-Ends g c = ends_next (g.S.Files.contents c.args.files.now) c.args.known.now
+pub returns-in-Ends-clause-adds : goal.returns-in-Ends-clause-adds
+returns-in-Ends-clause-adds g c = ends_next (g.S.Files.contents c.args.files.now) c.args.known.now
     c.args.self.now.entries.items c.args.walk.now.frames.items c.next.new.self.frames.items
     (λ answers. rw c.in-Ends.is at (c.in-Ok.ensures.takes answers))
 
-pub returns-in-Behind : goal.returns-in-Behind
-returns-in-Behind g c = (
+pub returns-in-Behind-clause-adds : goal.returns-in-Behind-clause-adds
+returns-in-Behind-clause-adds g c = (
   (c.in-Entry.place.name.now, entry_of c.in-Entry.entry),
-  c.in-Ok-add.ensures,
+  c.in-Ok-add.ensures.adds,
   passed_next (g.S.Files.contents c.args.files.now) c.args.known.now c.args.walk.now.frames.items
       c.next.new.self.frames.items c.in-Entry.place c.in-Entry.entry c.in-Entry.include
       (λ answers. rw c.in-Entry.is at (c.in-Ok.ensures.takes answers)) (rw c.in-Behind.is at c.in-Ok-next_of.ensures),
 )
 
-pub returns-in-In : goal.returns-in-In
-returns-in-In g c = (
+pub returns-in-In-clause-adds : goal.returns-in-In-clause-adds
+returns-in-In-clause-adds g c = (
   (c.in-Entry.place.name.now, entry_of c.in-Entry.entry),
-  c.in-Ok-add.ensures,
+  c.in-Ok-add.ensures.adds,
   entered_next (g.S.Files.contents c.args.files.now) c.args.known.now c.args.walk.now.frames.items
       c.next.new.self.frames.items c.enter.new.self.frames.items c.in-Entry.place c.in-In.place c.in-Entry.entry
       c.in-Entry.include c.in-In.text.now (λ answers. rw c.in-Entry.is at (c.in-Ok.ensures.takes answers))
       (rw c.in-In.is at c.in-Ok-next_of.ensures) (c.enter.ensures.entered (search rules)),
 )
 
-pub returns-in-In-2 : goal.returns-in-In-2
-returns-in-In-2 g c = (
+pub returns-in-In-2-clause-adds : goal.returns-in-In-2-clause-adds
+returns-in-In-2-clause-adds g c = (
   (c.in-Entry.place.name.now, entry_of c.in-Entry.entry) ∷ [],
   c.in-Entry.place.name.now,
   TooDeep (entry_of c.in-Entry.entry),
-  c.in-Ok-add.ensures,
+  c.in-Ok-add.ensures.adds,
   (refl, refl, tt),
   (
     c.next.new.self.frames.items,
@@ -62,8 +63,8 @@ returns-in-In-2 g c = (
   ),
 )
 
-pub returns-in-Stops : goal.returns-in-Stops
-returns-in-Stops g c =
+pub returns-in-Stops-clause-adds : goal.returns-in-Stops-clause-adds
+returns-in-Stops-clause-adds g c =
     let (stop, tells, comes) = stop_comes (g.S.Files.contents c.args.files.now) c.args.known.now
     c.args.walk.now.frames.items c.next.new.self.frames.items c.in-Entry.place c.in-Entry.entry
     c.in-Entry.include c.in-Stops.fault (λ answers. rw c.in-Entry.is at (c.in-Ok.ensures.takes answers))
@@ -71,7 +72,13 @@ returns-in-Stops g c =
       (c.in-Entry.place.name.now, entry_of c.in-Entry.entry) ∷ [],
       c.in-Entry.place.name.now,
       stop,
-      c.in-Ok-add.ensures,
+      c.in-Ok-add.ensures.adds,
       tells,
       (c.next.new.self.frames.items, c.next.new.self.fits, comes),
     )
+
+pub returns-in-Line-clause-scope : goal.returns-in-Line-clause-scope
+returns-in-Line-clause-scope g c = scope_none c.args.self.now c.args.self.now refl refl
+
+pub returns-in-Ends-clause-scope : goal.returns-in-Ends-clause-scope
+returns-in-Ends-clause-scope g c = scope_none c.args.self.now c.args.self.now refl refl

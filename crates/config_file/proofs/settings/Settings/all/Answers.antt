@@ -2,7 +2,7 @@ use Rattle.std.proofs.Common.{rules, inl, inr, ap, ◌∙◌, get_or, arith}
 use Rattle.std.proofs.lemmas.Grind.{common_steps}
 use Rattle.std.proofs.lemmas.List.{map-append}
 use Rattle.config_file.specs.Settings.{none}
-use Rattle.config_file.proofs.Last.{all_next, all_done, at_index}
+use Rattle.config_file.proofs.Last.{all_next, picks_done, at_index}
 use Rattle.config_file.proofs.settings.Settings.all.Goals as goal
 use Rattle.config_file.proofs.settings.Settings.all.Goals.{then-is_of+in_ok-push, else-is_of}
 
@@ -21,4 +21,4 @@ loop-setting-preserved c =
     ]) c.loop-setting.invariant
 
 pub returns : goal.returns
-returns c = all_done c.args.self.now.entries.items c.loop-setting.setting-index (search rules) c.loop-setting.invariant
+returns c = picks_done c.args.self.now.entries.items c.loop-setting.setting-index (search rules) c.loop-setting.invariant

@@ -1,4 +1,5 @@
 use Rattle.gix_config_value_c.proofs.OneAnswer.{multiplies_once, tells_once}
+use Rattle.gix_config_value_c.proofs.OneColor.{lays_once, reduces_once, tells_depth_once}
 use Rattle.gix_config_value_c.proofs.OneComposition.{composes_once}
 use Rattle.gix_config_value_c.proofs.OneText.{normalizes_once, compares_once}
 use Rattle.gix_config_value_c.proofs.OneEntry.{looks_up_once}
@@ -13,6 +14,15 @@ returns-clause-compares c = compares_once
 
 pub returns-clause-composes : goal.returns-clause-composes
 returns-clause-composes c = composes_once c.one_composition.ensures
+
+pub returns-clause-lays : goal.returns-clause-lays
+returns-clause-lays c = lays_once c.one_layering.ensures
+
+pub returns-clause-reduces : goal.returns-clause-reduces
+returns-clause-reduces c = reduces_once c.one_reduction.ensures.color
+
+pub returns-clause-depths : goal.returns-clause-depths
+returns-clause-depths c = tells_depth_once c.one_depth.ensures
 
 pub returns-clause-looks_up : goal.returns-clause-looks_up
 returns-clause-looks_up c = looks_up_once

@@ -21,3 +21,6 @@ returns-clause-names c = shows_once _ _ statuses.BadName names_apart
 
 pub returns-clause-colors : goal.returns-clause-colors
 returns-clause-colors c = shows_once _ _ statuses.BadName colors_apart
+
+pub returns-clause-sequences : goal.returns-clause-sequences
+returns-clause-sequences c = shows_once _ _ statuses.BadName colors_apart

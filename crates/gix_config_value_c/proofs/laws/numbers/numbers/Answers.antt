@@ -1,4 +1,4 @@
-use Rattle.gix_config_value_c.proofs.NumbersApart.{statuses_apart, kinds_apart, suffixes_apart, flags_apart}
+use Rattle.gix_config_value_c.proofs.NumbersApart.{statuses_apart, kinds_apart, suffixes_apart, depths_apart, flags_apart}
 use Rattle.gix_config_value_c.proofs.laws.numbers.numbers.Goals as goal
 
 pub returns-clause-statuses : goal.returns-clause-statuses
@@ -12,3 +12,6 @@ returns-clause-suffixes c = suffixes_apart
 
 pub returns-clause-flags : goal.returns-clause-flags
 returns-clause-flags c = flags_apart
+
+pub returns-clause-depths : goal.returns-clause-depths
+returns-clause-depths c = depths_apart

@@ -1,0 +1,24 @@
+use Rattle.std.proofs.Common.{length, ap, arith}
+use Rattle.config_color.specs.Escape.{attribute_codes}
+use Rattle.config_color.proofs.EscapeLemmas.{opened_short, size_all}
+use Rattle.config_color.proofs.color.Color.escape.Goals as goal
+
+pub push_part-requires-clause-room : goal.push_part-requires-clause-room
+push_part-requires-clause-room c =
+    let short = opened_short c.args.self.now.attributes.0 attribute_codes in
+    omega (arith, short, size_all, ap length c.push_set.ensures)
+
+pub push_part-requires-2-clause-room : goal.push_part-requires-2-clause-room
+push_part-requires-2-clause-room c =
+    let short = opened_short c.args.self.now.attributes.0 attribute_codes in
+    let front = c.push_part.ensures.short 34 (omega arith)
+    (omega (arith, short, size_all, ap length c.push_set.ensures)) in
+    omega (arith, front)
+
+pub push_str-requires : goal.push_str-requires
+push_str-requires c =
+    let short = opened_short c.args.self.now.attributes.0 attribute_codes in
+    let front = c.push_part.ensures.short 34 (omega arith)
+    (omega (arith, short, size_all, ap length c.push_set.ensures)) in
+    let back = c.push_part-2.ensures.short 51 (omega arith) (omega (arith, front)) in
+    (omega arith, omega (arith, back))

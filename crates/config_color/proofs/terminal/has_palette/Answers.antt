@@ -1,0 +1,11 @@
+use Rattle.std.proofs.Common.{codes}
+use Rattle.config_color.proofs.Deciding.{contains_told, none_fails, some_passes}
+use Rattle.config_color.proofs.terminal.has_palette.Goals as goal
+
+pub returns-in-None : goal.returns-in-None
+returns-in-None c = none_fails _ c.args.term c.in-None.is
+
+pub returns-in-Some : goal.returns-in-Some
+returns-in-Some c =
+    some_passes _ c.args.term c.in-Some.name c.in-Some.is c.contains_str.result
+    (contains_told c.in-Some.name.now (codes "256color") c.contains_str.result c.contains_str.ensures)

@@ -1,0 +1,255 @@
+//! The format of a repository: its version, its extensions, and whether it is bare.
+
+use crate::disk::Disk;
+use crate::environment::Host;
+use crate::error::{HereError, Refusal};
+use config_file::{AddError, Setting, Settings};
+use gix_config_value::{Boolean, Integer};
+use std::alloc::AllocError;
+use std::fmt;
+
+/// What the file of a repository says of its format.
+#[derive(Drop)]
+pub struct Format {
+    /// Whether `core.bare` says that it is bare.
+    pub is_bare: bool,
+    /// The folder of `core.worktree`.
+    pub work_tree: Option<Vec<u8>>,
+    /// Whether each work tree has a file of its own.
+    pub has_worktree_files: bool,
+    version: Option<i32>,
+    unknown: Option<Vec<u8>>,
+    of_later: Option<Vec<u8>>,
+}
+
+/// What Git knows of an extension.
+#[derive(Clone, Copy)]
+enum Extension {
+    /// It is none.
+    Unknown,
+    /// Its value is not looked at.
+    Any,
+    /// Its value is a boolean.
+    Boolean,
+    /// It needs a value.
+    Text,
+    /// Its value is one of these words.
+    OneOf(&'static [&'static [u8]]),
+    /// Its value begins with one of these words, and a place may follow `://`.
+    Stored(&'static [&'static [u8]]),
+}
+
+/// The names of hashes.
+const HASHES: &[&[u8]] = &[b"sha1", b"sha256"];
+
+/// How references are stored.
+const STORES: &[&[u8]] = &[b"files", b"reftable"];
+
+/// The extensions that count in each version.
+fn early(name: &[u8]) -> Extension {
+    match name {
+        b"noop" => Extension::Any,
+        b"preciousobjects" | b"worktreeconfig" => Extension::Boolean,
+        b"partialclone" => Extension::Text,
+        _ => Extension::Unknown,
+    }
+}
+
+/// The extensions that need version 1.
+fn later(name: &[u8]) -> Extension {
+    match name {
+        b"noop-v1" => Extension::Any,
+        b"objectformat" | b"compatobjectformat" => Extension::OneOf(HASHES),
+        b"refstorage" => Extension::Stored(STORES),
+        b"relativeworktrees" | b"submodulepathconfig" => Extension::Boolean,
+        _ => Extension::Unknown,
+    }
+}
+
+/// The text before `://`.
+fn store_in(text: &[u8]) -> &[u8] {
+    for (index, part) in text.windows(3).enumerate() {
+        if part == b"://".as_slice() {
+            return text.get(..index).unwrap_or(text);
+        }
+    }
+    text
+}
+
+/// An error that says where a setting is, and why Git stops there.
+fn stop<'t, R: Host, F: fmt::Display + Drop>(
+    disk: &Disk<'t, R>,
+    setting: &Setting<'_>,
+    fault: F,
+) -> Result<HereError<'t>, AllocError> {
+    let text = format!(in disk.host.alloc(); "{}", setting.refused(fault))?;
+    Ok(HereError::Format(disk.texts.try_alloc_str(&text)?))
+}
+
+/// The boolean of a setting.
+fn boolean<'t, R: Host>(disk: &Disk<'t, R>, setting: &Setting<'_>) -> Result<bool, HereError<'t>> {
+    match setting.read::<Boolean>() {
+        Ok(boolean) => Ok(boolean.0),
+        Err(refused) => Err(stop(disk, setting, refused.fault)?),
+    }
+}
+
+/// The text of a setting, which needs one.
+fn text<'t, R: Host>(disk: &Disk<'t, R>, setting: &Setting<'_>) -> Result<Vec<u8>, HereError<'t>> {
+    match setting.value.as_deref() {
+        Some(text) => Ok(text.to_vec(disk.host.alloc())?),
+        None => Err(stop(disk, setting, "no value")?),
+    }
+}
+
+/// The version that a setting has.
+fn version<'t, R: Host>(disk: &Disk<'t, R>, setting: &Setting<'_>) -> Result<i32, HereError<'t>> {
+    match Integer::from_bytes::<i32>(setting.text()) {
+        Ok(version) => Ok(version),
+        Err(error) => Err(stop(disk, setting, error.fault)?),
+    }
+}
+
+/// Whether an extension is known, and has a value that it may have.
+fn is_extension<'t, R: Host>(
+    disk: &Disk<'t, R>,
+    setting: &Setting<'_>,
+    extension: Extension,
+) -> Result<bool, HereError<'t>> {
+    let is_right = match extension {
+        Extension::Unknown => return Ok(false),
+        Extension::Any => true,
+        Extension::Boolean => {
+            boolean(disk, setting)?;
+            true
+        }
+        Extension::Text => setting.value.is_some(),
+        Extension::OneOf(words) => words.contains(&text(disk, setting)?.as_slice()),
+        Extension::Stored(words) => words.contains(&store_in(&text(disk, setting)?)),
+    };
+    if is_right {
+        return Ok(true);
+    }
+    Err(stop(disk, setting, "no value of this extension")?)
+}
+
+impl Format {
+    /// A format of which nothing is said.
+    fn new() -> Format {
+        Format {
+            is_bare: false,
+            work_tree: None,
+            has_worktree_files: false,
+            version: None,
+            unknown: None,
+            of_later: None,
+        }
+    }
+
+    /// Takes an extension of this name, in lower case.
+    fn extend<'t, R: Host>(
+        &mut self,
+        disk: &Disk<'t, R>,
+        setting: &Setting<'_>,
+        name: &[u8],
+    ) -> Result<(), HereError<'t>> {
+        if is_extension(disk, setting, early(name))? {
+            if name == b"worktreeconfig".as_slice() {
+                self.has_worktree_files = boolean(disk, setting)?;
+            }
+            return Ok(());
+        }
+        if is_extension(disk, setting, later(name))? {
+            if self.of_later.is_none() {
+                self.of_later = Some(name.to_vec(disk.host.alloc())?);
+            }
+        } else if self.unknown.is_none() {
+            self.unknown = Some(name.to_vec(disk.host.alloc())?);
+        }
+        Ok(())
+    }
+
+    /// Takes what a setting says of the work tree.
+    fn take_work_tree<'t, R: Host>(
+        &mut self,
+        disk: &Disk<'t, R>,
+        setting: &Setting<'_>,
+        key: &[u8],
+    ) -> Result<(), HereError<'t>> {
+        if key == b"core.bare".as_slice() {
+            self.is_bare = boolean(disk, setting)?;
+        } else if key == b"core.worktree".as_slice() {
+            self.work_tree = Some(text(disk, setting)?);
+        }
+        Ok(())
+    }
+
+    /// Takes what a setting says.
+    fn take<'t, R: Host>(
+        &mut self,
+        disk: &Disk<'t, R>,
+        setting: &Setting<'_>,
+    ) -> Result<(), HereError<'t>> {
+        let key = setting.entry.key_text(disk.host.alloc())?;
+        if key.as_slice() == b"core.repositoryformatversion".as_slice() {
+            self.version = Some(version(disk, setting)?);
+        }
+        if let Some(name) = key.strip_prefix(b"extensions.") {
+            self.extend(disk, setting, name)?;
+        }
+        self.take_work_tree(disk, setting, &key)
+    }
+
+    /// Why Git uses no repository of this format, if it does not.
+    pub fn refusal(&mut self) -> Option<Refusal> {
+        match self.version {
+            Some(version) if 1 < version => Some(Refusal::Version(version)),
+            Some(1) => Some(Refusal::Extension(self.unknown.take()?)),
+            _ => Some(Refusal::ExtensionOfLater(self.of_later.take()?)),
+        }
+    }
+}
+
+/// The entries of a file, or none if it cannot be read.
+fn settings_in<'t, R: Host>(
+    disk: &Disk<'t, R>,
+    name: &[u8],
+) -> Result<Settings<'t>, HereError<'t>> {
+    let mut settings = Settings::new(disk.host.alloc());
+    let (place, text) = match disk.first(name) {
+        Ok(found) => found,
+        Err(error) if error.is_memory() => return Err(HereError::from(AllocError)),
+        Err(_) => return Ok(settings),
+    };
+    match settings.add_file(disk.host.alloc(), place.name, text) {
+        Ok(()) => Ok(settings),
+        Err(AddError::Memory(error)) => Err(HereError::from(error)),
+        Err(error) => Err(HereError::Stops(error)),
+    }
+}
+
+/// The format that the file of a repository states. Git looks at no include here. A file that states no
+/// version states nothing.
+pub fn format_in<'t, R: Host>(disk: &Disk<'t, R>, file: &[u8]) -> Result<Format, HereError<'t>> {
+    let mut format = Format::new();
+    for setting in &settings_in(disk, file)?.entries {
+        format.take(disk, setting)?;
+    }
+    match format.version {
+        Some(version) if 0 <= version => Ok(format),
+        _ => Ok(Format::new()),
+    }
+}
+
+/// Takes what the file of a work tree says of it.
+pub fn take_own_file<'t, R: Host>(
+    disk: &Disk<'t, R>,
+    format: &mut Format,
+    file: &[u8],
+) -> Result<(), HereError<'t>> {
+    for setting in &settings_in(disk, file)?.entries {
+        let key = setting.entry.key_text(disk.host.alloc())?;
+        format.take_work_tree(disk, setting, &key)?;
+    }
+    Ok(())
+}

@@ -1,0 +1,146 @@
+//! All settings that Git reads in a folder, in one call.
+
+use crate::disk::Disk;
+use crate::environment::{Host, HostError};
+use crate::error::{HereError, Refusal};
+use crate::names::copied;
+use crate::reading::{seek_urls, settings_of};
+use crate::repository::{Location, find};
+use crate::sources::{Source, is_there, names, sources};
+use crate::surroundings::{Followed, Surroundings};
+use bumpalo::Bump;
+use config_file::Settings;
+use std::alloc::AllocError;
+use std::io::{self, ErrorKind};
+
+/// What Git reads in a folder.
+#[derive(Drop)]
+pub struct Here<'t> {
+    /// All settings, in Git's order, each with its scope, its file and its line. The name of a file that does
+    /// not begin at the root begins in `folder`.
+    pub settings: Settings<'t>,
+    /// The folder in which Git works: the top of the work tree, or the folder that was asked about.
+    pub folder: Vec<u8>,
+    /// Why Git uses no repository although one is there. It then reads none of its settings.
+    pub refusal: Option<Refusal>,
+}
+
+/// What Git reads where it works.
+fn read_at<'t, R: Host>(
+    disk: &Disk<'t, R>,
+    location: Location<'t>,
+) -> Result<Here<'t>, HereError<'t>> {
+    let Location {
+        folder,
+        repository,
+        refusal,
+        stop,
+    } = location;
+    if let Some(stop) = stop {
+        return Err(stop);
+    }
+    let host = disk.host;
+    let inner = disk.within(&folder)?;
+    let sources = sources(&inner, &names(host, repository.as_ref())?)?;
+    let mut surroundings = Surroundings::new(host, Followed::AsGit)?;
+    surroundings.set_repository(host, repository)?;
+    Ok(Here {
+        settings: settings_of(&inner, &mut surroundings, &sources)?,
+        folder,
+        refusal,
+    })
+}
+
+/// What Git reads if it is started in this folder, and why it uses no repository that is there. It fails as
+/// [`settings_here`] does.
+pub fn read_here<'t, R: Host>(
+    host: &'t R,
+    texts: &'t Bump,
+    folder: &[u8],
+) -> Result<Here<'t>, HereError<'t>> {
+    let disk = Disk::new(host, texts);
+    let location = find(&disk, folder)?;
+    read_at(&disk, location)
+}
+
+/// All settings that Git reads if it is started in this folder: those of the system, of the user, of the
+/// repository and of the command, with what they include. An empty name, or `.`, is the current folder. The
+/// texts of the files are kept in `texts`. It fails where Git stops, or refuses to go on: at a line that
+/// cannot be read, at an include that cannot be followed, at a wrong setting of the repository's format, or
+/// of a command. A folder that is not there is refused with its name.
+///
+/// ```rust
+/// use bumpalo::Bump;
+/// use config_host::settings_here;
+///
+/// let texts = Bump::new(rt.alloc());
+/// let settings = settings_here(&rt, &texts, b".").expect(&rt, "settings that Git can read");
+/// for setting in &settings.entries {
+///     assert!(rt; !setting.file.is_empty());
+/// }
+/// ```
+pub fn settings_here<'t, R: Host>(
+    host: &'t R,
+    texts: &'t Bump,
+    folder: &[u8],
+) -> Result<Settings<'t>, HereError<'t>> {
+    Ok(read_here(host, texts, folder)?.settings)
+}
+
+/// The names of the files that Git reads in the current folder, by which the system opens them, in the order
+/// in which Git reads them. A line at which Git stops is no error here.
+pub fn files_here<R: Host>(disk: &Disk<'_, R>) -> Result<Vec<Vec<u8>>, HostError> {
+    let location = match find(disk, b"") {
+        Ok(location) => location,
+        Err(HereError::Host(error)) => return Err(error),
+        // the current folder is there, and whatever else stops Git is kept in the location
+        Err(_) => return Err(HostError::System(io::Error::from(ErrorKind::NotFound))),
+    };
+    let inner = disk.within(&location.folder)?;
+    let mut files = Vec::new(disk.host.alloc());
+    for named in names(disk.host, location.repository.as_ref())? {
+        if is_there(&inner, &named.name)? {
+            let name = match inner.opened_name(&named.name) {
+                Ok(name) => name,
+                Err(_) => copied(disk.host, &named.name)?,
+            };
+            files.push(name).map_err(|_| AllocError)?;
+        }
+    }
+    Ok(files)
+}
+
+/// Finds the repository of the current folder, if this text has a condition and it is not known yet.
+fn prepare_repository<'t, R: Host>(
+    disk: &Disk<'t, R>,
+    surroundings: &mut Surroundings<'t>,
+    text: &[u8],
+) -> Result<(), HereError<'t>> {
+    if !surroundings.lack(text) {
+        return Ok(());
+    }
+    let Location {
+        repository,
+        stop,
+        ..
+    } = find(disk, b"")?;
+    if let Some(stop) = stop {
+        return Err(stop);
+    }
+    Ok(surroundings.set_repository(disk.host, repository)?)
+}
+
+/// Finds what conditions ask about, if this text has one and it is not known yet: the repository of the
+/// current folder, and the URLs of remotes in these texts. A walk over one of them comes to the text next.
+pub fn prepare<'t, R: Host>(
+    disk: &Disk<'t, R>,
+    surroundings: &mut Surroundings<'t>,
+    sources: &[Source<'t>],
+    text: &[u8],
+) -> Result<(), HereError<'t>> {
+    prepare_repository(disk, surroundings, text)?;
+    if !surroundings.lack_urls(text) {
+        return Ok(());
+    }
+    seek_urls(disk, surroundings, sources)
+}

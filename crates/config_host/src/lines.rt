@@ -1,0 +1,50 @@
+//! Files of one line, and variables that are on or off.
+
+use crate::environment::{Host, variable};
+use crate::names::{answer, inside, is_file, text_of, without_line_ends};
+use config_text::readers::TryRead;
+use gix_config_value::Boolean;
+use std::alloc::AllocError;
+use std::fs::File;
+use std::io::{self, Read};
+
+/// The number of bytes of the longest line that is read.
+const LONGEST_LINE: u64 = 1 << 16;
+
+/// The first bytes of a file.
+fn read_line<R: Host>(host: &R, file: &str) -> io::Result<Vec<u8>> {
+    let mut text = Vec::new(host.alloc());
+    File::open(host, file)?
+        .take(LONGEST_LINE)
+        .read_to_end(&mut text)?;
+    Ok(text)
+}
+
+/// The text of a regular file without the line ends at its end, or `None` if there is no such text.
+pub fn line_of<R: Host>(host: &R, file: &[u8]) -> io::Result<Option<Vec<u8>>> {
+    if !is_file(host, file)? {
+        return Ok(None);
+    }
+    let Some(mut text) = answer(read_line(host, text_of(file)?))? else {
+        return Ok(None);
+    };
+    let length = without_line_ends(&text).len();
+    text.truncate(length);
+    Ok(Some(text))
+}
+
+/// The line of a file in a folder, or `None` if there is no such text.
+pub fn line_in<R: Host>(host: &R, folder: &[u8], name: &[u8]) -> io::Result<Option<Vec<u8>>> {
+    line_of(host, &inside(host, folder, name)?)
+}
+
+/// Whether an environment variable has a boolean text that is true.
+pub fn is_on<R: Host>(host: &R, name: &str) -> Result<bool, AllocError> {
+    let Some(value) = variable(host, name)? else {
+        return Ok(false);
+    };
+    match Boolean::try_read(&value) {
+        Ok(boolean) => Ok(boolean.0),
+        Err(_) => Ok(false),
+    }
+}

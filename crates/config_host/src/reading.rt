@@ -1,0 +1,274 @@
+//! Reads the settings of several texts and of what they include, and before that the URLs of remotes, if a
+//! condition asks about them.
+
+use crate::disk::Disk;
+use crate::environment::Host;
+use crate::error::HereError;
+use crate::sources::Source;
+use crate::surroundings::{Surroundings, has_includes};
+use config_file::{
+    AddError, Condition, Entry, Include, IncludeFault, Known, Next, Place, Settings, Step, Walk,
+    is_remote_url, next_of,
+};
+use std::alloc::{AllocError, Global};
+
+/// An entry that a walk comes to.
+#[derive(Drop)]
+pub struct Taken<'t> {
+    /// The file in which it is.
+    pub place: Place<'t>,
+    /// The entry.
+    pub entry: Entry<'t>,
+    /// How many files the walk was in, each included by the one before.
+    pub depth: usize,
+    /// The text of the file that it includes, in which the walk goes on.
+    pub entered: Option<&'t [u8]>,
+    /// Why Git stops after it, if it does.
+    pub stop: Option<AddError<'t>>,
+}
+
+/// The files in which a walk over this text goes on.
+fn files_of<'t, R: Host>(
+    disk: &Disk<'t, R>,
+    source: &Source<'t>,
+) -> Result<Disk<'t, R>, AllocError> {
+    if source.is_file {
+        Ok(disk.again())
+    } else {
+        Ok(disk.from_root())
+    }
+}
+
+/// Goes on in the file that an entry includes. Returns its text, or why Git stops there.
+fn enter<'t, R: Host>(
+    disk: &Disk<'t, R>,
+    walk: &mut Walk<'t>,
+    include: Include,
+) -> Result<Result<Option<&'t [u8]>, IncludeFault<'t>>, AllocError> {
+    match next_of(disk.host.alloc(), disk, include)? {
+        Next::Behind => Ok(Ok(None)),
+        Next::Stops(fault) => Ok(Err(fault)),
+        Next::In(place, text) => {
+            if walk.enter(place, text) {
+                Ok(Ok(Some(text)))
+            } else {
+                Ok(Err(IncludeFault::TooDeep))
+            }
+        }
+    }
+}
+
+/// Takes the next entry of a walk, and goes on in the file that it includes. Returns `None` at the end, and
+/// an error at a line that cannot be read.
+pub fn next_entry<'t, R: Host>(
+    disk: &Disk<'t, R>,
+    known: &Known<'_>,
+    walk: &mut Walk<'t>,
+) -> Result<Option<Taken<'t>>, HereError<'t>> {
+    let (place, entry, include) = match walk.next(disk.host.alloc(), known)? {
+        Step::Entry(place, entry, include) => (place, entry, include),
+        Step::Line(place, error) => {
+            let file = place.name;
+            return Err(HereError::Stops(AddError::Line { file, error }));
+        }
+        Step::Ends => return Ok(None),
+    };
+    let (file, line) = (place.name, entry.line);
+    let depth = walk.frames().len();
+    let (entered, stop) = match enter(disk, walk, include)? {
+        Ok(entered) => (entered, None),
+        Err(fault) => (None, Some(AddError::Include { file, line, fault })),
+    };
+    Ok(Some(Taken {
+        place,
+        entry,
+        depth,
+        entered,
+        stop,
+    }))
+}
+
+/// Whether an entry has the URLs of remotes as its condition.
+fn asks_for_urls(alloc: Global, entry: &Entry<'_>) -> Result<bool, AllocError> {
+    let Some(section) = &entry.section else {
+        return Ok(false);
+    };
+    let Some(subsection) = &section.subsection else {
+        return Ok(false);
+    };
+    let mut text = Vec::new(alloc);
+    subsection.push_text(&mut text)?;
+    let is_url = matches!(Condition::parse(&text), Condition::HasRemoteUrl(_));
+    Ok(is_url && section.name.eq_ignore_ascii_case(b"includeif"))
+}
+
+/// Whether a walk over this text comes to a condition on the URLs of remotes before it stops.
+fn text_asks<'t, R: Host>(
+    disk: &Disk<'t, R>,
+    known: &Known<'_>,
+    source: &Source<'t>,
+) -> Result<Option<bool>, HereError<'t>> {
+    let disk = files_of(disk, source)?;
+    let mut walk = Walk::new(source.place, source.text);
+    for _ in 0..u64::MAX {
+        let taken = match next_entry(&disk, known, &mut walk) {
+            Ok(Some(taken)) => taken,
+            Ok(None) => break,
+            Err(HereError::Host(error)) => return Err(HereError::Host(error)),
+            Err(_) => return Ok(None),
+        };
+        if asks_for_urls(disk.host.alloc(), &taken.entry)? {
+            return Ok(Some(true));
+        }
+        if taken.stop.is_some() {
+            return Ok(None);
+        }
+    }
+    Ok(Some(false))
+}
+
+/// Whether the walks over these texts come to a condition on the URLs of remotes before one stops.
+fn ask_for_urls<'t, R: Host>(
+    disk: &Disk<'t, R>,
+    known: &Known<'_>,
+    sources: &[Source<'t>],
+) -> Result<bool, HereError<'t>> {
+    for source in sources {
+        match text_asks(disk, known, source)? {
+            Some(false) => {}
+            Some(true) => return Ok(true),
+            None => return Ok(false),
+        }
+    }
+    Ok(false)
+}
+
+/// A search for the URLs of remotes.
+#[derive(Drop)]
+struct Search<'t> {
+    urls: Vec<&'t [u8]>,
+    /// A walk that is in more files than these is in one that is included on a condition.
+    conditional_below: usize,
+}
+
+impl<'t> Search<'t> {
+    /// Takes the URL that an entry may have. A file that is included on a condition must have none.
+    fn take<R: Host>(
+        &mut self,
+        disk: &Disk<'t, R>,
+        taken: &Taken<'t>,
+    ) -> Result<(), HereError<'t>> {
+        if taken.depth <= self.conditional_below {
+            self.conditional_below = usize::MAX;
+        }
+        if is_remote_url(&taken.entry) {
+            if self.conditional_below != usize::MAX {
+                return Err(HereError::RemoteUrl {
+                    file: taken.place.name,
+                    line: taken.entry.line,
+                });
+            }
+            self.push(disk, &taken.entry)?;
+        }
+        if taken.entered.is_some() && self.conditional_below == usize::MAX {
+            self.enter(taken);
+        }
+        Ok(())
+    }
+
+    /// Notes that the file that this entry includes is included on a condition, if it is.
+    fn enter(&mut self, taken: &Taken<'t>) {
+        if let Some(section) = &taken.entry.section {
+            if section.subsection.is_some() {
+                self.conditional_below = taken.depth;
+            }
+        }
+    }
+
+    /// Adds the value of an entry. A key alone has no URL.
+    fn push<R: Host>(&mut self, disk: &Disk<'t, R>, entry: &Entry<'t>) -> Result<(), AllocError> {
+        let Some(value) = &entry.value else {
+            return Ok(());
+        };
+        let text = value.to_vec(disk.host.alloc())?;
+        match self.urls.push(disk.kept(&text)?) {
+            Ok(()) => Ok(()),
+            Err(_) => Err(AllocError),
+        }
+    }
+}
+
+/// The URLs of all remotes in these texts and in what they include.
+fn urls_of<'t, R: Host>(
+    disk: &Disk<'t, R>,
+    known: &Known<'_>,
+    sources: &[Source<'t>],
+) -> Result<Vec<&'t [u8]>, HereError<'t>> {
+    let mut search = Search {
+        urls: Vec::new(disk.host.alloc()),
+        conditional_below: usize::MAX,
+    };
+    for source in sources {
+        let disk = files_of(disk, source)?;
+        let mut walk = Walk::new(source.place, source.text);
+        for _ in 0..u64::MAX {
+            let Some(taken) = next_entry(&disk, known, &mut walk)? else {
+                break;
+            };
+            search.take(&disk, &taken)?;
+            if let Some(stop) = taken.stop {
+                return Err(HereError::Stops(stop));
+            }
+        }
+        search.conditional_below = usize::MAX;
+    }
+    Ok(search.urls)
+}
+
+/// Finds the URLs of remotes if walks over these texts come to a condition on them.
+pub fn seek_urls<'t, R: Host>(
+    disk: &Disk<'t, R>,
+    surroundings: &mut Surroundings<'t>,
+    sources: &[Source<'t>],
+) -> Result<(), HereError<'t>> {
+    let urls = if ask_for_urls(disk, &surroundings.known(), sources)? {
+        urls_of(disk, &surroundings.seeking(), sources)?
+    } else {
+        Vec::new(disk.host.alloc())
+    };
+    surroundings.set_urls(urls);
+    Ok(())
+}
+
+/// Adds the settings of a text and of what it includes.
+fn add<'t, R: Host>(
+    disk: &Disk<'t, R>,
+    known: &Known<'_>,
+    settings: &mut Settings<'t>,
+    source: &Source<'t>,
+) -> Result<(), HereError<'t>> {
+    let files = files_of(disk, source)?;
+    settings.scope = source.scope;
+    let alloc = disk.host.alloc();
+    match settings.add_with_includes(alloc, &files, known, source.place, source.text) {
+        Ok(()) => Ok(()),
+        Err(AddError::Memory(error)) => Err(HereError::from(error)),
+        Err(error) => Err(HereError::Stops(error)),
+    }
+}
+
+/// The settings of these texts and of what they include, in order.
+pub fn settings_of<'t, R: Host>(
+    disk: &Disk<'t, R>,
+    surroundings: &mut Surroundings<'t>,
+    sources: &[Source<'t>],
+) -> Result<Settings<'t>, HereError<'t>> {
+    if sources.iter().any(|source| has_includes(source.text)) {
+        seek_urls(disk, surroundings, sources)?;
+    }
+    let mut settings = Settings::new(disk.host.alloc());
+    for source in sources {
+        add(disk, &surroundings.known(), &mut settings, source)?;
+    }
+    Ok(settings)
+}

@@ -1,0 +1,408 @@
+//! Searches the git directory of a folder, as Git does: GIT_DIR, or the first one upwards.
+
+use crate::disk::Disk;
+use crate::environment::{Host, current_folder, text_variable, variable};
+use crate::error::{HereError, Refusal};
+use crate::head::has_head;
+use crate::lines::{is_on, line_in, line_of};
+use crate::names::{copied, inside, is_folder, known_of, parent, real_name, resolved, split_last};
+use crate::owner::{are_owned, is_safe, may_be_bare};
+use std::io;
+use std::os::unix::fs::MetadataExt;
+
+/// A folder: its name as the system opens it, and its path from the root, with links that PWD has.
+#[derive(Drop)]
+pub struct Folder {
+    pub name: Vec<u8>,
+    pub path: Vec<u8>,
+}
+
+/// How a git directory is named.
+#[derive(Drop)]
+pub enum Form {
+    /// By GIT_DIR.
+    Given,
+    /// It is `.git` in a folder, or a file of that name leads to it.
+    Below,
+    /// It is a folder itself.
+    Bare,
+}
+
+/// A git directory.
+#[derive(Drop)]
+pub struct GitDir {
+    /// Its name, as the system opens it.
+    pub name: Vec<u8>,
+    /// Its name as Git has it, from the folder in which it is found.
+    pub named: Vec<u8>,
+    /// How it is named.
+    pub form: Form,
+}
+
+/// What a search comes to.
+#[derive(Drop)]
+pub enum Found<'t> {
+    /// There is none.
+    Nothing,
+    /// There is one in this folder.
+    GitDir(Folder, GitDir),
+    /// There is one that Git does not use.
+    Refused(Refusal),
+    /// There is one that may not be used, since Git stops as it asks whether it is safe.
+    Stops(HereError<'t>),
+}
+
+/// The folder that the work trees of a git directory share: GIT_COMMON_DIR, that of its file commondir, or
+/// `None` if it shares none.
+pub fn shared_folder<R: Host>(
+    host: &R,
+    git_dir: &[u8],
+) -> Result<Option<Vec<u8>>, HereError<'static>> {
+    if let Some(folder) = text_variable(host, "GIT_COMMON_DIR")? {
+        return Ok(Some(folder.into_bytes()));
+    }
+    match line_in(host, git_dir, b"commondir")? {
+        Some(folder) => Ok(Some(inside(host, git_dir, &folder)?)),
+        None => Ok(None),
+    }
+}
+
+/// Whether there is a folder of this name in a folder.
+fn has_folder<R: Host>(host: &R, folder: &[u8], name: &[u8]) -> io::Result<bool> {
+    is_folder(host, &inside(host, folder, name)?)
+}
+
+/// Whether a common folder has objects and refs.
+fn has_folders<R: Host>(host: &R, common: &[u8]) -> io::Result<bool> {
+    Ok(has_folder(host, common, b"objects")? && has_folder(host, common, b"refs")?)
+}
+
+/// Whether this is a git directory: its HEAD is Git's, and its common folder has objects and refs.
+fn is_git_dir<R: Host>(host: &R, name: &[u8]) -> Result<bool, HereError<'static>> {
+    if str::from_utf8(name).is_err() || !has_head(host, name)? {
+        return Ok(false);
+    }
+    match shared_folder(host, name)? {
+        Some(common) => Ok(has_folders(host, &common)?),
+        None => Ok(has_folders(host, name)?),
+    }
+}
+
+/// The folder of a file, in which the name that it links to begins.
+fn folder_of(name: &[u8]) -> &[u8] {
+    match split_last(name) {
+        Some(([], _)) => b"/",
+        Some((folder, _)) => folder,
+        None => b"",
+    }
+}
+
+/// The git directory that the file of this name links to by a line `gitdir: ..`, or `None` if it links to
+/// none.
+fn linked<R: Host>(host: &R, name: &[u8]) -> io::Result<Option<Vec<u8>>> {
+    let Some(line) = line_of(host, name)? else {
+        return Ok(None);
+    };
+    let Some(target) = line.strip_prefix(b"gitdir: ") else {
+        return Ok(None);
+    };
+    let git_dir = inside(host, folder_of(name), target)?;
+    Ok(Some(resolved(host, &git_dir, &git_dir)?))
+}
+
+/// The name of a folder that is not empty: the current one is `.`.
+fn opened_folder(name: &[u8]) -> &[u8] {
+    if name.is_empty() { b"." } else { name }
+}
+
+/// The git directory, if the one whose folder this is, is safe. It is asked about in the folder `asked`.
+fn if_safe<'t, R: Host>(
+    disk: &Disk<'t, R>,
+    asked: &Folder,
+    folder: Folder,
+    git_dir: GitDir,
+) -> Result<Found<'t>, HereError<'t>> {
+    let Some(real) = real_name(disk.host, opened_folder(&folder.name))? else {
+        return Ok(Found::Refused(Refusal::Owner(folder.path)));
+    };
+    match is_safe(disk, &asked.name, &real) {
+        Ok(true) => Ok(Found::GitDir(folder, git_dir)),
+        Ok(false) => Ok(Found::Refused(Refusal::Owner(real))),
+        Err(HereError::Host(error)) => Err(HereError::Host(error)),
+        Err(error) => Ok(Found::Stops(error)),
+    }
+}
+
+/// The git directory of a folder that has the name `.git` there, or that a file of that name links to.
+fn find_below<'t, R: Host>(
+    disk: &Disk<'t, R>,
+    asked: &Folder,
+    folder: &Folder,
+) -> Result<Found<'t>, HereError<'t>> {
+    let host = disk.host;
+    let link = inside(host, &folder.name, b".git")?;
+    let (name, named) = match linked(host, &link)? {
+        Some(target) => (copied(host, &target)?, target),
+        None => (copied(host, &link)?, copied(host, b".git")?),
+    };
+    if !is_git_dir(host, &name)? {
+        return Ok(Found::Nothing);
+    }
+    let is_owned = are_owned(host, &[&link, opened_folder(&folder.name), &name])?;
+    let git_dir = GitDir {
+        name,
+        named,
+        form: Form::Below,
+    };
+    let folder = folder.again(host)?;
+    if is_owned {
+        return Ok(Found::GitDir(folder, git_dir));
+    }
+    if_safe(disk, asked, folder, git_dir)
+}
+
+/// Whether Git takes the bare repository in this folder, which it finds without GIT_DIR.
+fn takes_bare<'t, R: Host>(disk: &Disk<'t, R>, folder: &Folder) -> Result<bool, HereError<'t>> {
+    match real_name(disk.host, opened_folder(&folder.name))? {
+        Some(real) => may_be_bare(disk, &real),
+        None => may_be_bare(disk, &folder.path),
+    }
+}
+
+/// The git directory that a folder itself is.
+fn find_bare<'t, R: Host>(
+    disk: &Disk<'t, R>,
+    asked: &Folder,
+    folder: &Folder,
+) -> Result<Found<'t>, HereError<'t>> {
+    let host = disk.host;
+    if !is_git_dir(host, &folder.name)? {
+        return Ok(Found::Nothing);
+    }
+    let folder = folder.again(host)?;
+    match takes_bare(disk, &folder) {
+        Ok(true) => {}
+        Ok(false) => return Ok(Found::Refused(Refusal::Bare(folder.path))),
+        Err(HereError::Host(error)) => return Err(HereError::Host(error)),
+        Err(error) => return Ok(Found::Stops(error)),
+    }
+    let git_dir = GitDir {
+        name: copied(host, opened_folder(&folder.name))?,
+        named: copied(host, b".")?,
+        form: Form::Bare,
+    };
+    if are_owned(host, &[opened_folder(&folder.name)])? {
+        return Ok(Found::GitDir(folder, git_dir));
+    }
+    if_safe(disk, asked, folder, git_dir)
+}
+
+/// The git directory of a folder, if it has one or is one.
+fn find_in<'t, R: Host>(
+    disk: &Disk<'t, R>,
+    asked: &Folder,
+    folder: &Folder,
+) -> Result<Found<'t>, HereError<'t>> {
+    match find_below(disk, asked, folder)? {
+        Found::Nothing => find_bare(disk, asked, folder),
+        found => Ok(found),
+    }
+}
+
+/// The device of a file and its number there, or `None` if the system does not know it.
+fn identity_of<R: Host>(host: &R, name: &[u8]) -> io::Result<Option<(u64, u64)>> {
+    match known_of(host, opened_folder(name))? {
+        Some(known) => Ok(Some((known.dev(), known.ino()))),
+        None => Ok(None),
+    }
+}
+
+/// Whether this name begins at the root, and is one of the folder.
+fn is_path_of<R: Host>(host: &R, name: &[u8], folder: &[u8]) -> io::Result<bool> {
+    let here = identity_of(host, folder)?;
+    Ok(name.starts_with(b"/") && here.is_some() && identity_of(host, name)? == here)
+}
+
+/// The path of a folder without links, or `None` if there is no such folder.
+fn real_folder<R: Host>(host: &R, name: &[u8]) -> io::Result<Option<Vec<u8>>> {
+    if name.is_empty() {
+        return Ok(Some(current_folder(host)?));
+    }
+    if !is_folder(host, name)? {
+        return Ok(None);
+    }
+    real_name(host, name)
+}
+
+/// These folders, between which are colons, without links. Those after an empty one are taken as they are.
+fn ceilings_in<R: Host>(host: &R, folders: &[u8]) -> io::Result<Vec<Vec<u8>>> {
+    let mut ceilings = Vec::new(host.alloc());
+    let mut is_resolved = true;
+    for folder in folders.split(|byte| *byte == b':') {
+        is_resolved = is_resolved && !folder.is_empty();
+        ceilings.push(ceiling(host, folder, is_resolved)?)?;
+    }
+    Ok(ceilings)
+}
+
+/// A folder, without links if it is to be resolved.
+fn ceiling<R: Host>(host: &R, folder: &[u8], is_resolved: bool) -> io::Result<Vec<u8>> {
+    if is_resolved {
+        resolved(host, folder, folder)
+    } else {
+        copied(host, folder)
+    }
+}
+
+/// The folders of GIT_CEILING_DIRECTORIES.
+fn ceilings<R: Host>(host: &R) -> io::Result<Vec<Vec<u8>>> {
+    match variable(host, "GIT_CEILING_DIRECTORIES")? {
+        Some(folders) => ceilings_in(host, &folders),
+        None => Ok(Vec::new(host.alloc())),
+    }
+}
+
+/// The device of a folder, or `None` if the system does not know it.
+fn device_of<R: Host>(host: &R, folder: &[u8]) -> io::Result<Option<u64>> {
+    match identity_of(host, folder)? {
+        Some((device, _)) => Ok(Some(device)),
+        None => Ok(None),
+    }
+}
+
+/// Where a search upwards ends.
+#[derive(Drop)]
+struct Limits {
+    /// Whether it goes on in other devices than that of the first folder.
+    crosses: bool,
+    device: Option<u64>,
+    ceilings: Vec<Vec<u8>>,
+}
+
+impl Limits {
+    /// What the environment says.
+    fn new<R: Host>(host: &R, folder: &[u8]) -> io::Result<Limits> {
+        Ok(Limits {
+            crosses: is_on(host, "GIT_DISCOVERY_ACROSS_FILESYSTEM")?,
+            device: device_of(host, folder)?,
+            ceilings: ceilings(host)?,
+        })
+    }
+
+    /// Whether the search ends before this folder.
+    fn end_at<R: Host>(&self, host: &R, folder: &Folder) -> io::Result<bool> {
+        let is_ceiling = self
+            .ceilings
+            .iter()
+            .any(|ceiling| ceiling.as_slice() == folder.path.as_slice());
+        Ok(is_ceiling || (!self.crosses && device_of(host, &folder.name)? != self.device))
+    }
+}
+
+impl Folder {
+    /// The folder of this name. Its path is the text of PWD, with its links, if that is the same folder.
+    pub fn new<R: Host>(host: &R, name: &[u8]) -> io::Result<Option<Folder>> {
+        let name = if name == b".".as_slice() { b"" } else { name };
+        let path = match variable(host, "PWD")? {
+            Some(named) if is_path_of(host, &named, name)? => Some(named),
+            _ => real_folder(host, name)?,
+        };
+        match path {
+            Some(path) => Ok(Some(Folder {
+                name: copied(host, name)?,
+                path,
+            })),
+            None => Ok(None),
+        }
+    }
+
+    /// A copy.
+    pub fn again<R: Host>(&self, host: &R) -> io::Result<Folder> {
+        Ok(Folder {
+            name: copied(host, &self.name)?,
+            path: copied(host, &self.path)?,
+        })
+    }
+
+    /// The folder of this path, which is so many steps above this one. The system opens it by its path if
+    /// that is UTF-8, and otherwise by its place above this one.
+    fn above<R: Host>(&self, host: &R, path: &[u8], steps: usize) -> io::Result<Folder> {
+        let path = copied(host, path)?;
+        if str::from_utf8(&path).is_ok() {
+            return Ok(Folder {
+                name: copied(host, &path)?,
+                path,
+            });
+        }
+        let mut name = copied(host, &self.name)?;
+        for step in 0..steps {
+            let up = if step == 0 && name.is_empty() {
+                b"..".as_slice()
+            } else {
+                b"/.."
+            };
+            name.extend_from_slice(up)?;
+        }
+        Ok(Folder { name, path })
+    }
+}
+
+/// The git directory of the first folder above this one that has one. The search ends at a ceiling, and on
+/// another device unless GIT_DISCOVERY_ACROSS_FILESYSTEM says otherwise.
+fn find_above<'t, R: Host>(disk: &Disk<'t, R>, asked: &Folder) -> Result<Found<'t>, HereError<'t>> {
+    let host = disk.host;
+    let limits = Limits::new(host, &asked.name)?;
+    let Some(lowest) = real_folder(host, &asked.name)? else {
+        return Ok(Found::Nothing);
+    };
+    let mut left = lowest.as_slice();
+    for steps in 0..lowest.len() {
+        let Some(above) = parent(left) else {
+            break;
+        };
+        let folder = asked.above(host, above, steps.saturating_add(1))?;
+        if limits.end_at(host, &folder)? {
+            break;
+        }
+        match find_in(disk, asked, &folder)? {
+            Found::Nothing => left = above,
+            found => return Ok(found),
+        }
+    }
+    Ok(Found::Nothing)
+}
+
+/// The git directory that GIT_DIR names, or to which the file of that name links.
+fn find_given<'t, R: Host>(
+    host: &R,
+    asked: &Folder,
+    given: &[u8],
+) -> Result<Found<'t>, HereError<'t>> {
+    let whole = inside(host, &asked.name, given)?;
+    let (name, named) = match linked(host, &whole)? {
+        Some(target) => (copied(host, &target)?, target),
+        None => (whole, copied(host, given)?),
+    };
+    // an empty text would become the name of the folder
+    if given.is_empty() || !is_git_dir(host, &name)? {
+        return Ok(Found::Refused(Refusal::GitDir(copied(host, given)?)));
+    }
+    let git_dir = GitDir {
+        name,
+        named,
+        form: Form::Given,
+    };
+    Ok(Found::GitDir(asked.again(host)?, git_dir))
+}
+
+/// The git directory of a folder: GIT_DIR, or the first one upwards. The names of the disk begin in that
+/// folder.
+pub fn search<'t, R: Host>(disk: &Disk<'t, R>, asked: &Folder) -> Result<Found<'t>, HereError<'t>> {
+    if let Some(given) = text_variable(disk.host, "GIT_DIR")? {
+        return find_given(disk.host, asked, given.as_bytes());
+    }
+    match find_in(disk, asked, asked)? {
+        Found::Nothing => find_above(disk, asked),
+        found => Ok(found),
+    }
+}

@@ -1,0 +1,209 @@
+//! What Git reads, in the order in which it reads: files, and the settings of a command.
+
+use crate::command::command_text;
+use crate::disk::Disk;
+use crate::environment::{Host, variable};
+use crate::error::HereError;
+use crate::lines::is_on;
+use crate::names::{below, copied, exists};
+use crate::surroundings::Repository;
+use bstr::ByteSlice;
+use config_file::{Place, Scope};
+use std::alloc::AllocError;
+use std::io;
+
+/// A file that Git reads if it is there.
+#[derive(Drop)]
+pub struct Named {
+    /// Where Git has it from.
+    pub scope: Scope,
+    /// Its name, as Git shows it.
+    pub name: Vec<u8>,
+}
+
+/// A text that Git reads first, before it comes to what the text includes.
+#[derive(Clone, Copy)]
+pub struct Source<'t> {
+    /// Where Git has it from.
+    pub scope: Scope,
+    /// Where the file is. The settings of a command have the name `command line`.
+    pub place: Place<'t>,
+    /// The text of the file, or the settings of a command as the text of a file.
+    pub text: &'t [u8],
+    /// Whether it is the text of a file, in whose folder the names of what it includes begin.
+    pub is_file: bool,
+}
+
+/// The settings of a command as a file. No name begins with the NUL of its folder, so that no condition on a
+/// folder below it holds, as in Git.
+const COMMAND: Place<'static> = Place {
+    name: b"command line",
+    real_dir: b"\0",
+};
+
+/// Adds a name. An empty one is that of no file.
+fn push(names: &mut Vec<Named>, scope: Scope, name: Vec<u8>) -> Result<(), AllocError> {
+    if name.is_empty() {
+        return Ok(());
+    }
+    match names.push(Named { scope, name }) {
+        Ok(()) => Ok(()),
+        Err(_) => Err(AllocError),
+    }
+}
+
+/// Adds the file of the system, unless GIT_CONFIG_NOSYSTEM says that it is not read.
+fn push_system<R: Host>(host: &R, names: &mut Vec<Named>) -> io::Result<()> {
+    if is_on(host, "GIT_CONFIG_NOSYSTEM")? {
+        return Ok(());
+    }
+    let name = match variable(host, "GIT_CONFIG_SYSTEM")? {
+        Some(name) => name,
+        None => copied(host, b"/etc/gitconfig")?,
+    };
+    Ok(push(names, Scope::System, name)?)
+}
+
+/// The folder XDG_CONFIG_HOME, or `None` if it is not set, or empty.
+fn own_folder<R: Host>(host: &R) -> Result<Option<Vec<u8>>, AllocError> {
+    match variable(host, "XDG_CONFIG_HOME")? {
+        Some(folder) if !folder.is_empty() => Ok(Some(folder)),
+        _ => Ok(None),
+    }
+}
+
+/// Adds the file of this name below the home directory, if that is known.
+fn push_home<R: Host>(host: &R, names: &mut Vec<Named>, name: &[u8]) -> io::Result<()> {
+    match variable(host, "HOME")? {
+        Some(home) => Ok(push(names, Scope::Global, below(host, &home, name)?)?),
+        None => Ok(()),
+    }
+}
+
+/// Adds the files of the user.
+fn push_global<R: Host>(host: &R, names: &mut Vec<Named>) -> io::Result<()> {
+    if let Some(name) = variable(host, "GIT_CONFIG_GLOBAL")? {
+        return Ok(push(names, Scope::Global, name)?);
+    }
+    match own_folder(host)? {
+        Some(folder) => push(names, Scope::Global, below(host, &folder, b"git/config")?)?,
+        None => push_home(host, names, b".config/git/config")?,
+    }
+    push_home(host, names, b".gitconfig")
+}
+
+/// The name of a file in a git directory, as Git shows it: without `./` at its start.
+fn shown_name<R: Host>(host: &R, folder: &[u8], name: &[u8]) -> io::Result<Vec<u8>> {
+    let whole = below(host, folder, name)?;
+    match whole.strip_prefix(b"./") {
+        Some(rest) => copied(host, rest.trim_start_with(|character| character == '/')),
+        None => Ok(whole),
+    }
+}
+
+/// Adds the files of a repository.
+fn push_repository<R: Host>(
+    host: &R,
+    names: &mut Vec<Named>,
+    repository: &Repository,
+) -> io::Result<()> {
+    let shared = shown_name(host, &repository.common_dir, b"config")?;
+    push(names, Scope::Local, shared)?;
+    if repository.has_worktree_files {
+        let own = shown_name(host, &repository.named_dir, b"config.worktree")?;
+        push(names, Scope::Worktree, own)?;
+    }
+    Ok(())
+}
+
+/// The files that no repository can change: those of the system and of the user.
+pub fn protected_names<R: Host>(host: &R) -> io::Result<Vec<Named>> {
+    let mut names = Vec::new(host.alloc());
+    push_system(host, &mut names)?;
+    push_global(host, &mut names)?;
+    Ok(names)
+}
+
+/// The files that Git reads, whether they are there or not. They come in the order in which it reads them.
+pub fn names<R: Host>(host: &R, repository: Option<&Repository>) -> io::Result<Vec<Named>> {
+    let mut names = protected_names(host)?;
+    if let Some(repository) = repository {
+        push_repository(host, &mut names, repository)?;
+    }
+    Ok(names)
+}
+
+/// Whether the system has a file of this name, or opens no file of such a name.
+pub fn is_there<R: Host>(disk: &Disk<'_, R>, name: &[u8]) -> io::Result<bool> {
+    match disk.opened_name(name) {
+        Ok(opened) => Ok(str::from_utf8(&opened).is_err() || exists(disk.host, &opened)?),
+        Err(_) => Err(io::Error::from(AllocError)),
+    }
+}
+
+/// Reads a file. It is not read if it is not there, or if the user of this program may not read a file of the
+/// user.
+fn read_source<'t, R: Host>(
+    disk: &Disk<'t, R>,
+    named: &Named,
+) -> Result<Option<Source<'t>>, HereError<'t>> {
+    match disk.first(&named.name) {
+        Ok((place, text)) => Ok(Some(Source {
+            scope: named.scope,
+            place,
+            text,
+            is_file: true,
+        })),
+        Err(error) if error.is_memory() => Err(HereError::from(AllocError)),
+        Err(error) if error.is_missing() => Ok(None),
+        Err(error) if error.is_denied() && named.scope == Scope::Global => Ok(None),
+        Err(error) => Err(HereError::File {
+            file: disk.kept(&named.name)?,
+            error,
+        }),
+    }
+}
+
+/// Adds a text.
+fn add<'t>(sources: &mut Vec<Source<'t>>, source: Source<'t>) -> Result<(), AllocError> {
+    match sources.push(source) {
+        Ok(()) => Ok(()),
+        Err(_) => Err(AllocError),
+    }
+}
+
+/// Adds the settings of the command, if there are any.
+fn add_command<'t, R: Host>(
+    disk: &Disk<'t, R>,
+    sources: &mut Vec<Source<'t>>,
+) -> Result<(), HereError<'t>> {
+    let text = command_text(disk.host)?;
+    if text.is_empty() {
+        return Ok(());
+    }
+    let text = disk.kept(&text)?;
+    Ok(add(
+        sources,
+        Source {
+            scope: Scope::Command,
+            place: COMMAND,
+            text,
+            is_file: false,
+        },
+    )?)
+}
+
+/// The texts of these files, as far as they are there, and of the command.
+pub fn sources<'t, R: Host>(
+    disk: &Disk<'t, R>,
+    names: &[Named],
+) -> Result<Vec<Source<'t>>, HereError<'t>> {
+    let mut sources = Vec::new(disk.host.alloc());
+    for named in names {
+        if let Some(source) = read_source(disk, named)? {
+            add(&mut sources, source)?;
+        }
+    }
+    add_command(disk, &mut sources)?;
+    Ok(sources)
+}

@@ -1,0 +1,199 @@
+//! Writes entries, values and messages.
+
+use crate::request::Request;
+use crate::shown::Shown;
+use bstr::BStr;
+use config_file::{Scope, Setting};
+use config_host::shown;
+use gix_config_value::canonical::{Kind, refusal};
+use itoa::Buffer;
+use std::alloc::Global;
+use std::fmt;
+use std::io::{self, Write};
+
+/// How a run ends. Its number is the exit status, which is Git's.
+#[derive(Clone, Copy, PartialEq)]
+pub enum Ending {
+    /// All is listed, or the value is printed.
+    Done = 0,
+    /// No entry has the key, or it is no key.
+    Absent = 1,
+    /// A text is no pattern.
+    NoPattern = 6,
+    /// A file, a line or a value is refused.
+    Refused = 128,
+    /// The default is no color.
+    NoColor = 255,
+}
+
+/// Writes a message on standard error.
+pub fn tell<M: fmt::Display + Drop>(rt: &HostRuntime, message: M) -> io::Result<()> {
+    let message = format!(in rt.alloc(); "{message}")?;
+    rt.stderr()
+        .write_all(&shown::line_of(rt.alloc(), &message)?)
+}
+
+/// Appends the word for a scope, if it is to be shown.
+fn push_scope(line: &mut Vec<u8>, request: &Request<'_, '_>, scope: Scope) -> io::Result<()> {
+    if request.shows_scope {
+        line.extend_from_slice(scope.name().as_bytes())?;
+        line.push(if request.null { 0 } else { b'\t' })?;
+    }
+    Ok(())
+}
+
+/// Appends an entry after its file and its line.
+pub fn push_entry(
+    alloc: Global,
+    line: &mut Vec<u8>,
+    request: &Request<'_, '_>,
+    setting: &Setting<'_>,
+) -> io::Result<()> {
+    let (place, equals, end) = if request.null {
+        (b"\0".as_slice(), b'\n', 0)
+    } else {
+        (b": ".as_slice(), b'=', b'\n')
+    };
+    push_scope(line, request, setting.scope)?;
+    line.extend_from_slice(setting.file)?;
+    line.push(b':')?;
+    line.extend_from_slice(Buffer::new().format(setting.entry.line).as_bytes())?;
+    line.extend_from_slice(place)?;
+    line.extend_from_slice(setting.entry.key_text(alloc)?.as_slice())?;
+    if let Some(value) = &setting.value {
+        line.push(equals)?;
+        line.extend_from_slice(value)?;
+    }
+    line.push(end)?;
+    Ok(())
+}
+
+/// Where an entry is.
+#[derive(Clone, Copy, PartialEq, Eq)]
+pub enum Origin {
+    /// In a file.
+    File,
+    /// In the text of standard input.
+    Input,
+    /// In the settings of a command.
+    Command,
+}
+
+/// The bytes that have an escape of their own.
+const LETTERS: &[(u8, &[u8])] = &[
+    (7, b"\\a"),
+    (8, b"\\b"),
+    (b'\t', b"\\t"),
+    (b'\n', b"\\n"),
+    (11, b"\\v"),
+    (12, b"\\f"),
+    (b'\r', b"\\r"),
+    (b'"', b"\\\""),
+    (b'\\', b"\\\\"),
+];
+
+/// Whether Git escapes this byte in the name of a file.
+fn is_escaped(byte: u8) -> bool {
+    byte < 32 || byte > 126 || byte == b'"' || byte == b'\\'
+}
+
+/// Appends a byte of the name of a file, as Git escapes it.
+fn push_escaped(line: &mut Vec<u8>, byte: u8) -> io::Result<()> {
+    if !is_escaped(byte) {
+        line.push(byte)?;
+        return Ok(());
+    }
+    for (letter, escape) in LETTERS {
+        if *letter == byte {
+            line.extend_from_slice(escape)?;
+            return Ok(());
+        }
+    }
+    line.extend_from_slice(&[
+        b'\\',
+        b'0' + byte / 64,
+        b'0' + byte / 8 % 8,
+        b'0' + byte % 8,
+    ])?;
+    Ok(())
+}
+
+/// Appends the name of a file: in quotes if one of its bytes is escaped, unless a NUL ends it.
+fn push_file(line: &mut Vec<u8>, name: &[u8], null: bool) -> io::Result<()> {
+    if null || !name.iter().any(|byte| is_escaped(*byte)) {
+        line.extend_from_slice(name)?;
+        return Ok(());
+    }
+    line.push(b'"')?;
+    for byte in name {
+        push_escaped(line, *byte)?;
+    }
+    line.push(b'"')?;
+    Ok(())
+}
+
+/// Appends where an entry is, as Git writes it.
+fn push_origin(line: &mut Vec<u8>, null: bool, origin: Origin, file: &[u8]) -> io::Result<()> {
+    match origin {
+        Origin::File => {
+            line.extend_from_slice(b"file:")?;
+            push_file(line, file, null)?;
+        }
+        Origin::Input => line.extend_from_slice(b"standard input:")?,
+        Origin::Command => line.extend_from_slice(b"command line:")?,
+    }
+    line.push(if null { 0 } else { b'\t' })?;
+    Ok(())
+}
+
+/// Appends an entry as Git writes it: its scope, its origin, its key and its value, as far as they are shown.
+pub fn push_as_git(
+    alloc: Global,
+    line: &mut Vec<u8>,
+    request: &Request<'_, '_>,
+    origin: Origin,
+    setting: &Setting<'_>,
+    value: &[u8],
+    has_value: bool,
+) -> io::Result<()> {
+    let null = request.null;
+    push_scope(line, request, setting.scope)?;
+    if request.shows_origin {
+        push_origin(line, null, origin, setting.file)?;
+    }
+    if request.shows_names {
+        line.extend_from_slice(setting.entry.key_text(alloc)?.as_slice())?;
+    }
+    if has_value && request.shows_values {
+        if request.shows_names {
+            line.push(between(request))?;
+        }
+        line.extend_from_slice(value)?;
+    }
+    line.push(if null { 0 } else { b'\n' })?;
+    Ok(())
+}
+
+/// What stands between a key and its value.
+fn between(request: &Request<'_, '_>) -> u8 {
+    match (request.null, request.key) {
+        (true, _) => b'\n',
+        (false, None) => b'=',
+        (false, Some(_)) => b' ',
+    }
+}
+
+/// Reports why a setting has no value as it is to be shown.
+pub fn tell_refusal(rt: &HostRuntime, setting: &Setting<'_>, shown: Shown) -> io::Result<()> {
+    let kind = match shown {
+        Shown::Canonical(kind) => kind,
+        Shown::Escape => Kind::Color,
+        Shown::Path => return tell(rt, setting.refused("the path cannot be made whole")),
+        Shown::Date => return tell(rt, setting.refused("no date that is known here")),
+        _ => Kind::Boolean,
+    };
+    match refusal(kind, BStr::new(setting.text())) {
+        Some(refusal) => tell(rt, setting.refused(refusal)),
+        None => Ok(()),
+    }
+}

@@ -1,0 +1,86 @@
+//! What the arguments ask.
+
+use crate::shown::Shown;
+use config_file::Scope;
+use config_host::surroundings::Followed;
+
+/// Which texts are read.
+#[derive(Clone, Copy)]
+pub enum Texts<'m, 'a> {
+    /// These files, of which a later one decides over an earlier one. `-` is standard input.
+    Named(&'m [&'a str]),
+    /// All that Git reads here.
+    Here,
+    /// Of the files that Git reads here, the one of this scope.
+    OfScope(Scope),
+}
+
+/// In which form the answers are.
+#[derive(Clone, Copy, PartialEq, Eq)]
+pub enum Style {
+    /// Entries are listed after their files and lines, and the last value of a key is read alone.
+    Places,
+    /// As `git config get` and `git config list` write them.
+    Git,
+}
+
+/// What is asked of settings.
+#[derive(Clone, Copy)]
+pub struct Request<'m, 'a> {
+    /// The texts that are read.
+    pub texts: Texts<'m, 'a>,
+    /// The settings of `-c`, each a key, or a key, `=` and a value. They come last if all is read.
+    pub commands: &'m [&'a str],
+    /// The form of the answers.
+    pub style: Style,
+    /// The key whose value is wanted. Without a key the entries are listed.
+    pub key: Option<&'a str>,
+    /// Whether the key is a pattern of keys.
+    pub is_pattern: bool,
+    /// The pattern that the value has to match, or after `!` the one that it must not match.
+    pub value: Option<&'a str>,
+    /// Whether `value` is no pattern, but the value itself.
+    pub is_fixed: bool,
+    /// As what a value is read, and how it is shown.
+    pub shown: Shown,
+    /// Which includes are followed.
+    pub followed: Followed,
+    /// Whether a NUL follows each entry and each value.
+    pub null: bool,
+    /// Whether the scope is written before an entry.
+    pub shows_scope: bool,
+    /// Whether the origin is written before an entry, as Git writes it.
+    pub shows_origin: bool,
+    /// Whether the key is written before a value.
+    pub shows_names: bool,
+    /// Whether the value is written.
+    pub shows_values: bool,
+    /// Whether all values of the key are wanted, and not the last one alone.
+    pub all: bool,
+    /// The value if no entry has the key.
+    pub default: Option<&'a str>,
+}
+
+impl<'m, 'a> Request<'m, 'a> {
+    /// A list of the entries of these texts, whose values are shown as they are written.
+    pub fn new(style: Style, texts: Texts<'m, 'a>, commands: &'m [&'a str]) -> Request<'m, 'a> {
+        Request {
+            texts,
+            commands,
+            style,
+            key: None,
+            is_pattern: false,
+            value: None,
+            is_fixed: false,
+            shown: Shown::Text,
+            followed: Followed::Nothing,
+            null: false,
+            shows_scope: false,
+            shows_origin: false,
+            shows_names: false,
+            shows_values: true,
+            all: false,
+            default: None,
+        }
+    }
+}
