@@ -1,31 +1,110 @@
 #!/bin/sh
-# Copies the library into another repository: sh vendor.sh DEST
+# Copies the library into another repository: sh vendor.sh [--diff] DEST
 #
 # DEST is the top of that repository, or an empty folder. It gets the folders of the library's nine crates in
-# DEST/crates, their lines in DEST/crates.txt, each line once, and the two licenses. A crate of DEST then uses the
-# library by a line such as `NAME: gix_config_value config_file`, with config_host if it opens files. A second run
-# replaces the library by a newer version.
+# DEST/crates, and their lines in DEST/crates.txt, each line once. A crate of DEST then uses the library by a line such
+# as `NAME: gix_config_value config_file`, with config_host if it opens files. The two licenses, and the pages that
+# comments cite, are in DEST/crates/gix_config_value. `vendored` there has the version and the sum of each file that is
+# copied: `sha256sum --check crates/gix_config_value/vendored` tells in DEST which ones have changed.
+#
+# A second run replaces the library by a newer version, and removes the files that this no longer has. If a file or a
+# line of DEST that it would replace or remove is not as an earlier run has written it, nothing is changed, and the
+# status is 1. With --diff nothing is changed: it prints what would be, and the status is 1 if that is anything.
 set -eu
+shows=
+if [ "${1:-}" = --diff ]; then
+    shows=yes
+    shift
+fi
 if [ $# -ne 1 ]; then
-    echo "usage: sh $0 DEST" >&2
+    echo "usage: sh $0 [--diff] DEST" >&2
     exit 2
 fi
 here=$(CDPATH='' cd -- "$(dirname -- "$0")" && pwd)
-mkdir -p -- "$1/crates"
+[ -n "$shows" ] || mkdir -p -- "$1"
 dest=$(CDPATH='' cd -- "$1" && pwd)
 [ "$dest" != "$here" ] || { echo "$dest is this repository" >&2; exit 2; }
-touch "$dest/crates.txt"
-# its last line gets an LF if it does not end in one
-sed -i '$a\' "$dest/crates.txt"
-for crate in config_text config_integer config_boolean config_word config_color config_path gix_config_value \
-    config_file config_host; do
-    mkdir -p -- "$dest/crates/$crate"
+library="config_text config_integer config_boolean config_word config_color config_path gix_config_value config_file \
+config_host"
+own=crates/gix_config_value
+list=$own/vendored
+work=$(mktemp -d)
+trap 'rm -rf -- "$work"' EXIT
+# some shells run no EXIT trap after a signal
+trap 'exit 130' INT
+trap 'exit 143' TERM
+
+# the new files, below $work/new
+for crate in $library; do
+    mkdir -p -- "$work/new/crates/$crate"
     for part in src specs proofs; do
-        rm -rf -- "$dest/crates/$crate/$part"
-        [ -d "$here/crates/$crate/$part" ] || continue
-        cp -R -- "$here/crates/$crate/$part" "$dest/crates/$crate/$part"
+        [ ! -d "$here/crates/$crate/$part" ] || cp -R -- "$here/crates/$crate/$part" "$work/new/crates/$crate/"
     done
-    sed -i "/^$crate:/d" "$dest/crates.txt"
-    grep "^$crate:" "$here/crates.txt" >> "$dest/crates.txt"
+    grep "^$crate:" "$here/crates.txt" >> "$work/lines"
 done
-cp -- "$here/LICENSE-MIT" "$here/LICENSE-APACHE" "$dest/"
+cp -- "$here/LICENSE-MIT" "$here/LICENSE-APACHE" "$work/new/$own/"
+mkdir "$work/new/$own/docs"
+grep -rhoE 'docs/[A-Z]+\.md' "$work/new/crates" | sort -u | while IFS= read -r page; do
+    cp -- "$here/$page" "$work/new/$own/docs/"
+done
+(cd "$work/new" && find crates -type f | LC_ALL=C sort) > "$work/files"
+{
+    echo "# gix_config_value $(cat "$here/crates/gix_config_value_c/VERSION")" \
+        "$([ ! -e "$here/.git" ] || git -C "$here" rev-parse --short=12 HEAD 2> /dev/null || true)"
+    sed 's/^/# crates.txt: /' "$work/lines"
+    (cd "$work/new" && xargs sha256sum < "$work/files")
+} > "$work/list"
+
+# what the earlier run wrote
+touch "$work/were" "$work/earlier"
+[ ! -f "$dest/crates.txt" ] || cp -- "$dest/crates.txt" "$work/were"
+[ ! -f "$dest/$list" ] || cp -- "$dest/$list" "$work/earlier"
+sed -n 's/^# crates.txt: //p' "$work/earlier" | cat - "$work/lines" > "$work/known"
+sed -n 's/^[0-9a-f]\{64\}  //p' "$work/earlier" | LC_ALL=C sort -u - "$work/files" > "$work/all"
+# what an earlier run has not written so, and the new library does not have so either
+while IFS= read -r file; do
+    if [ -f "$dest/$file" ] && [ ! -L "$dest/$file" ]; then
+        cmp -s "$dest/$file" "$work/new/$file" && continue
+        sum=$(sha256sum < "$dest/$file")
+        grep -qxF -e "${sum%% *}  $file" "$work/earlier" || echo "$file"
+    elif [ -e "$dest/$file" ] || [ -L "$dest/$file" ]; then
+        echo "$file"
+    fi
+done < "$work/all" > "$work/others"
+for crate in $library; do
+    grep "^$crate:" "$work/were" | grep -vxF -f "$work/known" | sed 's/^/crates.txt: /' || true
+done >> "$work/others"
+# each line in its place, or at the end
+awk 'NR == FNR { order[NR] = $1; new[$1] = $0; next }
+    !($1 in new) { print; next }
+    !seen[$1]++ { print new[$1] }
+    END { for (i = 1; i in order; i++) if (!seen[order[i]]) print new[order[i]] }' \
+    "$work/lines" "$work/were" > "$work/new/crates.txt"
+
+if [ -n "$shows" ]; then
+    cd "$work"
+    ln -s "$dest" old
+    echo crates.txt >> all
+    while IFS= read -r file; do
+        diff -uN "old/$file" "new/$file" || echo "$file" >> differs
+    done < all
+    sed 's/^/not as an earlier run has written it: /' others
+    [ ! -s differs ] && [ ! -s others ]
+    exit
+fi
+if [ -s "$work/others" ]; then
+    echo "nothing is changed, since in $dest this is not as an earlier run has written it:" >&2
+    cat "$work/others" >&2
+    exit 1
+fi
+while IFS= read -r file; do
+    if [ ! -f "$work/new/$file" ]; then
+        rm -f -- "$dest/$file"
+        rmdir -p -- "$dest/$(dirname -- "$file")" 2> /dev/null || true
+    elif ! cmp -s "$work/new/$file" "$dest/$file"; then
+        mkdir -p -- "$dest/$(dirname -- "$file")"
+        cp -- "$work/new/$file" "$dest/$file"
+    fi
+done < "$work/all"
+cp -- "$work/list" "$dest/$list"
+cmp -s "$work/new/crates.txt" "$dest/crates.txt" || cp -- "$work/new/crates.txt" "$dest/crates.txt"

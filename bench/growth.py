@@ -16,16 +16,22 @@ import sys
 import tempfile
 
 
-class Lines:
+class Given:
+    """What a run is given besides its standard input: arguments, a folder, and variables."""
+
+    words, folder, known = [], None, {}
+
+
+class Lines(Given):
     """Lines on standard input."""
 
     def __init__(self, data):
-        self.words, self.folder, self.file = [], None, tempfile.TemporaryFile()
+        self.file = tempfile.TemporaryFile()
         self.file.write(data)
         self.file.flush()
 
 
-class Condition:
+class Condition(Given):
     """A file in a repository, with a condition on its branch."""
 
     def __init__(self, pattern, branch):
@@ -37,7 +43,7 @@ class Condition:
         pathlib.Path(self.folder, "config").write_text(f'[includeIf "onbranch:{pattern}"]path=none\n', "ascii")
 
 
-class Includes:
+class Includes(Given):
     """A file that includes this many files, each with as many entries."""
 
     def __init__(self, count, entries):
@@ -49,13 +55,23 @@ class Includes:
             pathlib.Path(self.folder, str(number)).write_text("[a]\n" + "\tb = 1\n" * entries, "ascii")
 
 
-class Section:
+class Section(Given):
     """A file with this many keys in a section whose name has as many letters, and the key that is asked for."""
 
     def __init__(self, size):
         self.made, self.file = tempfile.TemporaryDirectory(), tempfile.TemporaryFile()
         self.words, self.folder = ["--file", "config", "s" * size + ".k"], self.made.name
         pathlib.Path(self.folder, "config").write_text(f"[{'s' * size}]\n" + "k\n" * size, "ascii")
+
+
+class Parameters(Given):
+    """The settings of a command in one variable, in which the system lets there be 128 KiB."""
+
+    def __init__(self, count):
+        self.made, self.file = tempfile.TemporaryDirectory(), tempfile.TemporaryFile()
+        self.words, self.folder = ["--list"], self.made.name
+        self.known = {"HOME": self.folder, "GIT_CONFIG_NOSYSTEM": "1",
+                      "GIT_CONFIG_PARAMETERS": " ".join(["'a.b=1'"] * count)}
 
 
 def often(times, front, repeated, back=b""):
@@ -84,6 +100,7 @@ INPUTS = [
     ("one line of 25 and 50 MB, digits", 25_000_000, lambda size: Lines(b"integer " + b"9" * size + b"\n")),
     ("one line of 25 and 50 MB, zeros", 25_000_000, lambda size: Lines(b"integer 0x" + b"0" * size + b"7\n")),
     ("one line of 25 and 50 MB, `ul `", 25_000_000, lambda size: Lines(b"color " + b"ul " * (size // 3) + b"\n")),
+    ("settings of `git -c`", 8_000, Parameters),
     ("included files of 100 entries", 400, lambda size: Includes(size, 100)),
     ("included files of one entry", 3_000, lambda size: Includes(size, 1)),
     ("keys of a section with a long name", 10_000, Section),
@@ -99,8 +116,8 @@ INPUTS = [
 def seconds(program, given):
     """The processor time of one run, user and system."""
     given.file.seek(0)
-    command = [program, *given.words]
-    process = subprocess.Popen(command, cwd=given.folder, stdin=given.file, stdout=subprocess.DEVNULL)
+    command, known = [program, *given.words], {**os.environ, **given.known}
+    process = subprocess.Popen(command, cwd=given.folder, env=known, stdin=given.file, stdout=subprocess.DEVNULL)
     _, status, usage = os.wait4(process.pid, 0)
     process.returncode = os.waitstatus_to_exitcode(status)
     if process.returncode not in (0, 1):

@@ -1,10 +1,10 @@
 """Compares what is read in a folder, by the built program and by a Git: the installed one, or that of --git.
 
-python3 here.py PROGRAM [--seed N] [--places N] [--git COMMAND]
+python3 here.py [PROGRAM] [--seed N] [--places N] [--git COMMAND] [--python FOLDER]
 
 PROGRAM is config_value, whose `--list --show-scope --null` has to give the same settings in the same order as Git's
 `config --list --show-scope --show-origin --null`, each with the same scope and the same name of its file. If Git
-refuses to go on, the program has to do so too.
+refuses to go on, the program has to do so too. FOLDER has the Python package: its `read_repository` is compared too.
 
 The places are as many random ones as --places says: a folder with or without a repository of some kind, a HEAD, a
 format and an owner, the files of the system and of the user, variables, the settings of a command, and includes with
@@ -37,14 +37,37 @@ OTHER = 12345
 IS_ROOT = os.geteuid() == 0
 SECTION = "[%s]\n\t%s\n"
 
-# the settings that were read, or None if the reader refuses to go on
-Answer = collections.namedtuple("Answer", "status settings told")
+# the settings that were read, or None if the reader refuses to go on, and the folder that Python puts before the names
+Answer = collections.namedtuple("Answer", "status settings told folder", defaults=[b""])
 
 
 def fields(output):
     """Each setting that Git or the program lists: its scope, its file, and its key with its value."""
     parts = output.split(b"\0")[:-1]
     return list(zip(parts[::3], parts[1::3], parts[2::3]))
+
+
+# what Python lists, in the form of the program, after the folder in which Git works: in it each name begins
+PYTHON = """
+import os, sys
+sys.path.append(sys.argv[1])
+from gix_config_value import _repository, read_repository
+try:
+    config = read_repository()
+except (OSError, ValueError) as error:
+    print(error, file=sys.stderr)
+    sys.exit(128)
+words = [_repository.find("").folder.name]
+for entry in config.entries:
+    text = entry.key + ("" if entry.text is None else chr(10) + entry.text)
+    words += entry.scope, f"{entry.file}:{entry.line}", text
+sys.stdout.buffer.write(os.fsencode("".join(word + chr(0) for word in words)))
+print(config.refusal, file=sys.stderr)
+"""
+
+
+def python_words(package):
+    return [sys.executable, "-I", "-B", "-c", PYTHON, os.path.abspath(package)]
 
 
 def program_words(program):
@@ -60,6 +83,12 @@ def of_program(run):
     return Answer(run.returncode, settings, run.stderr)
 
 
+def of_python(run):
+    folder, _, output = run.stdout.partition(b"\0")
+    run.stdout = output
+    return of_program(run)._replace(folder=folder)
+
+
 def of_git(run):
     settings = [(scope, origin.removeprefix(b"file:").removesuffix(b":"), entry)
                 for scope, origin, entry in fields(run.stdout)]
@@ -73,7 +102,9 @@ def run_in(folder, known, words):
 def is_same(ours, git):
     if git.status == REFUSED or ours.status == REFUSED:
         return ours.status == git.status
-    return ours.status == git.status and ours.settings == git.settings
+    settings = [(scope, file if scope == b"command" else os.path.join(ours.folder, file), entry)
+                for scope, file, entry in git.settings]
+    return ours.status == git.status and ours.settings == settings
 
 
 def plain(folder):
@@ -303,6 +334,7 @@ def class_of(place, ours, git, running):
         classes.OF_COMMAND: "relative condition" in place.words and b"must come from files" in git.told,
         classes.COMMAND_KEY: "blank key" in place.words and b"invalid key" in ours.told,
         classes.REFUSED_DIR: "GIT_DIR" in place.words and git.told.startswith(b"warning: "),
+        classes.SOUGHT_DIR: "GIT_DIR" in place.words and git.told.startswith(b"fatal: remote URLs cannot be "),
         classes.BARE: "safe.bareRepository" in place.words and place.where.endswith(".git"),
     }
     return next((name for name, holds in rules.items()
@@ -334,6 +366,9 @@ PLACES = [
           {"top/deep/.git": "gitdir: nowhere\n", "top/.git/config": "[a]b=1\n"}),
     Shown(classes.NO_TREE, set(), {}, "top", {"top/.git/config": "[core]repositoryformatversion=0\n worktree=../x\n"}),
     Shown(classes.NO_PATH, {"GIT_DIR"}, {"GIT_DIR": ""}, "top", {"system": ON_DIR}),
+    Shown(classes.SOUGHT_DIR, {"GIT_DIR"}, {"GIT_DIR": "missing"}, "top",
+          {"system": '[includeIf "gitdir:missing"]path=F/url\n[includeIf "hasconfig:remote.*.url:x"]path=F/more\n',
+           "url": '[remote "r"]url=x\n'}),
 ]
 MADE = r"""
 git init -q -b main work; git -C work commit -q --allow-empty -m x; mkdir -p work/deep
@@ -372,16 +407,22 @@ class Comparison:
     """What was compared: counts, and the faults."""
 
     def __init__(self, arguments, git, folder):
-        self.program, self.git, self.folder = os.path.abspath(arguments.program), git, folder
+        self.git, self.folder = git, folder
+        # the readers that are compared with Git: how each is called, and how its output is read
+        self.ours = {}
+        if arguments.program:
+            self.ours[""] = program_words(os.path.abspath(arguments.program)), of_program
+        if arguments.python:
+            self.ours[" in Python"] = python_words(arguments.python), of_python
         self.expected = [name for name, when in classes.OF_PLACES.items() if classes.is_expected(when, git.running)]
         self.counts = collections.Counter()
         self.faults = []
 
     def ask(self, name, folder, known, place=None):
         """Compares the answers in a folder."""
-        ours = of_program(run_in(folder, known, program_words(self.program)))
         git = of_git(run_in(folder, known, git_words(self.git.command)))
-        self.judge(name, ours, git, place)
+        for reader, (words, answer) in self.ours.items():
+            self.judge(name + reader, answer(run_in(folder, known, words)), git, place)
 
     def judge(self, name, ours, git, place=None):
         if is_same(ours, git):
@@ -391,7 +432,8 @@ class Comparison:
         if found:
             self.counts[found] += 1
         else:
-            self.faults.append((place.described() if isinstance(place, Place) else place or name, ours, git))
+            what = place.described() if isinstance(place, Place) else place or ""
+            self.faults.append((f"{name}: {what}", ours, git))
 
     def places(self, arguments):
         draw = random.Random(arguments.seed)
@@ -434,12 +476,13 @@ class Comparison:
         else:
             print(f"skipped: {len(OF_ROOT)} layouts, which need root")
         for layout in LAYOUTS + OF_ROOT * IS_ROOT:
-            ours = of_program(self.called(layout, program_words(self.program)))
             git = of_git(self.called(layout, git_words(self.git.command)))
             if layout.words == MOUNT and git.status != 0:
                 print(f"skipped: {layout.name}, since {git.told.decode(errors='replace').strip()}")
                 continue
-            self.judge(layout.name if git.settings else "a layout without settings", ours, git)
+            for reader, (words, answer) in self.ours.items():
+                name = (layout.name if git.settings else "a layout without settings") + reader
+                self.judge(name, answer(self.called(layout, words)), git)
 
 
 def compare(arguments, folder):
@@ -461,11 +504,14 @@ def compare(arguments, folder):
 
 def main():
     arguments = argparse.ArgumentParser()
-    arguments.add_argument("program")
+    arguments.add_argument("program", nargs="?")
     arguments.add_argument("--seed", type=int, default=1)
     arguments.add_argument("--places", type=int, default=400)
     arguments.add_argument("--git", default="git")
+    arguments.add_argument("--python")
     arguments = arguments.parse_args()
+    if not (arguments.program or arguments.python):
+        sys.exit("neither a program nor a package")
     with tempfile.TemporaryDirectory() as folder:
         return counted(lambda: compare(arguments, pathlib.Path(os.path.realpath(folder))))
 

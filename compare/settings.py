@@ -2,10 +2,12 @@
 """What Git does with values of the settings of git.rt: settings.py [PROGRAM | --ask [KEY..]]
 
 settings.tsv has a line for each question: the key of a row, the key that is asked, the name of a command, a value as
-Python writes it (None for a key alone), and Git's answer: `takes`, `warns: ..` or `dies: ..`, with its first line.
-A row that no command was seen to read has one line, whose command is `-` and whose answer is `unread`.
---ask asks the Git on PATH again, about all rows or those with these keys, and writes the answers. PROGRAM is
-config_check: its verdict on each question has to agree, or to differ in exactly one class of CLASSES.
+Python writes it (None for a key alone), and the answers of the Gits of VERSIONS: `takes`, `warns: ..` or `dies: ..`,
+with its first line if it was kept. A row that no command was seen to read has one line, whose command is `-` and
+whose answers are `unread`, as are those of a Git whose command takes all values of a key that the other Git refuses.
+--ask asks the Git on PATH again, which has to be one of VERSIONS, about all rows or those with these keys, and writes
+its answers. PROGRAM is config_check: its verdict on each question, with --git VERSION, has to agree with each of the
+Gits, or to differ in exactly one class of CLASSES.
 """
 import ast
 import collections
@@ -23,6 +25,10 @@ from programs import counted
 ANSWERS = pathlib.Path(__file__).with_name("settings.tsv")
 ROWS = pathlib.Path(__file__).parent.parent / "crates/config_checks/src/git.rt"
 SECONDS = 20
+# the Gits whose answers are kept, in the order of their columns
+VERSIONS = ("2.39", "2.55")
+# the marks of rows that precede their kinds, and what follows a mark with a value
+MARKS = re.compile(r"alone|needs-value|warn|(since|until|instead)=(.*)")
 # a repository with a remote, a submodule, notes, a conflict, and a change that is not committed
 MADE = r"""
 git init -q --template= --bare origin.git; git init -q --template= sub; git -C sub commit -q --allow-empty -m sub
@@ -236,14 +242,33 @@ def answer(made, plain, question):
 
 
 def read():
-    """The questions with their answers, in the order of the file."""
+    """The questions with the answers of each Git, in the order of the file."""
     lines = ANSWERS.read_text(encoding="utf-8").splitlines() if ANSWERS.exists() else []
     rows = [line.split("\t") for line in lines]
-    return {Question(row, key, command, ast.literal_eval(value)): given for row, key, command, value, given in rows}
+    return {Question(row, key, command, ast.literal_eval(value)): given for row, key, command, value, *given in rows}
+
+
+def column():
+    """The place of the answers of the Git on PATH."""
+    said = subprocess.run(["git", "version"], stdout=subprocess.PIPE, check=True, text=True).stdout
+    return VERSIONS.index(".".join(said.split()[2].split(".")[:2]))
+
+
+def mark_unread(stored):
+    """Marks the answers of a Git whose command takes all values of a key, if the other Git refuses some."""
+    asked = collections.defaultdict(list)
+    for (row, key, command, _), given in stored.items():
+        asked[row, key, command].append(given)
+    for answers in asked.values():
+        for one, other in ((0, 1), (1, 0)):
+            if {given[one] for given in answers} == {"takes"} != {given[other] for given in answers}:
+                for given in answers:
+                    given[one] = "unread"
 
 
 def ask(stored, keys):
     """Asks Git all questions again, or those of these rows, and writes the answers."""
+    place = column()
     asked = [question for question in stored if question.command in COMMANDS and (not keys or question.row in keys)]
     with tempfile.TemporaryDirectory() as name:
         made = pathlib.Path(name) / "made"
@@ -254,22 +279,26 @@ def ask(stored, keys):
             commands = sorted({question.command for question in asked})
             ends = pool.map(lambda command: run(made, Question("", "", command, None)), commands)
             plain = dict(zip(commands, ends))
-            stored |= zip(asked, pool.map(lambda question: answer(made, plain, question), asked))
-    lines = ["\t".join([row, key, command, repr(value), given]) for (row, key, command, value), given in stored.items()]
+            for question, told in zip(asked, pool.map(lambda question: answer(made, plain, question), asked)):
+                stored[question][place] = told
+    mark_unread(stored)
+    lines = ["\t".join([row, key, command, repr(value), *given]) for (row, key, command, value), given in stored.items()]
     ANSWERS.write_text("".join(f"{line}\n" for line in lines), encoding="utf-8")
 
 
 # what Git does by a verdict of config_check, by the severity of its line
-VERDICTS = {b"error": "dies", b"warning": "warns"}
+VERDICTS = {b"error": "dies", b"warning": "warns", b"note": "takes"}
 # a question whose answer differs from the verdict, and the kind of its row
 Case = collections.namedtuple("Case", "question kind ours git")
-EFFECTS = set("""core.bare core.fsyncObjectFiles extensions.objectFormat commit.gpgSign fetch.parallel submodule.fetchJobs
+EFFECTS = set("""core.bare extensions.objectFormat extensions.refStorage extensions.compatObjectFormat
+extensions.relativeWorktrees extensions.submodulePathConfig credential.interactive gc.maxCruftSize
+commitGraph.changedPathsVersion commit.gpgSign fetch.parallel submodule.fetchJobs
 pack.threads format.useAutoBase filter.*.required help.format merge.ff protocol.allow protocol.*.allow push.default
 push.gpgSign safe.bareRepository difftool.trustExitCode receive.denyDeleteCurrent merge.verbosity""".split())
 WIDER = set("""core.abbrev branch.sort tag.sort gc.logExpiry gc.pruneExpire gc.worktreePruneExpire
 diff.colorMovedWS push.recurseSubmodules repack.cruftWindow repack.cruftDepth repack.cruftThreads http.sslVersion
-http.*.sslVersion http.sslBackend http.*.sslBackend receive.maxInputSize diff.dirstat log.graphColors""".split())
-NEWER = set("help.autoCorrect merge.stat pack.allowPackReuse status.showUntrackedFiles".split())
+http.*.sslVersion http.sslBackend http.*.sslBackend receive.maxInputSize diff.dirstat log.graphColors hook.jobs
+sideband.allowControlCharacters status.compareBranches pack.allowPackReuse""".split())
 # the classes by their names: whether a difference is in the class
 CLASSES = {
     "Git ignores the value without a word": lambda case: (case.ours, case.git) == ("warns", "takes"),
@@ -278,25 +307,34 @@ CLASSES = {
     "Git stops at some wrong values only: a warning": lambda case: (case.ours, case.git) == ("warns", "dies"),
     "a text that the command reads further": lambda case: case.kind == "text" and case.ours == "takes",
     "a right value with an effect that fails": lambda case: case.question.row in EFFECTS and case.ours == "takes",
-    "a value that only newer Gits take": lambda case: case.question.row in NEWER and case.ours == "takes",
     "a kind that takes more than Git": lambda case: case.question.row in WIDER and case.ours == "takes",
 }
 
 
-def kinds():
-    """The kind of each row of git.rt."""
+def number(version):
+    return [int(part) for part in version.split(".")]
+
+
+def kinds(version):
+    """The kind of each row of git.rt, for a key with several rows of the one that holds for this Git."""
     text = re.sub(r"\\\n *", "", ROWS.read_text(encoding="utf-8").split('"\\\n', 1)[1].split('";')[0])
-    rows = [line.split() for line in text.splitlines() if not line.startswith("#")]
-    return {key: next(word for word in rest if word not in ("alone", "needs-value", "warn")) for key, *rest in rows}
+    found = {}
+    for key, *rest in [line.split() for line in text.splitlines() if not line.startswith("#")]:
+        marks = dict(MARKS.fullmatch(word).groups() for word in rest if MARKS.fullmatch(word))
+        kind = next(word for word in rest if not MARKS.fullmatch(word))
+        is_old = "until" in marks and number(marks["until"]) <= number(version)
+        if key not in found or not (is_old or "since" in marks and number(version) < number(marks["since"])):
+            found[key] = kind
+    return found
 
 
-def verdicts(program, questions):
-    """What Git does with each question by config_check, or None for a row that no command reads, since a file cannot
-    name each of those."""
+def verdicts(program, version, questions):
+    """What this Git does with each question by config_check, or None for a row that no command reads, since a file
+    cannot name each of those."""
     asked = [question for question in questions if question.command != "-"]
     file = "".join(entry(question.key, question.value) for question in asked)
-    run_of = subprocess.run([program, "-"], input=file.encode(errors="surrogateescape"), stdout=subprocess.PIPE,
-                            stderr=subprocess.DEVNULL, check=False)
+    run_of = subprocess.run([program, "--git", version, "-"], input=file.encode(errors="surrogateescape"),
+                            stdout=subprocess.PIPE, stderr=subprocess.DEVNULL, check=False)
     found = dict.fromkeys(questions) | dict.fromkeys(asked, "takes")
     for line in run_of.stdout.splitlines():
         _, number, severity, _ = line.split(b":", 3)
@@ -307,19 +345,22 @@ def verdicts(program, questions):
 
 def compare(program):
     """Counts the questions that agree or differ in one class, and the others; each row and class has to be seen."""
-    stored, kind_of, seen = read(), kinds(), collections.Counter()
-    failed = [f"no question of {key}" for key in sorted(set(kind_of) - {question.row for question in stored})]
-    for question, ours in verdicts(program, stored).items():
-        told = stored[question]
-        case = Case(question, kind_of.get(question.row), ours, told.split(":")[0])
-        found = [name for name, rule in CLASSES.items() if rule(case)] if case.git not in (ours, "unread") else []
-        if case.git not in (ours, "unread") and len(found) != 1:
-            failed.append(f"{question}: config_check {ours}, Git {told}: classes {found}")
-        seen.update(found)
+    stored, seen = read(), collections.Counter()
+    rows = {question.row for question in stored}
+    failed = [f"no question of {key}" for key in sorted(set(kinds(VERSIONS[0])) - rows)]
+    for place, version in enumerate(VERSIONS):
+        kind_of = kinds(version)
+        for question, ours in verdicts(program, version, stored).items():
+            told = stored[question][place]
+            case = Case(question, kind_of.get(question.row), ours, told.split(":")[0])
+            found = [name for name, rule in CLASSES.items() if rule(case)] if case.git not in (ours, "unread") else []
+            if case.git not in (ours, "unread") and len(found) != 1:
+                failed.append(f"{version}: {question}: config_check {ours}, Git {told}: classes {found}")
+            seen.update(found)
     failed += [f"no difference of the class: {name}" for name in CLASSES if not seen[name]]
     for line in [f"{count:>7,} {name}" for name, count in seen.items()] + failed:
         print(line)
-    return len(stored), len(failed)
+    return len(stored) * len(VERSIONS), len(failed)
 
 
 if __name__ == "__main__":

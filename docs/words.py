@@ -1,30 +1,20 @@
-#!/usr/bin/env python3
-"""Prints what a claim rests on: each word that its clauses cite, those that these cite, and so on, std's included.
+"""Reads the sources: items of code, and what their clauses rest on, down to the toolchain's library.
 
-    python3 docs/words.py               the lines of the headlines, and of each kind's grammar and canonical texts
-    python3 docs/words.py headline      the clauses of the headline, and the text of each word; `joined`: for colors
-    python3 docs/words.py setting       the same for the headline of settings in files
-    python3 docs/words.py Boolean       the same for a kind, here its two members of `impl Value`
-    python3 docs/words.py value::normalize_as Value::read kind::normalize     for calls: MODULE::CALL, or TYPE::CALL
-    python3 docs/words.py IntegerText   for a definition
+A claim rests on each word that its clauses cite, on those that these cite, and so on, std's included.
 
-A word comes after those that it cites. Lines of comments are printed and not counted. What the prover itself has, such
-as numbers and strings, has no text. The library of the toolchain is found by `rt doc`. A type of the code is printed
-as it is declared, and the types of its fields are not followed.
+Lines of comments are not counted. What the prover itself has, such as numbers and strings, has no text. The library of
+the toolchain is found by `rt doc`. A type of the code has the text that it is declared as, and the types of its fields
+are not followed. reference.py and crates/tests/pages.py use this module.
 """
 import functools
 import pathlib
 import re
-import signal
 import subprocess
-import sys
 
 ROOT = pathlib.Path(__file__).resolve().parent.parent
 CRATES = ROOT / "crates"
-KINDS = ("Suffix", "Integer", "Amount", "Boolean", "Name", "Attribute", "Color")
-# the calls whose clauses are the sentences of docs/READING.md: for any kind, for colors, and for settings in files
-SENTENCE = {"headline": ("value::meaning", "value::one_meaning"), "joined": ("colors::joined",),
-            "setting": ("setting_headline::value_of",)}
+LIBRARY = ("gix_config_value", "config_text", "config_integer", "config_boolean", "config_word", "config_color",
+           "config_path", "config_file", "config_host")
 # where the libraries are to which `lib.`, `mathlib.` and the like lead; all others are folders of the logic
 PLACES = {"mathlib": "antt/port/mathlib/src", "seplogic": "antt/port/seplogic/src", "native": "antt/lib/native/src",
           "text": "antt/lib/native-text/src"}
@@ -48,6 +38,7 @@ def folder_of(crate):
     return CRATES / crate if (CRATES / crate).is_dir() else library() / crate
 
 
+@functools.lru_cache(maxsize=None)
 def file_of(module):
     """The file of a module of definitions, by its path, and that path written out. A module may be passed on."""
     parts = module.split(".")
@@ -78,10 +69,12 @@ class Word:
     def __init__(self, name, file, text):
         self.name, self.file, self.text = name, file, text
         self.is_here = CRATES in file.parents
-        self.lines = without_comments(text).count("\n") + 1
+        parts = file.relative_to(CRATES if self.is_here else library()).with_suffix("").parts
+        self.crate, self.id = parts[0], ".".join([*(part for part in parts if part not in ("specs", "src")), name])
 
-    def place(self):
-        return self.file.relative_to(ROOT if self.is_here else library())
+    @property
+    def lines(self):
+        return without_comments(self.text).count("\n") + 1
 
 
 class File:
@@ -102,6 +95,8 @@ class File:
                 self.passed += [path] * bool(is_passed)
         if file.suffix == ".antt":
             self.read()
+        self.members = {found[1]: Word(found[1], file, found[0]) for found in re.finditer(
+            r"(?:^ *///[^\n]*\n)*^ *ghost (\w+): \{(?:(?!\};).)*\};", self.text, re.MULTILINE | re.DOTALL)}
 
     def read(self):
         # definitions in a block with parameters stand further in
@@ -113,7 +108,7 @@ class File:
             if head:
                 name = head[1] or head[2]
                 word = self.words.setdefault(name, Word(name, self.file, ""))
-                word.text, kept = "\n".join([*kept, line]), []
+                word.text, kept = "\n".join([word.text] * bool(word.text) + [*kept, line]), []
             elif re.match("--|infix|#", line):
                 kept.append(line)
             elif not line.strip() or re.match(rf"({MARKS} )*(use|mod) ", line):
@@ -121,7 +116,6 @@ class File:
             elif word:
                 word.text, kept = "\n".join([word.text, *kept, line]), []
         for word in list(self.words.values()):
-            word.lines = without_comments(word.text).count("\n") + 1
             # the cases of a type lead to it
             if re.search(rf"^(?:{MARKS} )*data ", word.text, re.MULTILINE):
                 for names in re.findall(r"^ +(?:pub )?((?:[^\s:({]+ )+): ", word.text, re.MULTILINE):
@@ -144,12 +138,13 @@ def end_of(text, place):
     return len(text)
 
 
+@functools.lru_cache(maxsize=None)
 def declared(crate, path):
     """A type, a variant or a constant of the code, by what it is declared as."""
     name = path[-2] if path[-1] == "TheVariants" else path[-1]
     for part in (crate, *(PARTS_OF_STD if crate == "std" else ())):
         for file in sorted(folder_of(part).glob("src/**/*.rt"), key=lambda file: (file.stem not in path, file)):
-            text = file.read_text("utf-8")
+            text = opened(file).text
             found = re.search(RUST.format(name), text, re.MULTILINE)
             if found:
                 return Word(name, file, text[found.start():end_of(text, found.end())])
@@ -161,8 +156,8 @@ def looked_up(module, name):
     """The word of that name that a module has or passes on, or None if it is the prover's own."""
     parts = module.split(".")
     if parts[2:4] == ["specs", "declared"]:
-        path = [it for it in parts[4:] if it != "TheConstants"]
-        return declared(parts[1], path if parts[-1] == "TheVariants" else [*path, name])
+        path = tuple(it for it in parts[4:] if it != "TheConstants")
+        return declared(parts[1], path if parts[-1] == "TheVariants" else (*path, name))
     file = file_of(module)
     if not file:
         # the cases of a type, imported by its path
@@ -176,132 +171,235 @@ def looked_up(module, name):
     return next((word for word in (looked_up(path, name) for path in known.passed if path != module) if word), None)
 
 
-def cited(text, file):
-    """The words that a text of a file cites, in the order in which they come."""
-    known = opened(file)
-    text = re.sub(r'"[^"\n]*"', " ", without_comments(text))
+def marks(text, file):
+    """The words that a text of a file cites: where each begins and ends, and the word."""
+    known, found = opened(file), []
+    text = re.sub(r'(?m)^ *(?:--|//|#\[).*$|"[^"\n]*"', lambda it: " " * len(it[0]), text)
     bound = {name for names in re.findall(r"[({]([^:(){}]+) :|λ ([^.]*)\.", text) for name in " ".join(names).split()}
-    if re.search(rf"^(?:{MARKS} )*record ", text):
+    if re.search(rf"^(?:{MARKS} )*record ", text, re.MULTILINE):
         bound |= set(re.findall(r"^ +(?:pub )?(\S+) : ", text, re.MULTILINE))
-    tokens = [token.strip(".") for token in re.findall(r"[^\s(){};,]+", text)]
-    present = {part for token in tokens for part in (token, token.split(".")[0])}
-    places = {}
-    for place, token in reversed(list(enumerate(tokens))):
-        places[token.split(".")[0]] = places[token] = place
-    found = []
+    tokens = [(it.start(), it[0].rstrip(".")) for it in re.finditer(r"[^\s(){};,.][^\s(){};,]*", text)]
+    present = {part for _, token in tokens for part in (token, token.split(".")[0])}
+    of = {}
     for name in {**known.names, **known.words}:
         parts = [part for part in name.split("◌") if part]
         if all(part in present for part in parts) and name not in bound:
-            source = ("", name) if name in known.words else known.names[name]
-            found.append((min(places[part] for part in parts), *source))
-    for token in places:
+            of.update(dict.fromkeys(parts, name))
+    for place, token in tokens:
         head, _, rest = token.partition(".")
-        if rest and head in known.modules and head not in bound:
-            found.append((places[token], known.modules[head], rest))
-    for _, module, name in sorted(found):
-        first, _, more = name.rpartition(".")
-        yield looked_up(f"{module}.{first}" if first else module, more) if module else known.words[name]
+        part = token if token in of else head
+        word = None
+        if part in of:
+            word = known.words[of[part]] if of[part] in known.words else looked_up(*known.names[of[part]])
+        elif rest and head in known.modules and head not in bound:
+            part, (first, _, more) = token, rest.rpartition(".")
+            word = looked_up(f"{known.modules[head]}.{first}" if first else known.modules[head], more)
+        if word:
+            found.append((place, place + len(part), word))
+    for it in re.finditer(r"(?:\b[A-Z]\w*\.)?\b([a-z]\w+)", text) if file.suffix == ".rt" else ():
+        is_owned = re.search(rf"\b[A-Z]\w*\.{it[1]}\b", text)
+        files = [known, *map(opened, sources() if is_owned else ())]
+        word = next((file.members[it[1]] for file in files if it[1] in file.members), None)
+        if word and not any(place < it.end() and it.start() < end for place, end, _ in found):
+            found.append((it.start(), it.end(), word))
+    return sorted(found, key=lambda it: it[:2])
 
 
-def closure(claims):
-    """The words on which texts rest, each after those that it cites."""
-    order, seen = [], set()
-
-    def add(word):
-        if word and (word.file, word.name) not in seen:
-            seen.add((word.file, word.name))
-            for other in cited(word.text, word.file) if word.file.suffix == ".antt" else ():
-                add(other)
-            order.append(word)
-
-    for claim in claims:
-        rust = claim.file.suffix == ".rt"
-        for word in [*members(claim), *cited(claim.text, claim.file)] if rust else [claim]:
-            add(word)
-    return order
-
-
+@functools.lru_cache(maxsize=None)
 def sources():
     return sorted(CRATES.glob("*/src/**/*.rt"))
 
 
-def claim_of_kind(kind):
-    """The grammar and the canonical texts that a type chooses in its `impl Value`."""
-    for file in sources():
-        found = re.search(rf"^impl Value for {kind} \{{.*?^\}}", file.read_text("utf-8"), re.MULTILINE | re.DOTALL)
-        if found:
-            members = re.findall(r"^ *ghost (?:grammar|canonical) = \{.*?\};", found[0], re.MULTILINE | re.DOTALL)
-            return Word(kind, file, "\n".join(members))
-    return None
+def cited(text, file):
+    return dict.fromkeys(word for *_, word in marks(text, file))
 
 
-def claim_of_call(path):
-    """The clauses of a call, by its module or its type and its name. For a trait's call, members of the `impl`."""
-    above, name = path.split("::")[-2:]
-    for file in sources():
-        text = file.read_text("utf-8")
-        begins = rf"^(?:pub trait {above}\b|impl\b[^\n]* {above}(?:<[^\n]*>)? \{{)"
-        blocks = re.findall(begins + r".*?^\}", text, re.MULTILINE | re.DOTALL)
-        for block in [text] * (file.stem == above) + blocks:
-            found = re.search(rf"^( *)(?:pub )?fn {name}\b.*?(?:;$|\{{$|\{{\s*\}}$)", block, re.MULTILINE | re.DOTALL)
-            if found and re.search(r"\b(requires|ensures)\b", found[0]):
-                return Word(path, file, found[0].rstrip(" {}"))
-            owed = re.findall(r"^ *ghost \w+ = \{.*?\};", block, re.MULTILINE | re.DOTALL)
-            if found and owed and block.startswith("impl"):
-                return Word(path, file, "\n".join([block.split("\n")[0], *owed, found[0].rstrip(" {}")]))
-    return None
+def closure(claims):
+    """The words on which items of code rest, each before those that only it cites."""
+    order = {}
+
+    def add(word):
+        if word.id not in order:
+            order[word.id] = word
+            for other in cited(word.text, word.file) if word.file.suffix == ".antt" else ():
+                add(other)
+
+    for claim in claims:
+        for word in cited(claim.head, claim.file):
+            add(word)
+    return list(order.values())
 
 
-def members(claim):
-    """The members of a trait that the clauses of a call cite, as `V.grammar`."""
-    for name in dict.fromkeys(re.findall(r"[a-z]\w+", claim.text)):
-        for file in [claim.file, *sources()] if re.search(rf"\b[A-Z]\w*\.{name}\b", claim.text) else [claim.file]:
-            text = file.read_text("utf-8")
-            found = re.search(rf"(?:^ *///[^\n]*\n)*^ *ghost {name}: \{{.*?\}};", text, re.MULTILINE | re.DOTALL)
-            if found:
-                yield Word(name, file, found[0])
-                break
-
-
-def claims_of(word):
-    if word in SENTENCE or "::" in word:
-        return list(filter(None, map(claim_of_call, SENTENCE.get(word, (word,)))))
-    found = claim_of_kind(word)
-    if found:
-        return [found]
-    files = [opened(file) for file in sorted(CRATES.glob("*/specs/*.antt"))]
-    return [file.words[word] for file in files if word in file.words][:1]
-
-
-def counts(word):
-    words = closure(claims_of(word))
+def counts(claims):
+    words = closure(claims)
     return [sum(it.lines for it in words if it.is_here is side) for side in (True, False)]
 
 
-def table():
-    """The rows of docs/READING.md's table, with counts to the nearest ten."""
-    rows = ["| Claim | Lines here | Lines of the toolchain |", "|---|---|---|"]
-    return rows + ["| `{}` | {} | {} |".format(claim, *(round(count, -1) for count in counts(claim))) for claim in (*SENTENCE, *KINDS)]
+class Item:
+    """What a file of code declares: its comment, its head up to its body, its whole text, and what is inside."""
+
+    def __init__(self, file, line, doc, head, text):
+        self.file, self.line, self.doc, self.head, self.text, self.inside = file, line, doc, head, text, []
+        self.crate, *self.module = file.relative_to(CRATES).with_suffix("").parts
+        self.module = [part for part in self.module if part not in ("src", "lib")]
+        found = re.match(r"(pub )?(?:(?:const|unsafe)\b (?=fn|trait|impl))?(\w+)!?(?: (?:mut )?(\w+))?", head)
+        self.is_public, self.kind, self.name = bool(found[1]), found[2], found[3] or found[2]
+        if self.kind not in ("fn", "struct", "enum", "trait", "type", "const", "mod", "use", "impl", "ghost"):
+            self.kind, self.name = "field" if head[found.end(2):][:1] == ":" else "variant", found[2]
+        self.head = text if self.kind == "ghost" else head
+        if self.kind == "impl":
+            self.shown = " ".join(head.split())
+            of = re.sub(r"^impl(<(?:[^<>]|<[^<>]*>)*>)? ", "", self.shown).rpartition(" for ")
+            self.trait, self.name = of[0], re.match(r"\w*", of[2])[0]
+
+    def href(self, member=""):
+        """Where it stands in the reference, below the module by which a caller reaches it."""
+        return f"{page_of(self.crate, self.module)}#{self.name}" + f".{member}" * bool(member)
+
+    def clauses(self):
+        """Where the clauses begin in the head."""
+        found = re.search(r"^ +(requires|ensures)\b", self.head, re.MULTILINE)
+        return found.start() if found else len(self.head)
 
 
-def main():
-    if not sys.argv[1:]:
-        print(*table(), sep="\n")
-        return 0
-    claims = [claim for word in sys.argv[1:] for claim in claims_of(word) or [word]]
-    unknown = [claim for claim in claims if isinstance(claim, str)]
-    if unknown:
-        print("no kind, call or definition:", *unknown, file=sys.stderr)
-        return 2
-    words = closure(claims)
-    for word in [*words, *(claim for claim in claims if claim not in words)]:
-        print(f"-- {word.place()}\n{word.text.rstrip()}\n")
-    here = sum(word.lines for word in words if word.is_here)
-    print(f"{len(words)} words: {here} lines here, {sum(word.lines for word in words) - here} of the toolchain")
-    return 0
+def parsed(file, lines, first, last, indent):
+    """The items of some lines, by their indents, as `rt fmt` lays them out."""
+    doc, place = [], first
+    while place < last:
+        own, begin = lines[place][indent:], place
+        if own.startswith("///"):
+            doc.append(own[4:])
+        elif own.startswith("#["):
+            while not lines[place].endswith("]"):
+                place += 1
+        elif re.match(r"(pub |impl\b|fn |trait |ghost (?!use)|(const|type) |mod |[A-Z]\w*\b|bitflag_items)", own):
+            has_body = False
+            while not lines[place].endswith(";"):
+                is_level = lines[place][indent:indent + 1].strip()
+                has_body = is_level and lines[place].endswith("{")
+                if has_body or is_level and re.search(r"[},]$", lines[place]):
+                    break
+                place += 1
+            head, body = place, place + 1
+            if has_body:
+                place = next(at for at in range(body, last) if lines[at].startswith(" " * indent + "}"))
+            text = ["\n".join(line[indent:] for line in lines[begin:to + 1]) for to in (head, place)]
+            item = Item(file, begin + 1, "\n".join(doc), re.sub(r" ?\{\}?$", "", text[0]).rstrip(), text[1])
+            if item.kind in ("struct", "enum", "trait", "impl", "mod", "variant"):
+                item.inside = list(parsed(file, lines, body, place, indent + 4)) * has_body
+            if own.startswith("bitflag_items"):
+                yield from parsed(file, lines, body, place, indent + 4)
+            else:
+                yield item
+            doc = []
+        else:
+            doc = []
+        place += 1
 
 
-if __name__ == "__main__":
-    # for `| head`
-    signal.signal(signal.SIGPIPE, signal.SIG_DFL)
-    sys.exit(main())
+@functools.lru_cache(maxsize=None)
+def items_of(file):
+    lines = opened(file).text.split("\n")
+    return list(parsed(file, lines, 0, len(lines), 0))
+
+
+@functools.lru_cache(maxsize=None)
+def imported(file):
+    """What the names of a file of code stand for, by their paths."""
+    found = {}
+    form = r"^ *(?:pub )?use ([\w:]+?)(?:::\{([^}]*)\})?(?: as \w+)?;"
+    for path, names in re.findall(form, opened(file).text, re.MULTILINE):
+        for name in filter(None, re.split(r",\s*", names.strip())) if names else [path]:
+            known, _, new = name.partition(" as ")
+            whole = (f"{path}::{known}" if names else path).replace("crate", file.relative_to(CRATES).parts[0])
+            found[new or known.split("::")[-1]] = whole.split("::")
+    return found
+
+
+def page_of(crate, module=()):
+    return ".".join([crate, *module, "html"])
+
+
+class Library:
+    """The public items of the libraries, each under the module by which a caller reaches it."""
+
+    def __init__(self):
+        self.modules, self.named, self.passed, self.hidden, impls = {}, {}, {}, set(), []
+        files = [file for crate in LIBRARY for file in sorted((CRATES / crate / "src").rglob("*.rt"))]
+        files.sort(key=lambda file: len(file.parts) - (file.stem == "lib"))
+        found = [item for file in files for item in items_of(file)]
+        for item in found:
+            if item.kind == "mod" and not item.is_public:
+                self.hidden.add((item.crate, *item.module, item.name))
+        for item in found:
+            self.pass_on(item)
+        for item in found:
+            if item.kind == "impl":
+                impls.append(item)
+            elif item.is_public and item.kind not in ("mod", "use") and self.is_reached(item):
+                self.modules.setdefault((item.crate, *item.module), []).append(item)
+                self.named.setdefault(item.name, []).append(item)
+                item.impls = []
+        for item in impls:
+            for of in self.named.get(item.name, ()):
+                if of.crate == item.crate:
+                    of.impls.append(item)
+        for key in (key[:end] for key in [*self.modules, *self.passed] for end in range(1, len(key) + 1)):
+            self.modules.setdefault(key, [])
+
+    def is_hidden(self, item):
+        key = (item.crate, *item.module)
+        return any(key[:end] in self.hidden for end in range(len(key) + 1))
+
+    def pass_on(self, item):
+        """Keeps what a `pub use` passes on, also in a module that stands in a file."""
+        if self.is_hidden(item) or not item.is_public:
+            return
+        if item.kind == "mod":
+            for inner in item.inside:
+                inner.module = [*item.module, item.name]
+                self.pass_on(inner)
+        if item.kind == "use":
+            base, names = re.match(r"pub use ([\w: ]+?)(?:::\{(.*)\})?;", " ".join(item.text.split())).groups()
+            for name in filter(None, re.split(r",\s*", names.strip())) if names else [base]:
+                known, _, new = name.partition(" as ")
+                path = (f"{base}::{known}" if names else known).replace("crate", item.crate).split("::")
+                self.passed.setdefault((item.crate, *item.module), {})[new or path[-1]] = path
+
+    def is_reached(self, item):
+        if self.is_hidden(item):
+            path = [item.crate, *item.module, item.name]
+            item.module = next((list(to[1:]) for to, names in self.passed.items() if path in names.values()), None)
+        return item.module is not None
+
+    def find(self, path, file):
+        """The link to what a path of code means in a file, or None."""
+        parts, crate = re.sub(r"[^\w:].*", "", path).split("::"), file.relative_to(CRATES).parts[0]
+        known = imported(file).get(parts[0])
+        parts = [*known, *parts[1:]] if known else parts
+        parts = [crate, *parts[1:]] if parts[0] in ("crate", "self", "super") else parts
+        if known and parts[0] not in LIBRARY:
+            return None
+        parts = parts if parts[0] in LIBRARY else [crate, *parts]
+        for _ in range(3):
+            for count in range(1, min(3, len(parts))):
+                near = [it for it in self.named.get(parts[-count], ()) if it.crate == parts[0]]
+                near.sort(key=lambda it: (it.file != file, not set(it.module) & set(parts)))
+                if near and (count == 1 or parts[-1] in members(near[0])):
+                    return near[0].href(parts[-1] if count == 2 else "")
+            if tuple(parts) in self.modules:
+                return page_of(parts[0], parts[1:])
+            at = [names[part] + parts[place + 1:] for (crate, *_), names in self.passed.items() if crate == parts[0]
+                  for place, part in enumerate(parts) if place and part in names]
+            if not at or at[0][0] not in LIBRARY:
+                return None
+            parts = at[0]
+        return None
+
+
+def members(item):
+    """The fields, variants, constants and calls that have an anchor below an item, each once."""
+    inner = [it for it in item.inside if it.kind != "ghost" and (it.is_public or item.kind != "struct")]
+    for block in item.impls:
+        inner += [it for it in block.inside if it.is_public or it.kind == "const" and not block.trait]
+    return {it.name: it for it in inner}

@@ -833,12 +833,14 @@ static gcv_status take(Walk *walk, const gcv_known *known, gcv_step *step)
     return status;
 }
 
-/* Returns the file, the line, the key and the text of an entry; the text of a key without `=` is None. */
+/* Returns the file, the line, the key and the text of an entry, and how many files the walk is in. The text of a key
+ * without `=` is None. */
 static PyObject *row_of(const Walk *walk, const gcv_step *step)
 {
     PyObject *file = PyTuple_GetItem(walk->files[walk->walk.count - 1], 0);
     PyObject *text = step->value ? text_of(step->value) : counted(Py_None);
-    return Py_BuildValue("OnNN", file, (Py_ssize_t)step->line, text_of(step->key), text);
+    return Py_BuildValue("OnNNn", file, (Py_ssize_t)step->line, text_of(step->key), text,
+                         (Py_ssize_t)walk->walk.count);
 }
 
 /* Goes on in the file that an entry includes. `open` takes the entry and the name of the file, or None if the library
@@ -873,12 +875,30 @@ static void raise_for(gcv_status status, const gcv_step *step)
                                      (Py_ssize_t)step->line));
 }
 
-/* Reads the members of a gcv_known, each of them `bytes` or None. */
-static int is_known(PyObject *parts, gcv_known *known)
+/* Reads the URLs of remotes: a list of `bytes`, or None while they are sought. Returns the array, or null. */
+static gcv_text *urls_of(PyObject *list, gcv_known *known)
 {
-    PyObject *all[6];
-    if (!PyArg_ParseTuple(parts, "OOOOOO", &all[0], &all[1], &all[2], &all[3], &all[4], &all[5]))
+    known->seeks_urls = list == Py_None;
+    Py_ssize_t count = known->seeks_urls ? 0 : PyList_Size(list);
+    gcv_text *urls = count < 0 ? NULL : PyMem_Malloc((size_t)(count + 1) * sizeof *urls);
+    for (Py_ssize_t at = 0; urls && at < count; at++) {
+        urls[at].bytes = PyBytes_AsString(PyList_GetItem(list, at));
+        urls[at].length = urls[at].bytes ? (size_t)PyBytes_Size(PyList_GetItem(list, at)) : 0;
+    }
+    known->urls = urls;
+    known->urls_length = (size_t)(count < 0 ? 0 : count);
+    if (!urls && !PyErr_Occurred())
+        PyErr_NoMemory();
+    return urls;
+}
+
+/* Reads the members of a gcv_known, each of them `bytes` or None, and the URLs. `*urls` has to be freed. */
+static int is_known(PyObject *parts, gcv_known *known, gcv_text **urls)
+{
+    PyObject *all[7];
+    if (!PyArg_ParseTuple(parts, "OOOOOOO", &all[0], &all[1], &all[2], &all[3], &all[4], &all[5], &all[6]))
         return 0;
+    *urls = urls_of(all[6], known);
     known->install_dir = part_of(all[0], &known->install_dir_length);
     known->home = part_of(all[1], &known->home_length);
     known->real_home = part_of(all[2], &known->real_home_length);
@@ -888,30 +908,78 @@ static int is_known(PyObject *parts, gcv_known *known)
     return !PyErr_Occurred();
 }
 
-/* Lists the entries of a file, and of the files that they include. Takes the file as `enter` does, what includes may
- * refer to, or None if none is followed, and what opens files for `follow`. */
+/* Appends the entries of a file, and of the files that they include, to a list. Takes the file as `enter` does, what
+ * includes may refer to, or None if none is followed, what opens files for `follow`, and the list. */
 static PyObject *entries_of(PyObject *Py_UNUSED(module), PyObject *args)
 {
-    PyObject *file, *parts, *open, *rows = PyList_New(0);
+    PyObject *file, *parts, *open, *rows;
+    gcv_text *urls = NULL;
     Walk walk = {0};
     gcv_known known = {0};
     gcv_step step = {0};
     gcv_status status = GCV_REFUSED;
-    if (rows && PyArg_ParseTuple(args, "OOO", &file, &parts, &open) && (parts == Py_None || is_known(parts, &known)))
+    if (PyArg_ParseTuple(args, "OOOO", &file, &parts, &open, &rows) &&
+        (parts == Py_None || is_known(parts, &known, &urls)))
         status = enter(&walk, file);
     while (status == GCV_OK && (status = take(&walk, parts == Py_None ? NULL : &known, &step)) == GCV_OK) {
         PyObject *row = row_of(&walk, &step);
         status = row && PyList_Append(rows, row) == 0 ? follow(&walk, &step, row, open) : GCV_REFUSED;
         Py_XDECREF(row);
     }
-    if (status != GCV_ABSENT) {
+    if (status != GCV_ABSENT)
         raise_for(status, &step);
-        Py_CLEAR(rows);
-    }
     for (int depth = 0; depth < GCV_MOST_FRAMES; depth++)
         Py_XDECREF(walk.files[depth]);
     PyMem_Free(walk.buffer);
-    return rows;
+    PyMem_Free(urls);
+    return status == GCV_ABSENT ? counted(Py_None) : NULL;
+}
+
+/* The codes of the statuses for the settings of a command that are refused, from GCV_BAD_COUNT on. */
+static const char *const command_codes[] = {"bad_count",  "too_many_settings", "missing_key", "missing_value",
+                                            "bad_parameters", "no_key",        "empty_key",   "no_section",
+                                            "no_key_name", "bad_key",          "key_line_feed"};
+
+/* A callable that finds variables as `bytes`, and a list of what it has found. */
+typedef struct {
+    PyObject *callable, *found;
+} Variables;
+
+/* A gcv_get_variable. It may leave an exception. */
+static const char *variable_of(void *state, const char *name)
+{
+    Variables *variables = state;
+    PyObject *value = PyErr_Occurred() ? NULL : PyObject_CallFunction(variables->callable, "y", name);
+    int is_set = value && value != Py_None && PyList_Append(variables->found, value) == 0;
+    const char *text = is_set ? PyBytes_AsString(value) : NULL;
+    Py_XDECREF(value);
+    return text;
+}
+
+/* Returns the settings of a command as the text of a file. Takes what finds variables. */
+static PyObject *command_text(PyObject *Py_UNUSED(module), PyObject *get)
+{
+    Variables variables = {get, PyList_New(0)};
+    PyObject *text = NULL;
+    size_t size = 0;
+    gcv_status status = variables.found ? gcv_command_text(variable_of, &variables, NULL, 0, &size) : GCV_NO_MEMORY;
+    if (status == GCV_OK || status == GCV_SHORT_BUFFER) {
+        text = PyBytes_FromStringAndSize(NULL, (Py_ssize_t)size);
+        if (text)
+            status = gcv_command_text(variable_of, &variables, PyBytes_AsString(text), size, &size);
+    }
+    Py_XDECREF(variables.found);
+    if (status == GCV_OK && !PyErr_Occurred())
+        return text;
+    Py_XDECREF(text);
+    if (PyErr_Occurred())
+        return NULL;
+    if (status != GCV_NUL && (status < GCV_BAD_COUNT || status > GCV_KEY_LINE_FEED))
+        return PyErr_NoMemory();
+    raised(invalid_file_type, PyObject_CallFunction(invalid_file_type, "sssi",
+                                                    status == GCV_NUL ? "nul" : command_codes[status - GCV_BAD_COUNT],
+                                                    gcv_status_text(status), "command line", 0));
+    return NULL;
 }
 
 /* The module */
@@ -953,6 +1021,7 @@ static PyMethodDef functions[] = {
     {"cut_mark", mark_cut, METH_O, NULL},
     {"interpolate", interpolated, METH_VARARGS, NULL},
     {"entries", entries_of, METH_VARARGS, NULL},
+    {"command_text", command_text, METH_O, NULL},
     {NULL, NULL, 0, NULL},
 };
 

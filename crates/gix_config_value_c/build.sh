@@ -89,7 +89,13 @@ $cc -shared -o "$work/libgix_config_value.so.$version" -Wl,-soname,"$soname" -Wl
 escaped() {
     printf '%s' "$1" | sed 's/[ \\]/\\&/g; s/[\\&|]/\\&/g'
 }
-sed -e "s|@PREFIX@|$(escaped "$prefix")|" -e "s|@LIBDIR@|$(escaped "$libdir")|" -e "s|@VERSION@|$version|" \
+# a folder below PREFIX is named by it, since PREFIX may move
+# shellcheck disable=SC2016
+case $libdir in
+    "$prefix"/*) named='${prefix}'$(escaped "${libdir#"$prefix"}") ;;
+    *) named=$(escaped "$libdir") ;;
+esac
+sed -e "s|@PREFIX@|$(escaped "$prefix")|" -e "s|@LIBDIR@|$named|" -e "s|@VERSION@|$version|" \
     "$here/gix_config_value.pc.in" > "$work/gix_config_value.pc"
 
 # installs folders and files that all users can read, whatever the mask is

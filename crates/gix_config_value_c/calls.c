@@ -44,7 +44,7 @@ const char *gcv_status_text(gcv_status status)
     case GCV_BAD_LINE:
         return "a line of the file is invalid";
     case GCV_NUL:
-        return "the file has a NUL outside a comment";
+        return "the file has a NUL outside a comment, or a setting of a command has one";
     case GCV_NO_INCLUDE:
         return "the entry includes no file";
     case GCV_NO_VALUE:
@@ -55,6 +55,28 @@ const char *gcv_status_text(gcv_status status)
         return "the file is more than ten includes deep";
     case GCV_BAD_DEPTH:
         return "no depth with colors has the number";
+    case GCV_BAD_COUNT:
+        return "bogus count in GIT_CONFIG_COUNT";
+    case GCV_TOO_MANY_SETTINGS:
+        return "too many entries in GIT_CONFIG_COUNT";
+    case GCV_MISSING_KEY:
+        return "missing config key GIT_CONFIG_KEY_n";
+    case GCV_MISSING_VALUE:
+        return "missing config value GIT_CONFIG_VALUE_n";
+    case GCV_BAD_PARAMETERS:
+        return "bogus format in GIT_CONFIG_PARAMETERS";
+    case GCV_NO_KEY:
+        return "bogus config parameter";
+    case GCV_EMPTY_KEY:
+        return "empty config key";
+    case GCV_NO_SECTION:
+        return "key does not contain a section";
+    case GCV_NO_KEY_NAME:
+        return "key does not contain a variable name";
+    case GCV_BAD_KEY:
+        return "invalid key";
+    case GCV_KEY_LINE_FEED:
+        return "invalid key (newline)";
     }
     return "unknown status";
 }
@@ -188,6 +210,101 @@ gcv_status gcv_interpolate_with(const char *text, size_t length, const gcv_conte
     }
     if (status == GCV_REFUSED && fault) {
         *fault = why;
+    }
+    return status;
+}
+
+/* Where the settings of a command come from and go to. Without a buffer their bytes are only counted. */
+typedef struct {
+    gcv_get_variable *get;
+    void *state;
+    char *buffer;
+    size_t capacity, size;
+} command;
+
+/* Returns the room for the next piece, which is not null, and its capacity. */
+static char *room_of(command *to, size_t *capacity)
+{
+    static char none[1];
+    *capacity = to->buffer ? to->capacity - to->size : 0;
+    return *capacity == 0 ? none : to->buffer + to->size;
+}
+
+/* Counts a piece. One that is only counted needs no room. */
+static gcv_status count_piece(command *to, gcv_status status, size_t piece)
+{
+    if (status == GCV_SHORT_BUFFER && !to->buffer) {
+        status = GCV_OK;
+    }
+    to->size += status == GCV_OK ? piece : 0;
+    return status;
+}
+
+/* Returns the variable of this name and this number, or null if it is not set. */
+static const char *numbered(const command *to, const char *name, size_t number)
+{
+    char text[40];
+    size_t end = strlen(name), left;
+    memcpy(text, name, end);
+    for (left = number; left > 9; left /= 10) {
+        end++;
+    }
+    text[end + 1] = '\0';
+    for (left = number; end >= strlen(name); left /= 10) {
+        text[end--] = (char)('0' + left % 10);
+    }
+    return to->get(to->state, text);
+}
+
+/* Writes the setting of this number. */
+static gcv_status write_numbered(command *to, size_t number)
+{
+    const char *key = numbered(to, "GIT_CONFIG_KEY_", number);
+    const char *value = key ? numbered(to, "GIT_CONFIG_VALUE_", number) : NULL;
+    size_t capacity, size = 0;
+    char *room = room_of(to, &capacity);
+    if (!value) {
+        return key ? GCV_MISSING_VALUE : GCV_MISSING_KEY;
+    }
+    gcv_status status = gcv_raw_command_setting(key, strlen(key), value, strlen(value), room, capacity, &size);
+    return count_piece(to, status, size);
+}
+
+/* Writes the settings of GIT_CONFIG_COUNT, and then those of GIT_CONFIG_PARAMETERS. */
+static gcv_status write_command(command *to)
+{
+    const char *announced = to->get(to->state, "GIT_CONFIG_COUNT");
+    size_t count = 0, number, capacity, size = 0;
+    gcv_status status = announced ? gcv_raw_command_count(announced, strlen(announced), &count) : GCV_OK;
+    for (number = 0; status == GCV_OK && number < count; number++) {
+        status = write_numbered(to, number);
+    }
+    const char *parameters = status == GCV_OK ? to->get(to->state, "GIT_CONFIG_PARAMETERS") : NULL;
+    if (parameters) {
+        char *room = room_of(to, &capacity);
+        status = gcv_raw_command_parameters(parameters, strlen(parameters), room, capacity, &size);
+        status = count_piece(to, status, size);
+    }
+    return status;
+}
+
+gcv_status gcv_command_text(gcv_get_variable *get, void *state, char *GCV_RESTRICT buffer, size_t capacity,
+                            size_t *size)
+{
+    command to = {get, state, NULL, 0, 0};
+    gcv_status status = write_command(&to);
+    size_t needed = to.size;
+    if (status == GCV_OK && needed > capacity) {
+        status = GCV_SHORT_BUFFER;
+    } else if (status == GCV_OK && needed > 0) {
+        to.buffer = buffer;
+        to.capacity = capacity;
+        to.size = 0;
+        status = write_command(&to);
+        needed = to.size;
+    }
+    if (status == GCV_OK || status == GCV_SHORT_BUFFER) {
+        *size = needed;
     }
     return status;
 }

@@ -2,7 +2,7 @@
 """Compares the pages with the definitions, and runs the examples in comments (examples.py).
 
 A word, a bit, a number or a row fails if it is in a table of docs/GRAMMAR.md and not in `specs/`, or the other way
-round. So does a row of counts that docs/words.py prints and docs/READING.md lacks, and a word of the toolchain that a
+round. So does a row of counts of docs/reference.py that docs/READING.md lacks, and a word of the toolchain that a
 definition uses and docs/READING.md does not explain. The last line is 'N passed, M failed'.
 """
 import pathlib
@@ -13,6 +13,7 @@ import examples
 
 ROOT = pathlib.Path(__file__).resolve().parent.parent.parent
 sys.path.insert(0, str(ROOT / "docs"))
+import reference  # noqa: E402
 import words  # noqa: E402
 
 LIBRARY = tuple(examples.CALLS)
@@ -192,7 +193,8 @@ def reading():
     """The line counts in docs/READING.md, and the words that it has to explain."""
     page = (ROOT / "docs/READING.md").read_text("utf-8")
     explained = " ".join(re.findall("`+([^`]+)`+", page))
-    yield "docs/READING.md, the lines of claims", words.table(), [row for row in words.table() if row in page]
+    rows = reference.table()
+    yield "docs/READING.md, the lines of claims", rows, [row for row in rows if row in page]
     own = tuple(f"Rattle.{crate}." for crate in LIBRARY)
     for crate in LIBRARY:
         for file in sorted((words.CRATES / crate / "specs").glob("*.antt")):

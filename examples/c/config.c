@@ -50,7 +50,7 @@ static int enter(gcv_walk *walk, const char *name)
 static int look_up(const char *key, const char *name, found *last)
 {
     static char buffer[4 * LONGEST_FILE];
-    gcv_known known = {NULL, 0, NULL, 0, NULL, 0, NULL, 0, NULL, 0, NULL, 0};
+    gcv_known known = {NULL, 0, NULL, 0, NULL, 0, NULL, 0, NULL, 0, NULL, 0, NULL, 0, 0};
     gcv_step step = {"", 0, 0, NULL, NULL, NULL, GCV_OK, 0};
     gcv_status status = GCV_OK;
     gcv_walk walk;

@@ -2,16 +2,28 @@
 import os
 from collections import namedtuple
 
-from . import _core, _repository
-from ._errors import InvalidFile, Refused
+from . import _repository, _walk
+from ._errors import Refused
 from ._values import READERS, Readers, home_of_user, interpolate
 
-Entry = namedtuple("Entry", "file line key text", module="gix_config_value")
-Entry.__doc__ = """An entry of a file: the file, the line from 1, the key as Git lists it, and the text.
 
-The text is `None` if the key has no `=`."""
+class Entry(namedtuple("Entry", "file line key text scope", defaults=(None,))):
+    """An entry of a file: the file, the line from 1, the key as Git lists it, the text, and the scope.
 
-_MISSING = (FileNotFoundError, NotADirectoryError)
+    The text is `None` if the key has no `=`. The scope is `None`, or in `read_repository` one of `system`, `global`,
+    `local`, `worktree` and `command`. The settings of a command are in a file of the name `command line`, and their
+    lines mean nothing.
+    """
+
+    __module__ = "gix_config_value"
+    __slots__ = ()
+
+    @property
+    def origin(self):
+        """Where it is, as `git config --show-origin` says it."""
+        is_command = self.scope == "command" and self.file == _walk.COMMAND
+        return "command line:" if is_command else f"file:{self.file}"
+
 
 _ABSENT = object()
 
@@ -49,7 +61,8 @@ class Configuration(dict):
     """The texts of settings by their keys, and the entries that they come from.
 
     A key is as Git lists it, `branch.Main.rebase`, and its section and its last part may be in any case. The last entry
-    with the key decides. Its text is `None` if the key has no `=`. A configuration cannot be changed.
+    with the key decides. Its text is `None` if the key has no `=`. A configuration cannot be changed. `refusal` says in
+    Git's words why `read_repository` has used no repository although one is there, and otherwise is `None`.
 
     >>> config = Configuration([Entry("config", 2, "core.bare", "yes")])
     >>> config["core.bare"], config.get("Core.Bare", "boolean")
@@ -57,17 +70,23 @@ class Configuration(dict):
     """
 
     __module__ = "gix_config_value"
-    __slots__ = ("_entries", "_by_key")
+    __slots__ = ("_entries", "_by_key", "_refusal")
 
-    def __init__(self, entries=()):
+    def __init__(self, entries=(), refusal=None):
         self._entries = tuple(entries)
         self._by_key = None
+        self._refusal = refusal
         super().__init__((entry.key, entry.text) for entry in self._entries)
 
     @property
     def entries(self):
         """All entries, in order."""
         return self._entries
+
+    @property
+    def refusal(self):
+        """Why Git uses no repository, although one is there."""
+        return self._refusal
 
     def __missing__(self, key):
         text = dict.get(self, _listed(key), _ABSENT)
@@ -79,10 +98,11 @@ class Configuration(dict):
         return dict.__contains__(self, key) or dict.__contains__(self, _listed(key))
 
     def __repr__(self):
-        return f"Configuration({self._entries!r})"
+        more = "" if self._refusal is None else f", {self._refusal!r}"
+        return f"Configuration({self._entries!r}{more})"
 
     def __reduce__(self):
-        return Configuration, (self._entries,)
+        return Configuration, (self._entries, self._refusal)
 
     def entries_of(self, key):
         """The entries with a key, in order: the last one decides."""
@@ -131,89 +151,32 @@ class Configuration(dict):
     __setitem__ = __delitem__ = __or__ = __ror__ = __ior__ = clear = pop = popitem = setdefault = update = _unchanged
 
 
-def _opened(name):
-    """A file for a walk: its name, as a `str` and as `bytes`, the real name of its directory, and its text."""
-    shown = os.fsdecode(name)
-    with open(shown, "rb") as file:
-        return shown, name, os.path.dirname(os.path.realpath(name)).rstrip(b"/"), file.read()
-
-
-def _included(entry, name):
-    """The file that an entry includes, or `None` if it is not there, where Git goes on. Without a name, looks for the
-    user whose name its path begins with."""
-    file, line, _, path = entry
-    if name is None:
-        user, _, rest = path.partition("/")
-        try:
-            name = os.fsencode(interpolate(user + "/", users=home_of_user) + rest)
-        except Refused:
-            raise InvalidFile("no_directory", f"the directory of {path} is not known", file, line) from None
-    try:
-        return _opened(name)
-    except _MISSING:
-        return None
-    except OSError as error:
-        raise InvalidFile("unreadable", f"{os.fsdecode(name)} cannot be read: {error.strerror}", file, line) from error
-
-
-def _entries(file, known):
-    """The entries of a file, and if `known` is given, after each entry those of the file that it includes."""
-    return map(Entry._make, _core.entries(_opened(os.fsencode(file)), known, _included))
-
-
-def _known(repository):
-    """What includes may refer to: no install directory, the home directory, and the repository if there is one."""
-    home = os.environ.get("HOME")
-    names = [None, home, home and os.path.realpath(home), None, None, None]
-    if repository:
-        names[3:] = repository.absolute_name(), repository.real_name(), repository.branch()
-    return tuple(None if name is None else os.fsencode(name) for name in names)
-
-
 def read(*paths, includes=False, repository=None):
     """The configuration of files: later files decide over earlier ones.
 
     With `includes` the files that they include are read too, each one after the entry that includes it. Conditions are
-    about the repository of the folder `repository`; without it no `includeIf` holds. Those on remotes never hold.
+    about the repository of the folder `repository`, and about the remotes in all these files; without a repository
+    only those on remotes hold.
 
     Raises `OSError` if a file cannot be read, and `InvalidFile`, with the place, for an invalid line or a NUL outside a
     comment.
     """
-    known = _known(repository and _repository.find(os.fsdecode(repository))) if includes else None
-    entries = []
-    for path in paths:
-        entries += _entries(path, known)
-    return Configuration(entries)
-
-
-def _entries_if_present(file, known, skipped=()):
-    try:
-        return _entries(file, known)
-    except (*_MISSING, *skipped):
-        return ()
+    known = None
+    if includes:
+        known = _walk.known_in(repository and _repository.find(os.fsdecode(repository)).repository)
+    return Configuration(map(Entry._make, _walk.entries([_walk.opened(path) for path in paths], known)))
 
 
 def read_repository(path="."):
-    """The configuration that `git -C path config --list` reads from files, with what they include.
+    """The configuration that `git -C path config --list` reads, with what its files include.
 
-    These are the files of the system, of the user, of the repository and of its worktree; outside a repository they are
-    only the first two. Git's variables for them count, such as GIT_CONFIG_GLOBAL and GIT_DIR.
+    It has the settings of the system, of the user, of the repository, of its worktree and of the command, in this
+    order; outside a repository there are only the first two and the last. Git's variables count, such as
+    GIT_CONFIG_GLOBAL, GIT_DIR and GIT_CONFIG_COUNT. If Git uses no repository although one is there, `refusal` of the
+    configuration says why.
 
-    Raises the errors of `read`, but skips a file that does not exist.
+    Raises the errors of `read`, but skips a file that does not exist. Raises `InvalidFile` also where Git stops at a
+    setting of the repository's format, or of the command.
     """
-    folder = os.fsdecode(path) if os.fsdecode(path) != os.curdir else ""
-    repository = _repository.find(folder)
-    known = _known(repository)
-    entries = []
-    top = repository.folder if repository else folder
-    system = _repository.system_file(top)
-    if system is not None:
-        entries += _entries_if_present(system, known)
-    for file in _repository.files_of_user(top):
-        entries += _entries_if_present(file, known, (PermissionError,))
-    if repository:
-        shared = repository.shared_file("config")
-        entries += _entries_if_present(shared, known)
-        if os.path.exists(shared) and read(shared).get("extensions.worktreeConfig", "boolean"):
-            entries += _entries_if_present(repository.file("config.worktree"), known)
-    return Configuration(entries)
+    place = _repository.find(os.fsdecode(path))
+    return Configuration(map(Entry._make, _repository.entries(place)), place.refusal)

@@ -21,7 +21,7 @@ class Refused(ValueError):
         message = f"{fault}: {shown}"
         if entry is not None:
             self._entry = entry
-            self.file, self.line, self.key, text = entry
+            self.file, self.line, self.key, text, *_ = entry
             message = f"{fault}: no value" if text is None else message
             message = f"{self.file}:{self.line}: {self.key}: {message}"
         super().__init__(message)
@@ -39,16 +39,18 @@ class Refused(ValueError):
 
 
 class InvalidFile(ValueError):
-    """A file that is no configuration, or that includes a file which cannot be read.
+    """A file that is no configuration, or settings with which Git does not go on.
 
-    `code` is bad_line, nul, no_value, no_directory, unreadable or too_deep, `fault` says why in a sentence, and `file`
-    and `line` tell where.
+    `fault` says why in a sentence, and `file` and `line` tell where. `code` is bad_line or nul for a line, no_value,
+    no_directory, unreadable, relative, too_deep or remote_url for an include, and bad_format for a setting of the
+    repository's format. In the variables that have the settings of a command, which have the name `command line` and
+    no line, it is the name of a status in the C header, in lower case and without `GCV_`, such as bad_count.
     """
 
     __module__ = "gix_config_value"
 
     def __init__(self, code, fault, file, line):
-        super().__init__(f"{file}:{line}: {fault}")
+        super().__init__(f"{file}:{line}: {fault}" if line else f"{file}: {fault}")
         self.code = code
         self.fault = fault
         self.file = file

@@ -1,11 +1,32 @@
-"""The places where Git finds its configuration files: those of the system, of the user, and of a repository.
-
-A name is relative to the folder in which Git works, which is the top of a work tree, and the empty folder is the current
-one.
-"""
+"""Finds the repository of a folder and the files that Git reads there, as Git does."""
 import os
+from collections import namedtuple
 
-from ._core import boolean
+from . import _walk
+from ._core import boolean, integer
+from ._errors import InvalidFile, Refused
+from ._values import home_of_user, interpolate
+
+# a folder: its name as the system opens it, and its path from the root, with the links that PWD has
+Folder = namedtuple("Folder", "name path")
+# a directory of Git: its name, its name in the folder where it is found, and how it is named: by GIT_DIR ("given"), as
+# `.git` of a folder ("below"), or as a folder itself ("bare")
+Found = namedtuple("Found", "folder name named form")
+# what conditions ask about a repository, and the files of its settings
+Repository = namedtuple("Repository", "path real_path branch files")
+# where Git works: a folder, the repository, and why Git uses none although one is there
+Place = namedtuple("Place", "folder repository refusal")
+
+HASHES, STORES = ("sha1", "sha256"), ("files", "reftable")
+# the extensions that count in each version, and those that need version 1, with what Git asks of their values
+EARLY = {"noop": "any", "preciousobjects": "boolean", "worktreeconfig": "boolean", "partialclone": "text"}
+LATER = {"noop-v1": "any", "objectformat": HASHES, "compatobjectformat": HASHES, "refstorage": STORES,
+         "relativeworktrees": "boolean", "submodulepathconfig": "boolean"}
+WHITE, HEXADECIMAL = " \t\n\f\r", set("0123456789abcdefABCDEF")
+
+
+class NotUsed(Exception):
+    """Why Git does not use a repository that is there, in Git's words."""
 
 
 def _is_on(variable):
@@ -13,108 +34,367 @@ def _is_on(variable):
 
 
 def _line(file):
-    """The text of a file of one line, without the end of the line, or `None` if it cannot be read."""
+    """The text of a regular file without the line ends at its end, or `None` if it cannot be read."""
     try:
-        with open(file, "rb") as opened:
-            return os.fsdecode(opened.read().rstrip(b"\r\n"))
+        if os.path.isfile(file):
+            with open(file, "rb") as opened:
+                return os.fsdecode(opened.read().rstrip(b"\r\n"))
     except OSError:
-        return None
+        pass
+    return None
 
 
-class Repository:
-    """A Git directory by its name in a folder, and the directory that its worktrees share."""
-
-    def __init__(self, folder, name):
-        self.folder = folder
-        self.name = name
-        self.directory = os.path.join(folder, "" if name == "." else name)
-        self.common_directory = self._common_directory()
-
-    def _common_directory(self):
-        if "GIT_COMMON_DIR" in os.environ:
-            return os.path.join(self.folder, os.environ["GIT_COMMON_DIR"])
-        shared = _line(self.file("commondir"))
-        return self.directory if shared is None else os.path.realpath(self.file(shared))
-
-    def file(self, name):
-        """The name of a file of this Git directory."""
-        return os.path.join(self.directory, name)
-
-    def shared_file(self, name):
-        """The name of a file that all worktrees share."""
-        return os.path.join(self.common_directory, name)
-
-    def is_there(self):
-        """Whether this is a Git directory: it has HEAD, and objects and refs."""
-        return os.path.lexists(self.file("HEAD")) and all(map(os.path.isdir, map(self.shared_file, ("objects", "refs"))))
-
-    def absolute_name(self):
-        """The name from the root. Its links stay as Git has them: those of PWD, if that is the folder."""
-        folder, shown = os.path.realpath(self.folder), os.environ.get("PWD", "")
-        if os.path.exists(shown) and os.path.samefile(shown, folder):
-            folder = shown
-        return os.path.join(folder, self.name)
-
-    def real_name(self):
-        """The name from the root without links."""
-        return os.path.realpath(self.directory)
-
-    def branch(self):
-        """The name of the branch, or `None` if HEAD is detached, or a stub, as in a repository with a reftable."""
-        head = _line(self.file("HEAD")) or ""
-        reference = head[4:].strip() if head.startswith("ref:") else ""
-        is_branch = reference.startswith("refs/heads/") and reference != "refs/heads/.invalid"
-        return reference[11:] if is_branch else None
+def _real(name):
+    """The name from the root without links, or `None` if there is no such file."""
+    return os.path.realpath(name) if os.path.exists(name) else None
 
 
-def _linked(folder, name):
-    """The name of a Git directory: the given one, or the one that the line `gitdir: ..` in a file of this name has."""
-    file = os.path.join(folder, name)
-    line = _line(file) if os.path.isfile(file) else None
+# ---- directories of Git
+
+
+def _head(directory):
+    """What HEAD names: the reference, or `None`, and the text if it is no reference."""
+    file = os.path.join(directory, "HEAD")
+    if os.path.islink(file):
+        return os.readlink(file), None
+    text = _line(file)
+    if text is None or not text.startswith("ref:"):
+        return None, text
+    return text[4:].strip(WHITE), None
+
+
+def _branch(directory):
+    """The name of the branch, or `None` if HEAD is detached, or a stub, as in a repository with a reftable."""
+    reference, _ = _head(directory)
+    is_branch = reference is not None and reference.startswith("refs/heads/") and reference != "refs/heads/.invalid"
+    return reference[11:] if is_branch else None
+
+
+def _shared(directory):
+    """The directory that worktrees share: that of GIT_COMMON_DIR or of a file, or `None`."""
+    if "GIT_COMMON_DIR" in os.environ:
+        return os.environ["GIT_COMMON_DIR"]
+    shared = _line(os.path.join(directory, "commondir"))
+    return None if shared is None else os.path.join(directory, shared)
+
+
+def _is_git_dir(directory):
+    """Whether HEAD is as Git writes it, and there are objects and refs."""
+    reference, text = _head(directory)
+    digits = (text or "")[:40]
+    is_object = len(digits) == 40 and HEXADECIMAL.issuperset(digits)
+    is_head = is_object if reference is None else reference.startswith("refs/")
+    common = _shared(directory)
+    common = directory if common is None else common
+    return is_head and all(os.path.isdir(os.path.join(common, name)) for name in ("objects", "refs"))
+
+
+def _linked(file):
+    """The directory that the line `gitdir: ..` of this file names, or `None`."""
+    line = _line(file)
     if line is None or not line.startswith("gitdir: "):
-        return name
-    return os.path.realpath(os.path.join(os.path.dirname(file), line[8:]))
-
-
-def _candidates(folder):
-    """The repositories that Git looks for, in its order."""
-    if "GIT_DIR" in os.environ:
-        yield Repository(folder, _linked(folder, os.environ["GIT_DIR"]))
-        return
-    yield Repository(folder, _linked(folder, ".git"))
-    yield Repository(folder, ".")
-    above = os.path.realpath(folder)
-    device = os.stat(above).st_dev
-    ceilings = {os.path.realpath(it) for it in os.environ.get("GIT_CEILING_DIRECTORIES", "").split(":") if it}
-    while above != os.path.dirname(above):
-        above = os.path.dirname(above)
-        is_other_device = os.stat(above).st_dev != device and not _is_on("GIT_DISCOVERY_ACROSS_FILESYSTEM")
-        if above in ceilings or is_other_device:
-            return
-        yield Repository(above, _linked(above, ".git"))
-        yield Repository(folder, above)
-
-
-def find(folder):
-    """The repository in which Git works in a folder, or `None`."""
-    os.stat(os.path.join(folder, os.curdir))  # Git does not work in a folder that does not exist
-    return next((candidate for candidate in _candidates(folder) if candidate.is_there()), None)
-
-
-def system_file(folder):
-    """The configuration file of the system, or `None` if it is not read."""
-    if _is_on("GIT_CONFIG_NOSYSTEM"):
         return None
-    name = os.environ.get("GIT_CONFIG_SYSTEM", "/etc/gitconfig")
-    return os.path.join(folder, name) if name else None
+    name = os.path.join(os.path.dirname(file), line[8:])
+    return _real(name) or name
 
 
-def files_of_user(folder):
-    """The configuration files of the user."""
-    home, own = os.environ.get("HOME"), os.environ.get("XDG_CONFIG_HOME")
-    if "GIT_CONFIG_GLOBAL" in os.environ:
-        names = [os.environ["GIT_CONFIG_GLOBAL"]]
+# ---- owners
+
+
+def _are_owned(*names):
+    """Whether all these files belong to the user; with links, the links themselves."""
+    if _is_on("GIT_TEST_ASSUME_DIFFERENT_OWNER"):
+        return False
+    users = {os.geteuid()}
+    sudo = os.environ.get("SUDO_UID", "")
+    if users == {0} and sudo.isascii() and sudo[sudo.startswith("+"):].isdigit():
+        users.add(int(sudo))
+    try:
+        return all(os.lstat(name).st_uid in users for name in names)
+    except OSError:
+        return False
+
+
+def _names_folder(value, asked, folder):
+    """Whether a value of `safe.directory` names this folder."""
+    try:
+        path = interpolate(value, home=os.environ.get("HOME"), users=home_of_user)
+    except Refused:
+        return False
+    path = os.path.join(asked.name, ".") if path == "." else path
+    if not path.startswith("/") and value != ".":
+        return False
+    if path.endswith("/*"):
+        above = _real(path[:-2] or "/")
+        return above is not None and folder.startswith(above.rstrip("/") + "/")
+    return _real(path) == folder
+
+
+def _is_safe(asked, folder):
+    """Whether `safe.directory` names this folder. An empty value takes back those before it."""
+    is_safe = False
+    for _, _, key, value, _ in _protected(asked):
+        if key == "safe.directory":
+            is_safe = bool(value) and (value == "*" or is_safe or _names_folder(value, asked, folder))
+    return is_safe
+
+
+def _may_be_bare(asked, folder):
+    """Whether `safe.bareRepository` lets Git find the bare repository in this folder."""
+    if folder.endswith("/.git") or "/.git/worktrees/" in folder or "/.git/modules/" in folder:
+        return True
+    values = [value for _, _, key, value, _ in _protected(asked) if key == "safe.barerepository"]
+    return ([value for value in values if value in ("explicit", "all")] or ["all"])[-1] == "all"
+
+
+def _safe(asked, found, *names):
+    """The directory that was found, if Git trusts it."""
+    if not _are_owned(*names):
+        real = _real(found.folder.name or ".")
+        if real is None or not _is_safe(asked, real):
+            raise NotUsed(f"detected dubious ownership in repository at '{real or found.folder.path}'")
+    return found
+
+
+# ---- the search
+
+
+def _folder(name):
+    """The folder of this name, which has to be there."""
+    name = "" if name == os.curdir else name
+    known, shown = os.stat(os.path.join(name, os.curdir)), os.environ.get("PWD", "")
+    if shown.startswith("/") and os.path.exists(shown) and os.path.samestat(os.stat(shown), known):
+        return Folder(name, shown)
+    return Folder(name, os.path.realpath(name))
+
+
+def _found_in(asked, folder):
+    """The directory of Git that a folder has or is, or `None`."""
+    link, here = os.path.join(folder.name, ".git"), folder.name or "."
+    target = _linked(link)
+    if _is_git_dir(target or link):
+        found = Found(folder, target or link, target or ".git", "below")
+        return _safe(asked, found, link, here, found.name)
+    if not _is_git_dir(folder.name):
+        return None
+    if not _may_be_bare(asked, _real(here) or folder.path):
+        raise NotUsed(f"cannot use bare repository '{folder.path}' (safe.bareRepository is 'explicit')")
+    return _safe(asked, Found(folder, here, ".", "bare"), here)
+
+
+def _ceilings():
+    """The folders of GIT_CEILING_DIRECTORIES, without links. Those after an empty one are taken as they are."""
+    folders, is_resolved = [], True
+    for folder in os.environ.get("GIT_CEILING_DIRECTORIES", "").split(":"):
+        is_resolved = is_resolved and folder != ""
+        folders.append((_real(folder) or folder) if is_resolved else folder)
+    return folders
+
+
+def _search(asked):
+    """The directory of Git for a folder: that of GIT_DIR, or the first one upwards."""
+    given = os.environ.get("GIT_DIR")
+    if given is not None:
+        whole = os.path.join(asked.name, given)
+        target = _linked(whole)
+        if not given or not _is_git_dir(target or whole):
+            raise NotUsed(f"not a git repository: '{given}'")
+        return Found(asked, target or whole, target or given, "given")
+    found, above = _found_in(asked, asked), os.path.realpath(asked.name)
+    device, ceilings = os.stat(above).st_dev, _ceilings()
+    crosses = _is_on("GIT_DISCOVERY_ACROSS_FILESYSTEM")
+    while not found and above != "/":
+        above = os.path.dirname(above)
+        if above in ceilings or (not crosses and os.stat(above).st_dev != device):
+            break
+        found = _found_in(asked, Folder(above, above))
+    return found
+
+
+# ---- the format
+
+
+class Format:
+    """What the file of a repository says of its format."""
+
+    def __init__(self):
+        self.version = self.unknown = self.of_later = self.work_tree = None
+        self.is_bare = self.has_own_files = False
+
+    def _extend(self, name, entry):
+        wanted = EARLY.get(name) or LATER.get(name)
+        if wanted == "boolean":
+            _value(boolean, entry)
+        elif wanted not in (None, "any"):
+            text = _text(entry)
+            if isinstance(wanted, tuple) and (text.split("://")[0] if wanted is STORES else text) not in wanted:
+                raise _wrong(entry, "no value of this extension")
+        if name == "worktreeconfig":
+            self.has_own_files = _value(boolean, entry)
+        if name in LATER:
+            self.of_later = self.of_later or name
+        elif name not in EARLY:
+            self.unknown = self.unknown or name
+
+    def take_work_tree(self, entry):
+        """Takes what an entry says of the work tree."""
+        if entry[2] == "core.bare":
+            self.is_bare = _value(boolean, entry)
+        if entry[2] == "core.worktree":
+            self.work_tree = _text(entry)
+
+    def take(self, entry):
+        """Takes what an entry says."""
+        key = entry[2]
+        if key == "core.repositoryformatversion":
+            self.version = _value(integer, entry)
+            if not -1 << 31 <= self.version < 1 << 31:
+                raise _wrong(entry, "integer is out of range")
+        if key.startswith("extensions."):
+            self._extend(key[11:], entry)
+        self.take_work_tree(entry)
+
+    def check(self):
+        """Raises `NotUsed` if Git uses no repository of this format."""
+        if self.version is not None and self.version > 1:
+            raise NotUsed(f"Expected git repo version <= 1, found {self.version}")
+        if self.version == 1 and self.unknown:
+            raise NotUsed(f"unknown repository extension found: {self.unknown}")
+        if self.version != 1 and self.of_later:
+            raise NotUsed(f"repo version is 0, but v1-only extension found: {self.of_later}")
+
+
+def _wrong(entry, why):
+    return InvalidFile("bad_format", f"{entry[2]}: {why}", entry[0], entry[1])
+
+
+def _text(entry):
+    if entry[3] is None:
+        raise _wrong(entry, "no value")
+    return entry[3]
+
+
+def _value(read, entry):
+    try:
+        return read("true" if entry[3] is None else entry[3])
+    except Refused as refused:
+        raise _wrong(entry, refused.fault) from None
+
+
+def _entries_of(file):
+    """The entries of a file, without includes, or none if it cannot be read."""
+    try:
+        source = _walk.opened(file)
+    except OSError:
+        return []
+    return _walk.entries([source], None)
+
+
+def _format(found, shared):
+    """The format of a directory of Git. What worktrees share says nothing of the top of one."""
+    told = Format()
+    for entry in _entries_of(os.path.join(found.name if shared is None else shared, "config")):
+        told.take(entry)
+    if told.version is None or told.version < 0:
+        told = Format()
+    if told.has_own_files:
+        for entry in _entries_of(os.path.join(found.name, "config.worktree")):
+            told.take_work_tree(entry)
+    elif shared is not None:
+        told.is_bare, told.work_tree = False, None
+    return told
+
+
+# ---- where Git works
+
+
+def _top(asked, found, told):
+    """The top of the work tree that GIT_WORK_TREE or `core.worktree` names, or `None`."""
+    if "GIT_WORK_TREE" in os.environ:
+        top = os.path.join(asked.name, os.environ["GIT_WORK_TREE"])
+    elif told.work_tree is not None and not told.is_bare:
+        top = os.path.join(found.name, told.work_tree)
     else:
-        names = [f"{own}/git/config"] if own else [f"{home}/.config/git/config"] if home is not None else []
-        names += [f"{home}/.gitconfig"] if home is not None else []
-    return [os.path.join(folder, name) for name in names if name]
+        return None
+    return _real(top) or top
+
+
+def _workplace(asked, found, told):
+    """The folder in which Git works, and the name of the directory of Git there."""
+    top = _top(asked, found, told)
+    if top is not None:
+        if os.path.realpath(asked.name).startswith(top.rstrip("/") + "/"):
+            return Folder(top, top), _real(found.name) or found.name
+    elif found.form == "below" and not told.is_bare:
+        return found.folder, found.named
+    return asked, found.named if found.folder.name == asked.name else _real(found.name) or found.name
+
+
+def _shown(folder, name):
+    """The name of a file in a directory of Git, as Git shows it."""
+    whole = f"{folder}/{name}"
+    return whole[2:].lstrip("/") if whole.startswith("./") else whole
+
+
+def _located(asked, found, shared, told):
+    place, named = _workplace(asked, found, told)
+    path = os.path.join(place.path, named)
+    common = named if shared is None else shared if "GIT_COMMON_DIR" in os.environ else _real(shared) or shared
+    files = [("local", _shown(common, "config"))]
+    if told.has_own_files:
+        files.append(("worktree", _shown(named, "config.worktree")))
+    return Place(place, Repository(path, _real(found.name) or path, _branch(found.name), files), None)
+
+
+def find(name):
+    """Where Git works if it is started in the folder of this name, and the repository that it uses."""
+    asked = folder = _folder(name)
+    try:
+        found = _search(asked)
+        if not found:
+            return Place(asked, None, None)
+        folder, shared = found.folder, _shared(found.name)
+        told = _format(found, shared)
+        told.check()
+        return _located(asked, found, shared, told)
+    except NotUsed as refused:
+        return Place(folder, None, str(refused))
+
+
+# ---- files
+
+
+def _protected_files():
+    """The files that no repository can change, with their scopes: those of the system and of the user."""
+    home, own = os.environ.get("HOME"), os.environ.get("XDG_CONFIG_HOME")
+    names = [] if _is_on("GIT_CONFIG_NOSYSTEM") else [("system", os.environ.get("GIT_CONFIG_SYSTEM", "/etc/gitconfig"))]
+    if "GIT_CONFIG_GLOBAL" in os.environ:
+        return names + [("global", os.environ["GIT_CONFIG_GLOBAL"])]
+    if own:
+        names.append(("global", f"{own}/git/config"))
+    elif home is not None:
+        names.append(("global", f"{home}/.config/git/config"))
+    return names + [("global", f"{home}/.gitconfig")] * (home is not None)
+
+
+def _sources(folder, files):
+    """The texts of these files, as far as they are there, and the settings of the command."""
+    for scope, name in files:
+        skipped = (*_walk.MISSING, PermissionError) if scope == "global" else _walk.MISSING
+        try:
+            if name:
+                yield _walk.opened(os.path.join(folder.name, name), scope)
+        except skipped:
+            pass
+    yield _walk.command()
+
+
+def _protected(asked):
+    """The entries that no repository can change. Their conditions know no repository."""
+    return _walk.entries(list(_sources(asked, _protected_files())), _walk.known_in(None))
+
+
+def entries(place):
+    """All entries that Git reads in a place, in its order."""
+    files = _protected_files() + (place.repository.files if place.repository else [])
+    return _walk.entries(list(_sources(place.folder, files)), _walk.known_in(place.repository))

@@ -56,6 +56,11 @@ FILES = {
             "gitdir:.git", "gitdir:.GIT", "gitdir/i:.GIT", "gitdir:{root}/", "gitdir:*", "gitdir:/*", "gitdir:**/x/**",
             "onbranch:topic/*", "onbranch:topic/", "onbranch:topic", "onbranch:**", "Gitdir:.git", "unknown:")),
         "hit": "[hit]k"},
+    "remotes": {"main": "[remote \"a\"]url=https://a/b\nurl=git@c:d\n[remote]url=e\npushurl=f\n" + "".join(
+        f"[includeIf \"hasconfig:remote.*.url:{url}\"]path=hit\n" for url in (
+            "https://*/**", "git@c:*", "e", "f", "https://A/b", "**", "x")), "hit": "[hit]k"},
+    "remotes of included files": {"main": "[includeIf \"hasconfig:remote.*.url:x\"]path=hit\n[include]path=more\n",
+                                  "hit": "[hit]k", "more": "[remote \"a.b\"]url=x"},
     "ten deep": {"main": "[include]path=1", **{str(at): f"[hit]k={at}\n[include]path={at + 1}" for at in range(1, 11)}},
     "eleven deep": {"main": "[include]path=1", **{str(at): f"[include]path={at + 1}" for at in range(1, 12)}},
     "itself": {"main": "[include]path=main"},
@@ -67,6 +72,24 @@ FILES = {
     "no such user": {"main": "\n[include]path=~no_such_user/x\n"},
     "a folder": {"main": "[include]path=s\n", "s/x": ""},
 }
+
+
+# what makes Git use no repository: the settings of its format, and Git's reason
+UNUSED = [("[core]repositoryformatversion=99", "Expected git repo version <= 1, found 99"),
+          ("[core]repositoryformatversion=1\n[extensions]Foo=1", "unknown repository extension found: foo"),
+          ("[core]repositoryformatversion=0\n[extensions]objectFormat=sha1",
+           "repo version is 0, but v1-only extension found: objectformat")]
+# what Git stops at: variables or a setting of the format, and the code
+STOPS = [({"GIT_CONFIG_COUNT": "x"}, "bad_count"), ({"GIT_CONFIG_COUNT": "1"}, "missing_key"),
+         ({"GIT_CONFIG_COUNT": "1", "GIT_CONFIG_KEY_0": "a.b"}, "missing_value"),
+         ({"GIT_CONFIG_COUNT": "1", "GIT_CONFIG_KEY_0": "ab", "GIT_CONFIG_VALUE_0": ""}, "no_section"),
+         ({"GIT_CONFIG_COUNT": "1", "GIT_CONFIG_KEY_0": "", "GIT_CONFIG_VALUE_0": ""}, "empty_key"),
+         ({"GIT_CONFIG_COUNT": "1", "GIT_CONFIG_KEY_0": "a.b_c", "GIT_CONFIG_VALUE_0": ""}, "bad_key"),
+         ({"GIT_CONFIG_COUNT": "99999999999"}, "too_many_settings"),
+         ({"GIT_CONFIG_PARAMETERS": "a.b=c"}, "bad_parameters"), ({"GIT_CONFIG_PARAMETERS": "'=c'"}, "no_key"),
+         ({"GIT_CONFIG_PARAMETERS": "'include.path'='more'"}, "relative"),
+         ("[core]bare=x", "bad_format"), ("[core]repositoryformatversion=x", "bad_format"),
+         ("[core]repositoryformatversion=1\n[extensions]objectFormat=md5", "bad_format")]
 
 
 def listing(output):
@@ -203,6 +226,78 @@ class AsGit(Files):
         self.assertEqual(str(self.refused(read_repository, "r")), f"{self.root}/home/c:2: a line of the file is invalid")
         self.assertIn(f"bad config line 2 in file {self.root}/home/c",
                       self.git("-C", "r", "config", "--list", fails=True))
+
+    def scoped(self):
+        """What Git lists: the scope, the origin, the key and the text of each entry."""
+        told = self.git("config", "--list", "-z", "--show-scope", "--show-origin")
+        fields = os.fsdecode(told).split("\0")[:-1]
+        pairs = [entry.partition("\n") for entry in fields[2::3]]
+        return [(scope, origin, key, text if line else None)
+                for scope, origin, (key, line, text) in zip(fields[::3], fields[1::3], pairs)]
+
+    def is_listed(self):
+        """Compares all that is read in this folder, and returns it."""
+        config = read_repository()
+        given = [(entry.scope, entry.origin, entry.key, entry.text) for entry in config.entries]
+        self.assertEqual(given, self.scoped())
+        return config
+
+    def test_all_sources(self):
+        self.git("init", "-q", "r")
+        self.git("-C", "r", "config", "remote.o.url", "https://a/b")
+        self.write({"system": "[a]s", "home/.gitconfig": "[includeIf \"hasconfig:remote.*.url:https://*/**\"]path=hit",
+                    "home/hit": "[hit]k", "more": "[more]k\n[include]path=most", "most": "[most]k"})
+        self.enter("r")
+        counted = {"GIT_CONFIG_COUNT": " +2", "GIT_CONFIG_KEY_0": "A.X y.B", "GIT_CONFIG_VALUE_0": "c \"\\\n",
+                   "GIT_CONFIG_KEY_1": "include.path", "GIT_CONFIG_VALUE_1": f"{self.root}/more"}
+        os.environ["GIT_CONFIG_NOSYSTEM"] = "0"
+        os.environ["GIT_CONFIG_SYSTEM"] = f"{self.root}/system"
+        for more in ({}, counted, {"GIT_CONFIG_PARAMETERS": "'a.b=c' 'a.d' 'a.e'='f'\\''g'"}):
+            with self.subTest(more), mock.patch.dict(os.environ, more):
+                config = self.is_listed()
+                self.assertEqual((config.get_all("hit.k"), config.refusal), ([None], None))
+        self.assertEqual([entry.scope for entry in config.entries_of("a.e")], ["command"])
+
+    def test_refused_repositories(self):
+        self.git("init", "-q", "r")
+        config = pathlib.Path(self.root, "r/.git/config")
+        self.enter("r")
+        for text, reason in UNUSED:
+            with self.subTest(text):
+                config.write_text(text)
+                refused = self.is_listed()
+                self.assertEqual((refused.refusal, len(refused)), (reason, 0))
+                self.assertIn(reason, " ".join(self.git("status", fails=True).split()))
+                for again in (copy.copy(refused), pickle.loads(pickle.dumps(refused)), eval(repr(refused))):
+                    self.assertEqual(again.refusal, reason)
+        config.write_text("[a]b")
+        os.environ["GIT_TEST_ASSUME_DIFFERENT_OWNER"] = "1"
+        reason = f"detected dubious ownership in repository at '{self.root}/r'"
+        self.assertEqual(self.is_listed().refusal, reason)
+        self.assertIn(reason, self.git("status", fails=True))
+        for safe, is_used in (("*", True), ("*\ndirectory=", False), (f"{self.root}/r", True), ("/x", False)):
+            with self.subTest(safe):
+                self.write({"home/.gitconfig": f"[safe]directory={safe}"})
+                self.assertEqual((self.is_listed().refusal is None, "a.b" in self.is_listed()), (is_used, is_used))
+
+    def test_where_git_stops(self):
+        self.git("init", "-q", "r")
+        self.enter("r")
+        for what, code in STOPS:
+            with self.subTest(what):
+                is_format = isinstance(what, str)
+                pathlib.Path(".git/config").write_text(what if is_format else "")
+                with mock.patch.dict(os.environ, {} if is_format else what):
+                    refused = self.refused(read_repository)
+                    told = self.git("config", "--list", fails=True)
+                self.assertEqual((refused.code, refused.file), (code, ".git/config" if is_format else "command line"))
+                if not is_format:
+                    self.assertIn(refused.fault.removesuffix("_n"), told)
+        self.write({"r/.git/config": "[includeIf \"hasconfig:remote.*.url:x\"]path=more\n",
+                    "r/.git/more": "[a]b\n[remote \"r\"]url=x"})
+        refused = self.refused(read_repository)
+        self.assertEqual((refused.code, refused.file, refused.line), ("remote_url", ".git/more", 2))
+        self.assertIn(refused.fault, self.git("config", "--list", fails=True))
 
     def test_names_of_folders(self):
         self.git("init", "-q", "r")

@@ -4,15 +4,18 @@
 use bstr::BStr;
 use bumpalo::Bump;
 use clap::{Arg, ArgAction, ArgMatches, Command};
-use config_checks::check::{CheckError, check_file};
-use config_checks::finding::push_shown;
-use config_checks::git::SETTINGS;
+use config_checks::check::{CheckError, Counts, check_file};
+use config_checks::finding::{push_include, push_shown};
+use config_checks::git::{NEWEST, SETTINGS};
 use config_checks::options::{Format, Options};
 use config_checks::outcome::Outcome;
-use config_checks::reason::Severity;
+use config_checks::reason::{Severity, outside};
 use config_checks::row::Row;
+use config_checks::setting::Setting;
 use config_checks::table::{BadRow, read_rows};
-use config_file::{Content, Files, Include, Place, Step, Walk};
+use config_checks::version::Version;
+use config_file::key::Key;
+use config_file::{Condition, Content, Entry, Files, Include, Place, Step, Walk};
 use config_host::surroundings::Followed;
 use config_host::{ArgumentError, Disk, HostError, Surroundings, arguments, files_here, terminal};
 use std::alloc::{AllocError, Global};
@@ -45,6 +48,19 @@ const SEVERITIES: &[&str] = &["note", "warning", "error"];
 /// The values of `--format`.
 const FORMATS: &[&str] = &["text", "json"];
 
+/// The values of `--color`.
+const COLORS: &[&str] = &["auto", "always", "never"];
+
+/// What `--help` ends with.
+const STATUSES: &str = "\
+Exit status:
+  0  nothing is found that counts
+  1  something is found that counts: by --fail-on
+  2  a file cannot be read, a write fails, or an argument or a row of --settings is wrong
+
+Install it as git-config-check, and call it by that name: by `git config-check` Git stops first at many \
+errors.";
+
 /// The command line of the program.
 fn command<'a>(alloc: Global) -> Result<Command<'a>, AllocError> {
     Command::new(alloc, "config_check")
@@ -52,6 +68,7 @@ fn command<'a>(alloc: Global) -> Result<Command<'a>, AllocError> {
         .about(
             "Reports what is wrong in Git configuration files: those named, or those that Git reads here",
         )
+        .after_help(STATUSES)
         .arg(
             Arg::new(alloc, "file")
                 .value_name("FILE")
@@ -67,7 +84,21 @@ fn command<'a>(alloc: Global) -> Result<Command<'a>, AllocError> {
             alloc,
             "settings",
             "FILE",
-            "Rows of further settings, which win over the built-in ones",
+            "Rows of further settings, which win over the built-in ones, and over those of later files",
+        )
+        .action(ArgAction::Append))?
+        .arg(option(
+            alloc,
+            "color",
+            "WHEN",
+            "Whether severities have colors: auto (the default), which is on a terminal, always or never",
+        )
+        .value_parser(COLORS))?
+        .arg(option(
+            alloc,
+            "git",
+            "VERSION",
+            "The version of Git that reads the files, as 2.39: if none is given, the newest of the rows",
         ))?
         .arg(option(
             alloc,
@@ -95,6 +126,8 @@ enum Failure<'m> {
     File { file: &'m str, error: io::Error },
     #[error("{file}:{}: {}", .bad.line, .bad.fault)]
     Row { file: &'m str, bad: BadRow },
+    #[error("not a version of Git, as 2.39 is: {0}")]
+    Version(&'m str),
     #[error("cannot find the files that Git reads here: {0}")]
     Here(#[from] HostError),
     #[error("cannot write: {0}")]
@@ -106,6 +139,18 @@ enum Failure<'m> {
     #[error("standard input is a terminal: name a file, or redirect one: config_check - < FILE")]
     Terminal,
 }
+
+/// Why Git stops at an include, or never follows it.
+const LOOP: &str = "the file includes itself, at which Git stops";
+
+const TOO_DEEP: &str = "Git stops at more than ten includes, one in the other";
+
+const UNKNOWN_DIRECTORY: &str = "no such user or no home directory, at which Git stops";
+
+const UNKNOWN_CONDITION: &str = "not a condition of Git: not one of: gitdir, gitdir/i, onbranch, \
+    hasconfig:remote.*.url";
+
+const MISSING: &str = "no such file";
 
 /// The file name that means standard input.
 const STDIN: &[u8] = b"-";
@@ -120,40 +165,53 @@ impl Failure<'_> {
     }
 }
 
-/// The bytes of the file of `--settings`, or no bytes if no file is named.
-fn file_bytes<'m>(rt: &HostRuntime, file: Option<&'m str>) -> Result<Vec<u8>, Failure<'m>> {
-    let Some(file) = file else {
-        return Ok(Vec::new(rt.alloc()));
-    };
-    fs::read(rt, file).map_err(|error| Failure::File { file, error })
-}
+/// The byte order mark, with which some editors begin a file.
+const MARK: &[u8] = b"\xef\xbb\xbf";
 
-/// Appends the rows of a text.
+/// Appends the rows of a text, after a byte order mark if it has one.
 fn add_rows<'m, 't>(
     alloc: Global,
     file: &'m str,
     text: &'t [u8],
     rows: &mut Vec<Row<'t>>,
 ) -> Result<(), Failure<'m>> {
+    let text = text.strip_prefix(MARK).unwrap_or(text);
     read_rows(alloc, text, rows).map_err(|bad| Failure::Row { file, bad })
 }
 
-/// The rows of the file of `--settings`, if one is named, followed by the built-in ones.
-fn all_rows<'m, 't>(
-    alloc: Global,
-    file: Option<&'m str>,
-    text: &'t [u8],
-) -> Result<Vec<Row<'t>>, Failure<'m>> {
-    let mut rows = Vec::new(alloc);
-    if let Some(file) = file {
-        add_rows(alloc, file, text, &mut rows)?;
+/// Appends the rows of the files of `--settings`, whose texts are kept.
+fn add_files<'m, 't>(
+    rt: &'t HostRuntime,
+    texts: &'t Bump,
+    files: &[&'m str],
+    rows: &mut Vec<Row<'t>>,
+) -> Result<(), Failure<'m>> {
+    for file in files {
+        let bytes = fs::read(rt, file).map_err(|error| Failure::File { file, error })?;
+        let text = Disk::new(rt, texts).kept(&bytes)?;
+        add_rows(rt.alloc(), file, text, rows)?;
     }
+    Ok(())
+}
+
+/// The rows of the files of `--settings`, if any are named, followed by the built-in ones. Those that hold
+/// for this Git come first.
+fn all_rows<'m, 't>(
+    rt: &'t HostRuntime,
+    texts: &'t Bump,
+    git: Version,
+    files: &[&'m str],
+) -> Result<Vec<Row<'t>>, Failure<'m>> {
+    let alloc = rt.alloc();
+    let mut rows = Vec::new(alloc);
+    add_files(rt, texts, files, &mut rows)?;
     add_rows(
         alloc,
         "the built-in settings",
         SETTINGS.as_bytes(),
         &mut rows,
     )?;
+    rows.sort_by_key(|row| outside(row, git).is_some())?;
     Ok(rows)
 }
 
@@ -230,31 +288,91 @@ impl<'t> Checking<'_, 't> {
         Ok(())
     }
 
-    /// Checks the file of this name, which the file at this place includes, and goes on in it. Passes a file
-    /// that is missing, that is too deep, or that is checked already, and relative names of standard input.
+    /// Writes a finding about what an entry includes, and counts it.
+    fn report(
+        &mut self,
+        place: Place<'t>,
+        entry: &Entry<'t>,
+        severity: Severity,
+        reason: &str,
+    ) -> Result<(), Failure<'static>> {
+        let Ok(file) = str::from_utf8(place.name) else {
+            return Ok(());
+        };
+        let alloc = self.rt.alloc();
+        let setting = Setting::of_entry(alloc, file, entry)?;
+        let mut line = Vec::new(alloc);
+        push_include(&mut line, &self.options, &setting, severity, reason)?;
+        if let Err(error) = self.rt.stdout().write_all(&line) {
+            return Err(Failure::Write(error));
+        }
+        self.outcome.add(Counts {
+            findings: 1,
+            errors: u64::from(matches!(severity, Severity::Error)),
+            warnings: u64::from(matches!(severity, Severity::Warning)),
+            ..Counts::default()
+        });
+        Ok(())
+    }
+
+    /// Whether one of the files that the walk is in has this real name.
+    fn is_within(&self, walk: &Walk<'t>, real: &[u8]) -> Result<bool, Failure<'static>> {
+        for frame in walk.frames() {
+            if self.disk.real_name(frame.place.name)?.as_slice() == real {
+                return Ok(true);
+            }
+        }
+        Ok(false)
+    }
+
+    /// Checks the file of this name, which an entry of the file at this place includes, and goes on in it.
+    /// Reports an include at which Git stops, and a missing file. Passes a file that is checked already, and
+    /// relative names of standard input.
     fn include(
         &mut self,
         walk: &mut Walk<'t>,
         place: Place<'t>,
+        entry: &Entry<'t>,
         name: Vec<u8>,
     ) -> Result<(), Failure<'static>> {
         let is_stdin = place.name == STDIN && place.real_dir.is_empty();
+        if is_stdin && !name.starts_with(b"/") {
+            return Ok(());
+        }
         let real = self.disk.real_name(&name)?;
-        if is_stdin && !name.starts_with(b"/") || self.seen.contains(&real) {
+        if self.is_within(walk, &real)? {
+            return self.report(place, entry, Severity::Error, LOOP);
+        }
+        if self.seen.contains(&real) {
             return Ok(());
         }
         match self.disk.read(self.rt.alloc(), &name)? {
-            Content::Missing => return Ok(()),
-            Content::Unreadable(why) => self.refuse(why),
-            Content::Text(place, text) => {
-                if !walk.enter(place, text) {
-                    return Ok(());
+            Content::Missing => return self.report(place, entry, Severity::Note, MISSING),
+            Content::Unreadable(why) => self.report(place, entry, Severity::Error, why)?,
+            Content::Text(inner, text) => {
+                if !walk.enter(inner, text) {
+                    return self.report(place, entry, Severity::Error, TOO_DEEP);
                 }
-                self.check(place.name, text)?;
+                self.check(inner.name, text)?;
             }
         }
         self.remember(real)?;
         Ok(())
+    }
+
+    /// Reports the condition of an entry that includes a file, if Git does not know this condition.
+    fn judge_condition(
+        &mut self,
+        place: Place<'t>,
+        entry: &Entry<'t>,
+    ) -> Result<(), Failure<'static>> {
+        let key = entry.key_text(self.rt.alloc())?;
+        match Key::split(&key).and_then(|key| key.subsection()) {
+            Some(text) if Condition::parse(text) == Condition::Unknown => {
+                self.report(place, entry, Severity::Warning, UNKNOWN_CONDITION)
+            }
+            _ => Ok(()),
+        }
     }
 
     /// Remembers the real name of a file, and returns whether it is new.
@@ -274,8 +392,13 @@ impl<'t> Checking<'_, 't> {
         let mut walk = Walk::new(place, text);
         for _ in 0..u64::MAX {
             match walk.next(self.rt.alloc(), &self.surroundings.known())? {
-                Step::Entry(place, _, Include::Named(name)) => {
-                    self.include(&mut walk, place, name)?;
+                Step::Entry(place, entry, Include::Named(name)) => {
+                    self.judge_condition(place, &entry)?;
+                    self.include(&mut walk, place, &entry, name)?;
+                }
+                Step::Entry(place, entry, Include::UnknownDirectory) => {
+                    self.judge_condition(place, &entry)?;
+                    self.report(place, &entry, Severity::Error, UNKNOWN_DIRECTORY)?;
                 }
                 Step::Ends => break,
                 _ => {}
@@ -341,6 +464,14 @@ fn fails_on(matches: &ArgMatches<'_>) -> Severity {
     }
 }
 
+/// The version of `--git`.
+fn git_of<'m>(matches: &ArgMatches<'m>) -> Result<Version, Failure<'m>> {
+    match matches.get_str("git") {
+        Some(text) => Version::read(text.as_bytes()).ok_or(Failure::Version(text)),
+        None => Ok(NEWEST),
+    }
+}
+
 /// The format of `--format`.
 fn format_of(matches: &ArgMatches<'_>) -> Format {
     match matches.get_str("format") {
@@ -369,19 +500,37 @@ fn check_in<'t>(
     check_all(&mut checking, matches.get_strs("file"), fails_on(matches))
 }
 
-/// Checks the files by the rows of `--settings`, if any, and the built-in ones. Returns the exit status.
-fn run<'m>(rt: &HostRuntime, matches: &ArgMatches<'m>) -> Result<u8, Failure<'m>> {
-    let alloc = rt.alloc();
-    let file = matches.get_str("settings");
-    let text = file_bytes(rt, file)?;
-    let rows = all_rows(alloc, file, &text)?;
+/// Whether `--color` and standard output want colors.
+fn wants_color(rt: &HostRuntime, matches: &ArgMatches<'_>) -> Result<bool, AllocError> {
+    match matches.get_str("color") {
+        Some("always") => Ok(true),
+        Some("never") => Ok(false),
+        _ => Ok(terminal::depth(rt, &rt.stdout())?.is_some()),
+    }
+}
+
+/// Checks the files by the rows of `--settings`, if any, and the built-in ones, and keeps what it reads in
+/// `texts`. Returns the exit status.
+fn run_in<'m, 't>(
+    rt: &'t HostRuntime,
+    texts: &'t Bump,
+    matches: &ArgMatches<'m>,
+) -> Result<u8, Failure<'m>> {
+    let git = git_of(matches)?;
+    let rows = all_rows(rt, texts, git, matches.get_strs("settings").unwrap_or(&[]))?;
     let options = Options {
+        git,
         canonical: matches.get_flag("canonical"),
         format: format_of(matches),
-        color: terminal::depth(rt, &rt.stdout())?.is_some(),
+        color: wants_color(rt, matches)?,
     };
-    let texts = Bump::new(alloc);
-    check_in(rt, &texts, &rows, options, matches)
+    check_in(rt, texts, &rows, options, matches)
+}
+
+/// The same, with memory for what is read.
+fn run<'m>(rt: &HostRuntime, matches: &ArgMatches<'m>) -> Result<u8, Failure<'m>> {
+    let texts = Bump::new(rt.alloc());
+    run_in(rt, &texts, matches)
 }
 
 /// A text as a line, with its control characters shown safely.

@@ -163,6 +163,9 @@ def settings_files(group, program):
         group.expect(text, ended(b"", (1, 0, 1, 0)), came)
     text = b"".join(b"filler.key-%d bool\n" % number for number in range(ROWS)) + b"test.x int\n"
     expect_values(group, program, arguments(program.settings(text)), b"test.x", [b"yes"], rows.INTEGER_FAULT)
+    first, second = program.settings(b"\xef\xbb\xbftest.x bool\n"), program.settings(b"test.x int\ntest.y int\n")
+    expect_values(group, program, ["--settings", first, "--settings", second, "-"], b"test.x", [b"red"], rows.BOOLEAN_FAULT)
+    expect_values(group, program, ["--settings", first, "--settings", second, "-"], b"test.y", [b"red"], rows.INTEGER_FAULT)
     for file in (str(program.folder / "missing"), str(program.folder)):
         came = program.run(["--settings", file, "-"], b"[test]x=1\n")
         group.expect(["--settings", file], Ended(2, b"", CANNOT), with_errors_cut(came, CANNOT))
@@ -173,6 +176,13 @@ def wrong_and_other_arguments(group, program):
         came = program.run(more, b"")
         is_said = WRONG_USE.search(came.errors) is not None
         group.expect((more, came.errors), (2, b"", True), (came.status, came.output, is_said))
+    for text in rows.WRONG_VERSIONS:
+        told = f"config_check: not a version of Git, as 2.39 is: {text}\n".encode()
+        group.expect(["--git", text], Ended(2, b"", told), program.run(["--git", text, "-"], b"[a]b\n"))
+    for text, severity in rows.VERSIONS.items():
+        output = b"" if severity is None else finding(1, b"pull.autostash", b"true", severity + b": Git reads it only since 2.51")
+        group.expect(["--git", text], ended(output, (1, 1, 0, int(bool(output)))),
+                     program.run(["--git", text, "-"], b"[pull] autoStash = true\n"))
     for more in rows.ILL_FORMED_ARGUMENTS:
         came = program.run(more, b"")
         is_said = came.errors.startswith(CANNOT + b"read the arguments: ") and came.errors.count(b"\n") == 1

@@ -109,8 +109,8 @@ def on_terminal(program, how, data, environment):
 
 
 def terminal(group, program, how):
-    """The severity is red on a terminal that TERM names, and not as dumb, unless NO_COLOR has a value, and nowhere
-    else."""
+    """The severity has its color on a terminal that TERM names, and not as dumb, unless NO_COLOR has a value, and
+    nowhere else, unless --color says so."""
     environment = dict(os.environ, TERM="xterm")
     environment.pop("NO_COLOR", None)
     data = FINDING + b'[test] bool = "\x1b[31m"\nx\0'
@@ -125,6 +125,11 @@ def terminal(group, program, how):
     came = on_terminal(program, ["--format", "json", *how], data, environment)
     group.expect("JSON on a terminal", (1, 3, False), (came.status, came.output.count(b"\n"), b"\x1b" in came.output))
     group.expect("a pipe", plain, program.run(how, data, env=environment))
+    group.expect("--color=always", red, program.run(["--color=always", *how], data, env=environment | {"NO_COLOR": "1"}))
+    group.expect("--color=never", plain, on_terminal(program, ["--color=never", *how], data, environment))
+    came = program.run(["--color", "always", "-"], b"[core]\n\tbare = x\n\tbares = x\n[pull]\n\tautoStash\n", env=environment)
+    shown = [line.split(b": ")[1:2] for line in came.output.splitlines()]
+    group.expect("three colors", [[b"\x1b[31merror"], [b"\x1b[33mwarning"]], shown)
 
 
 def terminal_input(group, program, how):

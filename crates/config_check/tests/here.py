@@ -83,10 +83,20 @@ def included(group, program, home, known):
     group.expect("a file that includes itself", [str(folder / "loop")], by_program(program, folder, known, ["loop"]))
     data = (WRONG + PATH % "deep-11" + PATH % f"{folder}/c" + PATH % "~/b").encode()
     came = run([program.path, "-"], data, cwd=folder, env=known)
-    names = [line.split(":")[0] for line in came.output.decode().splitlines()]
+    names = list(dict.fromkeys(line.split(":")[0] for line in came.output.decode().splitlines()))
     wanted = ["-", *(f"{folder}/{name}" for name in ("c", "a", "first")), f"{home}/home/b"]
     wanted += [f"{folder}/{name}" for name in deep[:7]]
     group.expect("what standard input includes", wanted, names)
+    stops(group, program, folder, known)
+
+
+def stops(group, program, folder, known):
+    """Includes at which Git stops are errors, an unknown condition is a warning, and a missing file a note."""
+    text = "[include]\n\tpath = ~no-such-user/x\n\tpath = .\n\tpath = none\n[includeIf \"gitdr:x\"]\n\tpath = none\n"
+    (folder / "stops").write_text(text + PATH % "stops")
+    came = run([program.path, "stops"], cwd=folder, env=known)
+    found = [line.split(": ")[0].split(":")[1] + line.split(": ")[1] for line in came.output.decode().splitlines()]
+    group.expect("stops", ["2error", "3error", "4note", "6warning", "6note", "8error"], found)
 
 
 def check(group, program):

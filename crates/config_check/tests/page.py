@@ -3,7 +3,7 @@
 Each key has to be documented in git-config(1), or on a page of ELSEWHERE. Each word of a row has to occur in the
 section of its key, in the section of another setting that this section names, or in the section of an option on
 another page that takes the same words (OPTIONS), unless Git was seen to take it (compare/settings.tsv). Words are not
-compared if the page of their option is not installed, or if newer Gits take more. Nothing else of a row is compared.
+compared if the page of their option is not installed. Nothing else of a row is compared.
 """
 import gzip
 import pathlib
@@ -45,8 +45,6 @@ FAMILIES = {
 }
 # kinds for which a text may be one of the words of the row
 SINGLE = ["word", "bool-or-word", "int-or-word"]
-# the marks that may precede the kind of a row
-MARKS = ["alone", "needs-value", "warn"]
 ESCAPES = {r"\&": "", r"\-": "-", r"\(aq": "'", r"\(lq": '"', r"\(rq": '"'}
 
 
@@ -126,12 +124,12 @@ def check(group):
         return
     known = sections(text)
     taken = {question.value.strip("%Y") for question, told in settings.read().items()
-             if question.value is not None and told == "takes"}
+             if question.value is not None and told[0] == "takes"}
     for row in rows_of_the_page():
         key, *rest = row.split()
         if key.startswith("#"):
             continue
-        kind, *words = [word.strip("*") for word in rest if word not in MARKS]
+        kind, *words = [word.strip("*") for word in rest if not settings.MARKS.fullmatch(word)]
         if key in ELSEWHERE:
             term = key.replace("*", "<driver>")
             group.expect(key, True, term in page(ELSEWHERE[key]))
@@ -140,7 +138,7 @@ def check(group):
         if not group.expect(key, True, body is not None):
             continue
         command, _ = OPTIONS.get(key.replace(".*", ""), ("config", ""))
-        if key in settings.NEWER or not page(f"git-{command}.1"):
+        if not page(f"git-{command}.1"):
             continue
         said = "\n".join([body, named(body, known), option(key, body)])
         for word in words if kind.removesuffix("-any-case") in SINGLE else []:

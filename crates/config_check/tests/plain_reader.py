@@ -18,7 +18,9 @@ NUL = b"a NUL byte outside a comment"
 
 # a key, cut at its first and at its last dot; if it has only one dot, there is no middle
 Key = collections.namedtuple("Key", "first middle last")
-Row = collections.namedtuple("Row", "key alone warns kind words text")
+Row = collections.namedtuple("Row", "key since until instead alone warns kind words text")
+# the Git by whose rows values are judged if none is named
+NEWEST = (2, 55)
 
 # a number may have any count of digits
 sys.set_int_max_str_digits(0)
@@ -129,6 +131,9 @@ def color(text):
 # the kinds: each takes the words of the row and a text, and returns the canonical text or raises Refused
 
 def of_bool(_, text):
+    found = integer(text)
+    if found is not None and product(*found) in BITS_64:
+        in_range(found, *bounds([]))
     if boolean(text) is None:
         raise Refused(BOOLEAN_FAULT)
     return bool_shown(boolean(text))
@@ -202,13 +207,17 @@ def is_int(text):
     return found is not None and product(*found) in BITS_32
 
 
+def is_bool(text):
+    return boolean(text) is not None and (integer(text) is None or is_int(text))
+
+
 def spelled_by_form(form, words, text, any_case):
     """The canonical text of a text that no word of the row matches; None if the text is wrong."""
     def has(piece):
         return matching(words, piece, any_case) is not None
 
     if form == b"bool-or-word":
-        return None if boolean(text) is None else bool_shown(boolean(text))
+        return bool_shown(boolean(text)) if is_bool(text) else None
     if form == b"int-or-word":
         return integer_shown(*integer(text)) if is_int(text) else None
     name = SORT_NAME.fullmatch(text)[1]
@@ -249,8 +258,27 @@ WITH_WORDS = [*FORMS, *(form + ANY_CASE for form in FORMS)]
 RIGHT_ALONE = [b"bool", b"bool-or-int", b"bool-or-word", b"bool-or-word" + ANY_CASE]
 
 
+def outside(row):
+    """The severity and the reason of each value of a row that is not for the newest Git; None for other rows."""
+    if row.since is not None and NEWEST < row.since:
+        return b"note: Git reads it only since %d.%d" % row.since
+    if row.until is not None and NEWEST >= row.until:
+        return b"warning: Git reads it only before %d.%d" % row.until
+    return None
+
+
 def reason(row, value, canonical):
     """The severity and the reason of a value that is reported, or None; `value` is None for a key alone."""
+    if outside(row) is not None:
+        return outside(row)
+    found = wrong(row, value, canonical)
+    if row.instead is not None and (found is None or found.startswith(b"note: ")):
+        return b"warning: deprecated: use " + shown(row.instead)
+    return found
+
+
+def wrong(row, value, canonical):
+    """The severity and the reason of a value that is wrong or not canonical; None for other values."""
     if value is None:
         return None if row.alone else b"error: no value"
     try:
@@ -276,9 +304,23 @@ def fields_of(line):
     return [field for field in re.split(rb"[ \t\r]", line) if field]
 
 
+def version(text):
+    """The two numbers of a version; None for any other text."""
+    key = key_of(text)
+    found = [] if key is None else [integer(part) for part in (key.first, key.last if key.middle is None else key.middle)]
+    return tuple(product(*one) for one in found) if found and None not in found else None
+
+
 def row_of(fields):
     """The row with these fields; None if they are not a row."""
     text, *rest = fields
+    marks = {}
+    for mark in (b"since=", b"until=", b"instead="):
+        if rest and rest[0].startswith(mark):
+            marks[mark] = rest.pop(0).removeprefix(mark)
+    versions = [version(marks[mark]) if mark in marks else None for mark in (b"since=", b"until=")]
+    if any(mark in marks and one is None for mark, one in zip((b"since=", b"until="), versions)):
+        return None
     alone = {b"alone": True, b"needs-value": False}.get(rest[0]) if rest else None
     rest = rest if alone is None else rest[1:]
     warns = rest[:1] == [b"warn"]
@@ -289,7 +331,7 @@ def row_of(fields):
     if kind not in KINDS and kind not in WITH_WORDS:
         return None
     is_row = bounds(words) is not None if kind == b"int" else bool(words) == (kind in WITH_WORDS)
-    return Row(key_of(text), kind in RIGHT_ALONE if alone is None else alone, warns, kind, words, text) if is_row else None
+    return Row(key_of(text), *versions, marks.get(b"instead="), kind in RIGHT_ALONE if alone is None else alone, warns, kind, words, text) if is_row else None
 
 
 def rows_of(text):
@@ -312,9 +354,10 @@ def is_matched(pattern, key):
 
 
 def row_for(rows, text):
-    """The first row that covers the key, or None."""
+    """The first row that covers the key, or None; rows for the newest Git come before others."""
     key = key_of(text)
-    return next((row for row in rows if is_matched(row.key, key)), None) if key is not None else None
+    ordered = sorted(rows, key=lambda row: outside(row) is not None)
+    return next((row for row in ordered if is_matched(row.key, key)), None) if key is not None else None
 
 
 # keys that no row covers
@@ -374,8 +417,9 @@ def apart(pattern, key):
         return few_edits(pattern.first, key.first, 8) if is_middle and is_last else None
     if is_middle:
         return None if is_last else last_apart(pattern, key)
-    is_near = is_last and None not in (pattern.middle, key.middle)
-    return few_edits(pattern.middle, key.middle) if is_near else None
+    if None in (pattern.middle, key.middle):
+        return 0 if pattern.last == key.last else None
+    return few_edits(pattern.middle, key.middle) if is_last else None
 
 
 def nearest(distances):
@@ -385,10 +429,11 @@ def nearest(distances):
 
 
 def filled(pattern, key):
-    """A row's key as it is written, with parts of a key in place of `*`."""
+    """A row's key as it is written, with parts of a key, or NAME for a missing one, in place of `*`."""
     first, _, rest = pattern.partition(b".")
     middle, dot, last = rest.rpartition(b".")
-    parts = [first, *([key.middle if middle == b"*" else middle] if dot else []), key.last if last == b"*" else last]
+    instead = b"NAME" if key.middle is None else key.middle
+    parts = [first, *([instead if middle == b"*" else middle] if dot else []), key.last if last == b"*" else last]
     return b".".join(parts)
 
 
@@ -557,7 +602,7 @@ def findings(rows, data, canonical=False):
 
 # JSON
 
-SUGGESTION = re.compile(rb"note: should be (.*)|.*; did you mean (.*)\?", re.DOTALL)
+SUGGESTION = re.compile(rb"(?:note: should be|warning: deprecated: use) (.*)|.*; did you mean (.*)\?", re.DOTALL)
 SHOWN = re.compile(rb"\\(?:\\|x(..))")
 
 

@@ -29,6 +29,11 @@ mark.needs needs-value bool
 mark.warn warn int -1 0x10k
 mark.both alone warn word one
 mark.needs-warn needs-value warn bool-or-word one
+mark.since since=2.56 bool
+mark.until until=2.55 bool
+mark.reached since=2.55 until=2.55.1 warn int 1 9
+mark.reached since=2.3 until=3.0 int
+mark.instead instead=mark.since bool
 
 # words that are boolean texts too
 both.bytes bool-or-word yes 1 auto
@@ -125,7 +130,7 @@ TEXTS = [b"", b":(optional)", b"\xff", b"/x", b"x", b"x/y", b" ", b"~", b"~/", b
 
 # key, and the values that are right
 ACCEPTED = [
-    (b"test.bool", [None, *WORDS, *SMALL_NUMBERS, *MIDDLE_NUMBERS]),
+    (b"test.bool", [None, *WORDS, *SMALL_NUMBERS]),
     (b"test.int", SMALL_NUMBERS),
     (b"test.size", [b"0", b"1", b"-0", b"+0", b"-0k", b"010", b"0x10k", b"0b1g", b"512m", b"2147483648",
                     b"8589934591g", b"9223372036854775807", b"+9223372036854775807", b"0x7fffffffffffffff",
@@ -136,7 +141,7 @@ ACCEPTED = [
     (b"test.word", [b"one", b"Two", b"three-3"]),
     (b"test.alone", [b"alone"]),
     (b"test.word-any-case", [b"one", b"ONE", b"oNe", b"two", b"Two", b"TWO", b"kilo", b"KILO"]),
-    (b"test.bool-or-word", [None, b"always", b"never", b"auto", *WORDS, *SMALL_NUMBERS, *MIDDLE_NUMBERS]),
+    (b"test.bool-or-word", [None, b"always", b"never", b"auto", *WORDS, *SMALL_NUMBERS]),
     (b"test.bool-or-word-any-case", [None, b"always", b"ALWAYS", b"never", b"Never", b"KiLo", *WORDS,
                                      *SMALL_NUMBERS]),
     (b"both.bytes", [None, b"yes", b"YES", b"1", b"01", b"auto"]),
@@ -152,11 +157,13 @@ ACCEPTED = [
     (b"mark.warn", [b"-1", b"0", b"16k"]),
     (b"mark.both", [None, b"one"]),
     (b"mark.needs-warn", [b"one", b"yes", b""]),
+    (b"mark.reached", [b"10", b"0"]),
 ]
 
 # key, the reason, and the values that have it
 REPORTED = [
     (b"test.bool", BOOLEAN_FAULT, [*NO_BOOLEANS, *NO_NUMBERS, *LARGE_PRODUCTS]),
+    (b"test.bool", NO_INT, MIDDLE_NUMBERS),
     (b"test.int", NO_VALUE, [None]),
     (b"test.int", INTEGER_FAULT, [*WORDS, *NO_BOOLEANS, *NO_NUMBERS]),
     (b"test.int", OVERFLOW_FAULT, LARGE_PRODUCTS),
@@ -176,7 +183,7 @@ REPORTED = [
     (b"test.alone", b"error: not one of: alone", [b"", b"al"]),
     (b"test.word-any-case", NO_VALUE, [None]),
     (b"test.word-any-case", NO_WORD_ANY_CASE, [b"", b"yes", b"1", KELVIN + b"ilo"]),
-    (b"test.bool-or-word", NO_BOOL_OR_WORD, [*NO_BOOLEANS, *NO_NUMBERS, *LARGE_PRODUCTS]),
+    (b"test.bool-or-word", NO_BOOL_OR_WORD, [*NO_BOOLEANS, *NO_NUMBERS, *MIDDLE_NUMBERS, *LARGE_PRODUCTS]),
     (b"test.bool-or-word-any-case", NO_BOOL_OR_WORD_ANY_CASE,
      [KELVIN + b"ilo", *NO_BOOLEANS, *NO_NUMBERS, *LARGE_PRODUCTS]),
     (b"both.bytes", b"error: not a boolean, nor one of: yes, 1, auto", [b"maybe", b"2x", b"x"]),
@@ -197,6 +204,10 @@ REPORTED = [
     (b"mark.warn", b"warning: out of range: not from -1 to 16384", [b"-2", b"17k"]),
     (b"mark.warn", b"warning: " + plain_reader.INTEGER_FAULT, [b"", b"x"]),
     (b"mark.both", b"warning: not one of: one", [b""]),
+    (b"mark.since", b"note: Git reads it only since 2.56", [None, b"", b"x"]),
+    (b"mark.until", b"warning: Git reads it only before 2.55", [None, b"", b"x"]),
+    (b"mark.instead", b"warning: deprecated: use mark.since", [None, b"yes", b"true"]),
+    (b"mark.instead", BOOLEAN_FAULT, [b"x"]),
     (b"mark.needs-warn", NO_VALUE, [None]),
     (b"mark.needs-warn", b"warning: not a boolean, nor one of: one", [b"x"]),
 ]
@@ -226,7 +237,7 @@ MEANT = [
 # key, and accepted values with their canonical texts
 SPELLINGS = [
     (b"test.bool", {b"yes": b"true", b"on": b"true", b"True": b"true", b"1": b"true",
-                    b"-8589934592g": b"true", b"no": b"false", b"OFF": b"false",
+                    b"-2g": b"true", b"no": b"false", b"OFF": b"false",
                     b"": b"false", b"0": b"false", b"0x0k": b"false"}),
     (b"test.int", {b"0x10K": b"16k", b"+1": b"1", b"-0": b"0", b"00": b"0", b"-0K": b"0k", b"010": b"8",
                    b"-0b11M": b"-3m", b"1G": b"1g", b"-0x80000000": b"-2147483648", ZEROS: b"0"}),
@@ -348,17 +359,19 @@ MISSPELLED_KEYS = [
     (b"any-both-.x.y", b"any-both.x.y"), (b"literal.last-o", b"literal.last*"), (b"x.star", b"*.star"),
     (b"middle.\xff\t.lst", rb"middle.\xff\x09.last"), (b"middle.a\\b.lst", rb"middle.a\\b.last"),
     (b"test.word-case", b"test.word-any-case"), (b"test.OR-WORD", b"test.bool-or-word"), (b"test.wordless", b"test.words"),
+    (b"test.x.int", b"test.int"), (b"test..int", b"test.int"), (b"middle.LAST", b"middle.NAME.last"),
+    (b"middle.other", b"middle.Exact.Other"), (b"empty.middle", b"empty..middle"),
     (b"test.int-or-words-first", b"test.int-or-word"), (b"any-lasted.x", b"any-last.x"), (b"ay-lastt.x", b"any-last.x"),
 ]
 # keys in sections in which only the rows have settings
-OWN_KEYS = [b"test.wrong", b"test.tni", b"middle.last", b"empty.middle", b"any-both.y", b"literal.last-one", b"test.key", b"test.sort"]
+OWN_KEYS = [b"test.wrong", b"test.tni", b"any-both.y", b"literal.last-one", b"test.key", b"test.sort"]
 UNKNOWN_KEYS = [
-    b"test.x.int", b"test..int", b".test.int", b"..int", b"te.int", b"middle.Exact.x", b"middle.two.other",
+    b".test.int", b"..int", b"te.int", b"middle.Exact.x", b"middle.two.other",
     b"empty.xx.middle", b"any-last.x.y", b"any-last..x", b"any-last.sub.x.y", b"literal.abcd.last", b"xx.star",
     b"middle.x.lasttt", b"middle.Exact.Other-word", b"an-lats.x", b"other.key",
 ]
 # keys that the built-in rows, which the second reader does not have, do not report either
-UNKNOWN_BUILT_IN = [b"core.crlf", b"user.nickname", b"user.home", b"user.username", b"branch.x.base", b"branch.x.rebase-merges",
+UNKNOWN_BUILT_IN = [b"pretty.a.b", b"gui.x.y", b"lfs.url", b"core.crlf", b"user.nickname", b"user.home", b"user.username", b"branch.x.base", b"branch.x.rebase-merges",
                     b"gitlab.url", b"alien.x"]
 
 # which row decides: key, value, and the reason
@@ -375,6 +388,8 @@ MISSPELLED_BUILT_IN = [
     (b"color.brnch.local", b"color.branch.local"), (b"core.autocrfl", b"core.autocrlf"), (b"pull.everything", None),
     (b"psuh.default", b"push.default"), (b"alais.st", b"alias.st"), (b"branch.main.rebsae", b"branch.main.rebase"),
     (b"push.autoSetup", b"push.autoSetupRemote"), (b"core.exclude", b"core.excludesFile"), (b"push.default-mode", b"push.default"),
+    (b"remote.url", b"remote.NAME.url"), (b"branch.merge", b"branch.NAME.merge"), (b"user.work.email", b"user.email"),
+    (b"core.x.bare", b"core.bare"), (b"url.insteadof", b"url.NAME.insteadOf"), (b"filter.clean", b"filter.NAME.clean"),
     (b"maintainance.auto", b"maintenance.auto"), (b"diff.renam", b"diff.renames"), (b"core.longpath", b"core.longpaths"),
 ]
 
@@ -391,6 +406,9 @@ BUILT_IN = [
     (b"branch.a.b.rebase", b"interactive", None), (b"branch.x.rebase", None, None),
     (b"core.excludesFile", b"", None), (b"core.excludesfile", b"~/x", None),
     (b"core.excludesfile", None, NO_VALUE),
+    (b"core.whitespace", b"incomplete-line", None), (b"pull.autostash", None, None), (b"http.maxretries", b"3", None),
+    (b"maintenance.strategy", b"incrementl", b"error: not one of: "), (b"core.fsyncobjectfiles", b"true", b"warning: deprecated: use core.fsync"),
+    (b"core.bare", b"2g", NO_INT), (b"add.interactive.usebuiltin", b"true", b"warning: Git reads it only before 2.40"),
 ]
 
 # rows that come before the built-in ones, and what they find: key, value, and the reason
@@ -406,6 +424,7 @@ OWN_ROWS = [
 NO_DOT, NO_KIND, NO_SUCH_KIND, NO_WORDS, WORDS, BOUNDS = (
     b"no dot in the key", b"no kind after the key", b"no such kind", b"no words after the kind",
     b"words after a kind without words", b"the bounds are not two integers")
+NO_VERSION = b"no version after since= or until="
 # texts of settings with such a line, its number, and why it is not a row
 BAD_ROWS = [
     (b"nodot bool\n", 1, NO_DOT), (b"test.x\n", 1, NO_KIND), (b"test.x \n", 1, NO_KIND), (b"nodot\n", 1, NO_DOT),
@@ -415,6 +434,8 @@ BAD_ROWS = [
     (b"test.x int 1 2 3\n", 1, BOUNDS), (b"test.x int 1 two\n", 1, BOUNDS), (b"test.x int one 2\n", 1, BOUNDS),
     (b"test.x text text\n", 1, WORDS), (b"test.x alone\n", 1, NO_KIND), (b"test.x needs-value warn\n", 1, NO_KIND),
     (b"test.x warn alone bool\n", 1, NO_SUCH_KIND), (b"test.x alone needs-value bool\n", 1, NO_SUCH_KIND),
+    (b"test.x since=2 bool\n", 1, NO_VERSION), (b"test.x since=2.1 until= bool\n", 1, NO_VERSION),
+    (b"test.x until=2.1 since=2.0 bool\n", 1, NO_SUCH_KIND), (b"test.x since=2.x\n", 1, NO_VERSION),
     (b"test.x size\n", 1, NO_SUCH_KIND), (b"test.x sort-key\n", 1, NO_WORDS), (b"test.x text-any-case\n", 1, NO_SUCH_KIND), (b"test.x # bool\n", 1, NO_SUCH_KIND), (b"test.x word\n", 1, NO_WORDS),
     (b"test.x word-any-case\n", 1, NO_WORDS), (b"test.x bool-or-word \n", 1, NO_WORDS),
     (b"test.x bool-or-word-any-case\n", 1, NO_WORDS), (b"test.x bool\nnodot bool", 2, NO_DOT),
@@ -465,8 +486,12 @@ FAIL_ON = [
 # arguments that are wrong
 WRONG_ARGUMENTS = [["--no-such-argument"], ["-x"], ["--settings"], ["--show-scope"], ["--show-origin"], ["--canonical=maybe"],
                    ["--canonical", "--canonical"], ["--fail-on"], ["--fail-on", "fatal"], ["--fail-on", "note", "--fail-on", "note"],
-                   ["--format"], ["--format", "xml"], ["--format", "json", "--format", "json"],
-                   ["--settings", "/dev/null", "--settings", "/dev/null"]]
+                   ["--format"], ["--format", "xml"], ["--format", "json", "--format", "json"], ["--git"],
+                   ["--git", "2.39", "--git", "2.39"], ["--color"], ["--color", "red"]]
+
+# texts that are no versions of Git, and versions, each with the severity of `pull.autostash = true` by it
+WRONG_VERSIONS = ["two", "2", "", "2.", ".39", "2.39.5.1", "v2.39", "2,39"]
+VERSIONS = {"2.39": b"note", "2.50.9": b"note", "1.99": b"note", "2.51": None, "2.51.0": None, "3.0": None}
 
 # arguments that are not UTF-8
 ILL_FORMED_ARGUMENTS = [[b"--canonical\xff"], [b"--settings", b"\xff"], [b"\xc3"]]

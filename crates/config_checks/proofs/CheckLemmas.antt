@@ -355,7 +355,7 @@ module _ (rows : List Row) (options : Options) (setting : Setting) (s : Counts) 
   -- the line of the finding was written
   pub told_finding : {T E : Type 0} (s' : Counts) (row : Row) (reason : Reason) (severity : Severity) (r : Result T E)
       (x x' : Option (List ℕ)) → Decides rows setting.key.items row
-      → HasFinding options.canonical row (value_of setting) (Some reason) → severity ≡ severity_of row.goes_on reason
+      → HasFinding options.git options.canonical row (value_of setting) (Some reason) → severity ≡ severity_of row.goes_on reason
       → s' ≡ counted severity (record s { entries = s.entries + 1 })
       → OnOk r (Appends x x' (finding_line options setting severity reason)) → OnOk r (Reports rows options setting s s' x x')
   told_finding s' row reason severity (Ok v) x x' decides bad is counts appended = (
@@ -368,7 +368,7 @@ module _ (rows : List Row) (options : Options) (setting : Setting) (s : Counts) 
 
   -- a part of the line was written
   part_finding : (row : Row) (reason : Reason) (severity : Severity) (e : CheckError) (x x' : Option (List ℕ))
-      → Decides rows setting.key.items row → HasFinding options.canonical row (value_of setting) (Some reason)
+      → Decides rows setting.key.items row → HasFinding options.git options.canonical row (value_of setting) (Some reason)
       → severity ≡ severity_of row.goes_on reason
       → WritesPart x x' (λ line. line ≡ finding_line options setting severity reason) e
       → ReportsPart rows options setting s x x' e
@@ -381,7 +381,7 @@ module _ (rows : List Row) (options : Options) (setting : Setting) (s : Counts) 
 
   pub failed_finding : {T : Type 0} (row : Row) (reason : Reason) (severity : Severity) (r : Result T CheckError)
       (x x' : Option (List ℕ)) → Decides rows setting.key.items row
-      → HasFinding options.canonical row (value_of setting) (Some reason) → severity ≡ severity_of row.goes_on reason
+      → HasFinding options.git options.canonical row (value_of setting) (Some reason) → severity ≡ severity_of row.goes_on reason
       → IfErr r (WritesPart x x' (λ line. line ≡ finding_line options setting severity reason))
       → IfErr r (ReportsPart rows options setting s x x')
   failed_finding row reason severity (Ok v) x x' decides bad is part = tt

@@ -1,3 +1,4 @@
+mod BooleanLemmas
 mod NearestLemmas
 mod RunLemmas
 mod WordLemmas

@@ -23,12 +23,15 @@ use Rattle.config_checks.specs.declared.kind.SettingKind.TheVariants as kinds
 use Rattle.config_checks.specs.declared.row.Row.{Row}
 use Rattle.config_checks.specs.declared.reason.Reason.{Reason}
 use Rattle.config_checks.specs.declared.reason.Reason.TheVariants.{NoValue, Refused, OutOfRange, NoWord, NotCanonical}
-use Rattle.config_checks.specs.declared.reason.Reason.TheVariants.{OtherCase}
+use Rattle.config_checks.specs.declared.reason.Reason.TheVariants.{TooNew, Gone, Deprecated, OtherCase}
 use Rattle.config_checks.specs.Kinds.{IsWord, IsFirstWord}
-use Rattle.config_checks.specs.Reasons.{IsJudged, IsWithin, IsJudgedWithin, IsJudgedBoolOrInt, IsJudgedByWords}
+use Rattle.config_checks.specs.Reasons.{IsJudged, IsWithin, IsJudgedWithin, IsJudgedBool, IsJudgedByWords}
 use Rattle.config_checks.specs.Reasons.{WordEdits, IsMeant, IsJudgedText, HasReason}
 use Rattle.config_checks.specs.Reasons.{IsRespelled, IsRespelledAs, IsRespelledByForm, IsRespelledByWords}
-use Rattle.config_checks.specs.Reasons.{HasSpelling, IsFoundBehind}
+use Rattle.config_checks.specs.Reasons.{HasSpelling, IsOutside, IsRemarkBy}
+use Rattle.config_checks.specs.Reasons.HasFinding.{outside, wrong, right}
+use Rattle.config_checks.specs.declared.version.Version.{Version}
+use Rattle.config_checks.specs.Versions.{IsOf}
 use Rattle.config_checks.specs.Reasons.{HasFinding, IsSameFinding}
 use Rattle.config_checks.proofs.NearestLemmas.{nearest_once, no_far}
 use Rattle.config_checks.proofs.WordLemmas.{no_first}
@@ -123,7 +126,7 @@ words_once list t (Some _) b p q = absurd p
 
 -- ---- the reason
 
-int_once : (t : List ℕ) (a b : Option Reason) → IsJudgedBoolOrInt t a → IsJudgedBoolOrInt t b → a ≡ b
+pub int_once : (t : List ℕ) (a b : Option Reason) → IsJudgedBool t a → IsJudgedBool t b → a ≡ b
 int_once t a b p q = elim (amount_decided t) [
   | inl number ↦ same_number _ _ t a b (p.number number) (q.number number)
   | inr none ↦ judged_once BooleanText (OnlyFault faults.Boolean) t (always_once faults.Boolean t) a b (p.other none) (q.other none)
@@ -132,8 +135,7 @@ int_once t a b p q = elim (amount_decided t) [
 text_judged_once : (kind : SettingKind) (t : List ℕ) (a b : Option Reason) → IsJudgedText kind t a
     → IsJudgedText kind t b → IsSameFinding a b
 text_judged_once kinds.Text t a b p q = as_same a b (p ∙ sym q)
-text_judged_once kinds.Bool t a b p q =
-    as_same a b (judged_once BooleanText (OnlyFault faults.Boolean) t (always_once faults.Boolean t) a b p q)
+text_judged_once kinds.Bool t a b p q = as_same a b (int_once t a b p q)
 text_judged_once (kinds.Int low high) t a b p q = as_same a b (same_number low high t a b p q)
 text_judged_once kinds.BoolOrInt t a b p q = as_same a b (int_once t a b p q)
 text_judged_once kinds.Color t a b p q =
@@ -236,19 +238,52 @@ none_with NoValue same = absurd (cc)
 none_with (Refused f) same = absurd (cc)
 none_with (OutOfRange l h) same = absurd (cc)
 none_with (NoWord l v) same = absurd (cc)
+none_with (TooNew v) same = absurd (cc)
+none_with (Gone v) same = absurd (cc)
+none_with (Deprecated w) same = absurd (cc)
 none_with (NotCanonical c) same = absurd (cc)
 none_with (OtherCase w) same = absurd (cc)
 
-found_once : (wants : Bool) (kind : SettingKind) (value : Option (List ℕ)) (r s a b : Option Reason) → IsSameFinding r s
-    → IsFoundBehind wants kind value r a → IsFoundBehind wants kind value s b → IsSameFinding a b
-found_once wants kind value (Some r) (Some s) a b same p q =
-    subst (λ x. IsSameFinding x b) (sym p) (subst (IsSameFinding (Some r)) (sym q) same)
-found_once wants kind value (Some r) None a b same p q = absurd (none_with r same)
-found_once wants kind value None (Some s) a b same p q = absurd (cc)
-found_once true kind value None None a b same p q = spelling_once kind value a b p q
-found_once false kind value None None a b same p q = as_same a b (p ∙ sym q)
+none_before : (a : Reason) → ¬ (IsSameFinding None (Some a))
+none_before a same = absurd (cc)
 
-pub finding_once : (wants : Bool) (row : Row) (value : Option (List ℕ)) (a b : Option Reason)
-    → HasFinding wants row value a → HasFinding wants row value b → IsSameFinding a b
-finding_once wants row value a b p q = found_once wants row.kind value p.reason q.reason a b
-    (reason_once row value p.reason q.reason p.judged q.judged) p.found q.found
+remark_once : (instead : Option (Bor (List ℕ))) (wants : Bool) (kind : SettingKind) (value : Option (List ℕ)) (a b : Option Reason)
+    → IsRemarkBy instead wants kind value a → IsRemarkBy instead wants kind value b → IsSameFinding a b
+remark_once (Some word) wants kind value a b p q = as_same a b (p ∙ sym q)
+remark_once None true kind value a b p q = spelling_once kind value a b p q
+remark_once None false kind value a b p q = as_same a b (p ∙ sym q)
+
+module _ (git : Version) (row : Row) where
+  not_outside : IsOf git row → (reason : Reason) → ¬ (IsOutside git row reason)
+  not_outside is (TooNew since) out = is.since (since, out.0, out.1)
+  not_outside is (Gone until) out = out.1 (is.until until out.0)
+  not_outside is _ out = absurd out
+
+  outside_once : (a b : Reason) → IsOutside git row a → IsOutside git row b → a ≡ b
+  outside_once (TooNew v) (TooNew w) p q =
+      let first = p.0 in let second = q.0 in cc
+  outside_once (TooNew v) (Gone w) p q = absurd (q.2 (v, p.0, p.1))
+  outside_once (TooNew v) _ p q = absurd q
+  outside_once (Gone v) (TooNew w) p q = absurd (p.2 (w, q.0, q.1))
+  outside_once (Gone v) (Gone w) p q =
+      let first = p.0 in let second = q.0 in cc
+  outside_once (Gone v) _ p q = absurd q
+  outside_once _ b p q = absurd p
+
+  pub finding_once : (wants : Bool) (value : Option (List ℕ)) (a b : Option Reason)
+      → HasFinding git wants row value a → HasFinding git wants row value b → IsSameFinding a b
+  finding_once wants value a b (outside r out is) (outside s also is') =
+      as_same a b (is ∙ ap (λ x. Some x) (outside_once r s out also) ∙ sym is')
+  finding_once wants value a b (outside r out is) (wrong of s judged is') = absurd (not_outside of r out)
+  finding_once wants value a b (outside r out is) (right of judged remark) = absurd (not_outside of r out)
+  finding_once wants value a b (wrong of r judged is) (outside s also is') = absurd (not_outside of s also)
+  finding_once wants value a b (wrong of r judged is) (wrong of' s judged' is') =
+      subst (λ x. IsSameFinding x b) (sym is)
+      (subst (IsSameFinding (Some r)) (sym is') (reason_once row value (Some r) (Some s) judged judged'))
+  finding_once wants value a b (wrong of r judged is) (right of' judged' remark) =
+      absurd (none_with r (reason_once row value (Some r) None judged judged'))
+  finding_once wants value a b (right of judged remark) (outside s also is') = absurd (not_outside of s also)
+  finding_once wants value a b (right of judged remark) (wrong of' s judged' is') =
+      absurd (none_before s (reason_once row value None (Some s) judged judged'))
+  finding_once wants value a b (right of judged remark) (right of' judged' remark') =
+      remark_once row.instead wants row.kind value a b remark remark'

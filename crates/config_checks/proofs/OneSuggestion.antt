@@ -1,5 +1,5 @@
 -- For an unknown key at most one key is suggested.
-use Rattle.std.proofs.Common.{◌≡◌, ℕ, List, Option, None, Some, inl, inr, refl, sym, ap, subst, ◌∙◌}
+use Rattle.std.proofs.Common.{◌≡◌, ℕ, List, Option, None, Some, inl, inr, refl, sym, ap, subst, ◌∙◌, codes}
 use Rattle.config_file.specs.Key.{Key}
 use Rattle.config_file.specs.KeyView.{key_of}
 use Rattle.config_file.proofs.OneKey.{cut_same, cut_has_dot, same_parts}
@@ -20,7 +20,9 @@ filled_once row part x y (inr p) (inr q) = p.1 ∙ sym q.1
 
 subsection_once : (row part x y : Option (List ℕ)) → FillsSubsection row part x → FillsSubsection row part y → x ≡ y
 subsection_once None part x y p q = p ∙ sym q
-subsection_once (Some row) None x y p q = p ∙ sym q
+subsection_once (Some row) None None y p q = absurd p
+subsection_once (Some row) None (Some x) None p q = absurd q
+subsection_once (Some row) None (Some x) (Some y) p q = ap Some (filled_once row (codes "NAME") x y p q)
 subsection_once (Some row) (Some part) None y p q = absurd p
 subsection_once (Some row) (Some part) (Some x) None p q = absurd q
 subsection_once (Some row) (Some part) (Some x) (Some y) p q = ap Some (filled_once row part x y p q)

@@ -38,13 +38,15 @@ of_name row key covers not (Err e) is = tt
 
 -- if the name is covered, the edits after the section are those of the subsection
 many_before : (row key : Key) → CoversName row.name key.name
-    → ((n : ℕ) → SubsectionEdits row.subsection key.subsection n → 3 < n) → (n : ℕ) → EditsAfter row key n → 3 < n
+    → ((n : ℕ) → SubsectionEdits (SameWord row.name key.name) row.subsection key.subsection n → 3 < n)
+    → (n : ℕ) → EditsAfter row key n → 3 < n
 many_before row key covers many n (in_name c not is) = absurd (not covers)
 many_before row key covers many n (in_subsection not c is) = many n is
 
 pub of_subsection : {E : Type 0} (row key : Key) → ¬ (CoversSubsection row.subsection key.subsection)
     → CoversName row.name key.name
-    → (r : Result (Option ℕ) E) → IfOk r (λ r. IsFew (SubsectionEdits row.subsection key.subsection) r)
+    → (r : Result (Option ℕ) E)
+    → IfOk r (λ r. IsFew (SubsectionEdits (SameWord row.name key.name) row.subsection key.subsection) r)
     → IfOk r (λ r. IsFew (EditsAfter row key) r)
 of_subsection row key not covers (Ok None) many = many_before row key covers many
 of_subsection row key not covers (Ok (Some n)) edits = (in_subsection not covers edits.0, edits.1)
@@ -66,11 +68,11 @@ of_other_section row key other subsection name (Err e) is = tt
 
 -- ---- there is at most one number of edits
 
-one_subsection : (a b : Option (List ℕ)) (m n : ℕ) → SubsectionEdits a b m → SubsectionEdits a b n → m ≡ n
-one_subsection None None m n is also = absurd is
-one_subsection None (Some b) m n is also = absurd is
-one_subsection (Some a) None m n is also = absurd is
-one_subsection (Some a) (Some b) m n is also = one_count a b m n is.0 also.0
+one_subsection : (S : Type 0) (a b : Option (List ℕ)) (m n : ℕ) → SubsectionEdits S a b m → SubsectionEdits S a b n → m ≡ n
+one_subsection S None None m n is also = absurd is
+one_subsection S None (Some b) m n is also = is.1 ∙ sym also.1
+one_subsection S (Some a) None m n is also = is.1 ∙ sym also.1
+one_subsection S (Some a) (Some b) m n is also = one_count a b m n is.0 also.0
 
 one_name : (row key : Key) (m n : ℕ) → NameEdits row key m → NameEdits row key n → m ≡ n
 one_name row key m n (few is) (few also) = one_count row.name key.name m n is.0 also.0
@@ -82,7 +84,8 @@ one_after : (row key : Key) (m n : ℕ) → EditsAfter row key m → EditsAfter 
 one_after row key m n (in_name covers not is) (in_name c d also) = one_name row key m n is also
 one_after row key m n (in_name covers not is) (in_subsection not' c also) = absurd (not' covers)
 one_after row key m n (in_subsection not covers is) (in_name c d also) = absurd (not c)
-one_after row key m n (in_subsection not covers is) (in_subsection c d also) = one_subsection row.subsection key.subsection m n is also
+one_after row key m n (in_subsection not covers is) (in_subsection c d also) =
+    one_subsection (SameWord row.name key.name) row.subsection key.subsection m n is also
 
 pub one_number : (row key : Key) (m n : ℕ) → OnePartEdits row key m → OnePartEdits row key n → m ≡ n
 one_number row key m n (in_rest s is) (in_rest t also) = one_after row key m n is also

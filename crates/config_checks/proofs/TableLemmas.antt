@@ -17,9 +17,10 @@ use Rattle.config_file.specs.Key.{Key, IsCut}
 use Rattle.config_checks.specs.declared.row.Row.{Row}
 use Rattle.config_checks.specs.declared.table.RowFault.{RowFault}
 use Rattle.config_checks.specs.declared.table.RowFault.TheVariants.{NoKind, NoKey, UnknownKind, NoWords, Words, Bounds}
-use Rattle.config_checks.specs.declared.table.RowFault.TheVariants.{Memory}
+use Rattle.config_checks.specs.declared.table.RowFault.TheVariants.{NoVersion, Memory}
 use Rattle.config_checks.specs.declared.table.BadRow.{BadRow}
-use Rattle.config_checks.specs.Rows.{lines_of, fields_of, IsNoRow, HasMarks, IsBadKind, IsBadRow, IsBadLine, AddsRow, AddsRows}
+use Rattle.config_checks.specs.declared.table.Marks.{Marks}
+use Rattle.config_checks.specs.Rows.{lines_of, fields_of, IsNoRow, HasMarks, HasBadVersion, IsBadKind, IsBadRow, IsBadLine, AddsRow, AddsRows}
 
 -- a `for` over the parts of a text takes them in order
 pub parts_of : {F : Type 0} {g : Mut F (Bor ℕ × Unit {0}) Bool} {f : F} (s u t : _) (taken : List (Bor (List ℕ)))
@@ -71,20 +72,27 @@ bad_line text lines line bad rows rows' before here numbered added fault =
     }
 
 -- the fields have a key and marks, but what follows is a bad kind
-pub bad_kind : (fields marked : List (List ℕ)) (key name : List ℕ) (words : List (List ℕ)) (k : Key) (alone : Option Bool)
-    (goes_on : Bool) (fault : RowFault) → ¬ (IsNoRow fields) → fields ≡ key ∷ marked → IsCut key k
-    → HasMarks marked alone goes_on (name ∷ words) → IsBadKind name words fault → IsBadRow fields fault
-bad_kind fields marked key name words k alone goes_on NoKind row parts is marks bad = absurd bad
-bad_kind fields marked key name words k alone goes_on NoKey row parts is marks bad = absurd bad
-bad_kind fields marked key name words k alone goes_on UnknownKind row parts is marks bad =
-    (row, (key, marked, parts, (k, is), alone, goes_on, name, words, marks, bad))
-bad_kind fields marked key name words k alone goes_on NoWords row parts is marks bad =
-    (row, (key, marked, parts, (k, is), alone, goes_on, name, words, marks, bad))
-bad_kind fields marked key name words k alone goes_on Words row parts is marks bad =
-    (row, (key, marked, parts, (k, is), alone, goes_on, name, words, marks, bad))
-bad_kind fields marked key name words k alone goes_on Bounds row parts is marks bad =
-    (row, (key, marked, parts, (k, is), alone, goes_on, name, words, marks, bad))
-bad_kind fields marked key name words k alone goes_on (Memory e) row parts is marks bad = tt
+pub bad_kind : (fields marked : List (List ℕ)) (key name : List ℕ) (words : List (List ℕ)) (k : Key) (m : Marks)
+    (fault : RowFault) → ¬ (IsNoRow fields) → fields ≡ key ∷ marked → IsCut key k
+    → HasMarks marked m (name ∷ words) → IsBadKind name words fault → IsBadRow fields fault
+bad_kind fields marked key name words k m NoKind row parts is marks bad = absurd bad
+bad_kind fields marked key name words k m NoKey row parts is marks bad = absurd bad
+bad_kind fields marked key name words k m NoVersion row parts is marks bad = absurd bad
+bad_kind fields marked key name words k m UnknownKind row parts is marks bad =
+    (row, (key, marked, parts, (k, is), m, name, words, marks, bad))
+bad_kind fields marked key name words k m NoWords row parts is marks bad =
+    (row, (key, marked, parts, (k, is), m, name, words, marks, bad))
+bad_kind fields marked key name words k m Words row parts is marks bad =
+    (row, (key, marked, parts, (k, is), m, name, words, marks, bad))
+bad_kind fields marked key name words k m Bounds row parts is marks bad =
+    (row, (key, marked, parts, (k, is), m, name, words, marks, bad))
+bad_kind fields marked key name words k m (Memory e) row parts is marks bad = tt
+
+-- the fields have a key, but a bad version follows it
+pub bad_version : (fields marked : List (List ℕ)) (key : List ℕ) (k : Key) (fault : RowFault) → ¬ (IsNoRow fields)
+    → fields ≡ key ∷ marked → IsCut key k → (fault ≡ NoVersion) × HasBadVersion marked → IsBadRow fields fault
+bad_version fields marked key k fault row parts is bad =
+    subst (IsBadRow fields) (sym bad.0) (row, (key, marked, parts, (k, is), bad.1))
 
 no_words : (words : List (Bor (List ℕ))) → length words ≡ 0 → words ≡ []
 no_words [] none = refl

@@ -15,7 +15,8 @@ use Rattle.config_checks.specs.declared.kind.Form.TheVariants as forms
 use Rattle.config_checks.specs.declared.kind.WordList.{WordList}
 use Rattle.config_checks.specs.declared.reason.Reason.{Reason}
 use Rattle.config_checks.specs.declared.reason.Reason.TheVariants.{NoValue, Refused, OutOfRange, NoWord}
-use Rattle.config_checks.specs.declared.reason.Reason.TheVariants.{NotCanonical, OtherCase}
+use Rattle.config_checks.specs.declared.reason.Reason.TheVariants.{TooNew, Gone, Deprecated, NotCanonical, OtherCase}
+use Rattle.config_checks.specs.declared.version.Version.{Version}
 use Rattle.config_checks.specs.declared.reason.Severity.{Severity}
 use Rattle.config_checks.specs.declared.reason.Severity.TheVariants.{Error, Warning, Note}
 
@@ -58,6 +59,10 @@ abbrev pub range_text : Amount → Amount → List ℕ
 range_text low high =
     (codes "out of range: not from " ++ signed_decimal low.0) ++ (codes " to " ++ signed_decimal high.0)
 
+-- a text, and a version after it
+abbrev pub version_text : List ℕ → Version → List ℕ
+version_text front v = (front ++ signed_decimal v.major.0) ++ (codes "." ++ signed_decimal v.minor.0)
+
 -- words with `, ` before each
 abbrev pub listed : List (Bor (List ℕ)) → List ℕ
 listed words = flat_map (λ word. codes ", " ++ shown word.now) words
@@ -95,6 +100,9 @@ reason_text NoValue = codes "no value"
 reason_text (Refused fault) = fault_text fault
 reason_text (OutOfRange low high) = range_text low high
 reason_text (NoWord list meant) = no_word_text list.now meant
+reason_text (TooNew since) = version_text (codes "Git reads it only since ") since
+reason_text (Gone until) = version_text (codes "Git reads it only before ") until
+reason_text (Deprecated word) = codes "deprecated: use " ++ shown word.now
 reason_text (NotCanonical canonical) = codes "should be " ++ canonical.bytes
 reason_text (OtherCase word) = codes "should be " ++ shown word.now
 
@@ -113,10 +121,16 @@ abbrev pub value_shown : Option (List ℕ) → List ℕ
 value_shown None = []
 value_shown (Some t) = codes "'" ++ shown t ++ codes "': "
 
--- the text in red if colors are wanted, and otherwise as it is
-abbrev pub painted : Bool → List ℕ → List ℕ
-painted true t = (0x1B ∷ codes "[31m") ++ t ++ (0x1B ∷ codes "[m")
-painted false t = t
+-- the escape sequence of a severity: red, yellow or cyan
+abbrev pub color_of : Severity → List ℕ
+color_of Error = 0x1B ∷ codes "[31m"
+color_of Warning = 0x1B ∷ codes "[33m"
+color_of Note = 0x1B ∷ codes "[36m"
+
+-- the severity in its color if colors are wanted, and otherwise as it is
+abbrev pub painted : Bool → Severity → List ℕ
+painted true severity = color_of severity ++ severity_text severity ++ (0x1B ∷ codes "[m")
+painted false severity = severity_text severity
 
 -- the name of a file, and the number of a line
 abbrev pub place : List ℕ → ℕ → List ℕ
@@ -155,4 +169,4 @@ setting_shown f = key_part f.key ++ value_shown f.value
 
 abbrev pub text_line : (color : Bool) → Finding → List ℕ
 text_line color f =
-    place f.file f.line ++ painted color (severity_text f.severity) ++ setting_shown f ++ f.reason ++ line_feed ∷ []
+    place f.file f.line ++ painted color f.severity ++ setting_shown f ++ f.reason ++ line_feed ∷ []

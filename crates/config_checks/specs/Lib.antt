@@ -1,5 +1,6 @@
 pub mod Keys
 pub mod Kinds
+pub mod Versions
 pub mod Nearest
 pub mod Reasons
 pub mod Rows

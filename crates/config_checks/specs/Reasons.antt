@@ -20,11 +20,13 @@ use Rattle.config_checks.specs.declared.kind.SettingKind.TheVariants as kinds
 use Rattle.config_checks.specs.declared.row.Row.{Row}
 use Rattle.config_checks.specs.declared.reason.Reason.{Reason}
 use Rattle.config_checks.specs.declared.reason.Reason.TheVariants.{NoValue, Refused, OutOfRange, NoWord}
-use Rattle.config_checks.specs.declared.reason.Reason.TheVariants.{NotCanonical, OtherCase}
+use Rattle.config_checks.specs.declared.reason.Reason.TheVariants.{TooNew, Gone, Deprecated, NotCanonical, OtherCase}
 use Rattle.config_checks.specs.declared.reason.Severity.{Severity}
 use Rattle.config_checks.specs.declared.reason.Severity.TheVariants.{Error, Warning, Note}
 use Rattle.config_checks.specs.Kinds.{IsPattern, HasWord, IsNoWord, IsFirstWord, AreWords, HasDate, IsSortKey}
 use Rattle.config_checks.specs.Nearest.{FewEdits, AreFar, IsNearest}
+use Rattle.config_checks.specs.declared.version.Version.{Version}
+use Rattle.config_checks.specs.Versions.{IsBefore, IsTooNew, IsOf}
 
 -- ---- texts
 
@@ -62,18 +64,15 @@ greatest_int = record { 0 = pos 2147483647 }
 abbrev pub IsInt : List ℕ → Type 0
 IsInt = IsNumber least_int greatest_int
 
-abbrev pub IsJudgedBool : List ℕ → Option Reason → Type 0
-IsJudgedBool = IsJudged BooleanText (OnlyFault faults.Boolean)
-
--- an integer text is judged as a number of 32 bits, and any other text as a boolean
-pub record IsJudgedBoolOrInt (t : List ℕ) (r : Option Reason) : Type 0 where
+-- an integer text is judged as a number of 32 bits, since Git reads it as one, and any other text as a boolean
+pub record IsJudgedBool (t : List ℕ) (r : Option Reason) : Type 0 where
   pub number : IsAccepted AmountText t → IsJudgedWithin least_int greatest_int t r
-  pub other : IsRefused AmountText t → IsJudgedBool t r
+  pub other : IsRefused AmountText t → IsJudged BooleanText (OnlyFault faults.Boolean) t r
 
 -- the form takes the text, even if no word of the list matches all of it
 abbrev pub IsTakenByForm : WordList → List ℕ → Form → Type 0
 IsTakenByForm list t forms.Word = ⊥
-IsTakenByForm list t forms.BoolOrWord = IsAccepted BooleanText t
+IsTakenByForm list t forms.BoolOrWord = IsJudgedBool t None
 IsTakenByForm list t forms.IntOrWord = IsInt t
 IsTakenByForm list t forms.Words = AreWords list t
 IsTakenByForm list t forms.Date = HasDate list t
@@ -105,7 +104,7 @@ abbrev pub IsJudgedText : SettingKind → List ℕ → Option Reason → Type 0
 IsJudgedText kinds.Text t r = r ≡ None
 IsJudgedText kinds.Bool t r = IsJudgedBool t r
 IsJudgedText (kinds.Int low high) t r = IsJudgedWithin low high t r
-IsJudgedText kinds.BoolOrInt t r = IsJudgedBoolOrInt t r
+IsJudgedText kinds.BoolOrInt t r = IsJudgedBool t r
 IsJudgedText kinds.Color t r = IsJudged ColorText (OnlyFault faults.Color) t r
 IsJudgedText (kinds.Word list) t r = IsJudgedByWords list t r
 
@@ -113,10 +112,13 @@ abbrev pub HasReason : Row → Option (List ℕ) → Option Reason → Type 0
 HasReason row None r = r ≡ (if row.takes_no_value then None else Some NoValue)
 HasReason row (Some t) r = IsJudgedText row.kind t r
 
--- a missing value is an error, and another spelling is a note; a wrong value is a warning if Git continues
--- after it, and otherwise an error
+-- A missing value is an error. What only a newer Git reads is a note, as is another spelling. What Git no longer reads
+-- is a warning, as is a deprecated setting. A wrong value is a warning if Git continues after it, and otherwise an error.
 abbrev pub severity_of : (goes_on : Bool) → Reason → Severity
 severity_of goes_on NoValue = Error
+severity_of goes_on (TooNew since) = Note
+severity_of goes_on (Gone until) = Warning
+severity_of goes_on (Deprecated word) = Warning
 severity_of goes_on (NotCanonical canonical) = Note
 severity_of goes_on (OtherCase word) = Note
 severity_of goes_on _ = if goes_on then Warning else Error
@@ -161,18 +163,33 @@ HasSpelling kinds.BoolOrInt (Some t) r = IsRespelledBoolOrInt t r
 HasSpelling kinds.Color (Some t) r = IsRespelled ColorText CanonicalColor t r
 HasSpelling (kinds.Word list) (Some t) r = IsRespelledByWords list t r
 
--- the reason, if there is one; otherwise, if canonical texts are wanted, how the value should be spelled
-abbrev pub IsFoundBehind : (wants_canonical : Bool) → SettingKind → Option (List ℕ) → Option Reason
-    → Option Reason → Type 0
-IsFoundBehind wants_canonical kind value (Some reason) r = r ≡ Some reason
-IsFoundBehind true kind value None r = HasSpelling kind value r
-IsFoundBehind false kind value None r = r ≡ None
+-- ---- what is found
 
--- what a check finds for a setting, by its row and its value, if it finds anything
-pub record HasFinding (wants_canonical : Bool) (row : Row) (value : Option (List ℕ)) (r : Option Reason) : Type 0 where
-  pub reason : Option Reason
-  pub judged : HasReason row value reason
-  pub found : IsFoundBehind wants_canonical row.kind value reason r
+-- the row is not for this Git: it is for Git from a newer version on, or before a version that this Git has reached
+abbrev pub IsOutside : Version → Row → Reason → Type 0
+IsOutside git row (TooNew since) = (row.since ≡ Some since) × IsBefore git since
+IsOutside git row (Gone until) = (row.until ≡ Some until) × ¬ (IsBefore git until) × ¬ (IsTooNew git row)
+IsOutside git row _ = ⊥
+
+-- what replaces a deprecated setting; for other settings, if canonical texts are wanted, how the value should be spelled
+abbrev pub IsRemarkBy : Option (Bor (List ℕ)) → (wants_canonical : Bool) → SettingKind → Option (List ℕ) → Option Reason
+    → Type 0
+IsRemarkBy (Some word) wants_canonical kind value r = r ≡ Some (Deprecated word)
+IsRemarkBy None true kind value r = HasSpelling kind value r
+IsRemarkBy None false kind value r = r ≡ None
+
+-- what is said of a right value, if there is anything to say
+abbrev pub IsRemark : (wants_canonical : Bool) → Row → Option (List ℕ) → Option Reason → Type 0
+IsRemark wants_canonical row value r = IsRemarkBy row.instead wants_canonical row.kind value r
+
+-- what a check finds for a setting, by this Git, its row and its value, if it finds anything
+pub data HasFinding (git : Version) (wants_canonical : Bool) (row : Row) (value : Option (List ℕ)) (r : Option Reason)
+    : Type 0 where
+  outside : (reason : Reason) → IsOutside git row reason → r ≡ Some reason → HasFinding git wants_canonical row value r
+  wrong : IsOf git row → (reason : Reason) → HasReason row value (Some reason) → r ≡ Some reason
+      → HasFinding git wants_canonical row value r
+  right : IsOf git row → HasReason row value None → IsRemark wants_canonical row value r
+      → HasFinding git wants_canonical row value r
 
 -- the same finding: canonical texts are compared by their bytes, and borrowed lists by what they hold
 abbrev pub IsSameFinding : Option Reason → Option Reason → Type 0

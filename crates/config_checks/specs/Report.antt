@@ -14,7 +14,7 @@ use Rattle.config_checks.specs.declared.options.Options.{Options}
 use Rattle.config_checks.specs.declared.row.Row.{Row}
 use Rattle.config_checks.specs.declared.setting.Setting.{Setting}
 use Rattle.config_checks.specs.declared.reason.Reason.{Reason}
-use Rattle.config_checks.specs.declared.reason.Reason.TheVariants.{NoWord, NotCanonical, OtherCase}
+use Rattle.config_checks.specs.declared.reason.Reason.TheVariants.{NoWord, Deprecated, NotCanonical, OtherCase}
 use Rattle.config_checks.specs.declared.reason.Severity.{Severity}
 use Rattle.config_checks.specs.declared.reason.Severity.TheVariants.{Error, Warning, Note}
 use Rattle.config_checks.specs.declared.suggestion.UnknownKey.{UnknownKey}
@@ -41,6 +41,7 @@ line_of options f = line_in options.format options.color f
 -- the text that is suggested in place of the value, if there is one
 abbrev pub suggestion_of : Reason → Option (List ℕ)
 suggestion_of (NoWord list meant) = option_copied meant
+suggestion_of (Deprecated word) = Some word.now
 suggestion_of (NotCanonical canonical) = Some canonical.bytes
 suggestion_of (OtherCase word) = Some word.now
 suggestion_of _ = None
@@ -70,6 +71,18 @@ unknown_line options setting unknown = line_of options (record {
   value = None;
   reason = unknown_text unknown;
   suggestion = key_meant unknown;
+})
+
+-- the line that reports what a setting includes, for a reason in words
+abbrev pub include_line : Options → Setting → Severity → (reason : List ℕ) → List ℕ
+include_line options setting severity reason = line_of options (record {
+  file = setting.file.now;
+  line = setting.line;
+  severity = severity;
+  key = Some setting.key.items;
+  value = value_of setting;
+  reason = reason;
+  suggestion = None;
 })
 
 -- why a file is refused at a line
@@ -110,10 +123,10 @@ pub data ReportsSetting (rows : List Row) (options : Options) (setting : Setting
       → s' ≡ counted Warning (record s { entries = s.entries + 1; unknown = s.unknown + 1 })
       → ReportsSetting rows options setting s line s'
   right : (row : Row) → Decides rows setting.key.items row
-      → HasFinding options.canonical row (value_of setting) None → line ≡ []
+      → HasFinding options.git options.canonical row (value_of setting) None → line ≡ []
       → s' ≡ record s { entries = s.entries + 1 } → ReportsSetting rows options setting s line s'
   found : (row : Row) (reason : Reason) → Decides rows setting.key.items row
-      → HasFinding options.canonical row (value_of setting) (Some reason)
+      → HasFinding options.git options.canonical row (value_of setting) (Some reason)
       → line ≡ finding_line options setting (severity_of row.goes_on reason) reason
       → s' ≡ counted (severity_of row.goes_on reason) (record s { entries = s.entries + 1 })
       → ReportsSetting rows options setting s line s'

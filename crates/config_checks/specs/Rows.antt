@@ -1,6 +1,6 @@
 -- Rows: which row decides about a key, and how rows are written.
 use Rattle.std.specs.Prelude.{◌≡◌, ◌≢◌, ◌⊎◌, ℕ, ◌+◌, ◌<◌, ◌==◌, ◌||◌, Bool, true, false, List, [], ◌∷◌, ◌++◌}
-use Rattle.std.specs.Prelude.{length, take, map, flat_map, codes, Option, None, Some, slice_index_or, All}
+use Rattle.std.specs.Prelude.{length, take, map, flat_map, codes, Option, None, Some, slice_index_or, All, option_copied}
 use Rattle.std.specs.List.{slice_split, list_all}
 use Rattle.gix_config_value.specs.Amount.{AmountText}
 use Rattle.config_integer.specs.declared.amount.Amount.{Amount}
@@ -14,9 +14,12 @@ use Rattle.config_checks.specs.declared.kind.SettingKind.{SettingKind}
 use Rattle.config_checks.specs.declared.kind.SettingKind.TheVariants as kinds
 use Rattle.config_checks.specs.declared.table.RowFault.{RowFault}
 use Rattle.config_checks.specs.declared.table.BadRow.{BadRow}
-use Rattle.config_checks.specs.declared.table.RowFault.TheVariants.{NoKind, NoKey, UnknownKind, NoWords, Bounds}
+use Rattle.config_checks.specs.declared.table.Marks.{Marks}
+use Rattle.config_checks.specs.declared.version.Version.{Version}
+use Rattle.config_checks.specs.declared.table.RowFault.TheVariants.{NoKind, NoKey, UnknownKind, NoWords, Bounds, NoVersion}
 use Rattle.config_checks.specs.declared.table.RowFault.TheVariants.{Words, Memory}
 use Rattle.config_checks.specs.Keys.{Covers}
+use Rattle.config_checks.specs.Versions.{IsVersion}
 use Rattle.config_checks.specs.Kinds.{takes_true}
 use Rattle.config_checks.specs.Reasons.{least_int, greatest_int}
 
@@ -66,6 +69,23 @@ abbrev pub IsNoRow : List (List ℕ) → Type 0
 IsNoRow [] = Unit {0}
 IsNoRow (field ∷ fields) = (rest : List ℕ) × (field ≡ codes "#" ++ rest)
 
+-- the rest of the first field after this text, if the field begins with it, and the fields after that one
+abbrev pub CutsText : List (List ℕ) → List ℕ → Option (List ℕ) → List (List ℕ) → Type 0
+CutsText fields front (Some text) rest = fields ≡ (front ++ text) ∷ rest
+CutsText fields front None rest =
+    (rest ≡ fields) × ((text : List ℕ) (more : List (List ℕ)) → fields ≢ (front ++ text) ∷ more)
+
+-- the version after this text in the first field, if the field begins with the text, and the fields after it
+abbrev pub CutsVersion : List (List ℕ) → List ℕ → Option Version → List (List ℕ) → Type 0
+CutsVersion fields front (Some version) rest =
+    (text : List ℕ) × CutsText fields front (Some text) rest × IsVersion text version
+CutsVersion fields front None rest = CutsText fields front None rest
+
+-- the first field begins with this text, and what follows is no version
+abbrev pub LacksVersion : List (List ℕ) → List ℕ → Type 0
+LacksVersion fields front = (text : List ℕ) × (rest : List (List ℕ)) × CutsText fields front (Some text) rest
+    × ((version : Version) → ¬ (IsVersion text version))
+
 -- the mark that says whether a key alone is right
 abbrev pub alone_mark : Bool → List ℕ
 alone_mark true = codes "alone"
@@ -82,11 +102,23 @@ abbrev pub CutsWarn : List (List ℕ) → Bool → List (List ℕ) → Type 0
 CutsWarn fields true rest = fields ≡ codes "warn" ∷ rest
 CutsWarn fields false rest = (rest ≡ fields) × ((more : List (List ℕ)) → fields ≢ codes "warn" ∷ more)
 
--- the marks of a row, and the fields after them
-pub record HasMarks (fields : List (List ℕ)) (alone : Option Bool) (goes_on : Bool) (rest : List (List ℕ)) : Type 0 where
-  pub between : List (List ℕ)
-  pub first : CutsAlone fields alone between
-  pub second : CutsWarn between goes_on rest
+-- the marks of a row, in this order, and the fields after them
+pub record HasMarks (fields : List (List ℕ)) (marks : Marks) (rest : List (List ℕ)) : Type 0 where
+  pub after_since : List (List ℕ)
+  pub since : CutsVersion fields (codes "since=") marks.since after_since
+  pub after_until : List (List ℕ)
+  pub until : CutsVersion after_since (codes "until=") marks.until after_until
+  pub after_instead : List (List ℕ)
+  pub instead : CutsText after_until (codes "instead=") (option_copied marks.instead) after_instead
+  pub after_alone : List (List ℕ)
+  pub alone : CutsAlone after_instead marks.alone after_alone
+  pub goes_on : CutsWarn after_alone marks.goes_on rest
+
+-- no version follows `since=`, or `until=` after what may be a version since
+abbrev pub HasBadVersion : List (List ℕ) → Type 0
+HasBadVersion fields = LacksVersion fields (codes "since=")
+    ⊎ ((since : Option Version) × (rest : List (List ℕ)) × CutsVersion fields (codes "since=") since rest
+    × LacksVersion rest (codes "until="))
 
 -- the name of a kind that takes neither words nor bounds
 abbrev pub plain_name : SettingKind → Option (List ℕ)
@@ -138,14 +170,18 @@ pub record IsRow (fields : List (List ℕ)) (row : Row) : Type 0 where
   pub is_row : ¬ (IsNoRow fields)
   pub key : List ℕ
   pub marked : List (List ℕ)
-  pub alone : Option Bool
+  pub marks : Marks
   pub name : List ℕ
   pub words : List (List ℕ)
   pub parts : fields ≡ key ∷ marked
-  pub marks : HasMarks marked alone row.goes_on (name ∷ words)
+  pub has_marks : HasMarks marked marks (name ∷ words)
   pub cut : IsCut key (key_of row.key)
   pub is_kind : IsKind name words row.kind
-  pub takes_no_value : row.takes_no_value ≡ is_right_alone alone row.kind
+  pub since : row.since ≡ marks.since
+  pub until : row.until ≡ marks.until
+  pub instead : row.instead ≡ marks.instead
+  pub takes_no_value : row.takes_no_value ≡ is_right_alone marks.alone row.kind
+  pub goes_on : row.goes_on ≡ marks.goes_on
 
 -- why no kind has this name and these words, or that memory ran out
 abbrev pub IsBadKind : List ℕ → List (List ℕ) → RowFault → Type 0
@@ -157,15 +193,17 @@ IsBadKind name words Bounds = (name ≡ codes "int") × ((low high : Amount) →
 IsBadKind name words (Memory e) = Unit {0}
 IsBadKind name words _ = ⊥
 
--- what is wrong first: the key has no dot, no kind follows it, or no kind has the name and the words
+-- what is wrong first: the key has no dot, a version is missing, no kind follows, or no kind has the name and the words
 abbrev pub HasRowFault : List (List ℕ) → RowFault → Type 0
 HasRowFault fields NoKey =
     (key : List ℕ) × (marked : List (List ℕ)) × (fields ≡ key ∷ marked) × (list_all is_no_dot key ≡ true)
 HasRowFault fields NoKind = (key : List ℕ) × (marked : List (List ℕ)) × (fields ≡ key ∷ marked)
-    × ((k : Key) × IsCut key k) × ((alone : Option Bool) × (goes_on : Bool) × HasMarks marked alone goes_on [])
+    × ((k : Key) × IsCut key k) × ((marks : Marks) × HasMarks marked marks [])
+HasRowFault fields NoVersion = (key : List ℕ) × (marked : List (List ℕ)) × (fields ≡ key ∷ marked)
+    × ((k : Key) × IsCut key k) × HasBadVersion marked
 HasRowFault fields fault = (key : List ℕ) × (marked : List (List ℕ)) × (fields ≡ key ∷ marked)
-    × ((k : Key) × IsCut key k) × (alone : Option Bool) × (goes_on : Bool) × (name : List ℕ) × (words : List (List ℕ))
-    × HasMarks marked alone goes_on (name ∷ words) × IsBadKind name words fault
+    × ((k : Key) × IsCut key k) × (marks : Marks) × (name : List ℕ) × (words : List (List ℕ))
+    × HasMarks marked marks (name ∷ words) × IsBadKind name words fault
 
 -- why these fields are neither a row nor a comment nor a blank line, or that memory ran out
 abbrev pub IsBadRow : List (List ℕ) → RowFault → Type 0

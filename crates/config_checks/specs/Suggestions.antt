@@ -14,10 +14,13 @@ use Rattle.config_checks.specs.Rows.{IsUnknown}
 
 -- ---- how far two keys are apart
 
--- both keys have a subsection, and the two subsections are near, `n` edits apart
-abbrev pub SubsectionEdits : Option (List ℕ) → Option (List ℕ) → ℕ → Type 0
-SubsectionEdits (Some row) (Some subsection) n = FewEdits 5 row subsection n
-SubsectionEdits _ _ n = ⊥
+-- The two subsections are near, `n` edits apart. If only one of the keys has a subsection, and the names are the same,
+-- that is no edit, since the key lacks a subsection, or has one too many.
+abbrev pub SubsectionEdits : (same_name : Type 0) → Option (List ℕ) → Option (List ℕ) → ℕ → Type 0
+SubsectionEdits same_name (Some row) (Some subsection) n = FewEdits 5 row subsection n
+SubsectionEdits same_name (Some row) None n = same_name × (n ≡ 0)
+SubsectionEdits same_name None (Some subsection) n = same_name × (n ≡ 0)
+SubsectionEdits same_name None None n = ⊥
 
 -- the names are near, `n` edits apart; otherwise, in a key without a subsection, one of them may only lack a run
 -- of bytes of the other, which counts as three edits
@@ -31,7 +34,7 @@ pub data EditsAfter (row key : Key) (n : ℕ) : Type 0 where
   in_name : CoversSubsection row.subsection key.subsection → ¬ (CoversName row.name key.name)
       → NameEdits row key n → EditsAfter row key n
   in_subsection : ¬ (CoversSubsection row.subsection key.subsection) → CoversName row.name key.name
-      → SubsectionEdits row.subsection key.subsection n → EditsAfter row key n
+      → SubsectionEdits (SameWord row.name key.name) row.subsection key.subsection n → EditsAfter row key n
 
 -- the sections are near, `n` edits apart: two edits need eight bytes
 abbrev pub SectionEdits : List ℕ → List ℕ → ℕ → Type 0
@@ -57,10 +60,11 @@ Fills row part t = ((row ≡ codes "*") × (t ≡ part)) ⊎ ((row ≢ codes "*"
 
 abbrev pub FillsSubsection : Option (List ℕ) → Option (List ℕ) → Option (List ℕ) → Type 0
 FillsSubsection (Some row) (Some subsection) (Some t) = Fills row subsection t
-FillsSubsection (Some row) (Some subsection) None = ⊥
-FillsSubsection row subsection t = t ≡ row
+FillsSubsection (Some row) None (Some t) = Fills row (codes "NAME") t
+FillsSubsection (Some row) subsection None = ⊥
+FillsSubsection None subsection t = t ≡ None
 
--- the key of the row, in which the parts of a key replace `*`
+-- the key of the row, in which the parts of a key replace `*`, or `NAME` if the key has no subsection
 pub record FillsKey (row key filled : Key) : Type 0 where
   pub section : filled.section ≡ row.section
   pub subsection : FillsSubsection row.subsection key.subsection filled.subsection

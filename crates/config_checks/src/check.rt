@@ -210,7 +210,13 @@ impl Progress {
             return self.report_unknown(alloc, runs, options, setting, writer);
         };
         self.counts.entries += 1;
-        match find(alloc, row, value_of(setting), options.canonical) {
+        match find(
+            alloc,
+            options.git,
+            row,
+            value_of(setting),
+            options.canonical,
+        ) {
             Ok(Some(reason)) => {
                 let severity = reason.severity(row.goes_on);
                 self.write_finding(options, setting, severity, &reason, writer)
@@ -305,10 +311,12 @@ fn flush<W: Write>(writer: &mut W) -> Result<(), CheckError>
 /// use config_checks::check::check_file;
 /// use config_checks::options::{Format, Options};
 /// use config_checks::table::read_rows;
+/// use config_checks::version::Version;
 ///
 /// let mut rows = Vec::new(alloc);
 /// assert!(rt; read_rows(alloc, b"push.default word nothing current", &mut rows).is_ok());
-/// let options = Options { canonical: false, format: Format::Text, color: false };
+/// let git = Version::read(b"2.55").expect(&rt, "a version");
+/// let options = Options { git, canonical: false, format: Format::Text, color: false };
 /// let mut out = Vec::new(alloc);
 /// let checked = check_file(alloc, &rows, &options, "f", b"[push]\ndefault = maybe", &mut out);
 /// assert!(rt; checked.is_ok_and(|counts| counts.findings == 1));

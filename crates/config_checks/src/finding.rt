@@ -6,13 +6,13 @@ ghost use Rattle.std.specs.Fmt.{signed_decimal};
 ghost use Rattle.config_file.specs.Key.{written};
 ghost use Rattle.config_file.specs.KeyView.{key_of};
 ghost use Rattle.config_checks.specs.Findings.{hex, is_control, piece_shown, shown, value_shown};
-ghost use Rattle.config_checks.specs.Findings.{range_text, words_text, no_word_front, list_text, word_asked};
-ghost use Rattle.config_checks.specs.Findings.{meant_text, no_word_text};
-ghost use Rattle.config_checks.specs.Findings.{reason_text, severity_text, painted};
+ghost use Rattle.config_checks.specs.Findings.{range_text, version_text, words_text, no_word_front, list_text};
+ghost use Rattle.config_checks.specs.Findings.{word_asked, meant_text, no_word_text};
+ghost use Rattle.config_checks.specs.Findings.{reason_text, severity_text, color_of, painted};
 ghost use Rattle.config_checks.specs.Findings.{place, key_part, setting_shown, text_line};
 ghost use Rattle.config_checks.specs.Findings.{finding_of};
 ghost use Rattle.config_checks.specs.Report.{line_of, suggestion_of, key_meant};
-ghost use Rattle.config_checks.specs.Report.{finding_line, unknown_line};
+ghost use Rattle.config_checks.specs.Report.{finding_line, include_line, unknown_line};
 ghost use Rattle.config_checks.specs.Report.{fault_text, refused_line};
 ghost use Rattle.config_checks.specs.Settings.{value_of};
 
@@ -22,6 +22,7 @@ use crate::options::{Format, Options};
 use crate::reason::{Reason, Severity};
 use crate::setting::Setting;
 use crate::suggestion::{UnknownKey, push_unknown};
+use crate::version::Version;
 use bstr::decode_utf8;
 use config_file::errors::{Error, Fault};
 use config_file::key::Key;
@@ -113,6 +114,14 @@ fn push_range(out: &mut Vec<u8>, low: Amount, high: Amount) -> Result<(), AllocE
     push_number(out, " to ", high)
 }
 
+/// Appends a text, and a version after it.
+fn push_version(out: &mut Vec<u8>, front: &str, version: Version) -> Result<(), AllocError>
+    ensures { OnOk result (out.new.items ≡ out.old.items ++ version_text front.now version) }
+{
+    push_number(out, front, version.major)?;
+    push_number(out, ".", version.minor)
+}
+
 /// Appends words, with `, ` between them.
 fn push_words(out: &mut Vec<u8>, words: &[&[u8]]) -> Result<(), AllocError>
     ensures { OnOk result (out.new.items ≡ out.old.items ++ words_text words.now) }
@@ -189,6 +198,14 @@ fn push_no_word(
     push_meant(out, meant)
 }
 
+/// Appends a text, and a word after it.
+fn push_word(out: &mut Vec<u8>, front: &str, word: &[u8]) -> Result<(), AllocError>
+    ensures { OnOk result (out.new.items ≡ out.old.items ++ (front.now ++ shown word.now)) }
+{
+    out.extend_from_slice(front.as_bytes())?;
+    push_shown(out, word)
+}
+
 /// Appends the text of a reason.
 pub fn push_reason(out: &mut Vec<u8>, reason: &Reason<'_, '_>) -> Result<(), AllocError>
     ensures { OnOk result (out.new.items ≡ out.old.items ++ reason_text reason.now) }
@@ -198,14 +215,14 @@ pub fn push_reason(out: &mut Vec<u8>, reason: &Reason<'_, '_>) -> Result<(), All
         Reason::Refused(fault) => out.extend_from_slice(fault.text().as_bytes()),
         Reason::OutOfRange { low, high } => push_range(out, *low, *high),
         Reason::NoWord { list, meant } => push_no_word(out, list, *meant),
+        Reason::TooNew(since) => push_version(out, "Git reads it only since ", *since),
+        Reason::Gone(until) => push_version(out, "Git reads it only before ", *until),
+        Reason::Deprecated(word) => push_word(out, "deprecated: use ", word),
         Reason::NotCanonical(canonical) => {
             out.extend_from_slice(b"should be ")?;
             out.extend_from_slice(canonical.as_str().as_bytes())
         }
-        Reason::OtherCase(word) => {
-            out.extend_from_slice(b"should be ")?;
-            push_shown(out, word)
-        }
+        Reason::OtherCase(word) => push_word(out, "should be ", word),
     }
 }
 
@@ -220,14 +237,25 @@ fn severity_text(severity: Severity) -> &'static str
     }
 }
 
-/// Appends the severity of a finding, in red if colors are wanted.
+/// The escape sequence of a severity: red, yellow or cyan.
+fn color_of(severity: Severity) -> &'static str
+    ensures { result.now ≡ color_of severity }
+{
+    match severity {
+        Severity::Error => "\x1b[31m",
+        Severity::Warning => "\x1b[33m",
+        Severity::Note => "\x1b[36m",
+    }
+}
+
+/// Appends the severity of a finding, in its color if colors are wanted.
 fn push_severity(line: &mut Vec<u8>, color: bool, severity: Severity) -> Result<(), AllocError>
-    ensures { OnOk result (line.new.items ≡ line.old.items ++ painted color (severity_text severity)) }
+    ensures { OnOk result (line.new.items ≡ line.old.items ++ painted color severity) }
 {
     if !color {
         return line.extend_from_slice(severity_text(severity).as_bytes());
     }
-    line.extend_from_slice(b"\x1b[31m")?;
+    line.extend_from_slice(color_of(severity).as_bytes())?;
     line.extend_from_slice(severity_text(severity).as_bytes())?;
     line.extend_from_slice(b"\x1b[m")
 }
@@ -338,6 +366,7 @@ fn suggestion_of<'r>(reason: &'r Reason<'_, '_>) -> Option<&'r [u8]>
 {
     match reason {
         Reason::NoWord { meant, .. } => *meant,
+        Reason::Deprecated(word) => Some(word),
         Reason::NotCanonical(canonical) => Some(canonical.as_str().as_bytes()),
         Reason::OtherCase(word) => Some(word),
         _ => None,
@@ -365,6 +394,33 @@ pub(crate) fn push_finding(
         value: value_of(setting),
         reason: &text,
         suggestion: suggestion_of(reason),
+    };
+    finding.push_to(line, options)
+}
+
+/// Appends the line that reports what a setting includes, for a reason in words.
+pub fn push_include(
+    line: &mut Vec<u8>,
+    options: &Options,
+    setting: &Setting<'_>,
+    severity: Severity,
+    reason: &str,
+) -> Result<(), AllocError>
+    ensures { OnOk result (line.new.items ≡ line.old.items
+        ++ include_line options.now setting.now severity reason.now) }
+{
+    let mut text = Vec::new(*line.allocator());
+    text.extend_from_slice(reason.as_bytes())?;
+    let meant = None;
+    let suggestion = bytes_of(&meant);
+    let finding = Finding {
+        file: setting.file,
+        line: setting.line,
+        severity,
+        key: Some(&setting.key),
+        value: value_of(setting),
+        reason: &text,
+        suggestion,
     };
     finding.push_to(line, options)
 }

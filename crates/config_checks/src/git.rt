@@ -1,6 +1,15 @@
 //! The built-in rows, for settings that Git documents and for those of other tools in its sections.
 //! docs/CHECKING.md says how a row is written.
 
+use crate::version::Version;
+use gix_config_value::integer::Amount;
+
+/// The newest version of Git whose settings the built-in rows know.
+pub const NEWEST: Version = Version {
+    major: Amount(2),
+    minor: Amount(55),
+};
+
 /// The text of the built-in rows, which `read_rows` reads.
 pub const SETTINGS: &str = "\
 # Settings of Git 2.39.5 as git-config(1), with the pages that it names, documents them: those of Debian's
@@ -51,7 +60,7 @@ core.fsmonitorHookVersion           warn int 1 2
 core.trustctime                     bool
 core.splitIndex                     warn bool
 core.untrackedCache                 needs-value warn bool-or-word-any-case keep
-core.checkStat                      warn word-any-case default minimal
+core.checkStat                      until=2.47 warn word-any-case default minimal
 core.quotePath                      bool
 core.eol                            alone warn word-any-case lf crlf native
 core.safecrlf                       bool-or-word-any-case warn
@@ -75,9 +84,9 @@ core.hooksPath                      text
 core.filesRefLockTimeout            int
 core.packedRefsTimeout              int
 core.fsyncMethod                    warn word fsync writeout-only batch
-core.fsyncObjectFiles               bool
+core.fsyncObjectFiles               instead=core.fsync bool
 core.preloadIndex                   bool
-core.restrictinheritedhandles       bool-or-word auto
+core.restrictinheritedhandles       until=2.55 bool-or-word auto
 core.createObject                   word link rename
 core.commitGraph                    bool
 core.useReplaceRefs                 bool
@@ -96,7 +105,7 @@ core.askPass                        text
 core.editor                         text
 core.commentChar                    text
 core.pager                          text
-core.whitespace                     warn words trailing-space -trailing-space blank-at-eol \
+core.whitespace                     until=2.53 warn words trailing-space -trailing-space blank-at-eol \
     -blank-at-eol space-before-tab -space-before-tab indent-with-non-tab -indent-with-non-tab tab-in-indent \
     -tab-in-indent blank-at-eof -blank-at-eof cr-at-eol -cr-at-eol tabwidth=* fix
 core.fsync                          warn words loose-object -loose-object pack -pack pack-metadata \
@@ -104,13 +113,13 @@ core.fsync                          warn words loose-object -loose-object pack -
     derived-metadata -derived-metadata committed -committed added -added all -all none
 core.unsetenvvars                   text
 core.notesRef                       text
-core.abbrev                         words-any-case auto no off false 4 5 6 7 8 9 10 11 12 13 14 15 16 \
-    17 18 19 20 21 22 23 24 25 26 27 28 29 30 31 32 33 34 35 36 37 38 39 40 41 42 43 44 45 46 47 48 49 50 51 \
-    52 53 54 55 56 57 58 59 60 61 62 63 64 04 05 06 07 01* 0x* +*
+core.abbrev                         until=2.47 words-any-case auto no off false 4 5 6 7 8 9 10 11 12 13 14 \
+    15 16 17 18 19 20 21 22 23 24 25 26 27 28 29 30 31 32 33 34 35 36 37 38 39 40 41 42 43 44 45 46 47 48 \
+    49 50 51 52 53 54 55 56 57 58 59 60 61 62 63 64 04 05 06 07 01* 0x* +*
 # add
 add.ignoreErrors                    bool
 add.ignore-errors                   bool
-add.interactive.useBuiltin          bool
+add.interactive.useBuiltin          until=2.40 bool
 # am
 am.keepcr                           bool
 am.threeWay                         bool
@@ -441,7 +450,7 @@ gui.trustmtime                      warn bool
 help.format                         word man info web html
 help.browser                        text
 help.htmlPath                       text
-help.autoCorrect                    int-or-word never immediate prompt show true yes on false no off
+help.autoCorrect                    until=2.49 int-or-word never immediate prompt
 # http
 http.proxyAuthMethod                warn word anyauth basic digest negotiate ntlm
 http.proxySSLCert                   text
@@ -565,7 +574,7 @@ lsrefs.unborn                       word advertise allow ignore
 mailinfo.scissors                   bool
 # maintenance
 maintenance.auto                    bool
-maintenance.strategy                warn word-any-case none incremental gc geometric
+maintenance.strategy                until=2.52 warn word-any-case none incremental
 maintenance.*.enabled               bool
 maintenance.*.schedule              warn word-any-case hourly daily weekly
 maintenance.commit-graph.auto       int
@@ -580,7 +589,7 @@ merge.branchdesc                    bool
 merge.log                           bool-or-int
 merge.renameLimit                   int
 merge.directoryRenames              needs-value warn bool-or-word-any-case conflict
-merge.stat                          bool-or-word diffstat compact
+merge.stat                          until=2.51 bool
 merge.autoStash                     bool
 merge.verbosity                     int
 merge.suppressDest                  text
@@ -616,7 +625,7 @@ pack.window                         int
 pack.depth                          int
 pack.windowMemory                   int 0 9223372036854775807
 pack.compression                    int -1 9
-pack.allowPackReuse                 bool-or-word single multi
+pack.allowPackReuse                 until=2.44 bool
 pack.deltaCacheSize                 int
 pack.deltaCacheLimit                int 0 1048575
 pack.threads                        int 0 2147483647
@@ -706,10 +715,10 @@ repack.packKeptObjects              bool
 repack.useDeltaIslands              bool
 repack.writeBitmaps                 bool
 repack.updateServerInfo             bool
-repack.cruftWindow                  int -9223372036854775808 9223372036854775807
+repack.cruftWindow                  until=2.50 int -9223372036854775808 9223372036854775807
 repack.cruftWindowMemory            int 0 9223372036854775807
-repack.cruftDepth                   int -9223372036854775808 9223372036854775807
-repack.cruftThreads                 int -9223372036854775808 9223372036854775807
+repack.cruftDepth                   until=2.50 int -9223372036854775808 9223372036854775807
+repack.cruftThreads                 until=2.50 int -9223372036854775808 9223372036854775807
 # rerere
 rerere.autoUpdate                   bool
 rerere.enabled                      bool
@@ -799,7 +808,7 @@ status.displayCommentPrefix         bool
 status.renameLimit                  int
 status.renames                      bool-or-word-any-case copies copy
 status.showStash                    bool
-status.showUntrackedFiles           needs-value bool-or-word no normal all
+status.showUntrackedFiles           until=2.45 word no normal all
 status.submoduleSummary             bool-or-int
 # stash
 stash.showIncludeUntracked          bool
@@ -949,6 +958,9 @@ color.branch.worktree               color
 diff.*.funcname                     text
 extensions.preciousObjects          bool
 extensions.partialClone             text
+extensions.noop                     text
+extensions.noop-v1                  text
+gui.GCWarning                       warn bool
 gitcvs.ext.*                        alone text
 gitcvs.pserver.*                    alone text
 sendemail.smtpAuth                  alone text
@@ -974,7 +986,7 @@ trailer.*.command                   text
 trailer.*.cmd                       text
 advice.graftFileDeprecated          bool
 advice.objectNameWarning            bool
-am.messageid                        bool
+am.messageId                        bool
 color.branch.reset                  color
 color.interactive.plain             color
 color.interactive.reset             color
@@ -996,7 +1008,7 @@ maintenance.repo                    alone text
 maintenance.*.lastRun               alone text
 merge.default                       text
 merge.summary                       bool-or-int
-merge.diffstat                      bool
+merge.diffstat                      until=2.51 bool
 sendemail.ccCover                   bool
 sendemail.toCover                   bool
 sendemail.*.ccCover                 bool
@@ -1010,115 +1022,173 @@ status.color.*                      color
 submodule.stickyRecursiveClone      bool
 uploadpack.allowSidebandAll         bool
 uploadpack.blobPackfileURI          text
+# Settings that Gits after 2.39 read, or read in another way: the version of each is that of its release notes
 # since Git 2.40
-bundle.heuristic                    alone text
-fetch.bundleCreationToken           text
-fetch.bundleURI                     text
-index.skipHash                      bool
-transfer.bundleURI                  bool
-uploadpack.advertiseBundleURIs      bool
-diff.*.algorithm                    word-any-case default myers minimal patience histogram
+bundle.heuristic                    since=2.40 alone text
+fetch.bundleCreationToken           since=2.40 text
+fetch.bundleURI                     since=2.40 text
+index.skipHash                      since=2.40 bool
+transfer.bundleURI                  since=2.40 bool
+uploadpack.advertiseBundleURIs      since=2.40 bool
+diff.*.algorithm                    since=2.40 warn word-any-case default myers minimal patience histogram
 # since Git 2.41
-difftool.guiDefault                 bool-or-word-any-case auto
-mergetool.guiDefault                bool-or-word-any-case auto
-pack.readReverseIndex               bool
-rebase.rebaseMerges                 bool-or-word rebase-cousins no-rebase-cousins
-advice.diverging                    bool
-format.noprefix                     bool
-http.sslCertType                    text
-http.sslKeyType                     text
-http.*.sslCertType                  text
-http.*.sslKeyType                   text
-sendemail.headerCmd                 alone text
+difftool.guiDefault                 since=2.41 bool-or-word-any-case auto
+mergetool.guiDefault                since=2.41 bool-or-word-any-case auto
+pack.readReverseIndex               since=2.41 bool
+rebase.rebaseMerges                 since=2.41 bool-or-word rebase-cousins no-rebase-cousins
+advice.diverging                    since=2.41 bool
+format.noprefix                     since=2.41 bool
+http.sslCertType                    since=2.41 text
+http.sslKeyType                     since=2.41 text
+http.*.sslCertType                  since=2.41 text
+http.*.sslKeyType                   since=2.41 text
+sendemail.headerCmd                 since=2.41 alone text
 # since Git 2.42
-gc.recentObjectsHook                text
-advice.worktreeAddOrphan            bool
+gc.recentObjectsHook                since=2.42 text
+advice.worktreeAddOrphan            since=2.42 bool
+pack.useBitmapBoundaryTraversal     since=2.42 bool
 # since Git 2.43
-attr.tree                           text
-core.maxTreeDepth                   int
-diff.statNameWidth                  int
-gc.maxCruftSize                     int 0 9223372036854775807
-gc.repackFilter                     text
-gc.repackFilterTo                   text
-advice.submoduleMergeConflict       bool
+attr.tree                           since=2.43 text
+core.maxTreeDepth                   since=2.43 int 1 2147483647
+diff.statNameWidth                  since=2.43 int
+gc.maxCruftSize                     since=2.43 int 0 9223372036854775807
+gc.repackFilter                     since=2.43 text
+gc.repackFilterTo                   since=2.43 text
+advice.submoduleMergeConflict       since=2.43 bool
+rebase.maxLabelLength               since=2.43 int
 # since Git 2.44
-fetch.all                           bool
-advice.forceDeleteBranch            bool
-advice.rebaseTodoError              bool
-format.mboxrd                       bool
+fetch.all                           since=2.44 bool
+advice.forceDeleteBranch            since=2.44 bool
+advice.rebaseTodoError              since=2.44 bool
+format.mboxrd                       since=2.44 bool
+pack.allowPackReuse                 since=2.44 bool-or-word-any-case single multi
 # since Git 2.45
-core.commentString                  text
-diff.dstPrefix                      text
-diff.srcPrefix                      text
-extensions.compatObjectFormat       text
-extensions.refStorage               text
-advice.mergeConflict                bool
-advice.refSyntax                    bool
-advice.useCoreFSMonitorConfig       bool
+core.commentString                  since=2.45 text
+diff.dstPrefix                      since=2.45 text
+diff.srcPrefix                      since=2.45 text
+extensions.compatObjectFormat       since=2.45 word sha1 sha256
+extensions.refStorage               since=2.45 word files reftable files:* reftable:*
+advice.mergeConflict                since=2.45 bool
+advice.refSyntax                    since=2.45 bool
+transfer.advertiseObjectInfo        since=2.45 bool
+status.showUntrackedFiles           since=2.45 bool-or-word no normal all
 # since Git 2.46
-http.proactiveAuth                  text
-http.*.proactiveAuth                text
-advice.defaultBranchName            bool
-advice.sparseIndexExpanded          bool
-bitmapPseudoMerge.*.pattern         text
-bitmapPseudoMerge.*.decay           text
-bitmapPseudoMerge.*.sampleRate      text
-bitmapPseudoMerge.*.threshold       text
-bitmapPseudoMerge.*.maxMerges       text
-bitmapPseudoMerge.*.stableThreshold text
-bitmapPseudoMerge.*.stableSize      text
-commitGraph.changedPathsVersion     int
-diff.trustExitCode                  bool
-diff.*.trustExitCode                bool
-mergetool.gvimdiff.layout           alone text
-mergetool.nvimdiff.layout           alone text
-promisor.quiet                      bool
+http.proactiveAuth                  since=2.46 warn word auto basic none
+http.*.proactiveAuth                since=2.46 warn word auto basic none
+advice.defaultBranchName            since=2.46 bool
+advice.sparseIndexExpanded          since=2.46 bool
+bitmapPseudoMerge.*.pattern         since=2.46 text
+bitmapPseudoMerge.*.decay           since=2.46 text
+bitmapPseudoMerge.*.sampleRate      since=2.46 text
+bitmapPseudoMerge.*.threshold       since=2.46 date-any-case now never yesterday last noon midnight tea am \
+    pm one two three four five six seven eight nine ten jan* feb* mar* apr* may* jun* jul* aug* sep* oct* \
+    nov* dec*
+bitmapPseudoMerge.*.maxMerges       since=2.46 int 0 2147483647
+bitmapPseudoMerge.*.stableThreshold since=2.46 date-any-case now never yesterday last noon midnight tea am \
+    pm one two three four five six seven eight nine ten jan* feb* mar* apr* may* jun* jul* aug* sep* oct* \
+    nov* dec*
+bitmapPseudoMerge.*.stableSize      since=2.46 int 1 2147483647
+commitGraph.changedPathsVersion     since=2.46 int -1 2
+diff.trustExitCode                  since=2.46 bool
+diff.*.trustExitCode                since=2.46 bool
+mergetool.gvimdiff.layout           since=2.46 alone text
+mergetool.nvimdiff.layout           since=2.46 alone text
+promisor.quiet                      since=2.46 bool
+reftable.blockSize                  since=2.46 int 0 16777215
+reftable.restartInterval            since=2.46 int 0 65535
+reftable.indexObjects               since=2.46 bool
+reftable.geometricFactor            since=2.46 int 0 255
+mergetool.*.layout                  since=2.46 alone text
 # since Git 2.47
-init.defaultObjectFormat            text
-init.defaultRefFormat               text
-maintenance.autoDetach              bool
-remote.*.serverOption               text
-sendemail.mailmap                   bool
-sendemail.mailmap.file              text
-sendemail.mailmap.blob              text
+init.defaultObjectFormat            since=2.47 warn word sha1 sha256
+init.defaultRefFormat               since=2.47 warn word files reftable
+maintenance.autoDetach              since=2.47 bool
+remote.*.serverOption               since=2.47 text
+sendemail.mailmap                   since=2.47 bool
+sendemail.mailmap.file              since=2.47 text
+sendemail.mailmap.blob              since=2.47 text
+credential.interactive              since=2.47 needs-value warn bool-or-word never
+reftable.lockTimeout                since=2.47 int -1 9223372036854775807
+core.checkStat                      since=2.47 word-any-case default minimal
+core.abbrev                         since=2.47 needs-value bool-or-word-any-case auto
 # since Git 2.48
-extensions.relativeWorktrees        bool
-remote.*.followRemoteHEAD           text
-worktree.useRelativePaths           bool
-advice.fetchRemoteHEADWarn          bool
+extensions.relativeWorktrees        since=2.48 bool
+remote.*.followRemoteHEAD           since=2.48 warn word create never always warn warn-if-not-*
+worktree.useRelativePaths           since=2.48 bool
+advice.fetchRemoteHEADWarn          since=2.48 bool
 # since Git 2.49
-pack.usePathWalk                    bool
-promisor.advertise                  bool
-promisor.acceptFromServer           text
+pack.usePathWalk                    since=2.49 bool
+promisor.advertise                  since=2.49 bool
+promisor.acceptFromServer           since=2.49 warn word-any-case none knownUrl knownName all
+help.autoCorrect                    since=2.49 bool-or-word never immediate prompt show
 # since Git 2.50
-http.keepAliveCount                 text
-http.keepAliveIdle                  text
-http.keepAliveInterval              text
-http.*.keepAliveCount               text
-http.*.keepAliveIdle                text
-http.*.keepAliveInterval            text
-maintenance.reflog-expire.auto      int
-maintenance.rerere-gc.auto          int
-maintenance.worktree-prune.auto     int
-sendemail.outlookIdFix              bool
+http.keepAliveCount                 since=2.50 int
+http.keepAliveIdle                  since=2.50 int
+http.keepAliveInterval              since=2.50 int
+http.*.keepAliveCount               since=2.50 int
+http.*.keepAliveIdle                since=2.50 int
+http.*.keepAliveInterval            since=2.50 int
+maintenance.reflog-expire.auto      since=2.50 int
+maintenance.rerere-gc.auto          since=2.50 int
+maintenance.worktree-prune.auto     since=2.50 int
+sendemail.outlookIdFix              since=2.50 bool
+maintenance.loose-objects.batchSize since=2.50 int
+repack.cruftWindow                  since=2.50 int
+repack.cruftDepth                   since=2.50 int
+repack.cruftThreads                 since=2.50 int
 # since Git 2.51
-repack.midxMustContainCruft         bool
-sendemail.smtpSSLClientCert         alone text
-sendemail.smtpSSLClientKey          alone text
-# after Git 2.51
-commitGraph.changedPaths            bool
-extensions.submodulePathConfig      text
-maintenance.geometric-repack.auto   int
-maintenance.geometric-repack.splitFactor int
-promisor.checkFields                text
-promisor.sendFields                 text
-promisor.storeFields                text
-sendemail.imapSentFolder            alone text
-sendemail.useImapOnly               bool
-stash.index                         bool
-status.compareBranches              text
-submodule.*.gitdir                  text
+repack.midxMustContainCruft         since=2.51 bool
+sendemail.smtpSSLClientCert         since=2.51 alone text
+sendemail.smtpSSLClientKey          since=2.51 alone text
+pull.autoStash                      since=2.51 bool
+merge.stat                          since=2.51 warn bool-or-word diffstat compact
+merge.diffstat                      since=2.51 warn bool-or-word diffstat compact
+# since Git 2.52
+commitGraph.changedPaths            since=2.52 bool
+maintenance.geometric-repack.auto   since=2.52 int
+maintenance.geometric-repack.splitFactor since=2.52 int
+promisor.checkFields                since=2.52 warn words-any-case partialCloneFilter token
+promisor.sendFields                 since=2.52 warn words-any-case partialCloneFilter token
+sendemail.imapSentFolder            since=2.52 alone text
+sendemail.useImapOnly               since=2.52 bool
+stash.index                         since=2.52 bool
+remote.*.token                      since=2.52 text
+maintenance.strategy                since=2.52 word-any-case incremental gc geometric
+# since Git 2.53
+promisor.storeFields                since=2.53 warn words-any-case partialCloneFilter token
+replay.refAction                    since=2.53 word update print
+core.whitespace                     since=2.53 warn words trailing-space -trailing-space blank-at-eol \
+    -blank-at-eol space-before-tab -space-before-tab indent-with-non-tab -indent-with-non-tab tab-in-indent \
+    -tab-in-indent blank-at-eof -blank-at-eof cr-at-eol -cr-at-eol incomplete-line -incomplete-line \
+    tabwidth=* fix
+# since Git 2.54
+extensions.submodulePathConfig      since=2.54 bool
+status.compareBranches              since=2.54 warn words-any-case @{upstream} @{push}
+submodule.*.gitdir                  since=2.54 text
+core.lockfilePid                    since=2.54 bool
+format.commitListFormat             since=2.54 text
+hook.*.command                      since=2.54 text
+hook.*.event                        since=2.54 text
+hook.*.enabled                      since=2.54 needs-value warn bool
+http.maxRetries                     since=2.54 int
+http.maxRetryTime                   since=2.54 int
+http.retryAfter                     since=2.54 int
+http.*.maxRetries                   since=2.54 int
+http.*.maxRetryTime                 since=2.54 int
+http.*.retryAfter                   since=2.54 int
+init.defaultSubmodulePathConfig     since=2.54 bool
+# since Git 2.55
+hook.*.parallel                     since=2.55 needs-value warn bool
+hook.*.jobs                         since=2.55 warn int -1 2147483647
+hook.jobs                           since=2.55 alone warn int -1 2147483647
+remote.*.negotiationInclude         since=2.55 text
+remote.*.negotiationRestrict        since=2.55 text
+repack.midxNewLayerThreshold        since=2.55 int 1 2147483647
+repack.midxSplitFactor              since=2.55 int 2 2147483647
+sideband.allowControlCharacters     since=2.55 alone warn words color cursor erase true false yes no on off
+sideband.*.allowControlCharacters   since=2.55 alone warn words color cursor erase true false yes no on off
 # Settings of other tools in these sections, and of Gits before 2.39
+i18n.filesEncoding                  text
 core.fscache                        bool
 core.fsyncRefFiles                  alone text
 core.longpaths                      bool

@@ -4,6 +4,7 @@ ghost use Rattle.std.specs.Prelude.{◌≡◌, ◌++◌, ℕ, List, Bool, Option
 ghost use Rattle.config_checks.specs.declared.reason.Reason.{Reason};
 ghost use Rattle.config_checks.specs.declared.options.Options.{Options};
 ghost use Rattle.config_checks.specs.declared.row.Row.{Row};
+ghost use Rattle.config_checks.specs.declared.version.Version.{Version};
 ghost use Rattle.config_checks.specs.declared.check.Counts.{Counts};
 ghost use Rattle.config_checks.specs.declared.check.CheckError.{CheckError};
 ghost use Rattle.config_checks.specs.Reasons.{HasReason, HasFinding, IsSameFinding};
@@ -19,8 +20,9 @@ pub fn one_reason()
 
 /// The definitions give each value of a setting one result: one finding, or no finding.
 pub fn one_finding()
-    ensures { (wants_canonical : Bool) (row : Row) (value : Option (List ℕ)) (a b : Option Reason)
-        → HasFinding wants_canonical row value a → HasFinding wants_canonical row value b
+    ensures { (git : Version) (wants_canonical : Bool) (row : Row) (value : Option (List ℕ))
+        (a b : Option Reason)
+        → HasFinding git wants_canonical row value a → HasFinding git wants_canonical row value b
         → IsSameFinding a b }
 {}
 

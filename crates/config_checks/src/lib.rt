@@ -17,3 +17,4 @@ pub mod row;
 pub mod setting;
 pub mod suggestion;
 pub mod table;
+pub mod version;

@@ -1,5 +1,7 @@
 //! The options of a check.
 
+use crate::version::Version;
+
 /// How findings are written.
 #[derive(Clone, Copy)]
 pub enum Format {
@@ -12,10 +14,12 @@ pub enum Format {
 /// The options of a check.
 #[derive(Clone, Copy)]
 pub struct Options {
+    /// The version of Git by whose rows values are judged.
+    pub git: Version,
     /// Whether valid values are also reported if they should be spelled in another way.
     pub canonical: bool,
     /// How findings are written.
     pub format: Format,
-    /// Whether severities in text are written in red, for a terminal.
+    /// Whether severities in text are written in colors, for a terminal.
     pub color: bool,
 }

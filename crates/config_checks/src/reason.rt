@@ -1,13 +1,15 @@
 //! Why the value of a setting is wrong, and how a valid value should be spelled.
-ghost use Rattle.std.specs.Prelude.{◌≡◌, ◌↔◌, IsTrue, IfOk, option_copied, None, Some};
+ghost use Rattle.std.specs.Prelude.{◌≡◌, ◌↔◌, IsTrue, IfOk, MatchOption, option_copied, None, Some};
 ghost use Rattle.config_text.specs.declared.errors.Fault.TheVariants as faults;
 ghost use Rattle.gix_config_value.specs.Kinds.{KindGrammar, KindCanonical};
 ghost use Rattle.config_text.specs.Value.{IsAccepted};
-ghost use Rattle.gix_config_value.specs.Boolean.{BooleanText};
-ghost use Rattle.config_checks.specs.Reasons.{IsWithin, IsJudged, IsJudgedWithin, IsJudgedBoolOrInt, IsInt};
+ghost use Rattle.gix_config_value.specs.Boolean.{BooleanText, CanonicalBoolean};
+ghost use Rattle.config_checks.specs.Reasons.{IsWithin, IsJudged, IsJudgedWithin, IsJudgedBool, IsInt};
 ghost use Rattle.config_checks.specs.Reasons.{WordEdits, IsMeant, IsJudgedByWords, IsTakenByForm, IsTaken};
 ghost use Rattle.config_checks.specs.Reasons.{IsJudgedText};
-ghost use Rattle.config_checks.specs.Reasons.{HasReason, HasSpelling, IsFoundBehind, HasFinding, severity_of};
+ghost use Rattle.config_checks.specs.Reasons.{HasReason, HasSpelling, IsOutside, IsRemark, HasFinding};
+ghost use Rattle.config_checks.specs.Reasons.{severity_of};
+ghost use Rattle.config_checks.specs.Versions.{IsTooNew, IsOf};
 ghost use Rattle.config_checks.specs.Reasons.{IsRespelled, IsRespelledBoolOrInt, IsRespelledAs};
 ghost use Rattle.config_checks.specs.Reasons.{IsRespelledByForm, IsRespelledByWords};
 ghost use Rattle.config_checks.specs.Reading.Steps.{IsFew};
@@ -16,6 +18,7 @@ use crate::edits::{LONG, MOST_EDITS, few_edits};
 use crate::key::is_same_word;
 use crate::kind::{Form, SettingKind, WordList, pattern_front};
 use crate::row::Row;
+use crate::version::Version;
 use bstr::BStr;
 use gix_config_value::canonical::{CanonicalText, Kind, TryRead, Value, normalize};
 use gix_config_value::integer::Amount;
@@ -42,6 +45,12 @@ pub enum Reason<'r, 't> {
         list: &'r WordList<'t>,
         meant: Option<&'t [u8]>,
     },
+    /// Its row is for Git from this version on, which is newer.
+    TooNew(Version),
+    /// Its row is for Git before this version.
+    Gone(Version),
+    /// Its value is valid, but Git warns of the setting. This is what to use instead.
+    Deprecated(&'t [u8]),
     /// Its value is valid, but differs from this, its canonical text.
     NotCanonical(CanonicalText),
     /// Its value is valid, but is this word of the list in another case.
@@ -53,9 +62,9 @@ pub enum Reason<'r, 't> {
 pub enum Severity {
     /// A Git command fails because of it.
     Error,
-    /// Git warns about the value or ignores it, or the key is unknown.
+    /// Git warns about the setting or ignores it, or the key is unknown.
     Warning,
-    /// The value is valid, but it should be spelled in another way.
+    /// The value is valid, but it should be spelled in another way, or only a newer Git reads it.
     Note,
 }
 
@@ -66,7 +75,8 @@ impl Reason<'_, '_> {
     {
         match self {
             Reason::NoValue => Severity::Error,
-            Reason::NotCanonical(_) | Reason::OtherCase(_) => Severity::Note,
+            Reason::Gone(_) | Reason::Deprecated(_) => Severity::Warning,
+            Reason::TooNew(_) | Reason::NotCanonical(_) | Reason::OtherCase(_) => Severity::Note,
             _ if goes_on => Severity::Warning,
             _ => Severity::Error,
         }
@@ -117,9 +127,9 @@ fn is_int(text: &[u8]) -> bool
     }
 }
 
-/// Why a text is wrong as a boolean or a number of 32 bits, or `None` if it is right.
-fn boolean_or_number_reason<'r, 't>(text: &[u8]) -> Option<Reason<'r, 't>>
-    ensures { IsJudgedBoolOrInt text.now result }
+/// Why a text is neither a number of 32 bits nor a boolean word nor empty, or `None` if it is one of them.
+fn boolean_reason<'r, 't>(text: &[u8]) -> Option<Reason<'r, 't>>
+    ensures { IsJudgedBool text.now result }
 {
     match Amount::try_read(text) {
         Ok(amount) if is_within(amount, LEAST_INT, GREATEST_INT) => None,
@@ -131,13 +141,13 @@ fn boolean_or_number_reason<'r, 't>(text: &[u8]) -> Option<Reason<'r, 't>>
     }
 }
 
-/// Whether a text is a boolean text.
+/// Whether a text is right as a boolean.
 fn is_boolean(text: &[u8]) -> bool
-    ensures { IsTrue result ↔ IsAccepted BooleanText text.now }
+    ensures { IsTrue result ↔ IsJudgedBool text.now None }
 {
-    match Boolean::try_read(text) {
-        Ok(_) => true,
-        Err(_) => false,
+    match boolean_reason(text) {
+        None => true,
+        Some(_) => false,
     }
 }
 
@@ -212,9 +222,8 @@ fn text_reason<'r, 't>(
 {
     match kind {
         SettingKind::Text => Ok(None),
-        SettingKind::Bool => Ok(refusal_by::<Boolean>(text)),
+        SettingKind::Bool | SettingKind::BoolOrInt => Ok(boolean_reason(text)),
         SettingKind::Int { low, high } => Ok(number_reason(text, *low, *high)),
-        SettingKind::BoolOrInt => Ok(boolean_or_number_reason(text)),
         SettingKind::Color => Ok(refusal_by::<Color>(text)),
         SettingKind::Word(list) => word_reason(alloc, list, text),
     }
@@ -259,7 +268,7 @@ fn respelled_by<'r, 't>(kind: Kind, text: &[u8]) -> Option<Reason<'r, 't>>
 
 /// The canonical text of a boolean or a number, or `None` if the text is canonical.
 fn respelled_boolean_or_number<'r, 't>(text: &[u8]) -> Option<Reason<'r, 't>>
-    requires { IsJudgedBoolOrInt text.now None }
+    requires { IsJudgedBool text.now None }
     ensures { IsRespelledBoolOrInt text.now result }
 {
     match Amount::try_read(text) {
@@ -278,6 +287,15 @@ fn respelled_as<'r, 't>(word: &'t [u8], text: &[u8]) -> Option<Reason<'r, 't>>
     Some(Reason::OtherCase(word))
 }
 
+/// The canonical text of a text that is right as a boolean, or `None` if the text is canonical.
+#[tactic(auto, using(crate::proofs::BooleanLemmas::accepted_boolean))]
+fn respelled_boolean<'r, 't>(text: &[u8]) -> Option<Reason<'r, 't>>
+    requires { IsJudgedBool text.now None }
+    ensures { IsRespelled BooleanText CanonicalBoolean text.now result }
+{
+    respelled_by(Kind::Boolean, text)
+}
+
 /// The canonical text of a text that no word matches. `None` if it is canonical, or if its form has no
 /// canonical texts.
 fn respelled_by_form<'r, 't>(list: &WordList<'_>, text: &[u8]) -> Option<Reason<'r, 't>>
@@ -285,7 +303,7 @@ fn respelled_by_form<'r, 't>(list: &WordList<'_>, text: &[u8]) -> Option<Reason<
     ensures { IsRespelledByForm list.now.form text.now result }
 {
     match list.form {
-        Form::BoolOrWord => respelled_by(Kind::Boolean, text),
+        Form::BoolOrWord => respelled_boolean(text),
         Form::IntOrWord => respelled_by(Kind::Integer, text),
         _ => None,
     }
@@ -309,7 +327,7 @@ fn respelled<'r, 't>(kind: &SettingKind<'t>, text: &[u8]) -> Option<Reason<'r, '
 {
     match kind {
         SettingKind::Text => None,
-        SettingKind::Bool => respelled_by(Kind::Boolean, text),
+        SettingKind::Bool => respelled_boolean(text),
         SettingKind::Int { .. } => respelled_by(Kind::Integer, text),
         SettingKind::BoolOrInt => respelled_boolean_or_number(text),
         SettingKind::Color => respelled_by(Kind::Color, text),
@@ -317,34 +335,60 @@ fn respelled<'r, 't>(kind: &SettingKind<'t>, text: &[u8]) -> Option<Reason<'r, '
     }
 }
 
-/// How a valid value should be spelled. `None` if it is spelled so, or if canonical texts are not wanted.
-fn spelled<'r, 't>(
+/// Why the row of a setting is not for this Git, or `None` if it is.
+pub fn outside<'r, 't>(row: &Row<'t>, git: Version) -> Option<Reason<'r, 't>>
+    ensures { MatchOption result (IsOf git row.now) (IsOutside git row.now) }
+{
+    if let Some(since) = row.since {
+        if git.is_before(since) {
+            return Some(Reason::TooNew(since));
+        }
+    }
+    if let Some(until) = row.until {
+        if !git.is_before(until) {
+            return Some(Reason::Gone(until));
+        }
+    }
+    None
+}
+
+/// What is said of a valid value: what to use in place of a deprecated setting or, if canonical texts are
+/// wanted, how the value should be spelled. `None` if there is nothing to say.
+fn remark<'r, 't>(
     row: &'r Row<'t>,
     value: Option<&[u8]>,
     wants_canonical: bool,
 ) -> Option<Reason<'r, 't>>
     requires { HasReason row.now (option_copied value) None }
-    ensures { IsFoundBehind wants_canonical row.now.kind (option_copied value.entry) None result }
+    ensures { IsRemark wants_canonical row.now (option_copied value.entry) result }
 {
+    if let Some(instead) = row.instead {
+        return Some(Reason::Deprecated(instead));
+    }
     if !wants_canonical {
         return None;
     }
     respelled(&row.kind, value?)
 }
 
-/// Returns why the value of a setting is wrong by its row or, if it is valid and canonical texts are wanted,
-/// how it should be spelled. Returns `None` if there is nothing to report, and an error if there is no memory
-/// to find the nearest word. `value` is `None` for a key alone.
+/// Returns what a check finds for a setting with this row: that the row is not for this Git, why the value is
+/// wrong, what to use in place of a deprecated setting or, if canonical texts are wanted, how the value should
+/// be spelled. Returns `None` if there is nothing to report, and an error if there is no memory to find the
+/// nearest word. `value` is `None` for a key alone.
 pub fn find<'r, 't>(
     alloc: Global,
+    git: Version,
     row: &'r Row<'t>,
     value: Option<&[u8]>,
     wants_canonical: bool,
 ) -> Result<Option<Reason<'r, 't>>, AllocError>
-    ensures { IfOk result (HasFinding wants_canonical row.now (option_copied value.entry)) }
+    ensures { IfOk result (HasFinding git wants_canonical row.now (option_copied value.entry)) }
 {
+    if let Some(reason) = outside(row, git) {
+        return Ok(Some(reason));
+    }
     match judge(alloc, row, value) {
-        Ok(None) => Ok(spelled(row, value, wants_canonical)),
+        Ok(None) => Ok(remark(row, value, wants_canonical)),
         Ok(Some(reason)) => Ok(Some(reason)),
         Err(error) => Err(error),
     }

@@ -5,6 +5,7 @@ ghost use Rattle.config_text.specs.SameWord.{SameWord};
 ghost use Rattle.config_file.specs.KeyView.{key_of};
 
 use crate::kind::SettingKind;
+use crate::version::Version;
 use config_file::key::Key;
 
 /// A row says what the value of a setting has to be if the key of the row covers the setting's key.
@@ -12,6 +13,12 @@ use config_file::key::Key;
 pub struct Row<'t> {
     /// The key, which may have `*` as its subsection and as its name.
     pub key: Key<'t>,
+    /// The first version of Git that reads such settings, if some Gits are too old.
+    pub since: Option<Version>,
+    /// The first version of Git that no longer reads them as this row says.
+    pub until: Option<Version>,
+    /// What to use instead, if Git calls these settings deprecated.
+    pub instead: Option<&'t [u8]>,
     /// Whether a key alone, which has no value, is right.
     pub takes_no_value: bool,
     /// Whether Git continues after a wrong value, since it only warns about the value or ignores it.

@@ -22,19 +22,32 @@ use std::alloc::{AllocError, Global};
 /// A section of at least this many bytes is long.
 const LONG_SECTION: usize = 8;
 
-/// How many edits lead from one subsection to the other. `None` if they are not near, or if a key has no
-/// subsection.
+/// No edits if the names of two keys are the same, of which only one has a subsection, and otherwise `None`.
+fn shape_edits(row: &Key<'_>, key: &Key<'_>) -> Option<usize>
+    ensures { MatchOption result (¬ (SameWord (key_of row.now).name (key_of key.now).name))
+        (λ n. SameWord (key_of row.now).name (key_of key.now).name × (n ≡ 0)) }
+{
+    if is_same_word(row.name(), key.name()) {
+        return Some(0);
+    }
+    None
+}
+
+/// How many edits lead from one subsection to the other. `None` if they are not near, or if neither key has a
+/// subsection. If only one has a subsection, the names have to be the same, and there are no edits.
 fn subsection_edits(
     alloc: Global,
     row: &Key<'_>,
     key: &Key<'_>,
 ) -> Result<Option<usize>, AllocError>
     ensures { IfOk result (λ r. IsFew
-        (SubsectionEdits (key_of row.now).subsection (key_of key.now).subsection) r) }
+        (SubsectionEdits (SameWord (key_of row.now).name (key_of key.now).name)
+        (key_of row.now).subsection (key_of key.now).subsection) r) }
 {
     match (row.subsection(), key.subsection()) {
         (Some(row), Some(subsection)) => few_edits(alloc, LONG, row, subsection),
-        _ => Ok(None),
+        (None, None) => Ok(None),
+        _ => Ok(shape_edits(row, key)),
     }
 }
 
@@ -133,14 +146,18 @@ fn filled<'k>(row: &'k [u8], part: &'k [u8]) -> &'k [u8]
     if row == ANY { part } else { row }
 }
 
-/// The same for subsections. If one of the keys has no subsection, the result is that of the row's key.
+/// What stands for the subsection of a key without one.
+const NAME: &[u8] = b"NAME";
+
+/// The same for subsections, with `NAME` for that of a key without one. `None` if the row's key has none.
 fn filled_subsection<'k>(row: &Key<'k>, key: &Key<'k>) -> Option<&'k [u8]>
     ensures { FillsSubsection (key_of row.now).subsection (key_of key.now).subsection
         (option_copied result) }
 {
     match (row.subsection(), key.subsection()) {
         (Some(row), Some(subsection)) => Some(filled(row, subsection)),
-        (row, _) => row,
+        (Some(row), None) => Some(filled(row, NAME)),
+        (None, _) => None,
     }
 }
 

@@ -1,9 +1,12 @@
 //! Reads rows from text, in which each line is a row, a comment or blank.
 ghost use Rattle.std.specs.Prelude.{◌≡◌, ◌≢◌, Bool, Some, [], map, IfOk, IfErr, OnOk, OnErr, MatchOption};
+ghost use Rattle.std.specs.Prelude.{option_copied};
 ghost use Rattle.config_checks.specs.declared.kind.SettingKind as kinds;
 ghost use Rattle.config_checks.specs.declared.kind.Form as forms;
 ghost use Rattle.config_checks.specs.Rows.{fields_of, is_blank, plain_name, form_name, words_name, lines_of};
-ghost use Rattle.config_checks.specs.Rows.{CutsAlone, CutsWarn, HasMarks, IsBounds};
+ghost use Rattle.config_checks.specs.Rows.{CutsText, CutsVersion, LacksVersion, CutsAlone, CutsWarn};
+ghost use Rattle.config_checks.specs.Rows.{HasMarks, HasBadVersion, IsBounds};
+ghost use Rattle.config_checks.specs.declared.table.RowFault.TheVariants.{NoVersion};
 ghost use Rattle.config_integer.specs.declared.amount.Amount.{Amount};
 ghost use Rattle.config_checks.specs.Rows.{IsNoRow, IsRow, IsKind, IsBadKind, IsBadRow};
 ghost use Rattle.config_checks.specs.Rows.{AddsRow, AddsRows, IsBadLine};
@@ -11,6 +14,7 @@ ghost use Rattle.config_checks.specs.Rows.{AddsRow, AddsRows, IsBadLine};
 use crate::kind::{Form, SettingKind, WordList};
 use crate::reason::{GREATEST_INT, LEAST_INT};
 use crate::row::Row;
+use crate::version::Version;
 use config_file::key::Key;
 use gix_config_value::canonical::TryRead;
 use gix_config_value::integer::Amount;
@@ -35,6 +39,9 @@ pub enum RowFault {
     /// It has words after a kind that takes no words.
     #[error("words after a kind without words")]
     Words,
+    /// After `since=` or `until=` it has something other than a version.
+    #[error("no version after since= or until=")]
+    NoVersion,
     /// After `int` it has something other than two integer texts.
     #[error("the bounds are not two integers")]
     Bounds,
@@ -72,6 +79,50 @@ fn fields_of<'t>(alloc: Global, line: &'t [u8]) -> Result<Vec<&'t [u8]>, AllocEr
     Ok(fields)
 }
 
+/// The marks of a row, which come between its key and its kind.
+#[derive(Clone, Copy)]
+struct Marks<'t> {
+    since: Option<Version>,
+    until: Option<Version>,
+    instead: Option<&'t [u8]>,
+    alone: Option<bool>,
+    goes_on: bool,
+}
+
+/// The rest of the first field after this text, if the field begins with it, and the fields after that one.
+fn cut_text<'f, 't>(fields: &'f [&'t [u8]], front: &[u8]) -> (Option<&'t [u8]>, &'f [&'t [u8]])
+    ensures { CutsText (map (λ field. field.now) fields.now) front.now (option_copied result.0)
+        (map (λ field. field.now) result.1.now) }
+{
+    let Some((field, rest)) = fields.split_first() else {
+        return (None, fields);
+    };
+    match field.strip_prefix(front) {
+        Some(text) => (Some(text), rest),
+        None => (None, fields),
+    }
+}
+
+/// The version after this text in the first field, if the field begins with the text, and the fields after
+/// it.
+fn cut_version<'f, 't>(
+    fields: &'f [&'t [u8]],
+    front: &[u8],
+) -> Result<(Option<Version>, &'f [&'t [u8]]), RowFault>
+    ensures cut { IfOk result (λ cut. CutsVersion (map (λ field. field.now) fields.now) front.now cut.0
+        (map (λ field. field.now) cut.1.now)) }
+    ensures refused { IfErr result (λ fault. (fault ≡ NoVersion)
+        × LacksVersion (map (λ field. field.now) fields.now) front.now) }
+{
+    match cut_text(fields, front) {
+        (None, rest) => Ok((None, rest)),
+        (Some(text), rest) => match Version::read(text) {
+            Some(version) => Ok((Some(version), rest)),
+            None => Err(RowFault::NoVersion),
+        },
+    }
+}
+
 /// Whether the fields begin with the mark `alone` (true), `needs-value` (false) or neither, and the fields
 /// after the mark.
 fn cut_alone<'f, 't>(fields: &'f [&'t [u8]]) -> (Option<bool>, &'f [&'t [u8]])
@@ -94,6 +145,30 @@ fn cut_warn<'f, 't>(fields: &'f [&'t [u8]]) -> (bool, &'f [&'t [u8]])
         Some((field, rest)) if *field == b"warn".as_slice() => (true, rest),
         _ => (false, fields),
     }
+}
+
+/// The marks of a row, in their order, and the fields after them.
+fn cut_marks<'f, 't>(fields: &'f [&'t [u8]]) -> Result<(Marks<'t>, &'f [&'t [u8]]), RowFault>
+    ensures marks { IfOk result (λ cut. HasMarks (map (λ field. field.now) fields.now) cut.0
+        (map (λ field. field.now) cut.1.now)) }
+    ensures refused { IfErr result (λ fault. (fault ≡ NoVersion)
+        × HasBadVersion (map (λ field. field.now) fields.now)) }
+{
+    let (since, rest) = cut_version(fields, b"since=")?;
+    let (until, rest) = cut_version(rest, b"until=")?;
+    let (instead, rest) = cut_text(rest, b"instead=");
+    let (alone, rest) = cut_alone(rest);
+    let (goes_on, rest) = cut_warn(rest);
+    Ok((
+        Marks {
+            since,
+            until,
+            instead,
+            alone,
+            goes_on,
+        },
+        rest,
+    ))
 }
 
 /// The kind with this name, if it is a kind without words and bounds.
@@ -216,16 +291,18 @@ pub fn read_row<'t>(alloc: Global, line: &'t [u8]) -> Result<Option<Row<'t>>, Ro
     let Some(key) = Key::split(key) else {
         return Err(RowFault::NoKey);
     };
-    let (alone, rest) = cut_alone(marked);
-    let (goes_on, rest) = cut_warn(rest);
+    let (marks, rest) = cut_marks(marked)?;
     let Some((name, words)) = rest.split_first() else {
         return Err(RowFault::NoKind);
     };
     let kind = kind_of(alloc, name, words)?;
     Ok(Some(Row {
         key,
-        takes_no_value: alone.unwrap_or(kind.takes_true()),
-        goes_on,
+        since: marks.since,
+        until: marks.until,
+        instead: marks.instead,
+        takes_no_value: marks.alone.unwrap_or(kind.takes_true()),
+        goes_on: marks.goes_on,
         kind,
     }))
 }

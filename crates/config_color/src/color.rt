@@ -180,9 +180,20 @@ impl Color {
         text
     }
 
-    /// Writes the color as it is shown into an empty text.
+    /// Writes the color as it is shown into an empty text, even if no text reads to the color. A function
+    /// clears the room of its texts at entry, so a caller that needs only the bytes makes one text and fills
+    /// it.
+    ///
+    /// ```rust
+    /// use gix_config_value::Color;
+    /// use gix_config_value::canonical::CanonicalText;
+    ///
+    /// let mut text = CanonicalText::new();
+    /// Color::try_from("ul bold red")?.show(&mut text);
+    /// assert_eq!(rt; text.as_str(), "red bold ul");
+    /// ```
     #[inline(always)]
-    pub(crate) fn show(&self, text: &mut CanonicalText)
+    pub fn show(&self, text: &mut CanonicalText)
         requires { text.old.bytes ≡ [] }
         ensures { text.new.bytes ≡ color_shown self.now }
     {

@@ -167,7 +167,7 @@ line_reads section (k ∷ key) (Some value) line is spellable =
     rw same at read
 
 -- how a text begins, and how it begins after bytes are appended to it
-begins_no_mark : {section : Option Section} {line b : ℕ} {text : List ℕ} {entries : List Entry}
+pub begins_no_mark : {section : Option Section} {line b : ℕ} {text : List ℕ} {entries : List Entry}
     → Reads section line (b ∷ text) entries None → b ≢ 0xef
 begins_no_mark (file.blank is h) e = grind (arith, nat_tests)
 begins_no_mark (file.line_end is h) e = omega arith
@@ -184,10 +184,10 @@ no_part_of_mark : (b : ℕ) (text : List ℕ) → b ≢ 0xef → IsPartOfMark (b
 no_part_of_mark b [] other part = other part
 no_part_of_mark b (c ∷ text) other part = other part.0
 
-begins_unmarked : (b : ℕ) (text : List ℕ) → b ≢ 0xef → Begins (b ∷ text) 1 (b ∷ text)
+pub begins_unmarked : (b : ℕ) (text : List ℕ) → b ≢ 0xef → Begins (b ∷ text) 1 (b ∷ text)
 begins_unmarked b text other = unmarked (no_mark b text other) (no_part_of_mark b text other)
 
-mark_is : (text rest : List ℕ) → after_mark text ≡ Some rest → text ≡ 0xef ∷ 0xbb ∷ 0xbf ∷ rest
+pub mark_is : (text rest : List ℕ) → after_mark text ≡ Some rest → text ≡ 0xef ∷ 0xbb ∷ 0xbf ∷ rest
 mark_is [] rest e = cc
 mark_is (a ∷ []) rest e = cc
 mark_is (a ∷ b ∷ []) rest e = cc

@@ -59,3 +59,5 @@ pub mod UrlHosts
 pub mod UrlPaths
 pub mod UrlMatches
 pub mod UrlFits
+pub mod Pieces
+pub mod Edits

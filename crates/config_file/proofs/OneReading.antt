@@ -164,6 +164,12 @@ are_one (suc n) section line (c ∷ text) a b e f room first second =
     let (l, so, other) = turn second in
     same_turn n (are_one n) section line c text a b e f k (omega arith) one (subst (λ x. Turn section line c text b f x) (sym so ∙ is) other)
 
+-- the same for what is left of a text, in any section and on any line
+pub reads_once : {section : Option Section} {line : ℕ} {text : List ℕ} {a b : List Entry} {e f : Option Error}
+    → Reads section line text a e → Reads section line text b f → (a ≡ b) × (e ≡ f)
+reads_once {section = section} {line = line} {text = text} {a = a} {b = b} {e = e} {f = f} first second =
+    are_one (length text) section line text a b e f (omega arith) first second
+
 none_is_not_some : {rest : List ℕ} → None ≡ Some rest → ⊥
 none_is_not_some e = cc
 

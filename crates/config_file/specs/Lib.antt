@@ -13,6 +13,7 @@ pub mod KeyView
 pub mod Url
 pub mod UrlView
 pub mod Spelling
+pub mod Edit
 pub mod Command
 pub mod Settings
 pub mod Set

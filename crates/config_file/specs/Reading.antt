@@ -6,3 +6,4 @@ pub mod Adds
 pub mod Commands
 pub mod Urls
 pub mod Fits
+pub mod Edits

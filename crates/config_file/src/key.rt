@@ -198,7 +198,7 @@ impl<'k> Key<'k> {
     }
 
     /// Whether Git lists this section as what precedes the last dot of the key.
-    fn is_in(&self, section: &Section<'_>) -> bool
+    pub(crate) fn is_in(&self, section: &Section<'_>) -> bool
         ensures { (text : List ℕ) → IsListedSection (section_of section.now) text
             → (IsTrue result
             ↔ IsListedSection (section_of section.now) (stem (key_of self.now) ++ dot ∷ [])) }

@@ -12,6 +12,7 @@
 
 mod bytes;
 pub mod command;
+pub mod edit;
 pub mod entry;
 pub mod errors;
 pub mod files;

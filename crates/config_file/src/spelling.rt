@@ -96,7 +96,7 @@ pub fn spell_entry(
 }
 
 /// Whether a value has a spelling.
-fn is_spellable(value: &[u8]) -> bool
+pub(crate) fn is_spellable(value: &[u8]) -> bool
     ensures { result ≡ spec.is_spellable value.now }
 {
     value.iter().all(|byte| *byte != 0)
@@ -130,7 +130,7 @@ fn are_key_bytes(key: &[u8]) -> bool
 }
 
 /// Whether a header can have this name and this subsection.
-fn is_section(name: &[u8], subsection: Option<&[u8]>) -> bool
+pub(crate) fn is_section(name: &[u8], subsection: Option<&[u8]>) -> bool
     ensures { result ≡ spec.is_section name.now (option_copied subsection.entry) }
 {
     match subsection {
@@ -181,7 +181,11 @@ fn push_byte(spelling: &mut Vec<u8>, quoted: bool, byte: u8) -> Result<(), Alloc
     Ok(())
 }
 
-fn push_bytes(spelling: &mut Vec<u8>, quoted: bool, value: &[u8]) -> Result<(), AllocError>
+pub(crate) fn push_bytes(
+    spelling: &mut Vec<u8>,
+    quoted: bool,
+    value: &[u8],
+) -> Result<(), AllocError>
     ensures { OnOk result
         (spelling.new.items ≡ spelling.old.items ++ flat_map (spelled_byte quoted) value.now) }
 {
@@ -198,7 +202,7 @@ fn is_lost(byte: u8) -> bool
     byte == b'\r' || bytes::is_comment_sign(byte)
 }
 
-fn ends_with_space(value: &[u8]) -> bool
+pub(crate) fn ends_with_space(value: &[u8]) -> bool
     ensures { result ≡ spec.ends_with_space value.now }
 {
     match value {
@@ -207,7 +211,7 @@ fn ends_with_space(value: &[u8]) -> bool
     }
 }
 
-fn begins_with_space(value: &[u8]) -> bool
+pub(crate) fn begins_with_space(value: &[u8]) -> bool
     ensures { result ≡ spec.begins_with_space value.now }
 {
     match value {
@@ -216,7 +220,7 @@ fn begins_with_space(value: &[u8]) -> bool
     }
 }
 
-fn has_lost(value: &[u8]) -> bool
+pub(crate) fn has_lost(value: &[u8]) -> bool
     ensures { result ≡ list_any spec.is_lost value.now }
 {
     value.iter().any(|byte| is_lost(*byte))
@@ -260,7 +264,7 @@ fn push_subsection(spelling: &mut Vec<u8>, subsection: &[u8]) -> Result<(), Allo
     Ok(())
 }
 
-fn push_header(
+pub(crate) fn push_header(
     spelling: &mut Vec<u8>,
     name: &[u8],
     subsection: Option<&[u8]>,

@@ -150,7 +150,7 @@ fn is_included(kind: FileType) -> bool {
 }
 
 /// Opens the file of this name, which has to be one that may be included if `is_first` is false.
-fn opened<R: Host>(host: &R, name: &str, is_first: bool) -> Result<R::File, ReadError> {
+pub(crate) fn opened<R: Host>(host: &R, name: &str, is_first: bool) -> Result<R::File, ReadError> {
     if !is_first && !is_included(fs::metadata(host, name)?.file_type()) {
         return Err(ReadError::Kind);
     }
@@ -158,7 +158,10 @@ fn opened<R: Host>(host: &R, name: &str, is_first: bool) -> Result<R::File, Read
 }
 
 /// The length of a file, or `None` if it has no length before it is read.
-fn known_length<F: OpenFile>(file: &F, is_first: bool) -> Result<Option<usize>, ReadError> {
+pub(crate) fn known_length<F: OpenFile>(
+    file: &F,
+    is_first: bool,
+) -> Result<Option<usize>, ReadError> {
     let known = file.metadata()?;
     if !is_first && !is_included(known.file_type()) {
         return Err(ReadError::Kind);
@@ -259,7 +262,12 @@ impl<'t, R: Host> Disk<'t, R> {
     /// The bytes of the file of this name, which has to be one that may be included if `is_first` is false.
     fn read_file(&self, name: &[u8], is_first: bool) -> Result<&'t [u8], ReadError> {
         let name = self.opened_name(name)?;
-        let file = opened(self.host, text_of(&name)?, is_first)?;
+        self.read_opened(text_of(&name)?, is_first)
+    }
+
+    /// The bytes of the file that the system opens by this name.
+    fn read_opened(&self, name: &str, is_first: bool) -> Result<&'t [u8], ReadError> {
+        let file = opened(self.host, name, is_first)?;
         let length = known_length(&file, is_first)?;
         self.text(file, length)
     }

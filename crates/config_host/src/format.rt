@@ -47,21 +47,21 @@ const STORES: &[&[u8]] = &[b"files", b"reftable"];
 
 /// The extensions that count in each version.
 fn early(name: &[u8]) -> Extension {
-    match name {
-        b"noop" => Extension::Any,
-        b"preciousobjects" | b"worktreeconfig" => Extension::Boolean,
-        b"partialclone" => Extension::Text,
+    match str::from_utf8(name) {
+        Ok("noop") => Extension::Any,
+        Ok("preciousobjects" | "worktreeconfig") => Extension::Boolean,
+        Ok("partialclone") => Extension::Text,
         _ => Extension::Unknown,
     }
 }
 
 /// The extensions that need version 1.
 fn later(name: &[u8]) -> Extension {
-    match name {
-        b"noop-v1" => Extension::Any,
-        b"objectformat" | b"compatobjectformat" => Extension::OneOf(HASHES),
-        b"refstorage" => Extension::Stored(STORES),
-        b"relativeworktrees" | b"submodulepathconfig" => Extension::Boolean,
+    match str::from_utf8(name) {
+        Ok("noop-v1") => Extension::Any,
+        Ok("objectformat" | "compatobjectformat") => Extension::OneOf(HASHES),
+        Ok("refstorage") => Extension::Stored(STORES),
+        Ok("relativeworktrees" | "submodulepathconfig") => Extension::Boolean,
         _ => Extension::Unknown,
     }
 }
@@ -95,9 +95,12 @@ fn boolean<'t, R: Host>(disk: &Disk<'t, R>, setting: &Setting<'_>) -> Result<boo
 }
 
 /// The text of a setting, which needs one.
-fn text<'t, R: Host>(disk: &Disk<'t, R>, setting: &Setting<'_>) -> Result<Vec<u8>, HereError<'t>> {
+fn text<'s, 't, R: Host>(
+    disk: &Disk<'t, R>,
+    setting: &'s Setting<'_>,
+) -> Result<&'s [u8], HereError<'t>> {
     match setting.value.as_deref() {
-        Some(text) => Ok(text.to_vec(disk.host.alloc())?),
+        Some(text) => Ok(text),
         None => Err(stop(disk, setting, "no value")?),
     }
 }
@@ -110,27 +113,44 @@ fn version<'t, R: Host>(disk: &Disk<'t, R>, setting: &Setting<'_>) -> Result<i32
     }
 }
 
-/// Whether an extension is known, and has a value that it may have.
+/// Whether an extension may have the value of this setting.
+fn is_right<'t, R: Host>(
+    disk: &Disk<'t, R>,
+    setting: &Setting<'_>,
+    extension: Extension,
+) -> Result<bool, HereError<'t>> {
+    match extension {
+        Extension::Unknown | Extension::Any => Ok(true),
+        Extension::Boolean => {
+            boolean(disk, setting)?;
+            Ok(true)
+        }
+        Extension::Text => Ok(setting.value.is_some()),
+        Extension::OneOf(words) => Ok(words.contains(&text(disk, setting)?)),
+        Extension::Stored(words) => Ok(words.contains(&store_in(text(disk, setting)?))),
+    }
+}
+
+/// Whether an extension is known. It then has to have a value that it may have.
 fn is_extension<'t, R: Host>(
     disk: &Disk<'t, R>,
     setting: &Setting<'_>,
     extension: Extension,
 ) -> Result<bool, HereError<'t>> {
-    let is_right = match extension {
-        Extension::Unknown => return Ok(false),
-        Extension::Any => true,
-        Extension::Boolean => {
-            boolean(disk, setting)?;
-            true
-        }
-        Extension::Text => setting.value.is_some(),
-        Extension::OneOf(words) => words.contains(&text(disk, setting)?.as_slice()),
-        Extension::Stored(words) => words.contains(&store_in(&text(disk, setting)?)),
-    };
-    if is_right {
+    if matches!(extension, Extension::Unknown) {
+        return Ok(false);
+    }
+    if is_right(disk, setting, extension)? {
         return Ok(true);
     }
     Err(stop(disk, setting, "no value of this extension")?)
+}
+
+/// Takes the name of an extension, if it is the first.
+fn take_first(first: &mut Option<Vec<u8>>, name: Vec<u8>) {
+    if first.is_none() {
+        *first = Some(name);
+    }
 }
 
 impl Format {
@@ -154,50 +174,95 @@ impl Format {
         name: &[u8],
     ) -> Result<(), HereError<'t>> {
         if is_extension(disk, setting, early(name))? {
-            if name == b"worktreeconfig".as_slice() {
-                self.has_worktree_files = boolean(disk, setting)?;
-            }
             return Ok(());
         }
-        if is_extension(disk, setting, later(name))? {
-            if self.of_later.is_none() {
-                self.of_later = Some(name.to_vec(disk.host.alloc())?);
-            }
-        } else if self.unknown.is_none() {
-            self.unknown = Some(name.to_vec(disk.host.alloc())?);
+        let is_known = is_extension(disk, setting, later(name))?;
+        let name = name.to_vec(disk.host.alloc())?;
+        if is_known {
+            take_first(&mut self.of_later, name);
+        } else {
+            take_first(&mut self.unknown, name);
         }
         Ok(())
     }
 
-    /// Takes what a setting says of the work tree.
+    /// Takes what a setting of this key says of the work tree.
     fn take_work_tree<'t, R: Host>(
         &mut self,
         disk: &Disk<'t, R>,
         setting: &Setting<'_>,
         key: &[u8],
     ) -> Result<(), HereError<'t>> {
-        if key == b"core.bare".as_slice() {
-            self.is_bare = boolean(disk, setting)?;
-        } else if key == b"core.worktree".as_slice() {
-            self.work_tree = Some(text(disk, setting)?);
+        match str::from_utf8(key) {
+            Ok("core.bare") => self.is_bare = boolean(disk, setting)?,
+            Ok("core.worktree") => {
+                self.work_tree = Some(text(disk, setting)?.to_vec(disk.host.alloc())?);
+            }
+            _ => {}
         }
         Ok(())
     }
 
-    /// Takes what a setting says.
+    /// Takes what a setting of this key says.
+    fn take_named<'t, R: Host>(
+        &mut self,
+        disk: &Disk<'t, R>,
+        setting: &Setting<'_>,
+        key: &[u8],
+    ) -> Result<(), HereError<'t>> {
+        match str::from_utf8(key) {
+            Ok("core.repositoryformatversion") => self.version = Some(version(disk, setting)?),
+            Ok("extensions.worktreeconfig") => self.has_worktree_files = boolean(disk, setting)?,
+            _ => self.take_work_tree(disk, setting, key)?,
+        }
+        match key.strip_prefix(b"extensions.") {
+            Some(name) => self.extend(disk, setting, name),
+            None => Ok(()),
+        }
+    }
+
+    /// Takes what a setting of the repository says.
     fn take<'t, R: Host>(
         &mut self,
         disk: &Disk<'t, R>,
         setting: &Setting<'_>,
     ) -> Result<(), HereError<'t>> {
         let key = setting.entry.key_text(disk.host.alloc())?;
-        if key.as_slice() == b"core.repositoryformatversion".as_slice() {
-            self.version = Some(version(disk, setting)?);
+        self.take_named(disk, setting, &key)
+    }
+
+    /// Takes what the settings of the repository say.
+    fn take_all<'t, R: Host>(
+        &mut self,
+        disk: &Disk<'t, R>,
+        settings: &Settings<'_>,
+    ) -> Result<(), HereError<'t>> {
+        for setting in &settings.entries {
+            self.take(disk, setting)?;
         }
-        if let Some(name) = key.strip_prefix(b"extensions.") {
-            self.extend(disk, setting, name)?;
-        }
+        Ok(())
+    }
+
+    /// Takes what a setting of a work tree of its own says.
+    fn take_own<'t, R: Host>(
+        &mut self,
+        disk: &Disk<'t, R>,
+        setting: &Setting<'_>,
+    ) -> Result<(), HereError<'t>> {
+        let key = setting.entry.key_text(disk.host.alloc())?;
         self.take_work_tree(disk, setting, &key)
+    }
+
+    /// Takes what the settings of a work tree of its own say.
+    fn take_all_own<'t, R: Host>(
+        &mut self,
+        disk: &Disk<'t, R>,
+        settings: &Settings<'_>,
+    ) -> Result<(), HereError<'t>> {
+        for setting in &settings.entries {
+            self.take_own(disk, setting)?;
+        }
+        Ok(())
     }
 
     /// Why Git uses no repository of this format, if it does not.
@@ -231,10 +296,9 @@ fn settings_in<'t, R: Host>(
 /// The format that the file of a repository states. Git looks at no include here. A file that states no
 /// version states nothing.
 pub fn format_in<'t, R: Host>(disk: &Disk<'t, R>, file: &[u8]) -> Result<Format, HereError<'t>> {
+    let settings = settings_in(disk, file)?;
     let mut format = Format::new();
-    for setting in &settings_in(disk, file)?.entries {
-        format.take(disk, setting)?;
-    }
+    format.take_all(disk, &settings)?;
     match format.version {
         Some(version) if 0 <= version => Ok(format),
         _ => Ok(Format::new()),
@@ -247,9 +311,6 @@ pub fn take_own_file<'t, R: Host>(
     format: &mut Format,
     file: &[u8],
 ) -> Result<(), HereError<'t>> {
-    for setting in &settings_in(disk, file)?.entries {
-        let key = setting.entry.key_text(disk.host.alloc())?;
-        format.take_work_tree(disk, setting, &key)?;
-    }
-    Ok(())
+    let settings = settings_in(disk, file)?;
+    format.take_all_own(disk, &settings)
 }

@@ -4,13 +4,12 @@ use crate::disk::Disk;
 use crate::environment::{Host, HostError};
 use crate::error::{HereError, Refusal};
 use crate::names::copied;
-use crate::reading::{seek_urls, settings_of};
+use crate::reading::{seek_urls, settings_at};
 use crate::repository::{Location, find};
-use crate::sources::{Source, is_there, names, sources};
-use crate::surroundings::{Followed, Surroundings};
+use crate::sources::{Named, Source, is_there, names};
+use crate::surroundings::{Repository, Surroundings};
 use bumpalo::Bump;
 use config_file::Settings;
-use std::alloc::AllocError;
 use std::io::{self, ErrorKind};
 
 /// What Git reads in a folder.
@@ -23,6 +22,17 @@ pub struct Here<'t> {
     pub folder: Vec<u8>,
     /// Why Git uses no repository although one is there. It then reads none of its settings.
     pub refusal: Option<Refusal>,
+}
+
+/// The settings that Git reads if it works in this folder, and uses this repository.
+fn settings_in<'t, R: Host>(
+    disk: &Disk<'t, R>,
+    folder: &[u8],
+    repository: Option<Repository>,
+) -> Result<Settings<'t>, HereError<'t>> {
+    let inner = disk.within(folder)?;
+    let names = names(disk.host, repository.as_ref())?;
+    settings_at(&inner, &names, repository)
 }
 
 /// What Git reads where it works.
@@ -39,13 +49,8 @@ fn read_at<'t, R: Host>(
     if let Some(stop) = stop {
         return Err(stop);
     }
-    let host = disk.host;
-    let inner = disk.within(&folder)?;
-    let sources = sources(&inner, &names(host, repository.as_ref())?)?;
-    let mut surroundings = Surroundings::new(host, Followed::AsGit)?;
-    surroundings.set_repository(host, repository)?;
     Ok(Here {
-        settings: settings_of(&inner, &mut surroundings, &sources)?,
+        settings: settings_in(disk, &folder, repository)?,
         folder,
         refusal,
     })
@@ -87,27 +92,49 @@ pub fn settings_here<'t, R: Host>(
     Ok(read_here(host, texts, folder)?.settings)
 }
 
-/// The names of the files that Git reads in the current folder, by which the system opens them, in the order
-/// in which Git reads them. A line at which Git stops is no error here.
-pub fn files_here<R: Host>(disk: &Disk<'_, R>) -> Result<Vec<Vec<u8>>, HostError> {
-    let location = match find(disk, b"") {
-        Ok(location) => location,
-        Err(HereError::Host(error)) => return Err(error),
+/// Where Git works in the current folder. A line at which Git stops is kept there, and is no error.
+fn found_here<'t, R: Host>(disk: &Disk<'t, R>) -> Result<Location<'t>, HostError> {
+    match find(disk, b"") {
+        Ok(location) => Ok(location),
+        Err(HereError::Host(error)) => Err(error),
         // the current folder is there, and whatever else stops Git is kept in the location
-        Err(_) => return Err(HostError::System(io::Error::from(ErrorKind::NotFound))),
-    };
-    let inner = disk.within(&location.folder)?;
+        Err(_) => Err(HostError::System(io::Error::from(ErrorKind::NotFound))),
+    }
+}
+
+/// The name by which the system opens a file, or `None` if it is not there.
+fn opened_if_there<R: Host>(disk: &Disk<'_, R>, name: &[u8]) -> io::Result<Option<Vec<u8>>> {
+    if !is_there(disk, name)? {
+        return Ok(None);
+    }
+    match disk.opened_name(name) {
+        Ok(name) => Ok(Some(name)),
+        Err(_) => Ok(Some(copied(disk.host, name)?)),
+    }
+}
+
+/// The names by which the system opens those of these files that are there.
+fn those_there<R: Host>(disk: &Disk<'_, R>, names: &[Named]) -> io::Result<Vec<Vec<u8>>> {
     let mut files = Vec::new(disk.host.alloc());
-    for named in names(disk.host, location.repository.as_ref())? {
-        if is_there(&inner, &named.name)? {
-            let name = match inner.opened_name(&named.name) {
-                Ok(name) => name,
-                Err(_) => copied(disk.host, &named.name)?,
-            };
-            files.push(name).map_err(|_| AllocError)?;
+    for named in names {
+        if let Some(name) = opened_if_there(disk, &named.name)? {
+            files.push(name)?;
         }
     }
     Ok(files)
+}
+
+/// The names by which the system opens the files that Git reads where it works.
+fn files_at<R: Host>(disk: &Disk<'_, R>, location: &Location<'_>) -> io::Result<Vec<Vec<u8>>> {
+    let names = names(disk.host, location.repository.as_ref())?;
+    those_there(&disk.within(&location.folder)?, &names)
+}
+
+/// The names of the files that Git reads in the current folder, by which the system opens them, in the order
+/// in which Git reads them. A line at which Git stops is no error here.
+pub fn files_here<R: Host>(disk: &Disk<'_, R>) -> Result<Vec<Vec<u8>>, HostError> {
+    let location = found_here(disk)?;
+    Ok(files_at(disk, &location)?)
 }
 
 /// Finds the repository of the current folder, if this text has a condition and it is not known yet.
@@ -119,14 +146,7 @@ fn prepare_repository<'t, R: Host>(
     if !surroundings.lack(text) {
         return Ok(());
     }
-    let Location {
-        repository,
-        stop,
-        ..
-    } = find(disk, b"")?;
-    if let Some(stop) = stop {
-        return Err(stop);
-    }
+    let repository = find(disk, b"")?.used()?;
     Ok(surroundings.set_repository(disk.host, repository)?)
 }
 

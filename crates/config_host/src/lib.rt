@@ -1,8 +1,9 @@
-//! Where a program runs: the one room with input. No contract can say what a system returns.
+//! Where a program runs: the one room with input, and with files as output. No contract can say what a system
+//! returns.
 //!
 //! - [`settings_here`] reads all that Git reads in a folder, in one call.
 //! - [`environment`] gives arguments and variables as bytes, and [`names`] the paths that they spell.
-//! - [`disk`] reads files, and refuses those that would take all memory.
+//! - [`disk`] reads files, and refuses those that would take all memory. [`locked`] replaces the text of one.
 //! - [`repository`] finds the repository as [`search`] does by [`head`], [`owner`] and [`format`].
 //! - [`sources`] lists what Git reads, with the settings of a [`command`], and [`reading`] follows includes.
 //! - [`surroundings`] holds what includes ask about, and [`shown`] writes messages without control
@@ -19,6 +20,7 @@ pub mod head;
 pub mod here;
 pub mod laws;
 pub mod lines;
+pub mod locked;
 pub mod names;
 pub mod owner;
 pub mod reading;
@@ -33,4 +35,5 @@ pub use crate::disk::{Disk, ReadError};
 pub use crate::environment::{ArgumentError, Host, HostError, arguments};
 pub use crate::error::{HereError, Refusal};
 pub use crate::here::{Here, files_here, read_here, settings_here};
+pub use crate::locked::{LockError, Locked};
 pub use crate::surroundings::Surroundings;

@@ -27,6 +27,15 @@ pub fn split_last(name: &[u8]) -> Option<(&[u8], &[u8])> {
     name.rsplit_once_str(b"/")
 }
 
+/// The folder of a file, in which the name that it links to begins.
+pub fn folder_of(name: &[u8]) -> &[u8] {
+    match split_last(name) {
+        Some(([], _)) => b"/",
+        Some((folder, _)) => folder,
+        None => b"",
+    }
+}
+
 /// The folder above this one, whose name begins at the root and has no `/` at its end.
 pub fn parent(folder: &[u8]) -> Option<&[u8]> {
     if folder == b"/".as_slice() {

@@ -6,12 +6,11 @@ use crate::environment::{Host, variable};
 use crate::error::HereError;
 use crate::lines::is_on;
 use crate::names::{inside, known_of, known_of_link, real_name};
-use crate::reading::settings_of;
-use crate::sources::{protected_names, sources};
-use crate::surroundings::{Followed, Surroundings};
+use crate::reading::settings_at;
+use crate::sources::protected_names;
 use bstr::ByteSlice;
 use config_file::path::expand;
-use config_file::{Directories, Settings};
+use config_file::{Directories, Setting, Settings};
 use std::alloc::AllocError;
 use std::io;
 use std::os::unix::fs::MetadataExt;
@@ -68,10 +67,20 @@ pub fn are_owned<R: Host>(host: &R, names: &[&[u8]]) -> io::Result<bool> {
 
 /// The settings of the system, of the user and of the command. No repository is known to their conditions.
 pub fn protected<'t, R: Host>(disk: &Disk<'t, R>) -> Result<Settings<'t>, HereError<'t>> {
-    let mut surroundings = Surroundings::new(disk.host, Followed::AsGit)?;
-    surroundings.set_repository(disk.host, None)?;
-    let sources = sources(disk, &protected_names(disk.host)?)?;
-    settings_of(disk, &mut surroundings, &sources)
+    settings_at(disk, &protected_names(disk.host)?, None)
+}
+
+/// Whether a setting has this key, in lower case.
+fn has_key<R: Host>(host: &R, setting: &Setting<'_>, key: &[u8]) -> Result<bool, AllocError> {
+    let text = setting.entry.key_text(host.alloc())?;
+    Ok(text.as_slice() == key)
+}
+
+/// The text of both.
+fn joined<R: Host>(host: &R, front: &[u8], rest: &[u8]) -> Result<Vec<u8>, AllocError> {
+    let mut whole = front.to_vec(host.alloc())?;
+    whole.extend_from_slice(rest)?;
+    Ok(whole)
 }
 
 /// The path that a value of `safe.directory` spells, or `None` if it begins with a directory that is not
@@ -82,12 +91,10 @@ fn spelled<R: Host>(host: &R, value: &[u8]) -> Result<Option<Vec<u8>>, AllocErro
         home: home.as_deref(),
         install_dir: None,
     };
-    let Some(parts) = expand(value, directories) else {
-        return Ok(None);
-    };
-    let mut path = parts.directory.to_vec(host.alloc())?;
-    path.extend_from_slice(parts.rest)?;
-    Ok(Some(path))
+    match expand(value, directories) {
+        Some(parts) => Ok(Some(joined(host, parts.directory, parts.rest)?)),
+        None => Ok(None),
+    }
 }
 
 /// Whether the folder is below the one of this name, whose links are resolved.
@@ -102,32 +109,55 @@ fn is_below<R: Host>(host: &R, name: &[u8], folder: &[u8]) -> io::Result<bool> {
     Ok(folder.starts_with(&real))
 }
 
-/// Whether a value of `safe.directory` names this folder: by its path, by `.` if it is the one that is asked
-/// about, or by a path above it that ends with `/*`.
-fn names_folder<R: Host>(
-    disk: &Disk<'_, R>,
-    asked: &[u8],
-    value: &[u8],
-    folder: &[u8],
-) -> io::Result<bool> {
-    let host = disk.host;
-    let Some(path) = spelled(host, value)? else {
-        return Ok(false);
-    };
-    let path = if path.as_slice() == b".".as_slice() {
-        inside(host, asked, b".")?
-    } else if path.starts_with(b"/") {
-        path
-    } else {
-        return Ok(false);
-    };
+/// The path from the root that a value of `safe.directory` spells, or that of the folder that is asked about
+/// if it is `.`. Any other value has none.
+fn safe_path<R: Host>(host: &R, asked: &[u8], value: &[u8]) -> io::Result<Option<Vec<u8>>> {
+    match spelled(host, value)? {
+        Some(path) if path.as_slice() == b".".as_slice() => Ok(Some(inside(host, asked, b".")?)),
+        Some(path) if path.starts_with(b"/") => Ok(Some(path)),
+        _ => Ok(None),
+    }
+}
+
+/// Whether a path is that of a folder, or is one above it that ends with `/*`.
+fn covers<R: Host>(host: &R, path: &[u8], folder: &[u8]) -> io::Result<bool> {
     if let Some(above) = path.strip_suffix(b"/*") {
         return is_below(host, above, folder);
     }
-    match real_name(host, &path)? {
+    match real_name(host, path)? {
         Some(real) => Ok(real.as_slice() == folder),
         None => Ok(false),
     }
+}
+
+/// Whether a value of `safe.directory` names this folder: by its path, by `.` if it is the one that is asked
+/// about, or by a path above it that ends with `/*`.
+fn names_folder<R: Host>(host: &R, asked: &[u8], value: &[u8], folder: &[u8]) -> io::Result<bool> {
+    match safe_path(host, asked, value)? {
+        Some(path) => covers(host, &path, folder),
+        None => Ok(false),
+    }
+}
+
+/// Whether these settings name this folder in `safe.directory`.
+fn name_as_safe<R: Host>(
+    host: &R,
+    settings: &Settings<'_>,
+    asked: &[u8],
+    folder: &[u8],
+) -> io::Result<bool> {
+    let mut is_safe = false;
+    for setting in &settings.entries {
+        if has_key(host, setting, b"safe.directory")? {
+            let value = setting.value.as_deref().unwrap_or_default();
+            is_safe = match str::from_utf8(value) {
+                Ok("") => false,
+                Ok("*") => true,
+                _ => is_safe || names_folder(host, asked, value, folder)?,
+            };
+        }
+    }
+    Ok(is_safe)
 }
 
 /// Whether `safe.directory` names this folder, whose path has no links. An empty value takes back those
@@ -137,19 +167,7 @@ pub fn is_safe<'t, R: Host>(
     asked: &[u8],
     folder: &[u8],
 ) -> Result<bool, HereError<'t>> {
-    let mut is_safe = false;
-    for setting in &protected(disk)?.entries {
-        let key = setting.entry.key_text(disk.host.alloc())?;
-        if key.as_slice() != b"safe.directory".as_slice() {
-            continue;
-        }
-        is_safe = match setting.value.as_deref() {
-            None | Some(b"") => false,
-            Some(b"*") => true,
-            Some(value) => is_safe || names_folder(disk, asked, value, folder)?,
-        };
-    }
-    Ok(is_safe)
+    Ok(name_as_safe(disk.host, &protected(disk)?, asked, folder)?)
 }
 
 /// Whether this is the name of a git directory of a work tree, or of something below one.
@@ -159,21 +177,26 @@ fn is_in_work_tree(folder: &[u8]) -> bool {
         || folder.contains_str(b"/.git/modules/")
 }
 
-/// Whether `safe.bareRepository` lets Git find the bare repository in this folder.
-pub fn may_be_bare<'t, R: Host>(disk: &Disk<'t, R>, folder: &[u8]) -> Result<bool, HereError<'t>> {
-    if is_in_work_tree(folder) {
-        return Ok(true);
-    }
+/// Whether these settings let Git find bare repositories.
+fn allow_bare<R: Host>(host: &R, settings: &Settings<'_>) -> Result<bool, AllocError> {
     let mut may_be = true;
-    for setting in &protected(disk)?.entries {
-        let key = setting.entry.key_text(disk.host.alloc())?;
-        if key.as_slice() == b"safe.barerepository".as_slice() {
-            may_be = match setting.value.as_deref() {
-                Some(b"explicit") => false,
-                Some(b"all") => true,
+    for setting in &settings.entries {
+        if has_key(host, setting, b"safe.barerepository")? {
+            let value = setting.value.as_deref().unwrap_or_default();
+            may_be = match str::from_utf8(value) {
+                Ok("explicit") => false,
+                Ok("all") => true,
                 _ => may_be,
             };
         }
     }
     Ok(may_be)
+}
+
+/// Whether `safe.bareRepository` lets Git find the bare repository in this folder.
+pub fn may_be_bare<'t, R: Host>(disk: &Disk<'t, R>, folder: &[u8]) -> Result<bool, HereError<'t>> {
+    if is_in_work_tree(folder) {
+        return Ok(true);
+    }
+    Ok(allow_bare(disk.host, &protected(disk)?)?)
 }

@@ -4,13 +4,14 @@
 use crate::disk::Disk;
 use crate::environment::Host;
 use crate::error::HereError;
-use crate::sources::Source;
-use crate::surroundings::{Surroundings, has_includes};
+use crate::sources::{Named, Source, sources};
+use crate::surroundings::{Followed, Repository, Surroundings, has_includes};
 use config_file::{
     AddError, Condition, Entry, Include, IncludeFault, Known, Next, Place, Settings, Step, Walk,
     is_remote_url, next_of,
 };
 use std::alloc::{AllocError, Global};
+use std::io;
 
 /// An entry that a walk comes to.
 #[derive(Drop)]
@@ -102,6 +103,40 @@ fn asks_for_urls(alloc: Global, entry: &Entry<'_>) -> Result<bool, AllocError> {
     Ok(is_url && section.name.eq_ignore_ascii_case(b"includeif"))
 }
 
+/// What a walk that looks for a condition on the URLs of remotes comes to.
+#[derive(Clone, Copy)]
+enum Asked {
+    /// The condition.
+    Urls,
+    /// Another entry.
+    Nothing,
+    /// The end.
+    End,
+    /// A line or an include at which it stops.
+    Stop,
+}
+
+/// What the walk comes to next.
+fn asked_next<'t, R: Host>(
+    disk: &Disk<'t, R>,
+    known: &Known<'_>,
+    walk: &mut Walk<'t>,
+) -> Result<Asked, HereError<'t>> {
+    let taken = match next_entry(disk, known, walk) {
+        Ok(Some(taken)) => taken,
+        Ok(None) => return Ok(Asked::End),
+        Err(HereError::Host(error)) => return Err(HereError::Host(error)),
+        Err(_) => return Ok(Asked::Stop),
+    };
+    if asks_for_urls(disk.host.alloc(), &taken.entry)? {
+        Ok(Asked::Urls)
+    } else if taken.stop.is_some() {
+        Ok(Asked::Stop)
+    } else {
+        Ok(Asked::Nothing)
+    }
+}
+
 /// Whether a walk over this text comes to a condition on the URLs of remotes before it stops.
 fn text_asks<'t, R: Host>(
     disk: &Disk<'t, R>,
@@ -111,17 +146,11 @@ fn text_asks<'t, R: Host>(
     let disk = files_of(disk, source)?;
     let mut walk = Walk::new(source.place, source.text);
     for _ in 0..u64::MAX {
-        let taken = match next_entry(&disk, known, &mut walk) {
-            Ok(Some(taken)) => taken,
-            Ok(None) => break,
-            Err(HereError::Host(error)) => return Err(HereError::Host(error)),
-            Err(_) => return Ok(None),
-        };
-        if asks_for_urls(disk.host.alloc(), &taken.entry)? {
-            return Ok(Some(true));
-        }
-        if taken.stop.is_some() {
-            return Ok(None);
+        match asked_next(&disk, known, &mut walk)? {
+            Asked::Urls => return Ok(Some(true)),
+            Asked::Nothing => {}
+            Asked::End => break,
+            Asked::Stop => return Ok(None),
         }
     }
     Ok(Some(false))
@@ -176,6 +205,41 @@ impl<'t> Search<'t> {
         Ok(())
     }
 
+    /// Takes the next entry of a walk. Returns false at the end.
+    fn take_next<R: Host>(
+        &mut self,
+        disk: &Disk<'t, R>,
+        known: &Known<'_>,
+        walk: &mut Walk<'t>,
+    ) -> Result<bool, HereError<'t>> {
+        let Some(taken) = next_entry(disk, known, walk)? else {
+            return Ok(false);
+        };
+        self.take(disk, &taken)?;
+        match taken.stop {
+            Some(stop) => Err(HereError::Stops(stop)),
+            None => Ok(true),
+        }
+    }
+
+    /// Takes the entries of this text and of what it includes.
+    fn take_all<R: Host>(
+        &mut self,
+        disk: &Disk<'t, R>,
+        known: &Known<'_>,
+        source: &Source<'t>,
+    ) -> Result<(), HereError<'t>> {
+        let files = files_of(disk, source)?;
+        let mut walk = Walk::new(source.place, source.text);
+        for _ in 0..u64::MAX {
+            if !self.take_next(&files, known, &mut walk)? {
+                break;
+            }
+        }
+        self.conditional_below = usize::MAX;
+        Ok(())
+    }
+
     /// Notes that the file that this entry includes is included on a condition, if it is.
     fn enter(&mut self, taken: &Taken<'t>) {
         if let Some(section) = &taken.entry.section {
@@ -209,18 +273,7 @@ fn urls_of<'t, R: Host>(
         conditional_below: usize::MAX,
     };
     for source in sources {
-        let disk = files_of(disk, source)?;
-        let mut walk = Walk::new(source.place, source.text);
-        for _ in 0..u64::MAX {
-            let Some(taken) = next_entry(&disk, known, &mut walk)? else {
-                break;
-            };
-            search.take(&disk, &taken)?;
-            if let Some(stop) = taken.stop {
-                return Err(HereError::Stops(stop));
-            }
-        }
-        search.conditional_below = usize::MAX;
+        search.take_all(disk, known, source)?;
     }
     Ok(search.urls)
 }
@@ -257,8 +310,26 @@ fn add<'t, R: Host>(
     }
 }
 
+/// What includes ask about where this is the repository.
+fn around<'t, R: Host>(host: &R, repository: Option<Repository>) -> io::Result<Surroundings<'t>> {
+    let mut surroundings = Surroundings::new(host, Followed::AsGit)?;
+    surroundings.set_repository(host, repository)?;
+    Ok(surroundings)
+}
+
+/// The settings of these files and of the command, with what they include, in order. Conditions ask about
+/// this repository.
+pub fn settings_at<'t, R: Host>(
+    disk: &Disk<'t, R>,
+    names: &[Named],
+    repository: Option<Repository>,
+) -> Result<Settings<'t>, HereError<'t>> {
+    let mut surroundings = around(disk.host, repository)?;
+    settings_of(disk, &mut surroundings, &sources(disk, names)?)
+}
+
 /// The settings of these texts and of what they include, in order.
-pub fn settings_of<'t, R: Host>(
+fn settings_of<'t, R: Host>(
     disk: &Disk<'t, R>,
     surroundings: &mut Surroundings<'t>,
     sources: &[Source<'t>],

@@ -5,8 +5,8 @@ use crate::environment::{Host, variable};
 use crate::error::{HereError, Refusal};
 use crate::format::{Format, format_in, take_own_file};
 use crate::head::branch_of;
-use crate::names::{copied, inside, real_name, resolved};
-use crate::search::{Folder, Form, Found, GitDir, search, shared_folder};
+use crate::names::{copied, inside, resolved};
+use crate::search::{Folder, Form, Found, GitDir, opened_folder, search, shared_folder};
 use crate::surroundings::Repository;
 use std::io::{self, ErrorKind};
 
@@ -35,6 +35,19 @@ impl<'t> Location<'t> {
         }
     }
 
+    /// The repository that Git uses there, or why it stops.
+    pub fn used(self) -> Result<Option<Repository>, HereError<'t>> {
+        let Location {
+            repository,
+            stop,
+            ..
+        } = self;
+        match stop {
+            Some(stop) => Err(stop),
+            None => Ok(repository),
+        }
+    }
+
     /// A place in which Git stops.
     fn stopped(folder: Vec<u8>, error: HereError<'t>) -> Location<'t> {
         Location {
@@ -46,25 +59,33 @@ impl<'t> Location<'t> {
     }
 }
 
-/// The format of a git directory. What a work tree shares says nothing of its own top.
+/// Takes what the file of its own says of a work tree. What it shares says nothing of its own top.
+fn take_own<'t, R: Host>(
+    disk: &Disk<'t, R>,
+    format: &mut Format,
+    git_dir: &[u8],
+    is_shared: bool,
+) -> Result<(), HereError<'t>> {
+    if format.has_worktree_files {
+        let file = inside(disk.host, git_dir, b"config.worktree")?;
+        return take_own_file(disk, format, &file);
+    }
+    if is_shared {
+        format.is_bare = false;
+        format.work_tree = None;
+    }
+    Ok(())
+}
+
+/// The format of a git directory.
 fn format_of<'t, R: Host>(
     disk: &Disk<'t, R>,
     git_dir: &[u8],
     shared: Option<&[u8]>,
 ) -> Result<Format, HereError<'t>> {
-    let host = disk.host;
     let common = shared.unwrap_or(git_dir);
-    let mut format = format_in(disk, &inside(host, common, b"config")?)?;
-    if format.has_worktree_files {
-        take_own_file(
-            disk,
-            &mut format,
-            &inside(host, git_dir, b"config.worktree")?,
-        )?;
-    } else if shared.is_some() {
-        format.is_bare = false;
-        format.work_tree = None;
-    }
+    let mut format = format_in(disk, &inside(disk.host, common, b"config")?)?;
+    take_own(disk, &mut format, git_dir, shared.is_some())?;
     Ok(format)
 }
 
@@ -76,15 +97,14 @@ fn named_top<R: Host>(
     git_dir: &GitDir,
     format: &Format,
 ) -> io::Result<Option<Vec<u8>>> {
-    let top = match (variable(host, "GIT_WORK_TREE")?, &format.work_tree) {
-        (Some(top), _) => inside(host, &asked.name, &top)?,
-        (None, Some(top)) if !format.is_bare => inside(host, &git_dir.name, top)?,
-        _ => return Ok(None),
+    let top = match variable(host, "GIT_WORK_TREE")? {
+        Some(top) => inside(host, &asked.name, &top)?,
+        None => match &format.work_tree {
+            Some(top) if !format.is_bare => inside(host, &git_dir.name, top)?,
+            _ => return Ok(None),
+        },
     };
-    match real_name(host, &top)? {
-        Some(real) => Ok(Some(real)),
-        None => Ok(Some(top)),
-    }
+    Ok(Some(resolved(host, &top, &top)?))
 }
 
 /// Whether a folder is below the top of a work tree. Both have no links.
@@ -109,6 +129,18 @@ fn name_here<R: Host>(
     resolved(host, &git_dir.name, &git_dir.name)
 }
 
+/// The path of a folder without links.
+fn path_of<R: Host>(host: &R, folder: &Folder) -> io::Result<Vec<u8>> {
+    resolved(host, opened_folder(&folder.name), &folder.path)
+}
+
+/// The top of a work tree as the folder in which Git works, and the name of the git directory there.
+fn at_top<R: Host>(host: &R, top: Vec<u8>, git_dir: &GitDir) -> io::Result<(Folder, Vec<u8>)> {
+    let named = resolved(host, &git_dir.name, &git_dir.name)?;
+    let path = copied(host, &top)?;
+    Ok((Folder { name: top, path }, named))
+}
+
 /// The folder in which Git works, and the name of the git directory there.
 fn workplace<R: Host>(
     host: &R,
@@ -117,26 +149,16 @@ fn workplace<R: Host>(
     git_dir: &GitDir,
     format: &Format,
 ) -> io::Result<(Folder, Vec<u8>)> {
-    if let Some(top) = named_top(host, asked, git_dir, format)? {
-        let here = resolved(
-            host,
-            if asked.name.is_empty() {
-                b"."
-            } else {
-                &asked.name
-            },
-            &asked.path,
-        )?;
-        if is_below(&here, &top) {
-            let path = copied(host, &top)?;
-            let named = resolved(host, &git_dir.name, &git_dir.name)?;
-            return Ok((Folder { name: top, path }, named));
+    match named_top(host, asked, git_dir, format)? {
+        Some(top) if is_below(&path_of(host, asked)?, &top) => at_top(host, top, git_dir),
+        None if matches!(git_dir.form, Form::Below) && !format.is_bare => {
+            Ok((folder, copied(host, &git_dir.named)?))
         }
-    } else if matches!(git_dir.form, Form::Below) && !format.is_bare {
-        return Ok((folder, copied(host, &git_dir.named)?));
+        _ => {
+            let named = name_here(host, asked, &folder, git_dir)?;
+            Ok((asked.again(host)?, named))
+        }
     }
-    let named = name_here(host, asked, &folder, git_dir)?;
-    Ok((asked.again(host)?, named))
 }
 
 /// The name of the folder that work trees share, as Git shows it.
@@ -150,6 +172,26 @@ fn shown_shared<R: Host>(host: &R, shared: Option<&[u8]>, named: &[u8]) -> io::R
     resolved(host, folder, folder)
 }
 
+/// The repository of this git directory, which has this name in the folder of this path.
+fn repository_in<R: Host>(
+    host: &R,
+    path: &[u8],
+    named_dir: Vec<u8>,
+    git_dir: &GitDir,
+    shared: Option<&[u8]>,
+    has_worktree_files: bool,
+) -> io::Result<Repository> {
+    let path = inside(host, path, &named_dir)?;
+    Ok(Repository {
+        real_git_dir: resolved(host, &git_dir.name, &path)?,
+        branch: branch_of(host, &git_dir.name)?,
+        common_dir: shown_shared(host, shared, &named_dir)?,
+        git_dir: path,
+        named_dir,
+        has_worktree_files,
+    })
+}
+
 /// Where Git works with this git directory of this folder and of this format.
 fn located<'t, R: Host>(
     host: &R,
@@ -160,15 +202,8 @@ fn located<'t, R: Host>(
     format: &Format,
 ) -> io::Result<Location<'t>> {
     let (place, named_dir) = workplace(host, asked, folder, git_dir, format)?;
-    let path = inside(host, &place.path, &named_dir)?;
-    let repository = Repository {
-        real_git_dir: resolved(host, &git_dir.name, &path)?,
-        git_dir: path,
-        branch: branch_of(host, &git_dir.name)?,
-        common_dir: shown_shared(host, shared, &named_dir)?,
-        named_dir,
-        has_worktree_files: format.has_worktree_files,
-    };
+    let has_files = format.has_worktree_files;
+    let repository = repository_in(host, &place.path, named_dir, git_dir, shared, has_files)?;
     Ok(Location {
         folder: place.name,
         repository: Some(repository),
@@ -177,24 +212,34 @@ fn located<'t, R: Host>(
     })
 }
 
+/// Where Git works, if the git directory of this folder may have this format.
+fn located_by<'t, R: Host>(
+    host: &R,
+    asked: &Folder,
+    folder: Folder,
+    git_dir: &GitDir,
+    shared: Option<&[u8]>,
+    mut format: Format,
+) -> io::Result<Location<'t>> {
+    match format.refusal() {
+        Some(refusal) => Ok(Location::without(folder.name, Some(refusal))),
+        None => located(host, asked, folder, git_dir, shared, &format),
+    }
+}
+
 /// Where Git works, if it uses the git directory of this folder.
 fn locate<'t, R: Host>(
     disk: &Disk<'t, R>,
     asked: &Folder,
     folder: Folder,
-    git_dir: GitDir,
+    git_dir: &GitDir,
 ) -> Result<Location<'t>, HereError<'t>> {
-    let host = disk.host;
-    let shared = shared_folder(host, &git_dir.name)?;
-    let mut format = match format_of(disk, &git_dir.name, shared.as_deref()) {
-        Ok(format) => format,
-        Err(HereError::Host(error)) => return Err(HereError::Host(error)),
-        Err(error) => return Ok(Location::stopped(folder.name, error)),
-    };
-    if let Some(refusal) = format.refusal() {
-        return Ok(Location::without(folder.name, Some(refusal)));
+    let shared = shared_folder(disk.host, &git_dir.name)?;
+    match format_of(disk, &git_dir.name, shared.as_deref()) {
+        Ok(format) => Ok(located_by(disk.host, asked, folder, git_dir, shared.as_deref(), format)?),
+        Err(HereError::Host(error)) => Err(HereError::Host(error)),
+        Err(error) => Ok(Location::stopped(folder.name, error)),
     }
-    Ok(located(host, asked, folder, &git_dir, shared.as_deref(), &format)?)
 }
 
 /// The folder of this name, which has to be there.
@@ -214,7 +259,7 @@ pub fn find<'t, R: Host>(disk: &Disk<'t, R>, name: &[u8]) -> Result<Location<'t>
     let asked = asked_folder(disk, name)?;
     let inner = disk.within(&asked.name)?;
     match search(&inner, &asked)? {
-        Found::GitDir(folder, git_dir) => locate(disk, &asked, folder, git_dir),
+        Found::GitDir(folder, git_dir) => locate(disk, &asked, folder, &git_dir),
         Found::Nothing => Ok(Location::without(asked.name, None)),
         Found::Refused(refusal) => Ok(Location::without(asked.name, Some(refusal))),
         Found::Stops(error) => Ok(Location::stopped(asked.name, error)),

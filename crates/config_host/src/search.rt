@@ -5,8 +5,9 @@ use crate::environment::{Host, current_folder, text_variable, variable};
 use crate::error::{HereError, Refusal};
 use crate::head::has_head;
 use crate::lines::{is_on, line_in, line_of};
-use crate::names::{copied, inside, is_folder, known_of, parent, real_name, resolved, split_last};
+use crate::names::{copied, folder_of, inside, is_folder, known_of, parent, real_name, resolved};
 use crate::owner::{are_owned, is_safe, may_be_bare};
+use bstr::ByteSlice;
 use std::io;
 use std::os::unix::fs::MetadataExt;
 
@@ -88,15 +89,6 @@ fn is_git_dir<R: Host>(host: &R, name: &[u8]) -> Result<bool, HereError<'static>
     }
 }
 
-/// The folder of a file, in which the name that it links to begins.
-fn folder_of(name: &[u8]) -> &[u8] {
-    match split_last(name) {
-        Some(([], _)) => b"/",
-        Some((folder, _)) => folder,
-        None => b"",
-    }
-}
-
 /// The git directory that the file of this name links to by a line `gitdir: ..`, or `None` if it links to
 /// none.
 fn linked<R: Host>(host: &R, name: &[u8]) -> io::Result<Option<Vec<u8>>> {
@@ -111,7 +103,7 @@ fn linked<R: Host>(host: &R, name: &[u8]) -> io::Result<Option<Vec<u8>>> {
 }
 
 /// The name of a folder that is not empty: the current one is `.`.
-fn opened_folder(name: &[u8]) -> &[u8] {
+pub fn opened_folder(name: &[u8]) -> &[u8] {
     if name.is_empty() { b"." } else { name }
 }
 
@@ -133,6 +125,31 @@ fn if_safe<'t, R: Host>(
     }
 }
 
+/// The git directory of this folder, which has to be safe if it is not owned.
+fn trusted<'t, R: Host>(
+    disk: &Disk<'t, R>,
+    asked: &Folder,
+    folder: &Folder,
+    git_dir: GitDir,
+    is_owned: bool,
+) -> Result<Found<'t>, HereError<'t>> {
+    let folder = folder.again(disk.host)?;
+    if is_owned {
+        return Ok(Found::GitDir(folder, git_dir));
+    }
+    if_safe(disk, asked, folder, git_dir)
+}
+
+/// The git directory of this name, or to which the file of this name links. In its folder it has the other
+/// name.
+fn linked_or<R: Host>(host: &R, name: &[u8], named: &[u8], form: Form) -> io::Result<GitDir> {
+    let (name, named) = match linked(host, name)? {
+        Some(target) => (copied(host, &target)?, target),
+        None => (copied(host, name)?, copied(host, named)?),
+    };
+    Ok(GitDir { name, named, form })
+}
+
 /// The git directory of a folder that has the name `.git` there, or that a file of that name links to.
 fn find_below<'t, R: Host>(
     disk: &Disk<'t, R>,
@@ -141,24 +158,12 @@ fn find_below<'t, R: Host>(
 ) -> Result<Found<'t>, HereError<'t>> {
     let host = disk.host;
     let link = inside(host, &folder.name, b".git")?;
-    let (name, named) = match linked(host, &link)? {
-        Some(target) => (copied(host, &target)?, target),
-        None => (copied(host, &link)?, copied(host, b".git")?),
-    };
-    if !is_git_dir(host, &name)? {
+    let git_dir = linked_or(host, &link, b".git", Form::Below)?;
+    if !is_git_dir(host, &git_dir.name)? {
         return Ok(Found::Nothing);
     }
-    let is_owned = are_owned(host, &[&link, opened_folder(&folder.name), &name])?;
-    let git_dir = GitDir {
-        name,
-        named,
-        form: Form::Below,
-    };
-    let folder = folder.again(host)?;
-    if is_owned {
-        return Ok(Found::GitDir(folder, git_dir));
-    }
-    if_safe(disk, asked, folder, git_dir)
+    let is_owned = are_owned(host, &[&link, opened_folder(&folder.name), &git_dir.name])?;
+    trusted(disk, asked, folder, git_dir, is_owned)
 }
 
 /// Whether Git takes the bare repository in this folder, which it finds without GIT_DIR.
@@ -169,32 +174,37 @@ fn takes_bare<'t, R: Host>(disk: &Disk<'t, R>, folder: &Folder) -> Result<bool, 
     }
 }
 
+/// The folder as a bare repository.
+fn bare<'t, R: Host>(
+    disk: &Disk<'t, R>,
+    asked: &Folder,
+    folder: &Folder,
+) -> Result<Found<'t>, HereError<'t>> {
+    let name = opened_folder(&folder.name);
+    let is_owned = are_owned(disk.host, &[name])?;
+    let git_dir = GitDir {
+        name: copied(disk.host, name)?,
+        named: copied(disk.host, b".")?,
+        form: Form::Bare,
+    };
+    trusted(disk, asked, folder, git_dir, is_owned)
+}
+
 /// The git directory that a folder itself is.
 fn find_bare<'t, R: Host>(
     disk: &Disk<'t, R>,
     asked: &Folder,
     folder: &Folder,
 ) -> Result<Found<'t>, HereError<'t>> {
-    let host = disk.host;
-    if !is_git_dir(host, &folder.name)? {
+    if !is_git_dir(disk.host, &folder.name)? {
         return Ok(Found::Nothing);
     }
-    let folder = folder.again(host)?;
-    match takes_bare(disk, &folder) {
-        Ok(true) => {}
-        Ok(false) => return Ok(Found::Refused(Refusal::Bare(folder.path))),
-        Err(HereError::Host(error)) => return Err(HereError::Host(error)),
-        Err(error) => return Ok(Found::Stops(error)),
+    match takes_bare(disk, folder) {
+        Ok(true) => bare(disk, asked, folder),
+        Ok(false) => Ok(Found::Refused(Refusal::Bare(copied(disk.host, &folder.path)?))),
+        Err(HereError::Host(error)) => Err(HereError::Host(error)),
+        Err(error) => Ok(Found::Stops(error)),
     }
-    let git_dir = GitDir {
-        name: copied(host, opened_folder(&folder.name))?,
-        named: copied(host, b".")?,
-        form: Form::Bare,
-    };
-    if are_owned(host, &[opened_folder(&folder.name)])? {
-        return Ok(Found::GitDir(folder, git_dir));
-    }
-    if_safe(disk, asked, folder, git_dir)
 }
 
 /// The git directory of a folder, if it has one or is one.
@@ -234,11 +244,19 @@ fn real_folder<R: Host>(host: &R, name: &[u8]) -> io::Result<Option<Vec<u8>>> {
     real_name(host, name)
 }
 
+/// The path of a folder: the text of PWD if that is the same folder, and otherwise its path without links.
+fn named_path<R: Host>(host: &R, name: &[u8]) -> io::Result<Option<Vec<u8>>> {
+    match variable(host, "PWD")? {
+        Some(named) if is_path_of(host, &named, name)? => Ok(Some(named)),
+        _ => real_folder(host, name),
+    }
+}
+
 /// These folders, between which are colons, without links. Those after an empty one are taken as they are.
 fn ceilings_in<R: Host>(host: &R, folders: &[u8]) -> io::Result<Vec<Vec<u8>>> {
     let mut ceilings = Vec::new(host.alloc());
     let mut is_resolved = true;
-    for folder in folders.split(|byte| *byte == b':') {
+    for folder in folders.split_str(b":") {
         is_resolved = is_resolved && !folder.is_empty();
         ceilings.push(ceiling(host, folder, is_resolved)?)?;
     }
@@ -299,15 +317,18 @@ impl Limits {
     }
 }
 
+/// The name of the folder that is so many steps above the one of this name.
+fn name_above<R: Host>(host: &R, name: &[u8], steps: usize) -> io::Result<Vec<u8>> {
+    let mut above = copied(host, opened_folder(name))?;
+    above.extend_from_slice(&b"/..".as_slice().repeatn(host.alloc(), steps)?)?;
+    Ok(above)
+}
+
 impl Folder {
     /// The folder of this name. Its path is the text of PWD, with its links, if that is the same folder.
     pub fn new<R: Host>(host: &R, name: &[u8]) -> io::Result<Option<Folder>> {
         let name = if name == b".".as_slice() { b"" } else { name };
-        let path = match variable(host, "PWD")? {
-            Some(named) if is_path_of(host, &named, name)? => Some(named),
-            _ => real_folder(host, name)?,
-        };
-        match path {
+        match named_path(host, name)? {
             Some(path) => Ok(Some(Folder {
                 name: copied(host, name)?,
                 path,
@@ -334,42 +355,58 @@ impl Folder {
                 path,
             });
         }
-        let mut name = copied(host, &self.name)?;
-        for step in 0..steps {
-            let up = if step == 0 && name.is_empty() {
-                b"..".as_slice()
-            } else {
-                b"/.."
-            };
-            name.extend_from_slice(up)?;
-        }
-        Ok(Folder { name, path })
+        Ok(Folder {
+            name: name_above(host, &self.name, steps)?,
+            path,
+        })
     }
+}
+
+/// The git directory of the folder of this path, which is so many steps above the one that is asked about, or
+/// `None` if the search ends before it.
+fn find_at<'t, R: Host>(
+    disk: &Disk<'t, R>,
+    asked: &Folder,
+    limits: &Limits,
+    path: &[u8],
+    steps: usize,
+) -> Result<Option<Found<'t>>, HereError<'t>> {
+    let folder = asked.above(disk.host, path, steps)?;
+    if limits.end_at(disk.host, &folder)? {
+        return Ok(None);
+    }
+    Ok(Some(find_in(disk, asked, &folder)?))
+}
+
+/// The git directory of the first folder above this path that has one.
+fn find_upwards<'t, R: Host>(
+    disk: &Disk<'t, R>,
+    asked: &Folder,
+    limits: &Limits,
+    path: &[u8],
+) -> Result<Found<'t>, HereError<'t>> {
+    let mut left = path;
+    for steps in 0..path.len() {
+        let Some(above) = parent(left) else {
+            break;
+        };
+        match find_at(disk, asked, limits, above, steps.saturating_add(1))? {
+            Some(Found::Nothing) => left = above,
+            Some(found) => return Ok(found),
+            None => break,
+        }
+    }
+    Ok(Found::Nothing)
 }
 
 /// The git directory of the first folder above this one that has one. The search ends at a ceiling, and on
 /// another device unless GIT_DISCOVERY_ACROSS_FILESYSTEM says otherwise.
 fn find_above<'t, R: Host>(disk: &Disk<'t, R>, asked: &Folder) -> Result<Found<'t>, HereError<'t>> {
-    let host = disk.host;
-    let limits = Limits::new(host, &asked.name)?;
-    let Some(lowest) = real_folder(host, &asked.name)? else {
-        return Ok(Found::Nothing);
-    };
-    let mut left = lowest.as_slice();
-    for steps in 0..lowest.len() {
-        let Some(above) = parent(left) else {
-            break;
-        };
-        let folder = asked.above(host, above, steps.saturating_add(1))?;
-        if limits.end_at(host, &folder)? {
-            break;
-        }
-        match find_in(disk, asked, &folder)? {
-            Found::Nothing => left = above,
-            found => return Ok(found),
-        }
+    let limits = Limits::new(disk.host, &asked.name)?;
+    match real_folder(disk.host, &asked.name)? {
+        Some(lowest) => find_upwards(disk, asked, &limits, &lowest),
+        None => Ok(Found::Nothing),
     }
-    Ok(Found::Nothing)
 }
 
 /// The git directory that GIT_DIR names, or to which the file of that name links.
@@ -378,20 +415,11 @@ fn find_given<'t, R: Host>(
     asked: &Folder,
     given: &[u8],
 ) -> Result<Found<'t>, HereError<'t>> {
-    let whole = inside(host, &asked.name, given)?;
-    let (name, named) = match linked(host, &whole)? {
-        Some(target) => (copied(host, &target)?, target),
-        None => (whole, copied(host, given)?),
-    };
+    let git_dir = linked_or(host, &inside(host, &asked.name, given)?, given, Form::Given)?;
     // an empty text would become the name of the folder
-    if given.is_empty() || !is_git_dir(host, &name)? {
+    if given.is_empty() || !is_git_dir(host, &git_dir.name)? {
         return Ok(Found::Refused(Refusal::GitDir(copied(host, given)?)));
     }
-    let git_dir = GitDir {
-        name,
-        named,
-        form: Form::Given,
-    };
     Ok(Found::GitDir(asked.again(host)?, git_dir))
 }
 

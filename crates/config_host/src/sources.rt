@@ -82,9 +82,14 @@ fn push_home<R: Host>(host: &R, names: &mut Vec<Named>, name: &[u8]) -> io::Resu
 
 /// Adds the files of the user.
 fn push_global<R: Host>(host: &R, names: &mut Vec<Named>) -> io::Result<()> {
-    if let Some(name) = variable(host, "GIT_CONFIG_GLOBAL")? {
-        return Ok(push(names, Scope::Global, name)?);
+    match variable(host, "GIT_CONFIG_GLOBAL")? {
+        Some(name) => Ok(push(names, Scope::Global, name)?),
+        None => push_own(host, names),
     }
+}
+
+/// Adds the files of the user that no variable names.
+fn push_own<R: Host>(host: &R, names: &mut Vec<Named>) -> io::Result<()> {
     match own_folder(host)? {
         Some(folder) => push(names, Scope::Global, below(host, &folder, b"git/config")?)?,
         None => push_home(host, names, b".config/git/config")?,
@@ -172,16 +177,21 @@ fn add<'t>(sources: &mut Vec<Source<'t>>, source: Source<'t>) -> Result<(), Allo
     }
 }
 
+/// The settings of the command as a text that is kept.
+fn kept_command<'t, R: Host>(disk: &Disk<'t, R>) -> Result<&'t [u8], HereError<'t>> {
+    let text = command_text(disk.host)?;
+    Ok(disk.kept(&text)?)
+}
+
 /// Adds the settings of the command, if there are any.
 fn add_command<'t, R: Host>(
     disk: &Disk<'t, R>,
     sources: &mut Vec<Source<'t>>,
 ) -> Result<(), HereError<'t>> {
-    let text = command_text(disk.host)?;
+    let text = kept_command(disk)?;
     if text.is_empty() {
         return Ok(());
     }
-    let text = disk.kept(&text)?;
     Ok(add(
         sources,
         Source {

@@ -1,6 +1,6 @@
 //! The command line without a word.
 
-use crate::request::{Request, Style, Texts};
+use crate::request::{Override, Request, Style, Subject, Texts};
 use crate::shown::Shown;
 use clap::{Arg, ArgAction, ArgMatches, Command};
 use config_host::surroundings::Followed;
@@ -9,7 +9,7 @@ use std::alloc::{AllocError, Global};
 /// What the arguments ask, or `None` if they name no file and no key, and say nothing of a list.
 pub fn request_of<'m, 'a>(
     matches: &'m ArgMatches<'a>,
-    commands: &'m [&'a str],
+    commands: &'m [Override<'a>],
 ) -> Option<Request<'m, 'a>> {
     let files = matches.get_strs("file");
     let key = matches.get_str("key");
@@ -24,7 +24,9 @@ pub fn request_of<'m, 'a>(
         None => Texts::Here,
     };
     let mut request = Request::new(Style::Places, texts, commands);
-    request.key = key;
+    if let Some(key) = key {
+        request.subject = Subject::Key(key);
+    }
     if let Some(word) = matches.get_str("type") {
         request.shown = Shown::named(word, matches.get_flag("escape")).unwrap_or(Shown::Text);
     }
@@ -107,8 +109,9 @@ fn key_argument<'a>(alloc: Global) -> Arg<'a> {
 
 /// What follows the options in the help.
 const AFTER: &str = "\
-`config_value get --help` and `config_value list --help` tell of the words that stand for those of \
-`git config`. Before a word or a key, each `-c KEY=VALUE` adds a setting of the command.
+`config_value get --help`, `config_value list --help` and `config_value --get --help` tell of the words and \
+flags that stand for those of `git config`. Before them, or before a key, each `-c KEY=VALUE` and each \
+`--config-env=KEY=VARIABLE` adds a setting of the command.
 
 Statuses: 0 if all is printed, 1 if no entry has the key, it is no key, or a line of input has no value, \
 128 if a file, a line or a value is refused, 129 for a wrong usage, and 2 after an error of input, output \

@@ -1,118 +1,140 @@
 //! Lists the entries of texts, or prints values of them.
 
 use crate::output::{Ending, Origin, push_as_git, push_entry, tell, tell_refusal};
-use crate::request::{Request, Style, Texts};
+use crate::request::{Request, Style, Subject, Texts};
 use crate::shown::{Homes, Outcome, Shown, put_value};
 use crate::sources::{COMMAND, Opened, open_texts};
 use crate::wanted::{Patterns, Unclear, Wanted};
 use bumpalo::Bump;
-use config_file::{Entries, Setting, Walk, push_setting};
+use config_file::{Entries, Entry, Scope, Setting, Url, Walk, push_setting};
 use config_host::here::prepare;
 use config_host::reading::next_entry;
 use config_host::sources::Source;
 use config_host::{Disk, HereError, HostError, Surroundings};
-use gix_config_value::Color;
 use std::alloc::AllocError;
-use std::io::{self, BufWriter, Write};
+use std::io::{self, Write};
 use std::mem;
 
-/// How many bytes of output are buffered before they are written.
+/// How many bytes of output are kept before they are written.
 const ROOM: usize = 65536;
-
-/// A setting of the key that is asked for.
-#[derive(Drop)]
-struct Found<'t> {
-    origin: Origin,
-    setting: Setting<'t>,
-}
 
 /// A run over the requested texts.
 #[derive(Drop)]
-struct Reading<'r, 'm, 'a, 'p, 't, W: Write + Drop> {
-    rt: &'t HostRuntime,
+pub struct Reading<'r, 'm, 'a, 'p, 't, W: Write + Drop> {
+    /// The system.
+    pub rt: &'t HostRuntime,
     disk: Disk<'t, HostRuntime>,
     surroundings: Surroundings<'t>,
-    sources: Vec<Source<'t>>,
+    /// The texts, in order.
+    pub sources: Vec<Source<'t>>,
     homes: Homes<'t>,
+    /// Where the output goes.
     writer: W,
-    request: &'r Request<'m, 'a>,
+    /// What is asked.
+    pub request: &'r Request<'m, 'a>,
     wanted: Wanted<'a, 'p>,
-    /// The settings of the key that is asked for. Without a key the entries are listed.
-    found: Vec<Found<'t>>,
-    /// A value as it is shown, and a line of output.
+    /// The settings that are asked for, unless all entries are listed.
+    found: Vec<Setting<'t>>,
+    /// A value as it is shown.
     text: Vec<u8>,
-    line: Vec<u8>,
+    /// What is still to be written.
+    pub output: Vec<u8>,
 }
 
-/// Where a setting is that the walk over this text comes to.
-fn origin_of(source: &Source<'_>, setting: &Setting<'_>) -> Origin {
-    if source.is_file || setting.file != source.place.name {
+/// Where a setting is. A file has the name of no other text: those of a command include files by whole paths.
+pub fn origin_of(sources: &[Source<'_>], setting: &Setting<'_>) -> Origin {
+    if setting.scope != Scope::Command {
         return Origin::File;
     }
-    if setting.file == COMMAND {
+    let is_in_file = !sources.iter().any(|source| !source.is_file
+        && source.place.name == setting.file);
+    if is_in_file {
+        Origin::File
+    } else if setting.file == COMMAND {
         Origin::Command
     } else {
         Origin::Input
     }
 }
 
+/// The value of a setting as it is shown, or `None` for a key alone: its own text, or this one.
+fn shown_value<'v>(outcome: Outcome, setting: &'v Setting<'_>, text: &'v [u8]) -> Option<&'v [u8]> {
+    match outcome {
+        Outcome::AsWritten => Some(setting.text()),
+        Outcome::Text => Some(text),
+        _ => None,
+    }
+}
+
 impl<'t, W: Write + Drop> Reading<'_, '_, '_, '_, 't, W> {
-    /// Keeps a setting of the key. Without a word the last one is enough.
-    fn keep(&mut self, found: Found<'t>) -> io::Result<()> {
+    /// Keeps a setting that is asked for. Without a word the last one is enough.
+    fn keep(&mut self, setting: Setting<'t>) -> io::Result<()> {
         if self.request.style == Style::Places {
             self.found.clear();
         }
-        match self.found.push(found) {
+        match self.found.push(setting) {
             Ok(()) => Ok(()),
             Err(_) => Err(io::Error::from(AllocError)),
         }
     }
 
-    /// Appends a setting to the line as Git writes it, or replaces the one before it if one is wanted.
-    /// Returns what becomes of its value.
-    fn show(&mut self, found: &Found<'_>) -> io::Result<Outcome> {
+    /// Appends a setting to the output as Git writes it, or replaces the one before it if one is wanted. The
+    /// key is that of the entry if none is given. Returns what becomes of its value.
+    pub fn show(
+        &mut self,
+        origin: Origin,
+        setting: &Setting<'_>,
+        key: Option<&[u8]>,
+    ) -> io::Result<Outcome> {
         self.text.clear();
         let shown = if self.request.shows_values {
             self.request.shown
         } else {
             Shown::Text
         };
-        let outcome = put_value(self.rt, &self.homes, shown, &found.setting, &mut self.text)?;
+        let outcome = put_value(self.rt, &self.homes, shown, setting, &mut self.text)?;
         if outcome == Outcome::Missing || outcome == Outcome::Refused {
             return Ok(outcome);
         }
         if !self.request.all {
-            self.line.clear();
+            self.output.clear();
         }
-        push_as_git(
-            self.rt.alloc(),
-            &mut self.line,
-            self.request,
-            found.origin,
-            &found.setting,
-            &self.text,
-            outcome == Outcome::Text,
-        )?;
+        let value = shown_value(outcome, setting, &self.text);
+        push_as_git(&mut self.output, self.request, origin, setting, key, value)?;
         Ok(outcome)
     }
 
-    /// Lists a setting, or keeps it if it has the key. As in Git, a list leaves out what is none of its type.
-    fn take(&mut self, source: &Source<'t>, setting: Setting<'t>) -> io::Result<()> {
-        if !self.wanted.has(self.rt.alloc(), &setting)? {
+    /// Lists the setting of an entry, or keeps it if it is asked for. As in Git, a list leaves out what is
+    /// none of its type.
+    fn take(&mut self, scope: Scope, file: &'t [u8], entry: Entry<'t>) -> io::Result<()> {
+        if !self.wanted.has_key(&entry)? {
             return Ok(());
         }
-        if self.request.key.is_some() {
-            let origin = origin_of(source, &setting);
-            return self.keep(Found { origin, setting });
+        let mut setting = Setting::of_entry(self.rt.alloc(), file, entry)?;
+        setting.scope = scope;
+        if !self.wanted.has_value(&setting) {
+            return Ok(());
         }
-        self.line.clear();
+        if self.request.subject != Subject::Entries {
+            return self.keep(setting);
+        }
         if self.request.style == Style::Places {
-            push_entry(self.rt.alloc(), &mut self.line, self.request, &setting)?;
+            push_entry(&mut self.output, self.request, &setting)?;
         } else {
-            let origin = origin_of(source, &setting);
-            self.show(&Found { origin, setting })?;
+            let origin = origin_of(&self.sources, &setting);
+            self.show(origin, &setting, None)?;
         }
-        self.writer.write_all(&self.line)
+        if self.output.len() >= ROOM {
+            self.write()?;
+        }
+        Ok(())
+    }
+
+    /// Writes the output so far.
+    fn write(&mut self) -> io::Result<()> {
+        self.writer.write_all(&self.output)?;
+        self.output.clear();
+        Ok(())
     }
 
     /// Takes the next entry of a walk, and goes on in the file that it includes. Returns false at the end.
@@ -125,9 +147,7 @@ impl<'t, W: Write + Drop> Reading<'_, '_, '_, '_, 't, W> {
         let Some(taken) = next_entry(disk, &self.surroundings.known(), walk)? else {
             return Ok(false);
         };
-        let mut setting = Setting::of_entry(self.rt.alloc(), taken.place.name, taken.entry)?;
-        setting.scope = source.scope;
-        self.take(source, setting)?;
+        self.take(source.scope, taken.place.name, taken.entry)?;
         if let Some(stop) = taken.stop {
             return Err(HereError::Stops(stop));
         }
@@ -185,18 +205,23 @@ impl<'t, W: Write + Drop> Reading<'_, '_, '_, '_, 't, W> {
 
     /// Appends a setting of the key to the answer, or replaces the one before it. Returns whether it has a
     /// value; one that is none of its type is reported.
-    fn answer_one(&mut self, found: &Found<'_>) -> io::Result<Ending> {
-        match self.show(found)? {
+    fn answer_one(
+        &mut self,
+        origin: Origin,
+        setting: &Setting<'_>,
+        key: Option<&[u8]>,
+    ) -> io::Result<Ending> {
+        match self.show(origin, setting, key)? {
             Outcome::Missing => Ok(Ending::Absent),
             Outcome::Refused => {
-                tell_refusal(self.rt, &found.setting, self.request.shown)?;
+                tell_refusal(self.rt, setting, self.request.shown)?;
                 Ok(Ending::Refused)
             }
             _ => Ok(Ending::Done),
         }
     }
 
-    /// Appends the default value of the key, if there is one.
+    /// Appends the default value, if there is one, under the key or the pattern as it was asked for.
     fn answer_default(&mut self, key: &str) -> Result<Ending, HostError> {
         let Some(default) = self.request.default else {
             if self.request.style == Style::Places {
@@ -206,35 +231,52 @@ impl<'t, W: Write + Drop> Reading<'_, '_, '_, '_, 't, W> {
         };
         let alloc = self.rt.alloc();
         let mut text = Vec::new(alloc);
-        let written = push_setting(alloc, &mut text, key.as_bytes(), Some(default.as_bytes()));
+        let written = push_setting(alloc, &mut text, b"a.b", Some(default.as_bytes()));
         match (written, Entries::new(&text).next()) {
             (Ok(()), Some(Ok(entry))) => {
                 let setting = Setting::of_entry(alloc, COMMAND, entry)?;
-                let origin = Origin::Command;
-                Ok(self.answer_one(&Found { origin, setting })?)
+                Ok(self.answer_one(Origin::Command, &setting, Some(key.as_bytes()))?)
             }
             _ => Err(HostError::from(AllocError)),
         }
     }
 
-    /// Writes the values of the key.
+    /// The settings that were kept, which are taken out.
+    pub fn taken(&mut self) -> Vec<Setting<'t>> {
+        mem::replace(&mut self.found, Vec::new(self.rt.alloc()))
+    }
+
+    /// Appends the values of the key, or of the keys of a pattern. If one is refused, there is no output.
     fn answer_key(&mut self, key: &str) -> Result<Ending, HostError> {
         let mut ending = Ending::Absent;
-        let found = mem::replace(&mut self.found, Vec::new(self.rt.alloc()));
-        for one in &found {
-            match self.answer_one(one)? {
+        let found = self.taken();
+        for setting in &found {
+            let origin = origin_of(&self.sources, setting);
+            match self.answer_one(origin, setting, None)? {
                 Ending::Done => ending = Ending::Done,
-                Ending::Refused => return Ok(Ending::Refused),
+                Ending::Refused => {
+                    self.output.clear();
+                    return Ok(Ending::Refused);
+                }
                 _ => {}
             }
         }
         if ending == Ending::Absent {
             ending = self.answer_default(key)?;
         }
-        if ending == Ending::Done {
-            self.writer.write_all(&self.line)?;
-        }
         Ok(ending)
+    }
+
+    /// Appends what is asked about.
+    fn answer(&mut self) -> Result<Ending, HostError> {
+        match self.request.subject {
+            Subject::Entries => Ok(Ending::Done),
+            Subject::Key(key) => self.answer_key(key),
+            Subject::Pattern(pattern) => self.answer_key(pattern),
+            Subject::Url(name, url) => self.answer_url(name, url),
+            Subject::Color(_) => self.answer_color(),
+            Subject::UsesColor(key, is_terminal) => self.answer_use(key, is_terminal),
+        }
     }
 }
 
@@ -244,7 +286,10 @@ fn tell_unclear(
     request: &Request<'_, '_>,
     why: Unclear,
 ) -> Result<Ending, HostError> {
-    let key = request.key.unwrap_or("");
+    let key = match request.subject {
+        Subject::Key(key) | Subject::Pattern(key) => key,
+        _ => "",
+    };
     match why {
         Unclear::Key(error) => {
             tell(rt, format_args!("{key}: {error}"))?;
@@ -281,52 +326,31 @@ fn answer_in<'t, 'a>(
         disk,
         surroundings,
         sources,
-        writer: BufWriter::with_capacity(rt.alloc(), ROOM, rt.stdout())?,
+        writer: rt.stdout(),
         request,
         wanted,
         found: Vec::new(rt.alloc()),
         text: Vec::new(rt.alloc()),
-        line: Vec::new(rt.alloc()),
+        output: Vec::new(rt.alloc()),
     };
     let mut ending = reading.walk_all(ending)?;
-    if let Some(key) = request.key {
-        if ending == Ending::Done {
-            ending = reading.answer_key(key)?;
-        }
+    if ending == Ending::Done {
+        ending = reading.answer()?;
     }
+    reading.write()?;
     reading.writer.flush()?;
     Ok(ending)
 }
 
-/// The default that is a color of its own, since no key is asked for: Git's older `--get-color` had it so.
-fn bare_color<'a>(request: &Request<'_, 'a>) -> Option<&'a str> {
-    if request.key == Some("") && request.shown == Shown::Escape {
-        request.default
-    } else {
-        None
-    }
-}
-
-/// Writes the escape sequence of a color, and nothing after it.
-fn answer_color(rt: &HostRuntime, color: &str) -> Result<Ending, HostError> {
-    match Color::try_from(color) {
-        Ok(color) => {
-            rt.stdout().write_all(color.escape().as_str().as_bytes())?;
-            Ok(Ending::Done)
-        }
-        Err(error) => {
-            tell(rt, format_args!("{color}: {}", error.fault))?;
-            Ok(Ending::NoColor)
-        }
-    }
-}
-
 /// Answers the request.
 fn answer(rt: &HostRuntime, request: &Request<'_, '_>) -> Result<Ending, HostError> {
-    if let Some(color) = bare_color(request) {
-        return answer_color(rt, color);
-    }
     let alloc = rt.alloc();
+    if let Subject::Url(_, url) = request.subject {
+        if Url::parse(alloc, url.as_bytes())?.is_none() {
+            tell(rt, format_args!("{url}: no URL that Git compares"))?;
+            return Ok(Ending::Refused);
+        }
+    }
     let patterns = match Patterns::new(alloc, request) {
         Ok(patterns) => patterns,
         Err(why) => return tell_unclear(rt, request, why),

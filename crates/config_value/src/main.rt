@@ -1,8 +1,12 @@
 //! Reads values of Git's configuration: from files, or from the lines of standard input.
 #![tactic(auto)]
 
+mod answers;
 mod arguments;
+mod dates;
+mod edits;
 mod files;
+mod options;
 mod output;
 mod request;
 mod shown;
@@ -10,7 +14,8 @@ mod sources;
 mod wanted;
 mod words;
 
-use crate::words::{Misuse, Word, Words, word_command, words_of};
+use crate::options::word_command;
+use crate::words::{Misuse, Word, Words, words_of};
 use clap::Command;
 use clap::error::ErrorKind;
 use config_host::environment::arguments as arguments_of;
@@ -81,11 +86,30 @@ fn run_plain(rt: &HostRuntime, words: &Words<'_>) -> Result<u8, AllocError> {
     })
 }
 
+/// Changes a file, as a word asks.
+fn run_change(rt: &HostRuntime, words: &Words<'_>) -> Result<u8, AllocError> {
+    let command = edits::change_command(rt.alloc())?;
+    let matches = match command.try_get_matches_from(&words.rest) {
+        Ok(matches) => matches,
+        Err(error) => return Ok(print_usage(rt, &error)),
+    };
+    let word = match words.rest.as_slice() {
+        [word, ..] => *word,
+        [] => "",
+    };
+    Ok(match edits::run(rt, &matches, word) {
+        Ok(Ok(status)) => status,
+        Ok(Err(error)) => refuse(rt, error),
+        Err(why) => misuse(rt, why),
+    })
+}
+
 /// Does what these arguments ask.
 fn run(rt: &HostRuntime, arguments: &[String]) -> Result<u8, AllocError> {
     let words = words_of(rt.alloc(), arguments)?;
     match words.word {
         Word::Nothing => run_plain(rt, &words),
+        Word::Change => run_change(rt, &words),
         _ => run_word(rt, &words),
     }
 }

@@ -1,13 +1,12 @@
 //! Writes entries, values and messages.
 
-use crate::request::Request;
+use crate::request::{Request, Subject};
 use crate::shown::Shown;
 use bstr::BStr;
 use config_file::{Scope, Setting};
 use config_host::shown;
 use gix_config_value::canonical::{Kind, refusal};
 use itoa::Buffer;
-use std::alloc::Global;
 use std::fmt;
 use std::io::{self, Write};
 
@@ -44,7 +43,6 @@ fn push_scope(line: &mut Vec<u8>, request: &Request<'_, '_>, scope: Scope) -> io
 
 /// Appends an entry after its file and its line.
 pub fn push_entry(
-    alloc: Global,
     line: &mut Vec<u8>,
     request: &Request<'_, '_>,
     setting: &Setting<'_>,
@@ -59,7 +57,7 @@ pub fn push_entry(
     line.push(b':')?;
     line.extend_from_slice(Buffer::new().format(setting.entry.line).as_bytes())?;
     line.extend_from_slice(place)?;
-    line.extend_from_slice(setting.entry.key_text(alloc)?.as_slice())?;
+    setting.entry.push_key(line)?;
     if let Some(value) = &setting.value {
         line.push(equals)?;
         line.extend_from_slice(value)?;
@@ -147,14 +145,14 @@ fn push_origin(line: &mut Vec<u8>, null: bool, origin: Origin, file: &[u8]) -> i
 }
 
 /// Appends an entry as Git writes it: its scope, its origin, its key and its value, as far as they are shown.
+/// The key is that of the entry if none is given, and without a value the key stands alone.
 pub fn push_as_git(
-    alloc: Global,
     line: &mut Vec<u8>,
     request: &Request<'_, '_>,
     origin: Origin,
     setting: &Setting<'_>,
-    value: &[u8],
-    has_value: bool,
+    key: Option<&[u8]>,
+    value: Option<&[u8]>,
 ) -> io::Result<()> {
     let null = request.null;
     push_scope(line, request, setting.scope)?;
@@ -162,13 +160,18 @@ pub fn push_as_git(
         push_origin(line, null, origin, setting.file)?;
     }
     if request.shows_names {
-        line.extend_from_slice(setting.entry.key_text(alloc)?.as_slice())?;
-    }
-    if has_value && request.shows_values {
-        if request.shows_names {
-            line.push(between(request))?;
+        match key {
+            Some(key) => line.extend_from_slice(key)?,
+            None => setting.entry.push_key(line)?,
         }
-        line.extend_from_slice(value)?;
+    }
+    if let Some(value) = value {
+        if request.shows_values {
+            if request.shows_names {
+                line.push(between(request))?;
+            }
+            line.extend_from_slice(value)?;
+        }
     }
     line.push(if null { 0 } else { b'\n' })?;
     Ok(())
@@ -176,12 +179,16 @@ pub fn push_as_git(
 
 /// What stands between a key and its value.
 fn between(request: &Request<'_, '_>) -> u8 {
-    match (request.null, request.key) {
+    match (request.null, request.subject) {
         (true, _) => b'\n',
-        (false, None) => b'=',
-        (false, Some(_)) => b' ',
+        (false, Subject::Entries) => b'=',
+        (false, _) => b' ',
     }
 }
+
+/// Why a date is refused.
+const DATES: &str =
+    "no date that is read here, as never, now, 90.days, 2.weeks.ago or seconds of the epoch";
 
 /// Reports why a setting has no value as it is to be shown.
 pub fn tell_refusal(rt: &HostRuntime, setting: &Setting<'_>, shown: Shown) -> io::Result<()> {
@@ -189,7 +196,7 @@ pub fn tell_refusal(rt: &HostRuntime, setting: &Setting<'_>, shown: Shown) -> io
         Shown::Canonical(kind) => kind,
         Shown::Escape => Kind::Color,
         Shown::Path => return tell(rt, setting.refused("the path cannot be made whole")),
-        Shown::Date => return tell(rt, setting.refused("no date that is known here")),
+        Shown::Date => return tell(rt, setting.refused(DATES)),
         _ => Kind::Boolean,
     };
     match refusal(kind, BStr::new(setting.text())) {

@@ -24,19 +24,44 @@ pub enum Style {
     Git,
 }
 
+/// What settings are asked about.
+#[derive(Clone, Copy, PartialEq, Eq)]
+pub enum Subject<'a> {
+    /// All entries, which are listed.
+    Entries,
+    /// The settings of this key.
+    Key(&'a str),
+    /// The settings whose keys this pattern matches.
+    Pattern(&'a str),
+    /// Of this section, or of this key without a subsection, the settings that decide for a URL.
+    Url(&'a str, &'a str),
+    /// The color under the key that is listed as this, written for a terminal.
+    Color(&'a str),
+    /// Whether the part of the output is colored whose setting is listed as this, and whether the output is a
+    /// terminal, if this is said.
+    UsesColor(&'a str, Option<&'a str>),
+}
+
+/// A setting of the command line.
+#[derive(Clone, Copy)]
+pub enum Override<'a> {
+    /// A key, or a key, `=` and a value, after `-c`.
+    Given(&'a str),
+    /// A key, `=` and the name of the variable that has the value, after `--config-env`.
+    OfVariable(&'a str),
+}
+
 /// What is asked of settings.
 #[derive(Clone, Copy)]
 pub struct Request<'m, 'a> {
     /// The texts that are read.
     pub texts: Texts<'m, 'a>,
-    /// The settings of `-c`, each a key, or a key, `=` and a value. They come last if all is read.
-    pub commands: &'m [&'a str],
+    /// The settings of the command line. They come last if all is read.
+    pub commands: &'m [Override<'a>],
     /// The form of the answers.
     pub style: Style,
-    /// The key whose value is wanted. Without a key the entries are listed.
-    pub key: Option<&'a str>,
-    /// Whether the key is a pattern of keys.
-    pub is_pattern: bool,
+    /// What they are asked about.
+    pub subject: Subject<'a>,
     /// The pattern that the value has to match, or after `!` the one that it must not match.
     pub value: Option<&'a str>,
     /// Whether `value` is no pattern, but the value itself.
@@ -55,21 +80,24 @@ pub struct Request<'m, 'a> {
     pub shows_names: bool,
     /// Whether the value is written.
     pub shows_values: bool,
-    /// Whether all values of the key are wanted, and not the last one alone.
+    /// Whether all settings that are asked for are shown, and not the last one alone.
     pub all: bool,
-    /// The value if no entry has the key.
+    /// The value, or the color, if no entry has the key.
     pub default: Option<&'a str>,
 }
 
 impl<'m, 'a> Request<'m, 'a> {
     /// A list of the entries of these texts, whose values are shown as they are written.
-    pub fn new(style: Style, texts: Texts<'m, 'a>, commands: &'m [&'a str]) -> Request<'m, 'a> {
+    pub fn new(
+        style: Style,
+        texts: Texts<'m, 'a>,
+        commands: &'m [Override<'a>],
+    ) -> Request<'m, 'a> {
         Request {
             texts,
             commands,
             style,
-            key: None,
-            is_pattern: false,
+            subject: Subject::Entries,
             value: None,
             is_fixed: false,
             shown: Shown::Text,

@@ -1,5 +1,6 @@
 //! Values as they are shown.
 
+use crate::dates;
 use bstr::BStr;
 use config_file::Setting;
 use config_host::environment::variable;
@@ -9,6 +10,7 @@ use gix_config_value::canonical::{Kind, TryRead, normalize};
 use gix_config_value::integer::Amount;
 use gix_config_value::path::interpolate::{Context, home_for_user};
 use gix_config_value::{Boolean, Color};
+use itoa::Buffer;
 use std::io;
 use std::str::FromStr;
 
@@ -54,7 +56,9 @@ impl Shown {
 /// What becomes of a value.
 #[derive(Clone, Copy, PartialEq, Eq)]
 pub enum Outcome {
-    /// Its text.
+    /// The text of the value as it is written.
+    AsWritten,
+    /// A text of its own.
     Text,
     /// The key stands alone, and has no text.
     Alone,
@@ -113,12 +117,14 @@ fn put_canonical(text: &mut Vec<u8>, kind: Kind, value: &[u8]) -> io::Result<Out
     }
 }
 
-/// Appends a date. Only the words of Git for no time and for all time are known.
-fn put_date(text: &mut Vec<u8>, value: &[u8]) -> io::Result<Outcome> {
-    match value {
-        b"never" | b"false" => put(text, b"0"),
-        b"all" | b"now" => put(text, b"18446744073709551615"),
-        _ => Ok(Outcome::Refused),
+/// Appends the second of the epoch of a date.
+fn put_date(rt: &HostRuntime, text: &mut Vec<u8>, value: &[u8]) -> io::Result<Outcome> {
+    let Ok(value) = str::from_utf8(value) else {
+        return Ok(Outcome::Refused);
+    };
+    match dates::read(rt, value)? {
+        Some(second) => put(text, Buffer::new().format(second).as_bytes()),
+        None => Ok(Outcome::Refused),
     }
 }
 
@@ -145,7 +151,7 @@ fn put_path(
     put(text, path.as_bytes())
 }
 
-/// Appends the value of a setting as it is shown, and returns what became of it.
+/// Appends the value of a setting as it is shown, unless that is its own text. Returns what became of it.
 pub fn put_value(
     rt: &HostRuntime,
     homes: &Homes<'_>,
@@ -156,16 +162,16 @@ pub fn put_value(
     let value = setting.text();
     match shown {
         Shown::Text if setting.value.is_none() => Ok(Outcome::Alone),
-        Shown::Text => put(text, value),
+        Shown::Text => Ok(Outcome::AsWritten),
         Shown::Canonical(kind) => put_canonical(text, kind, value),
         Shown::BooleanOrAmount if Amount::try_read(value).is_ok() => {
             put_canonical(text, Kind::Amount, value)
         }
         Shown::BooleanOrAmount => put_canonical(text, Kind::Boolean, value),
-        Shown::BooleanOrText if Boolean::try_read(value).is_err() => put(text, value),
+        Shown::BooleanOrText if Boolean::try_read(value).is_err() => Ok(Outcome::AsWritten),
         Shown::BooleanOrText => put_canonical(text, Kind::Boolean, value),
         Shown::Path => put_path(rt, homes, text, setting),
-        Shown::Date => put_date(text, value),
+        Shown::Date => put_date(rt, text, value),
         Shown::Escape => match Color::try_read(value) {
             Ok(color) => put(text, color.escape().as_str().as_bytes()),
             Err(_) => Ok(Outcome::Refused),

@@ -1,7 +1,7 @@
 //! The texts that a request reads.
 
 use crate::output::{Ending, tell};
-use crate::request::{Request, Style, Texts};
+use crate::request::{Override, Request, Style, Subject, Texts};
 use bumpalo::Bump;
 use config_file::{Place, Scope, push_setting};
 use config_host::disk::ReadError;
@@ -51,7 +51,7 @@ fn add<'t>(sources: &mut Vec<Source<'t>>, source: Source<'t>) -> Result<(), Allo
 
 /// Whether a file that is not there has to be reported by a failure. As in Git, `get` takes it for empty.
 fn fails_without(request: &Request<'_, '_>) -> bool {
-    request.style == Style::Places || request.key.is_none()
+    request.style == Style::Places || request.subject == Subject::Entries
 }
 
 /// The text of a file, or of standard input.
@@ -127,33 +127,100 @@ fn open_named<'t>(
     Ok(opened)
 }
 
-/// The settings of `-c` as a text.
-fn command_text(rt: &HostRuntime, commands: &[&str]) -> Result<Vec<u8>, HereError<'static>> {
-    let mut text = Vec::new(rt.alloc());
-    for command in commands {
-        let (key, value) = match command.split_once('=') {
-            Some((key, value)) => (key, Some(value.as_bytes())),
-            None => (*command, None),
-        };
-        if let Err(error) = push_setting(rt.alloc(), &mut text, key.as_bytes(), value) {
-            return Err(match error {
-                config_file::CommandError::Memory(error) => HereError::from(error),
-                error => HereError::Command(error),
-            });
-        }
+/// Appends a setting of the command line to a text.
+fn push_override(
+    rt: &HostRuntime,
+    text: &mut Vec<u8>,
+    key: &str,
+    value: Option<&[u8]>,
+) -> Result<(), HereError<'static>> {
+    match push_setting(rt.alloc(), text, key.as_bytes(), value) {
+        Ok(()) => Ok(()),
+        Err(config_file::CommandError::Memory(error)) => Err(HereError::from(error)),
+        Err(error) => Err(HereError::Command(error)),
     }
-    Ok(text)
 }
 
-/// The file of this scope among those that Git reads here: the last one that is there, if there are more.
-fn of_scope(
+/// Appends a setting of `-c` to a text.
+fn push_given(rt: &HostRuntime, text: &mut Vec<u8>, given: &str) -> Result<(), HereError<'static>> {
+    match given.split_once('=') {
+        Some((key, value)) => push_override(rt, text, key, Some(value.as_bytes())),
+        None => push_override(rt, text, given, None),
+    }
+}
+
+/// The key and the name of the variable of a setting of `--config-env`, or why it has none, as a message.
+pub fn key_and_variable(given: &str) -> Result<(&str, &str), &'static str> {
+    match given.rsplit_once('=') {
+        None => Err("it has no = before the name of a variable"),
+        Some((_, "")) => Err("it has no name of a variable"),
+        Some((key, name)) => Ok((key, name)),
+    }
+}
+
+/// Appends a setting of `--config-env` to a text. Reports one that has no variable, and then returns false.
+fn push_of_variable(
+    rt: &HostRuntime,
+    text: &mut Vec<u8>,
+    given: &str,
+) -> Result<bool, HereError<'static>> {
+    let (key, name) = match key_and_variable(given) {
+        Ok(parts) => parts,
+        Err(why) => {
+            tell(rt, format_args!("--config-env={given}: {why}"))?;
+            return Ok(false);
+        }
+    };
+    match variable(rt, name)? {
+        Some(value) => {
+            push_override(rt, text, key, Some(&value))?;
+            Ok(true)
+        }
+        None => {
+            tell(
+                rt,
+                format_args!("--config-env={given}: there is no such variable"),
+            )?;
+            Ok(false)
+        }
+    }
+}
+
+/// The settings of the command line as a text, or `None` if one has no value, which is reported.
+fn command_text(
+    rt: &HostRuntime,
+    commands: &[Override<'_>],
+) -> Result<Option<Vec<u8>>, HereError<'static>> {
+    let mut text = Vec::new(rt.alloc());
+    for command in commands {
+        match command {
+            Override::Given(given) => push_given(rt, &mut text, given)?,
+            Override::OfVariable(given) => {
+                if !push_of_variable(rt, &mut text, given)? {
+                    return Ok(None);
+                }
+            }
+        }
+    }
+    Ok(Some(text))
+}
+
+/// The file of this scope among those that Git reads here: the last one, unless only one before it is there.
+pub fn of_scope(
     disk: &Disk<'_, HostRuntime>,
     files: Vec<Named>,
     scope: Scope,
 ) -> io::Result<Option<Named>> {
-    let mut found = None;
+    let mut found: Option<Named> = None;
     for named in files {
-        if named.scope == scope && (found.is_none() || is_there(disk, &named.name)?) {
+        if named.scope != scope {
+            continue;
+        }
+        let keeps = match &found {
+            Some(earlier) => is_there(disk, &earlier.name)? && !is_there(disk, &named.name)?,
+            None => false,
+        };
+        if !keeps {
             found = Some(named);
         }
     }
@@ -187,22 +254,20 @@ fn open_scope<'t>(
     }
 }
 
-/// Adds what Git reads here, and then the settings of `-c`.
+/// Adds what Git reads here, and then the text with the settings of the command line.
 fn open_all<'t>(
-    rt: &'t HostRuntime,
-    request: &Request<'_, '_>,
     opened: &mut Opened<'t>,
     files: &[Named],
+    commands: &[u8],
 ) -> Result<(), HereError<'t>> {
     opened.sources = sources(&opened.disk, files)?;
-    if request.commands.is_empty() {
+    if commands.is_empty() {
         return Ok(());
     }
-    let text = command_text(rt, request.commands)?;
     let source = Source {
         scope: Scope::Command,
         place: place_of(COMMAND),
-        text: opened.disk.kept(&text)?,
+        text: opened.disk.kept(commands)?,
         is_file: false,
     };
     Ok(add(&mut opened.sources, source)?)
@@ -215,6 +280,7 @@ fn open_here<'t>(
     texts: &'t Bump,
     request: &Request<'_, '_>,
     scope: Option<Scope>,
+    commands: &[u8],
 ) -> Result<Opened<'t>, HereError<'t>> {
     let disk = Disk::new(rt, texts);
     let Location {
@@ -234,7 +300,7 @@ fn open_here<'t>(
     opened.surroundings.set_repository(rt, repository)?;
     match scope {
         Some(scope) => open_scope(rt, request, &mut opened, files, scope)?,
-        None => open_all(rt, request, &mut opened, &files)?,
+        None => open_all(&mut opened, &files, commands)?,
     }
     let follows = request.followed != config_host::surroundings::Followed::Nothing;
     if follows
@@ -253,30 +319,31 @@ fn seek<'t>(opened: &mut Opened<'t>) -> Result<(), HereError<'t>> {
     seek_urls(&opened.disk, &mut opened.surroundings, &opened.sources)
 }
 
-/// The texts of a request. Reports files that cannot be read.
+/// The texts of a request. Reports files that cannot be read, and settings of the command line that have no
+/// value.
 pub fn open_texts<'t>(
     rt: &'t HostRuntime,
     texts: &'t Bump,
     request: &Request<'_, '_>,
 ) -> Result<Opened<'t>, HereError<'t>> {
+    let Some(commands) = command_text(rt, request.commands)? else {
+        let mut opened = closed(rt, Disk::new(rt, texts), request)?;
+        opened.ending = Ending::Refused;
+        return Ok(opened);
+    };
     match request.texts {
         Texts::Named(files) => open_named(rt, texts, request, files),
-        Texts::OfScope(scope) => open_here(rt, texts, request, Some(scope)),
-        Texts::Here => match named_by_variable(rt, request)? {
+        Texts::OfScope(scope) => open_here(rt, texts, request, Some(scope), &commands),
+        Texts::Here if request.style == Style::Git => match named_by_variable(rt)? {
             Some(file) => open_named(rt, texts, request, &[file.as_str()]),
-            None => open_here(rt, texts, request, None),
+            None => open_here(rt, texts, request, None, &commands),
         },
+        Texts::Here => open_here(rt, texts, request, None, &commands),
     }
 }
 
 /// The file that GIT_CONFIG names. Only the words look for it, as `git config` alone does.
-fn named_by_variable(
-    rt: &HostRuntime,
-    request: &Request<'_, '_>,
-) -> Result<Option<String>, HostError> {
-    if request.style == Style::Places {
-        return Ok(None);
-    }
+pub fn named_by_variable(rt: &HostRuntime) -> Result<Option<String>, HostError> {
     match variable(rt, "GIT_CONFIG")? {
         Some(name) => match String::from_utf8(name) {
             Ok(name) => Ok(Some(name)),

@@ -1,6 +1,6 @@
 //! The entries that are asked for: of a key, or of a pattern of keys, and with a value that fits.
 
-use crate::request::Request;
+use crate::request::{Request, Subject};
 use config_file::{Entry, Key, KeyError, Setting};
 use regex::bytes::{Matcher, Regex};
 use regex::{Error, RegexBuilder};
@@ -57,8 +57,8 @@ fn lower_ends(alloc: Global, pattern: &str) -> Result<String, AllocError> {
 impl Patterns {
     /// The patterns of a request, or why one of its texts is none.
     pub fn new(alloc: Global, request: &Request<'_, '_>) -> Result<Patterns, Unclear> {
-        let key = match request.key {
-            Some(key) if request.is_pattern => match lower_ends(alloc, key) {
+        let key = match request.subject {
+            Subject::Pattern(pattern) => match lower_ends(alloc, pattern) {
                 Ok(text) => Some(pattern_of(alloc, &text)?),
                 Err(_) => return Err(Unclear::Memory),
             },
@@ -79,16 +79,55 @@ impl Patterns {
     }
 }
 
+/// The keys of the entries that are asked for.
+#[derive(Drop)]
+enum Keys<'k> {
+    /// All of them.
+    All,
+    /// This one.
+    One(Key<'k>),
+    /// Those that are listed as this text, byte for byte.
+    Listed(&'k str),
+    /// The same, and those that say whether the output of diffs, or all output, is colored.
+    OfUse(&'k str),
+    /// Those of this section, and with this name if there is one, whatever their subsection is.
+    OfSection(&'k str, Option<&'k str>),
+}
+
 /// Which entries are asked for.
 #[derive(Drop)]
 pub struct Wanted<'k, 'p> {
-    /// The key, or `None` if all entries are, or those of a pattern.
-    key: Option<Key<'k>>,
-    keys: Option<Matcher<'p>>,
+    keys: Keys<'k>,
+    /// The pattern of the keys, if they have to match one.
+    pattern: Option<Matcher<'p>>,
     values: Option<Matcher<'p>>,
     is_negated: bool,
     /// The value that an entry has to have, byte for byte.
     fixed: Option<&'k [u8]>,
+    /// The key of the last entry, as it is listed.
+    listed: Vec<u8>,
+}
+
+/// The section and the name of what is asked about for a URL, which the first dot separates.
+pub fn section_and_name(text: &str) -> (&str, Option<&str>) {
+    match text.split_once('.') {
+        Some((section, name)) => (section, Some(name)),
+        None => (text, None),
+    }
+}
+
+/// Whether a key as it is listed has this section, and this name if there is one. The case does not count.
+fn is_in_section(listed: &[u8], section: &str, name: Option<&str>) -> bool {
+    let Some(key) = Key::split(listed) else {
+        return false;
+    };
+    if !key.section().eq_ignore_ascii_case(section.as_bytes()) {
+        return false;
+    }
+    match name {
+        Some(name) => key.name().eq_ignore_ascii_case(name.as_bytes()),
+        None => true,
+    }
 }
 
 /// A search for a pattern, if there is one.
@@ -102,6 +141,50 @@ fn search<'p>(alloc: Global, pattern: &'p Option<Regex>) -> Result<Option<Matche
     }
 }
 
+/// Whether a key is listed as this text.
+fn is_text(text: &str, listed: &[u8]) -> bool {
+    text.as_bytes() == listed
+}
+
+/// The wanted keys of a request, without those of a pattern.
+fn keys_of<'k>(request: &Request<'_, 'k>) -> Result<Keys<'k>, Unclear> {
+    match request.subject {
+        Subject::Entries | Subject::Pattern(_) => Ok(Keys::All),
+        Subject::Key(key) => match Key::parse(key.as_bytes()) {
+            Ok(key) => Ok(Keys::One(key)),
+            Err(error) => Err(Unclear::Key(error)),
+        },
+        Subject::Url(text, _) => {
+            let (section, name) = section_and_name(text);
+            Ok(Keys::OfSection(section, name))
+        }
+        Subject::Color(key) => Ok(Keys::Listed(key)),
+        Subject::UsesColor(key, _) => Ok(Keys::OfUse(key)),
+    }
+}
+
+impl Keys<'_> {
+    /// Whether an entry that is listed under this key is among them.
+    fn has(&self, entry: &Entry<'_>, listed: &[u8]) -> bool {
+        match self {
+            Keys::All => true,
+            Keys::One(key) => key.is_of(entry),
+            Keys::Listed(text) => is_text(text, listed),
+            Keys::OfUse(text) => {
+                is_text(text, listed)
+                    || is_text("diff.color", listed)
+                    || is_text("color.ui", listed)
+            }
+            Keys::OfSection(section, name) => is_in_section(listed, section, *name),
+        }
+    }
+
+    /// Whether the listed key of an entry is needed to say whether it is among them.
+    fn needs_listed(&self) -> bool {
+        !matches!(self, Keys::All | Keys::One(_))
+    }
+}
+
 impl<'k, 'p> Wanted<'k, 'p> {
     /// Which entries a request with these patterns asks for.
     pub fn new(
@@ -109,39 +192,34 @@ impl<'k, 'p> Wanted<'k, 'p> {
         request: &Request<'_, 'k>,
         patterns: &'p Patterns,
     ) -> Result<Wanted<'k, 'p>, Unclear> {
-        let key = match request.key {
-            Some(key) if !request.is_pattern => match Key::parse(key.as_bytes()) {
-                Ok(key) => Some(key),
-                Err(error) => return Err(Unclear::Key(error)),
-            },
-            _ => None,
-        };
         let fixed = match request.value {
             Some(value) if request.is_fixed => Some(value.as_bytes()),
             _ => None,
         };
         Ok(Wanted {
-            key,
-            keys: search(alloc, &patterns.key)?,
+            keys: keys_of(request)?,
+            pattern: search(alloc, &patterns.key)?,
             values: search(alloc, &patterns.value)?,
             is_negated: patterns.is_negated,
             fixed,
+            listed: Vec::new(alloc),
         })
     }
 
     /// Whether an entry has a wanted key.
-    fn has_key(&mut self, alloc: Global, entry: &Entry<'_>) -> Result<bool, AllocError> {
-        if let Some(key) = &self.key {
-            return Ok(key.is_of(entry));
+    pub fn has_key(&mut self, entry: &Entry<'_>) -> Result<bool, AllocError> {
+        self.listed.clear();
+        if self.pattern.is_some() || self.keys.needs_listed() {
+            entry.push_key(&mut self.listed)?;
         }
-        match &mut self.keys {
-            Some(keys) => Ok(keys.is_match(&entry.key_text(alloc)?)),
-            None => Ok(true),
+        if let Some(pattern) = &mut self.pattern {
+            return Ok(pattern.is_match(&self.listed));
         }
+        Ok(self.keys.has(entry, &self.listed))
     }
 
     /// Whether a setting has a wanted value. That of a key alone is the empty text.
-    fn has_value(&mut self, setting: &Setting<'_>) -> bool {
+    pub fn has_value(&mut self, setting: &Setting<'_>) -> bool {
         let value = match &setting.value {
             Some(value) => value,
             None => b"".as_slice(),
@@ -153,10 +231,5 @@ impl<'k, 'p> Wanted<'k, 'p> {
             Some(values) => values.is_match(value) != self.is_negated,
             None => true,
         }
-    }
-
-    /// Whether a setting is wanted.
-    pub fn has(&mut self, alloc: Global, setting: &Setting<'_>) -> Result<bool, AllocError> {
-        Ok(self.has_key(alloc, &setting.entry)? && self.has_value(setting))
     }
 }

@@ -1,9 +1,8 @@
 //! The words `get` and `list`, and Git's older flags for them.
 
-use crate::arguments::{file_argument, flag, valued};
-use crate::request::{Request, Style, Texts};
+use crate::request::{Override, Request, Style, Subject, Texts};
 use crate::shown::Shown;
-use clap::{Arg, ArgAction, ArgMatches, Command};
+use clap::ArgMatches;
 use config_file::Scope;
 use config_host::surroundings::Followed;
 use std::alloc::{AllocError, Global};
@@ -12,11 +11,16 @@ use thiserror::Error;
 /// What a command line is about.
 #[derive(Clone, Copy, PartialEq, Eq)]
 pub enum Word {
-    /// `get`, or a flag such as `--get`: the values of a key.
+    /// `get`: the values of a key.
     Get,
-    /// `list`, or `-l`: all entries.
+    /// `list`: all entries.
     List,
-    /// Neither of them.
+    /// A flag such as `--get` or `-l`, which older Gits have for a word.
+    Older,
+    /// `set`, `unset`, `rename-section`, `remove-section`, or an older flag for one of them: a change of a
+    /// file.
+    Change,
+    /// None of them.
     Nothing,
 }
 
@@ -25,8 +29,8 @@ pub enum Word {
 pub struct Words<'a> {
     /// What they are about.
     pub word: Word,
-    /// The settings of `-c`.
-    pub commands: Vec<&'a str>,
+    /// The settings of the command line.
+    pub commands: Vec<Override<'a>>,
     /// The name of the program or the word, and what follows it.
     pub rest: Vec<&'a str>,
 }
@@ -34,74 +38,122 @@ pub struct Words<'a> {
 /// Why arguments are refused.
 #[derive(Clone, Copy, Debug, PartialEq, Eq, Error)]
 pub enum Misuse {
-    /// There is no key, or more than one.
-    #[error("wrong number of arguments, should be 1")]
+    /// A key is missing, or there are more words than the options ask for.
+    #[error("wrong number of arguments")]
     Count,
-    /// Types differ.
-    #[error("only one type at a time")]
-    Types,
-    /// Scopes differ, or there is a file too.
-    #[error("only one config file at a time")]
-    Files,
+    /// Options that do not go together, as this says.
+    #[error("{0}")]
+    Apart(&'static str),
+    /// The same of options of `get`.
+    #[error("{0}")]
+    ApartInGet(&'static str),
     /// There is no such type.
     #[error("unrecognized --type argument")]
     Type,
-    /// A default stands for the value of one key.
-    #[error("--default= cannot be used with --all or --regexp")]
-    Default,
-    /// There is no value that could be fixed.
-    #[error("--fixed-value only applies with --value=")]
-    Fixed,
 }
 
 impl Misuse {
     /// The exit status, which is Git's.
     pub fn status(self) -> u8 {
         match self {
-            Misuse::Count | Misuse::Types | Misuse::Files => 129,
-            Misuse::Type | Misuse::Default | Misuse::Fixed => 128,
+            Misuse::Count | Misuse::Apart(_) => 129,
+            Misuse::ApartInGet(_) | Misuse::Type => 128,
         }
     }
 }
 
-/// What the options before the key are about, if one of them is an older flag of Git.
+/// The older flags that make a command line one of Git's.
+const OLDER: &[&str] = &[
+    "-l",
+    "--get",
+    "--get-all",
+    "--get-regexp",
+    "--get-urlmatch",
+    "--get-color",
+    "--get-colorbool",
+    "--bool",
+    "--int",
+    "--bool-or-int",
+    "--bool-or-str",
+    "--path",
+    "--expiry-date",
+];
+
+/// The words that change a file.
+pub const CHANGES: &[&str] = &["set", "unset", "rename-section", "remove-section"];
+
+/// The older flags that change a file.
+const OLDER_CHANGES: &[&str] = &[
+    "--add",
+    "--replace-all",
+    "--unset",
+    "--unset-all",
+    "--rename-section",
+    "--remove-section",
+];
+
+/// The options whose value is the next argument.
+const VALUED: &[&str] = &["-f", "--file", "-t", "--type", "--default"];
+
+/// Whether this is an option, and not a value such as -1.
+fn is_option(argument: &str) -> bool {
+    match argument.as_bytes() {
+        [b'-', second, ..] => *second == b'-' || second.is_ascii_alphabetic(),
+        _ => false,
+    }
+}
+
+/// What arguments are about, if one of the options before the key is an older flag of Git, or a value follows
+/// the key.
 fn older_word(arguments: &[String]) -> Word {
     let mut is_value = false;
+    let mut has_key = false;
     for argument in arguments {
+        let option = argument.as_str();
         if is_value {
             is_value = false;
-            continue;
-        }
-        match argument.as_str() {
-            "--get"
-            | "--get-all"
-            | "--bool"
-            | "--int"
-            | "--bool-or-int"
-            | "--bool-or-str"
-            | "--path"
-            | "--expiry-date" => return Word::Get,
-            "-l" => return Word::List,
-            "-f" | "--file" | "--type" | "--default" => is_value = true,
-            option if option.starts_with("-") => {}
-            _ => break,
+        } else if OLDER.contains(&option) {
+            return Word::Older;
+        } else if OLDER_CHANGES.contains(&option) {
+            return Word::Change;
+        } else if VALUED.contains(&option) {
+            is_value = true;
+        } else if has_key {
+            return if is_option(option) {
+                Word::Nothing
+            } else {
+                Word::Change
+            };
+        } else if !option.starts_with("-") {
+            has_key = true;
         }
     }
     Word::Nothing
 }
 
-/// Takes the settings of `-c` with which arguments begin. Returns the arguments after them.
+/// Takes the settings with which arguments begin. Returns the arguments after them.
 fn without_commands<'a>(
     arguments: &'a [String],
-    commands: &mut Vec<&'a str>,
+    commands: &mut Vec<Override<'a>>,
 ) -> Result<&'a [String], AllocError> {
     let mut at = arguments;
     for _ in 0..arguments.len() {
         match at {
             [option, setting, after @ ..] if option.as_str() == "-c" => {
-                commands.push(setting.as_str())?;
+                commands.push(Override::Given(setting.as_str()))?;
                 at = after;
             }
+            [option, setting, after @ ..] if option.as_str() == "--config-env" => {
+                commands.push(Override::OfVariable(setting.as_str()))?;
+                at = after;
+            }
+            [option, after @ ..] => match option.as_str().strip_prefix("--config-env=") {
+                Some(setting) => {
+                    commands.push(Override::OfVariable(setting))?;
+                    at = after;
+                }
+                None => break,
+            },
             _ => break,
         }
     }
@@ -120,6 +172,7 @@ pub fn words_of<'a>(alloc: Global, arguments: &'a [String]) -> Result<Words<'a>,
     let word = match after {
         [first, ..] if first.as_str() == "get" => Word::Get,
         [first, ..] if first.as_str() == "list" => Word::List,
+        [first, ..] if CHANGES.contains(&first.as_str()) => Word::Change,
         _ => {
             rest.push(name)?;
             older_word(after)
@@ -134,27 +187,6 @@ pub fn words_of<'a>(alloc: Global, arguments: &'a [String]) -> Result<Words<'a>,
         rest,
     })
 }
-
-/// The flags of both words: their names, and what they do.
-const FLAGS: &[(&str, &str)] = &[
-    ("system", "Read the file of the system alone"),
-    ("global", "Read the file of the user alone"),
-    ("local", "Read the file of the repository alone"),
-    ("worktree", "Read the file of the work tree alone"),
-    ("bool", "The same as --type=bool"),
-    ("int", "The same as --type=int"),
-    ("bool-or-int", "The same as --type=bool-or-int"),
-    ("bool-or-str", "The same as --type=bool-or-str"),
-    ("path", "The same as --type=path"),
-    ("expiry-date", "The same as --type=expiry-date"),
-    (
-        "canonical",
-        "Show a color by its canonical text, and not by its escape sequence",
-    ),
-    ("name-only", "Show names without values"),
-    ("show-origin", "Show where an entry is from before it"),
-    ("show-scope", "Show the scope of an entry before it"),
-];
 
 /// The flags that name a type.
 const TYPES: &[&str] = &[
@@ -174,129 +206,19 @@ const SCOPES: &[(&str, Scope)] = &[
     ("worktree", Scope::Worktree),
 ];
 
-/// What follows the options in the help.
-const AFTER: &str = "\
-Statuses: 0 if all is printed, 1 if no entry has the key or it is no key, 6 for an invalid pattern, 128 if \
-a file, a line or a value is refused, 129 for a wrong usage, 255 for a default that is no color, and 2 after \
-an error of the output or of memory.
-
-Examples:
-  config_value get --type=bool --default=false core.bare
-  config_value list --file .gitmodules --null";
-
-/// A flag, and one that undoes it.
-fn pair<'a>(
-    alloc: Global,
-    command: Command<'a>,
-    name: &'a str,
-    opposite: &'a str,
-    help: &'a str,
-) -> Result<Command<'a>, AllocError> {
-    command
-        .arg(flag(alloc, name, help).overrides_with(opposite)?)?
-        .arg(flag(alloc, opposite, "Undo the flag of this name").overrides_with(name)?)
-}
-
-/// The options of both words.
-fn with_options<'a>(alloc: Global, command: Command<'a>) -> Result<Command<'a>, AllocError> {
-    let mut command = command
-        .version("0.1.0")
-        .args_override_self(true)
-        .infer_long_args(true)
-        .after_help(AFTER)
-        .arg(file_argument(alloc))?
-        .arg(valued(
-            alloc,
-            "type",
-            "TYPE",
-            "Read values as this: bool, int, bool-or-int, bool-or-str, path, expiry-date or color, as Git \
-                does; or suffix, integer, amount, boolean, name or attribute",
-        )
-        .action(ArgAction::Append))?
-        .arg(flag(alloc, "null", "End each entry with a NUL").short('z'))?;
-    for (name, help) in FLAGS {
-        command = command.arg(flag(alloc, name, help))?;
-    }
-    command = pair(alloc, command, "includes", "no-includes", "Follow includes")?;
-    pair(
-        alloc,
-        command,
-        "show-names",
-        "no-show-names",
-        "Show the key before a value",
-    )
-}
-
-/// The command line of `get`.
-fn get_command<'a>(alloc: Global) -> Result<Command<'a>, AllocError> {
-    let command = Command::new(alloc, "config_value get")
-        .about("Prints the last value of a key, or all of them, as `git config get` does")
-        .override_usage("config_value [-c KEY=VALUE]... get [OPTIONS] KEY");
-    with_options(alloc, command)?
-        .arg(flag(alloc, "all", "Print all values of the key").alias("get-all")?)?
-        .arg(flag(alloc, "get", "The same as the word get").hide(true))?
-        .arg(valued(
-            alloc,
-            "default",
-            "VALUE",
-            "The value to print if no entry has the key",
-        ))?
-        .arg(valued(
-            alloc,
-            "value",
-            "PATTERN",
-            "Take only entries whose value the pattern matches, or after ! does not match",
-        ))?
-        .arg(flag(alloc, "fixed-value", "Take PATTERN for the value itself"))?
-        .arg(flag(alloc, "regexp", "Take KEY for a pattern of keys"))?
-        .arg(words_argument(alloc, "KEY"))
-}
-
-/// The command line of `list`.
-fn list_command<'a>(alloc: Global) -> Result<Command<'a>, AllocError> {
-    let command = Command::new(alloc, "config_value list")
-        .about("Lists all entries, as `git config list` does")
-        .override_usage("config_value [-c KEY=VALUE]... list [OPTIONS]");
-    with_options(alloc, command)?
-        .arg(
-            flag(alloc, "list", "The same as the word list")
-                .short('l')
-                .hide(true),
-        )?
-        .arg(words_argument(alloc, "NOTHING").hide(true))
-}
-
-/// What follows the options, of which none comes later.
-fn words_argument<'a>(alloc: Global, name: &'a str) -> Arg<'a> {
-    Arg::new(alloc, "words")
-        .value_name(name)
-        .action(ArgAction::Append)
-        .num_args(0..)
-        .trailing_var_arg(true)
-        .help("The key, as core.bare")
-}
-
-/// The command line of a word.
-pub fn word_command<'a>(alloc: Global, word: Word) -> Result<Command<'a>, AllocError> {
-    match word {
-        Word::List => list_command(alloc),
-        _ => get_command(alloc),
-    }
-}
-
 /// The type after one more that is asked for, which has to be the same.
 fn joined(found: Option<Shown>, word: &str, escapes: bool) -> Result<Option<Shown>, Misuse> {
     let Some(shown) = Shown::named(word, escapes) else {
         return Err(Misuse::Type);
     };
     match found {
-        Some(other) if other != shown => Err(Misuse::Types),
+        Some(other) if other != shown => Err(Misuse::Apart("only one type at a time")),
         _ => Ok(Some(shown)),
     }
 }
 
 /// As what values are shown.
-fn shown_of(matches: &ArgMatches<'_>) -> Result<Shown, Misuse> {
+pub fn shown_of(matches: &ArgMatches<'_>) -> Result<Shown, Misuse> {
     let escapes = !matches.get_flag("canonical");
     let mut found = None;
     for word in matches.get_strs("type").unwrap_or(&[]) {
@@ -311,7 +233,7 @@ fn shown_of(matches: &ArgMatches<'_>) -> Result<Shown, Misuse> {
 }
 
 /// Which texts are read.
-fn texts_of<'m, 'a>(matches: &'m ArgMatches<'a>) -> Result<Texts<'m, 'a>, Misuse> {
+pub fn texts_of<'m, 'a>(matches: &'m ArgMatches<'a>) -> Result<Texts<'m, 'a>, Misuse> {
     let mut texts = match matches.get_strs("file") {
         Some(files) => Texts::Named(files),
         None => Texts::Here,
@@ -319,7 +241,7 @@ fn texts_of<'m, 'a>(matches: &'m ArgMatches<'a>) -> Result<Texts<'m, 'a>, Misuse
     for (name, scope) in SCOPES {
         if matches.get_flag(name) {
             if !matches!(texts, Texts::Here) {
-                return Err(Misuse::Files);
+                return Err(Misuse::Apart("only one config file at a time"));
             }
             texts = Texts::OfScope(*scope);
         }
@@ -340,25 +262,172 @@ fn followed_of(matches: &ArgMatches<'_>, texts: Texts<'_, '_>) -> Followed {
     }
 }
 
-/// The key of `get`, or `None` for `list`, which takes no word.
-fn key_of<'a>(matches: &ArgMatches<'a>, word: Word) -> Result<Option<&'a str>, Misuse> {
-    match (word, matches.get_strs("words").unwrap_or(&[])) {
-        (Word::List, []) => Ok(None),
-        (Word::Get, [key]) => Ok(Some(*key)),
+/// What an older flag asks for.
+#[derive(Clone, Copy, PartialEq, Eq)]
+enum Action {
+    Get,
+    GetAll,
+    GetRegexp,
+    GetUrlMatch,
+    GetColor,
+    GetColorBool,
+    List,
+}
+
+/// The older flags.
+const ACTIONS: &[(&str, Action)] = &[
+    ("get", Action::Get),
+    ("get-all", Action::GetAll),
+    ("get-regexp", Action::GetRegexp),
+    ("get-urlmatch", Action::GetUrlMatch),
+    ("get-color", Action::GetColor),
+    ("get-colorbool", Action::GetColorBool),
+    ("list", Action::List),
+];
+
+/// What the one older flag asks for. A type alone asks for a value.
+fn action_of(matches: &ArgMatches<'_>) -> Result<Action, Misuse> {
+    let mut found = None;
+    for (name, action) in ACTIONS {
+        if matches.get_flag(name) {
+            if found.is_some() {
+                return Err(Misuse::Apart("only one of --get, -l and their like at a time"));
+            }
+            found = Some(*action);
+        }
+    }
+    Ok(found.unwrap_or(Action::Get))
+}
+
+/// Refuses options that do not go together with an older flag.
+fn check_older(matches: &ArgMatches<'_>, action: Action) -> Result<(), Misuse> {
+    let is_list = matches!(action, Action::List | Action::GetRegexp);
+    if matches.get_flag("name-only") && !is_list {
+        return Err(Misuse::Apart("--name-only is only applicable to --list or --get-regexp"));
+    }
+    let has_origin = is_list || matches!(action, Action::Get | Action::GetAll);
+    if matches.get_flag("show-origin") && !has_origin {
+        return Err(Misuse::Apart(
+            "--show-origin is only applicable to --get, --get-all, --get-regexp, and --list",
+        ));
+    }
+    if matches.get_str("default").is_some() && action != Action::Get {
+        return Err(Misuse::Apart("--default is only applicable to --get"));
+    }
+    Ok(())
+}
+
+/// Sets what an older flag asks for with these words.
+fn set_older<'a>(
+    request: &mut Request<'_, 'a>,
+    action: Action,
+    words: &[&'a str],
+) -> Result<(), Misuse> {
+    match (action, words) {
+        (Action::List, []) => {}
+        (Action::Get | Action::GetAll, [key, ..]) => request.subject = Subject::Key(*key),
+        (Action::GetRegexp, [pattern, ..]) => request.subject = Subject::Pattern(*pattern),
+        (Action::GetUrlMatch, [name, url]) => request.subject = Subject::Url(*name, *url),
+        (Action::GetColor, [key, ..]) => request.subject = Subject::Color(*key),
+        (Action::GetColorBool, [key]) => request.subject = Subject::UsesColor(*key, None),
+        (Action::GetColorBool, [key, said]) => {
+            request.subject = Subject::UsesColor(*key, Some(*said));
+        }
+        _ => return Err(Misuse::Count),
+    }
+    match (action, words) {
+        (_, []) | (_, [_]) | (Action::GetUrlMatch | Action::GetColorBool, _) => Ok(()),
+        (Action::GetColor, [_, color]) => {
+            request.default = Some(*color);
+            Ok(())
+        }
+        (_, [_, value]) => {
+            request.value = Some(*value);
+            Ok(())
+        }
         _ => Err(Misuse::Count),
     }
 }
 
+/// Whether what is asked about for a URL is a section, so that names are shown.
+fn is_section(name: &str) -> bool {
+    !name.contains('.')
+}
+
+/// What an older flag and its options ask.
+fn ask_older<'a>(request: &mut Request<'_, 'a>, matches: &ArgMatches<'a>) -> Result<(), Misuse> {
+    let action = action_of(matches)?;
+    set_older(request, action, matches.get_strs("words").unwrap_or(&[]))?;
+    check_older(matches, action)?;
+    if action == Action::Get {
+        request.default = matches.get_str("default");
+    }
+    request.is_fixed = matches.get_flag("fixed-value");
+    if request.is_fixed && request.value.is_none() {
+        return Err(Misuse::Apart("--fixed-value only applies with a pattern of values"));
+    }
+    request.all = matches!(
+        action,
+        Action::GetAll | Action::GetRegexp | Action::GetUrlMatch | Action::List
+    );
+    request.shows_names = match request.subject {
+        Subject::Entries | Subject::Pattern(_) => true,
+        Subject::Url(name, _) => is_section(name),
+        _ => matches.get_flag("show-names"),
+    };
+    let is_color = matches!(action, Action::GetColor | Action::GetColorBool);
+    if is_color && request.shown != Shown::Text {
+        return Err(Misuse::Apart("--get-color and variable type are incoherent"));
+    }
+    Ok(())
+}
+
 /// Refuses options of `get` that do not go together.
 fn check_get(matches: &ArgMatches<'_>) -> Result<(), Misuse> {
-    if matches.get_str("default").is_some()
-        && (matches.get_flag("all") || matches.get_flag("regexp"))
-    {
-        return Err(Misuse::Default);
+    let (has_url, has_all) = (matches.get_str("url").is_some(), matches.get_flag("all"));
+    let has_value = matches.get_str("value").is_some();
+    if matches.get_flag("fixed-value") && !has_value {
+        return Err(Misuse::ApartInGet("--fixed-value only applies with --value="));
     }
-    if matches.get_flag("fixed-value") && matches.get_str("value").is_none() {
-        return Err(Misuse::Fixed);
+    if matches.get_str("default").is_some() && (has_all || has_url) {
+        return Err(Misuse::ApartInGet("--default= cannot be used with --all or --url="));
     }
+    if has_url && (has_all || has_value || matches.get_flag("regexp")) {
+        return Err(Misuse::ApartInGet("--url= cannot be used with --all, --regexp or --value"));
+    }
+    Ok(())
+}
+
+/// What the options of `get` ask about this key. The color of no key is that of the default.
+fn subject_of<'a>(matches: &ArgMatches<'a>, key: &'a str, shown: Shown) -> Subject<'a> {
+    if let Some(url) = matches.get_str("url") {
+        return Subject::Url(key, url);
+    }
+    if matches.get_flag("regexp") {
+        return Subject::Pattern(key);
+    }
+    let has_default = matches.get_str("default").is_some();
+    if key.is_empty() && shown == Shown::Escape && has_default {
+        return Subject::Color(key);
+    }
+    Subject::Key(key)
+}
+
+/// What `get` and its options ask.
+fn ask_get<'a>(request: &mut Request<'_, 'a>, matches: &ArgMatches<'a>) -> Result<(), Misuse> {
+    let [key] = matches.get_strs("words").unwrap_or(&[]) else {
+        return Err(Misuse::Count);
+    };
+    check_get(matches)?;
+    request.subject = subject_of(matches, key, request.shown);
+    request.value = matches.get_str("value");
+    request.is_fixed = matches.get_flag("fixed-value");
+    request.all = matches.get_flag("all") || matches!(request.subject, Subject::Url(_, _));
+    request.default = matches.get_str("default");
+    request.shows_names = match request.subject {
+        Subject::Url(name, _) => is_section(name),
+        _ => matches.get_flag("show-names"),
+    };
     Ok(())
 }
 
@@ -366,25 +435,26 @@ fn check_get(matches: &ArgMatches<'_>) -> Result<(), Misuse> {
 pub fn request_of<'m, 'a>(
     word: Word,
     matches: &'m ArgMatches<'a>,
-    commands: &'m [&'a str],
+    commands: &'m [Override<'a>],
 ) -> Result<Request<'m, 'a>, Misuse> {
-    let texts = texts_of(matches)?;
-    let mut request = Request::new(Style::Git, texts, commands);
+    let mut request = Request::new(Style::Git, Texts::Here, commands);
     request.shown = shown_of(matches)?;
-    request.key = key_of(matches, word)?;
-    request.followed = followed_of(matches, texts);
+    match word {
+        Word::Get => ask_get(&mut request, matches)?,
+        Word::Older => ask_older(&mut request, matches)?,
+        _ => {
+            if !matches.get_strs("words").unwrap_or(&[]).is_empty() {
+                return Err(Misuse::Count);
+            }
+            request.shows_names = true;
+            request.all = true;
+        }
+    }
+    request.texts = texts_of(matches)?;
+    request.followed = followed_of(matches, request.texts);
     request.null = matches.get_flag("null");
     request.shows_scope = matches.get_flag("show-scope");
     request.shows_origin = matches.get_flag("show-origin");
     request.shows_values = !matches.get_flag("name-only");
-    request.shows_names = word == Word::List || matches.get_flag("show-names");
-    if word == Word::Get {
-        check_get(matches)?;
-        request.is_pattern = matches.get_flag("regexp");
-        request.value = matches.get_str("value");
-        request.is_fixed = matches.get_flag("fixed-value");
-        request.all = matches.get_flag("all");
-        request.default = matches.get_str("default");
-    }
     Ok(request)
 }

@@ -33,8 +33,46 @@ TYPED = {
     "bool-or-str": ("yes", "", "10k", "0", "nope", "a b", "Off"),
     "path": ("~/x", "~", "/abs", "rel", "~nobody-here/x", ":(optional)/no/such", ":(optional)/", "a~b"),
     "color": ("bold red", "red blue", "#ff0000", "208", "256", "no-bold", "reset", "default", "red blue green"),
-    "expiry-date": ("never", "false", "all", "now"),
+    "expiry-date": ("never", "false", "all", "now", "100000000", "1700000000", "2147483648", "4102444799"),
 }
+# changes of a file: the arguments, its old text and its new one
+CHANGES = (
+    (["set", "core.bare", "false"], b"[core]\n\tbare\n", b"[core]\n\tbare = false\n"),
+    (["set", "core.bare", "a#"], b"[core]\n\tbare\n", b'[core]\n\tbare = "a#"\n'),
+    (["set", "core.bare", "x"], b"[core]\r\n\tbare\r\n", b"[core]\r\n\tbare = x\r\n"),
+    (["set", "a.l", "2"], b"[a]\n\tk = 1\n# last words", b"[a]\n\tk = 1\n\tl = 2\n# last words"),
+    (["set", "a.l", "2"], b"[a]\n\tk = 1 # last words", b"[a]\n\tk = 1 # last words\n\tl = 2\n"),
+    (["set", "core.bare", "0"], b"[core] bare = 1\n[u] x\n[core] e = vi", b"[core] bare = 0\n[u] x\n[core] e = vi"),
+    (["set", "a.b.k", "2"], b"[a.B]\n\tk = 1\n", b"[a.B]\n\tk = 2\n"),
+    (["set", "a.B.k", "2"], b'[a "b"]\n\tk = 1\n', b'[a "b"]\n\tk = 1\n[a "B"]\n\tk = 2\n'),
+    (["set", "a.name", "C"], b"[a]\nname =A\n", b"[a]\nname =C\n"),
+    (["set", "user.name", "B"], b"[user]\r\n\tname = A\r\n[core]\n", b"[user]\r\n\tname = B\r\n[core]\n"),
+    (["set", "a.k", "v"], b"\xef\xbb\xbf", b"\xef\xbb\xbf[a]\n\tk = v\n"),
+    (["set", "a.k", "v"], b"[a] [b] x = 1\n", b"[a]\n\tk = v\n [b] x = 1\n"),
+    (["set", "a.k", "v"], b"[a] # c\n", b"[a] # c\n\tk = v\n"),
+    (["set", "a.k", "z"], b'[a]\n\tk = "x\\\ny" \t# c\n', b"[a]\n\tk = z \t# c\n"),
+    (["set", "a.k", "v"], b"[a]\nk=\n", b"[a]\nk=v\n"),
+    (["set", "a.k", "v"], b"[a]\nk =#c\n", b"[a]\nk = v #c\n"),
+    (["set", "a.k", "v"], b'[a]\n\tk = "v"\n', b'[a]\n\tk = "v"\n'),
+    (["set", "a.k", "x"], b"[a]\n\tk = v\\", b"[a]\n\tk = x"),
+    (["set", "--append", "a.l", "x"], b"[a]\n\tk = v\\", b"[a]\n\tk = v\\\n\n\tl = x\n"),
+    (["set", "--append", "a.l", "x"], b"[a]\n\tk = v\\\n", b"[a]\n\tk = v\\\n\n\tl = x\n"),
+    (["--add", "b.l", "x"], b"[a]\n\tk = v\\", b"[a]\n\tk = v\\\n\n[b]\n\tl = x\n"),
+    (["set", "--all", "a.k", "3"], b"[a]\n\tk = 1\n[b]\n[a]\n\tk = 2\n", b"[a]\n[b]\n[a]\n\tk = 3\n"),
+    (["unset", "a.k"], b"[a]\n\tk = 1 # c\n\n\n\tl = 2\n", b"[a]\n\n\n\tl = 2\n"),
+    (["unset", "a.k"], b"[a] k = 1\n\tl = 2\n", b"[a]\n\tl = 2\n"),
+    (["unset", "a.k"], b"[a] k = 1 ; c\r\n\tl = 2\n", b"[a]\r\n\tl = 2\n"),
+    (["unset", "a.k"], b"[a]\n\tk = 1\n[b]\n", b"[b]\n"),
+    (["unset", "a.k"], b"[a]\n\t# why\n\tk = 1\n", b"[a]\n\t# why\n"),
+    (["--unset-all", "a.k"], b"[a]\n\tk = 1\n\tK\n[a]\n\tk = 2\n\tl\n", b"[a]\n\tl\n"),
+    (["rename-section", "a", "b"], b"# c\0d\n[a]\n\tk = 1\n", b"# c\0d\n[b]\n\tk = 1\n"),
+    (["rename-section", "a", "b"], b"[a]\n\tk = x\\\n[a]\n\tl = 1\n", b"[b]\n\tk = x\\\n[a]\n\tl = 1\n"),
+    (["rename-section", "a", "b"], b"\xef\xbb\xbf[a]\n\tk = 1\n", b"\xef\xbb\xbf[b]\n\tk = 1\n"),
+    (["remove-section", "a"], b"[a]\n\tk = 1\n\n# about b\n[b]\n\tk = 2\n", b"# about b\n[b]\n\tk = 2\n"),
+)
+# ages, which Git reads so too, and dates that only Git reads
+AGES = ("2.weeks.ago", "90 days", "1.day", "36.hours", "30 minutes ago", "1000.seconds.ago", "1.week.ago")
+OTHER_DATES = ("yesterday", "1.month.ago", "2020-01-01", "99999999", "4102444800", "0.days", "01.day", "3551.weeks")
 
 
 class Tests:
@@ -269,7 +307,7 @@ def plain(text):
 
 
 def words(tests):
-    """The words `get` and `list` answer as Git 2.55.0 does, and where older Gits have a flag for a word, as they do."""
+    """The words and Git's older flags answer as Git 2.55.0, and where older Gits have a flag for a word, as they do."""
     texts = {}
     for line in WORDS.read_text("utf-8").splitlines():
         if line.startswith("# ") and line[2:].partition(": ")[0].isupper():
@@ -281,11 +319,11 @@ def words(tests):
         asked = [plain(word) for word in shlex.split(arguments)]
         tests.write(b"w/f", texts[name])
         wanted = (int(status), plain(output).encode())
-        home = {b"HOME": b"/nonexistent"}
+        home = {b"HOME": b"/nonexistent", b"TERM": b"xterm"}
         run = tests.run(tests.program, *asked, folder=b"w", more=home)
         tests.expect(f"{arguments} of {name}", wanted, (run.returncode, run.stdout))
         word, *options = asked
-        if word in ("get", "list") and {option for option in options if "." not in option} <= OLDER:
+        if word in ("get", "list") and {option for option in options if "." not in option or "=" in option} <= OLDER:
             flag = "--list" if word == "list" else "--get-all" if "--all" in options else "--get"
             options = [option for option in options if option != "--all"]
             run = tests.run(tests.git, "config", flag, *options, folder=b"w", more=home)
@@ -301,12 +339,16 @@ def flags(tests):
     for asked in ("--get a.k", "--get-all a.k", "--get a.no", "--bool a.k", "--int a.k", "--get --path a.p", "-l",
                   "-l --show-scope --show-origin", "-z --get a.k", "--global --get a.k", "--local --get-all a.k",
                   "-l -z", "--worktree -l", "--get --default 5 --int a.no", "-l --name-only", "--global -l",
-                  "--get --type=bool a.k"):
+                  "--get --type=bool a.k", "--get a.k 1", "--get-all a.k ![0-9]", "--get-regexp ^a",
+                  "--get-regexp A.K 1", "--get-urlmatch a https://h", "--get-urlmatch a.k https://h", "--get-color a.c red",
+                  "--get-color a.c", "--get-colorbool a.k", "--get-colorbool b.c true"):
         ours = tests.run(tests.program, *asked.split(), folder=b"flags", more=more)
         git = tests.run(tests.git, "config", *asked.split(), folder=b"flags", more=more)
         tests.expect(asked, (git.returncode, git.stdout), (ours.returncode, ours.stdout))
     for asked in ("-c a.k=3 -c b.C.d --get-all a.k", "-c a.k=3 -c b.C.d -l --show-origin", "-c =x --get a.k",
-                  "-c a.k= --get a.k", "-c k=x --get a.k", "-c a.k=yes --get --bool a.k"):
+                  "-c a.k= --get a.k", "-c k=x --get a.k", "-c a.k=yes --get --bool a.k",
+                  "--config-env=a.k=HOME --get a.k", "--config-env a=b.k=HOME -c a.k=4 --get-all a.k",
+                  "--config-env=a.k=NOT_THERE --get a.k", "--config-env=a.k --get a.k", "--config-env=a.k= --get a.k"):
         settings, option, rest = asked.partition(" -l" if " -l" in asked else " --get")
         ours = tests.run(tests.program, *asked.split(), folder=b"flags", more=more)
         git = tests.run(tests.git, *settings.split(), "config", *(option + rest).split(), folder=b"flags", more=more)
@@ -329,6 +371,77 @@ def types(tests):
         asked = ["get", "-f", "typed", f"--type={kind}", f"t.k{number}"]
         ours, theirs = tests.run(tests.program, *asked), tests.run(git, "config", *asked)
         tests.expect(f"{value!r} as {kind}", (theirs.returncode, theirs.stdout), (ours.returncode, ours.stdout))
+    for date in AGES + OTHER_DATES:
+        asked = ["get", "-f", "typed", "--type=expiry-date", f"--default={date}", "no.date"]
+        ours, theirs = tests.run(tests.program, *asked), tests.run(git, "config", *asked)
+        if date in AGES:
+            tests.expect(date, True, 0 <= int(theirs.stdout) - int(ours.stdout or 0) < LONGEST_RUN)
+        else:
+            tests.expect(date, (128, b""), (ours.returncode, ours.stdout))
+
+
+def changes(tests):
+    """Files that words change: their locks, links and modes, and which file is changed."""
+    def change(words, status, after, told=b"", name=b"edit", **options):
+        run = tests.run(tests.program, *words, **options)
+        tests.expect(words, (status, told), (run.returncode, run.stderr))
+        file = pathlib.Path(os.fsdecode(tests.path(name)))
+        tests.expect(f"{words}, afterwards", after, file.read_bytes() if file.exists() else None)
+        tests.expect(f"{words}, its lock", name == b"held", os.path.exists(tests.path(name + b".lock")))
+
+    for (word, *words), old, new in CHANGES:
+        tests.write(b"edit", old)
+        change([word, "-f", "edit", *words], 0, new)
+    change(["set", "-f", "new", "a.k", "v"], 0, b"[a]\n\tk = v\n", name=b"new")
+    change(["unset", "-f", "absent", "a.k"], 5, None, name=b"absent")
+    change(["remove-section", "-f", "absent", "a"], 128, None, b"config_value: no such section: a\n", name=b"absent")
+    tests.write(b"held", b"[a]\n\tk = v\n")
+    tests.write(b"held.lock", b"")
+    told = b"config_value: held: held.lock: the lock is held\n"
+    change(["set", "-f", "held", "a.k", "w"], 255, b"[a]\n\tk = v\n", told, name=b"held")
+    tests.write(b"kept/real", b"[a]\n\tk = v # c\n")
+    os.chmod(tests.path(b"kept/real"), 0o640)
+    os.symlink(b"kept/real", tests.path(b"link"))
+    change(["set", "-f", "link", "a.k", "w"], 0, b"[a]\n\tk = w # c\n", name=b"kept/real")
+    tests.expect("a link stays", b"kept/real", os.readlink(tests.path(b"link")))
+    tests.expect("a mode stays", 0o100640, os.stat(tests.path(b"kept/real")).st_mode)
+    before = os.stat(tests.path(b"kept/real")).st_ino
+    change(["set", "-f", "link", "a.k", "w"], 0, b"[a]\n\tk = w # c\n", name=b"kept/real")
+    tests.expect("nothing is written", before, os.stat(tests.path(b"kept/real")).st_ino)
+    change(["set", "-f", "d/none", "a.k", "w"], 255, None, name=b"d/none",
+           told=b"config_value: d/none: No such file or directory (os error 2)\n")
+    tests.write(b"edit", b"[a]\n\tk = v\n[b")
+    change(["set", "-f", "edit", "a.k", "w"], 3, b"[a]\n\tk = v\n[b", b"edit:4: bad config line\n")
+    tests.write(b"edit", b"[a]\n\tk = 1\n\tk = 2\n")
+    change(["set", "-f", "edit", "a.k", "w"], 5, b"[a]\n\tk = 1\n\tk = 2\n",
+           b"config_value: several entries have the key: use --all\n")
+    change(["set", "-f", "edit", "--type=int", "--append", "a.n", "10k"], 0, b"[a]\n\tk = 1\n\tk = 2\n\tn = 10240\n")
+    change(["set", "-f", "edit", "--type=int", "a.n", "10kk"], 128, b"[a]\n\tk = 1\n\tk = 2\n\tn = 10240\n",
+           b"config_value: 10kk: it is none of its type\n")
+    tests.git_dir(b"changed/.git")
+    config = b"changed/.git/config"
+    tests.write(config, b"[core]\n\trepositoryformatversion = 0\n")
+    change(["set", "a.k", "v"], 0, b"[core]\n\trepositoryformatversion = 0\n[a]\n\tk = v\n", name=config, folder=b"changed")
+    more = {b"HOME": tests.path(b"changed")}
+    change(["set", "--global", "a.k", "v"], 0, b"[a]\n\tk = v\n", name=b"changed/.gitconfig", folder=b"changed", more=more)
+
+
+def killed(tests):
+    """A program that is killed as it changes a file leaves the old text or the new one."""
+    old = b"[a]\n\tk = v\n" + b"\tj = of a line that makes the file long\n" * 20000
+    tests.write(b"long edit", old)
+    file = pathlib.Path(os.fsdecode(tests.path(b"long edit")))
+    lock = file.with_name("long edit.lock")
+    texts = (old, old.replace(b"= v", b"= w"))
+    for place in range(20):
+        run = subprocess.Popen([tests.program, "set", "-f", file, "a.k", "vw"[place % 2 == 0]], stderr=subprocess.DEVNULL)
+        try:
+            run.wait(place / 1000)
+        except subprocess.TimeoutExpired:
+            run.kill()
+            run.wait()
+        tests.expect("a file whose program is killed", True, file.read_bytes() in texts)
+        lock.unlink(missing_ok=True)
 
 
 def main():
@@ -338,7 +451,8 @@ def main():
     arguments = arguments.parse_args()
     with tempfile.TemporaryDirectory() as folder:
         tests = Tests(arguments.program, arguments.git, os.path.realpath(folder))
-        for part in (words, flags, types, endless, names, folders, shown, statuses, repositories, here, memory):
+        for part in (words, flags, types, endless, names, folders, shown, statuses, repositories, here, changes, killed,
+                     memory):
             part(tests)
     print(f"{tests.passed} passed, {tests.failed} failed")
     return 1 if tests.failed else 0

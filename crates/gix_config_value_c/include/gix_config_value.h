@@ -69,27 +69,38 @@ extern "C" {
 /* The statuses that calls return. */
 typedef GCV_ENUM(gcv_status) {
     GCV_OK = 0,
-    GCV_REFUSED = 1,        /* the text has no value of its kind, or means no path; see the fault */
-    GCV_OVERFLOW = 2,       /* the product of an integer does not fit int64_t */
-    GCV_NO_TEXT = 3,        /* one of the colors has no text */
-    GCV_TOO_MANY_NAMES = 4, /* the two colors have more than two names together */
-    GCV_ABSENT = 5,         /* no entry has the name, or none is left */
-    GCV_UNKNOWN_KIND = 6,   /* the number is not that of a kind */
-    GCV_UNKNOWN_FAULT = 7,  /* the number is not that of a fault */
-    GCV_BAD_SUFFIX = 8,     /* the number is not that of a suffix */
-    GCV_BAD_NAME = 9,       /* the struct is not that of a name */
-    GCV_BAD_FLAG = 10,      /* a flag is neither 0 nor 1 */
+    GCV_REFUSED = 1,           /* the text has no value of its kind, or means no path; see the fault */
+    GCV_OVERFLOW = 2,          /* the product of an integer does not fit int64_t */
+    GCV_NO_TEXT = 3,           /* one of the colors has no text */
+    GCV_TOO_MANY_NAMES = 4,    /* the two colors have more than two names together */
+    GCV_ABSENT = 5,            /* no entry has the name, or none is left */
+    GCV_UNKNOWN_KIND = 6,      /* the number is not that of a kind */
+    GCV_UNKNOWN_FAULT = 7,     /* the number is not that of a fault */
+    GCV_BAD_SUFFIX = 8,        /* the number is not that of a suffix */
+    GCV_BAD_NAME = 9,          /* the struct is not that of a name */
+    GCV_BAD_FLAG = 10,         /* a flag is neither 0 nor 1 */
     /* 11 is no status */
-    GCV_BAD_LENGTHS = 12,   /* the lengths are not those of texts that fill the bytes, or the walk is invalid */
-    GCV_SHORT_BUFFER = 13,  /* the buffer is shorter than the text */
-    GCV_NO_MEMORY = 14,     /* malloc failed, or a path would be longer than memory can be */
-    GCV_BAD_LINE = 15,      /* a line of a file is invalid */
-    GCV_NUL = 16,           /* a file has a NUL outside a comment */
-    GCV_NO_INCLUDE = 17,    /* the entry includes no file */
-    GCV_NO_VALUE = 18,      /* the entry includes a file, but has no value */
-    GCV_NO_DIRECTORY = 19,  /* the path of an include begins with a user's name, or a directory that is null */
-    GCV_TOO_DEEP = 20,      /* the file is more than ten includes deep */
-    GCV_BAD_DEPTH = 21      /* the number is not that of a depth with colors */
+    GCV_BAD_LENGTHS = 12,      /* the lengths are not those of texts that fill the bytes, or the walk is invalid */
+    GCV_SHORT_BUFFER = 13,     /* the buffer is shorter than the text */
+    GCV_NO_MEMORY = 14,        /* malloc failed, or a path would be longer than memory can be */
+    GCV_BAD_LINE = 15,         /* a line of a file is invalid */
+    GCV_NUL = 16,              /* a file has a NUL outside a comment, or a setting of a command has one */
+    GCV_NO_INCLUDE = 17,       /* the entry includes no file */
+    GCV_NO_VALUE = 18,         /* the entry includes a file, but has no value */
+    GCV_NO_DIRECTORY = 19,     /* the path of an include begins with a user's name, or a directory that is null */
+    GCV_TOO_DEEP = 20,         /* the file is more than ten includes deep */
+    GCV_BAD_DEPTH = 21,        /* the number is not that of a depth with colors */
+    GCV_BAD_COUNT = 22,        /* GIT_CONFIG_COUNT is no number */
+    GCV_TOO_MANY_SETTINGS = 23,/* GIT_CONFIG_COUNT is larger than 2147483647 */
+    GCV_MISSING_KEY = 24,      /* a GIT_CONFIG_KEY_n is not set */
+    GCV_MISSING_VALUE = 25,    /* a GIT_CONFIG_VALUE_n is not set */
+    GCV_BAD_PARAMETERS = 26,   /* GIT_CONFIG_PARAMETERS has something else than quoted texts, = and white space */
+    GCV_NO_KEY = 27,           /* a text of GIT_CONFIG_PARAMETERS is empty, or begins with = */
+    GCV_EMPTY_KEY = 28,        /* the key of a setting of a command is empty */
+    GCV_NO_SECTION = 29,       /* the key of a setting of a command has no section */
+    GCV_NO_KEY_NAME = 30,      /* the key of a setting of a command ends with a dot */
+    GCV_BAD_KEY = 31,          /* the key of a setting of a command has a byte that is not allowed there */
+    GCV_KEY_LINE_FEED = 32     /* the key of a setting of a command has a line feed */
 } gcv_status;
 
 /* The kinds of values. */
@@ -244,6 +255,12 @@ typedef struct gcv_frame {
     uint32_t parts;
 } gcv_frame;
 
+/* The bytes of a text, for an array of texts. The pointer is not null, even if the length is 0. */
+typedef struct gcv_text {
+    const char *bytes;
+    size_t length;
+} gcv_text;
+
 /* The structs of gcv_raw_next, which gcv_next makes of a gcv_known, and of which it makes a gcv_step. */
 typedef struct gcv_raw_known {
     const char *install_dir;
@@ -258,12 +275,15 @@ typedef struct gcv_raw_known {
     size_t real_git_dir_length;
     const char *branch;
     size_t branch_length;
+    const gcv_text *urls;
+    size_t urls_length;
     uint32_t has_install_dir;
     uint32_t has_home;
     uint32_t has_real_home;
     uint32_t has_repository;
     uint32_t has_branch;
     uint32_t follows;
+    uint32_t seeks_urls;
 } gcv_raw_known;
 
 typedef struct gcv_raw_step {
@@ -325,6 +345,9 @@ GCV_ASSERT(offsetof(gcv_frame, rest_length) == 72);
 GCV_ASSERT(offsetof(gcv_frame, line) == 80);
 GCV_ASSERT(offsetof(gcv_frame, parts) == 88);
 GCV_ASSERT(sizeof(gcv_frame) == 96);
+GCV_ASSERT(offsetof(gcv_text, bytes) == 0);
+GCV_ASSERT(offsetof(gcv_text, length) == 8);
+GCV_ASSERT(sizeof(gcv_text) == 16);
 GCV_ASSERT(offsetof(gcv_raw_known, install_dir) == 0);
 GCV_ASSERT(offsetof(gcv_raw_known, install_dir_length) == 8);
 GCV_ASSERT(offsetof(gcv_raw_known, home) == 16);
@@ -337,13 +360,16 @@ GCV_ASSERT(offsetof(gcv_raw_known, real_git_dir) == 64);
 GCV_ASSERT(offsetof(gcv_raw_known, real_git_dir_length) == 72);
 GCV_ASSERT(offsetof(gcv_raw_known, branch) == 80);
 GCV_ASSERT(offsetof(gcv_raw_known, branch_length) == 88);
-GCV_ASSERT(offsetof(gcv_raw_known, has_install_dir) == 96);
-GCV_ASSERT(offsetof(gcv_raw_known, has_home) == 100);
-GCV_ASSERT(offsetof(gcv_raw_known, has_real_home) == 104);
-GCV_ASSERT(offsetof(gcv_raw_known, has_repository) == 108);
-GCV_ASSERT(offsetof(gcv_raw_known, has_branch) == 112);
-GCV_ASSERT(offsetof(gcv_raw_known, follows) == 116);
-GCV_ASSERT(sizeof(gcv_raw_known) == 120);
+GCV_ASSERT(offsetof(gcv_raw_known, urls) == 96);
+GCV_ASSERT(offsetof(gcv_raw_known, urls_length) == 104);
+GCV_ASSERT(offsetof(gcv_raw_known, has_install_dir) == 112);
+GCV_ASSERT(offsetof(gcv_raw_known, has_home) == 116);
+GCV_ASSERT(offsetof(gcv_raw_known, has_real_home) == 120);
+GCV_ASSERT(offsetof(gcv_raw_known, has_repository) == 124);
+GCV_ASSERT(offsetof(gcv_raw_known, has_branch) == 128);
+GCV_ASSERT(offsetof(gcv_raw_known, follows) == 132);
+GCV_ASSERT(offsetof(gcv_raw_known, seeks_urls) == 136);
+GCV_ASSERT(sizeof(gcv_raw_known) == 144);
 GCV_ASSERT(offsetof(gcv_raw_step, name) == 0);
 GCV_ASSERT(offsetof(gcv_raw_step, name_length) == 8);
 GCV_ASSERT(offsetof(gcv_raw_step, line) == 16);
@@ -397,6 +423,9 @@ typedef struct gcv_known {
     size_t real_git_dir_length;
     const char *branch; /* its name without refs/heads/; null if HEAD is detached */
     size_t branch_length;
+    const gcv_text *urls; /* the URLs of all remotes, for hasconfig:; null if there is none */
+    size_t urls_length;   /* how many there are */
+    int seeks_urls;       /* not 0 while URLs are sought: then each hasconfig:remote.*.url: holds */
 } gcv_known;
 
 /* The most files that a walk is in: a file, and ten that are included, each by the one before. */
@@ -461,6 +490,20 @@ GCV_CHECKED gcv_status gcv_interpolate_with(const char *text, size_t length, con
                                             gcv_find_home *find, void *state, char *GCV_RESTRICT buffer,
                                             size_t capacity, size_t *size, gcv_fault *fault) GCV_NONNULL((3, 8));
 
+/* Finds an environment variable. Returns its value, which ends with NUL and must stay valid until the call returns, or
+ * null if it is not set. */
+typedef const char *gcv_get_variable(void *state, const char *name);
+
+/* Writes the settings of a command as the text of a configuration file: those of GIT_CONFIG_COUNT, and those of
+ * GIT_CONFIG_PARAMETERS, in which `git -c` hands them on. `get(state, ..)` finds these variables, and GIT_CONFIG_KEY_n
+ * and GIT_CONFIG_VALUE_n. Git reads that text last, and calls the file `command line`. It is in no folder: give a walk
+ * the real directory "\0" of length 1, and open none of what it includes unless the name begins with `/`.
+ *
+ * Returns the status of the first setting that Git refuses: GCV_BAD_COUNT to GCV_KEY_LINE_FEED. It asks for each
+ * variable twice, allocates and frees memory, and returns GCV_NO_MEMORY if malloc fails: then bytes may be written. */
+GCV_CHECKED gcv_status gcv_command_text(gcv_get_variable *get, void *state, char *GCV_RESTRICT buffer, size_t capacity,
+                                        size_t *size) GCV_NONNULL((1, 5));
+
 /* The calls that are proved. No pointer may be null. */
 gcv_status gcv_raw_read_suffix(const char *text, size_t length, gcv_suffix *out, gcv_fault *fault);
 gcv_status gcv_raw_read_integer(const char *text, size_t length, gcv_integer *out, gcv_fault *fault);
@@ -502,6 +545,11 @@ gcv_status gcv_raw_enter(size_t *count, gcv_frame *frame, const char *name, size
                          size_t real_dir_length, const char *text, size_t length);
 gcv_status gcv_raw_next(gcv_frame *frames, size_t frames_count, size_t *count, const gcv_raw_known *known, char *buffer,
                         size_t capacity, gcv_raw_step *out);
+gcv_status gcv_raw_command_setting(const char *key, size_t key_length, const char *value, size_t value_length,
+                                   char *buffer, size_t capacity, size_t *size);
+gcv_status gcv_raw_command_parameters(const char *parameters, size_t parameters_length, char *buffer, size_t capacity,
+                                      size_t *size);
+gcv_status gcv_raw_command_count(const char *text, size_t length, size_t *count);
 void gcv_raw_cut_mark(const char *text, size_t length, uint32_t *optional, size_t *start);
 gcv_status gcv_raw_interpolate(const char *text, size_t length, uint32_t has_install_dir, const char *install_dir,
                                size_t install_dir_length, uint32_t has_home, const char *home, size_t home_length,
@@ -852,7 +900,8 @@ GCV_INLINE uint32_t gcv_give(const char *text, size_t length, const char **to, s
 /* Returns what a walk knows for gcv_raw_next, which takes no null pointer. */
 GCV_INLINE gcv_raw_known gcv_give_all(const gcv_known *known)
 {
-    static const gcv_known nothing = {NULL, 0, NULL, 0, NULL, 0, NULL, 0, NULL, 0, NULL, 0};
+    static const gcv_known nothing = {NULL, 0, NULL, 0, NULL, 0, NULL, 0, NULL, 0, NULL, 0, NULL, 0, 0};
+    static const gcv_text no_urls[1] = {{"", 0}};
     const gcv_known *of = known ? known : &nothing;
     int is_home = !of->real_home, is_git_dir = !of->real_git_dir;
     gcv_raw_known raw;
@@ -864,6 +913,9 @@ GCV_INLINE gcv_raw_known gcv_give_all(const gcv_known *known)
     gcv_give(is_git_dir ? of->git_dir : of->real_git_dir, is_git_dir ? of->git_dir_length : of->real_git_dir_length,
              &raw.real_git_dir, &raw.real_git_dir_length);
     raw.has_branch = gcv_give(of->branch, of->branch_length, &raw.branch, &raw.branch_length);
+    raw.urls = of->urls ? of->urls : no_urls;
+    raw.urls_length = of->urls ? of->urls_length : 0;
+    raw.seeks_urls = of->seeks_urls ? 1 : 0;
     raw.follows = known ? 1 : 0;
     return raw;
 }
@@ -872,9 +924,10 @@ GCV_INLINE gcv_raw_known gcv_give_all(const gcv_known *known)
  * name of the file that it includes if it includes one, each with a NUL. Writes null for a text that is not there.
  *
  * `out->include` is GCV_NO_INCLUDE if the entry includes no file, or if its condition does not hold: without a
- * repository only include.path includes, and hasconfig: never does. A null `known` means that no entry includes a file.
- * Otherwise it is GCV_NO_VALUE if there is no value, and GCV_NO_DIRECTORY if the value begins with `~` and a user's
- * name, or with a directory that is null.
+ * repository no condition on it does. A null `known` means that no entry includes a file. If there is a condition
+ * hasconfig:remote.*.url:, Git walks over all files with `seeks_urls` first, to get the values of all remote.NAME.url.
+ * It stops at one in a file that is included on a condition. Otherwise `out->include` is GCV_NO_VALUE if there is no
+ * value, and GCV_NO_DIRECTORY if the value begins with `~` and a user's name, or with a directory that is null.
  *
  * Returns GCV_ABSENT after the last entry; then the walk may enter another file. Returns GCV_BAD_LINE and GCV_NUL as
  * gcv_add_file does, and writes the file and the line to `*out`. The file ends there: the next call goes on after the

@@ -1,3 +1,4 @@
+pub mod AddedLines
 pub mod Entries
 pub mod Frames
 pub mod GivenKnown

@@ -39,7 +39,9 @@ all_statuses =
     ∷ statuses.UnknownKind ∷ statuses.UnknownFault ∷ statuses.BadSuffix ∷ statuses.BadName ∷ statuses.BadFlag
     ∷ statuses.Ok ∷ statuses.BadLengths ∷ statuses.ShortBuffer ∷ statuses.NoMemory
     ∷ statuses.BadLine ∷ statuses.Nul ∷ statuses.NoInclude ∷ statuses.NoValue ∷ statuses.NoDirectory
-    ∷ statuses.TooDeep ∷ statuses.BadDepth ∷ []
+    ∷ statuses.TooDeep ∷ statuses.BadDepth ∷ statuses.BadCount ∷ statuses.TooManySettings ∷ statuses.MissingKey
+    ∷ statuses.MissingValue ∷ statuses.BadParameters ∷ statuses.NoKey ∷ statuses.EmptyKey ∷ statuses.NoSection
+    ∷ statuses.NoKeyName ∷ statuses.BadKey ∷ statuses.KeyLineFeed ∷ []
 
 pub statuses_apart : TellsApart status_number
 statuses_apart = told_apart status_number (λ n. slice_get all_statuses n) again where

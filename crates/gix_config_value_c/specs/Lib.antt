@@ -6,6 +6,7 @@ pub mod Values
 pub mod Faults
 pub mod Texts
 pub mod Colors
+pub mod Commands
 pub mod Json
 pub mod Settings
 pub mod Files

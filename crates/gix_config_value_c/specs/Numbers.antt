@@ -39,6 +39,17 @@ status_number statuses.NoValue = 18
 status_number statuses.NoDirectory = 19
 status_number statuses.TooDeep = 20
 status_number statuses.BadDepth = 21
+status_number statuses.BadCount = 22
+status_number statuses.TooManySettings = 23
+status_number statuses.MissingKey = 24
+status_number statuses.MissingValue = 25
+status_number statuses.BadParameters = 26
+status_number statuses.NoKey = 27
+status_number statuses.EmptyKey = 28
+status_number statuses.NoSection = 29
+status_number statuses.NoKeyName = 30
+status_number statuses.BadKey = 31
+status_number statuses.KeyLineFeed = 32
 
 -- the number of a kind
 abbrev pub kind_number : Kind → ℕ

@@ -13,6 +13,7 @@ use Rattle.config_file.specs.declared.errors.Error.{Error}
 use Rattle.config_file.specs.declared.include.Includes.{Includes}
 use Rattle.config_file.specs.declared.include.Includes.TheVariants.{AsGit, Skipped}
 use Rattle.config_file.specs.declared.include.Repository.{Repository}
+use Rattle.config_file.specs.declared.include.Urls.{Urls}
 use Rattle.config_file.specs.declared.include.Urls.TheVariants as urls_of
 use Rattle.config_file.specs.declared.section.Section.{Section}
 use Rattle.config_file.specs.declared.walk.Frame.{Frame}
@@ -67,7 +68,7 @@ pub data EntersInto (count : ℕ) (frame : GcvFrame) (name real_dir text : List 
 -- the flags of what is known
 abbrev pub flags : GcvKnown → List ℕ
 flags known = known.has_install_dir ∷ known.has_home ∷ known.has_repository ∷ known.has_branch
-    ∷ known.has_real_home ∷ known.follows ∷ []
+    ∷ known.has_real_home ∷ known.seeks_urls ∷ known.follows ∷ []
 
 -- the repository is the given one: the git directory with its flag (0: no repository), the git directory with
 -- links resolved, the branch, and the home directory with links resolved
@@ -78,11 +79,16 @@ IsRepository known (Some r) = IsGiven (known.has_repository, known.git_dir.now) 
     × IsGiven (known.has_branch, known.branch.now) (option_copied r.branch)
     × IsGiven (known.has_real_home, known.real_home.now) (option_copied r.real_home)
 
--- which includes are followed; no URL of a remote is known
+-- the URLs of remotes are the given ones, or they are being sought, by the flag for that
+abbrev pub AreUrls : ℕ → Bor (List (Bor (List ℕ))) → Urls → Type 0
+AreUrls seeks given urls_of.Sought = seeks ≡ 1
+AreUrls seeks given (urls_of.Known urls) = (seeks ≡ 0) × (urls.now ≡ given.now)
+
+-- which includes are followed
 pub data AreIncludes (known : GcvKnown) : Includes → Type 0 where
   skipped : known.follows ≡ 0 → AreIncludes known Skipped
-  as_git : (repository : Option Repository) (urls : Bor (List (Bor (List ℕ)))) → known.follows ≡ 1
-      → IsRepository known repository → urls.now ≡ [] → AreIncludes known (AsGit repository (urls_of.Known urls))
+  as_git : (repository : Option Repository) (urls : Urls) → known.follows ≡ 1 → IsRepository known repository
+      → AreUrls known.seeks_urls known.urls urls → AreIncludes known (AsGit repository urls)
 
 -- this is known, by its flags
 pub record IsKnown (known : GcvKnown) (is : Known) : Type 0 where

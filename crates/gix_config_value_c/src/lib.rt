@@ -6,6 +6,7 @@
 
 mod buffer;
 mod colors;
+mod commands;
 mod faults;
 mod files;
 mod json;

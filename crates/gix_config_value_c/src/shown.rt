@@ -24,7 +24,7 @@ use crate::status::Status;
 use crate::structs::{GcvColor, GcvInteger, GcvName, color_of, integer_of, name_of};
 use bitflags::Flags;
 use config_word::name::rgb_bytes;
-use gix_config_value::canonical::Value;
+use gix_config_value::canonical::{CanonicalText, Value};
 use gix_config_value::color::{Attribute, Name};
 use gix_config_value::{Boolean, Color};
 use itoa::Buffer;
@@ -120,12 +120,14 @@ fn put_long_set(set: Attribute, buffer: &mut [u8], length: &mut usize) -> u32
     put(set.shown().as_str().as_bytes(), buffer, length)
 }
 
-/// Puts any color, by its shown text.
+/// Puts any color, by its shown text. The one text here is filled in its place, so that no other is cleared.
 #[inline(never)]
 fn put_long_color(color: Color, buffer: &mut [u8], length: &mut usize) -> u32
     ensures { PutsText (color_shown color) buffer.old buffer.new length.new result }
 {
-    put(color.shown().as_str().as_bytes(), buffer, length)
+    let mut text = CanonicalText::new();
+    color.show(&mut text);
+    put(text.as_str().as_bytes(), buffer, length)
 }
 
 /// Shows a name. Returns `BadName` if the struct represents no name.

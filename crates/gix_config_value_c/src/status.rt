@@ -45,4 +45,26 @@ pub enum Status {
     TooDeep = 20,
     /// No depth of colors has this number.
     BadDepth = 21,
+    /// `GIT_CONFIG_COUNT` is no number.
+    BadCount = 22,
+    /// `GIT_CONFIG_COUNT` is larger than 2147483647.
+    TooManySettings = 23,
+    /// There is no `GIT_CONFIG_KEY_n` for a number below `GIT_CONFIG_COUNT`.
+    MissingKey = 24,
+    /// There is no `GIT_CONFIG_VALUE_n` for such a number.
+    MissingValue = 25,
+    /// `GIT_CONFIG_PARAMETERS` has something else than quoted texts, `=` and white space.
+    BadParameters = 26,
+    /// A text of `GIT_CONFIG_PARAMETERS` is empty, or begins with `=`.
+    NoKey = 27,
+    /// The key of a setting of a command is empty.
+    EmptyKey = 28,
+    /// The key of a setting of a command has no section.
+    NoSection = 29,
+    /// The key of a setting of a command ends with a dot.
+    NoKeyName = 30,
+    /// The key of a setting of a command has a byte that is not allowed there.
+    BadKey = 31,
+    /// The key of a setting of a command has a line feed.
+    KeyLineFeed = 32,
 }

@@ -9,6 +9,9 @@ ghost use Rattle.gix_config_value_c.specs.Files.{ended};
 ghost use Rattle.gix_config_value_c.specs.Numbers.{status_number};
 ghost use Rattle.gix_config_value_c.specs.Paths.{HasBadFlag};
 ghost use Rattle.gix_config_value_c.specs.Walks.{HoldsSection, HoldsFrame, AreTextsOf, EntersInto, NextInto};
+ghost use Rattle.gix_config_value_c.specs.Numbers.{flag_number};
+ghost use Rattle.gix_config_value_c.specs.Values.{IsNoValue};
+ghost use Rattle.gix_config_value_c.specs.Walks.{AreUrls};
 ghost use Rattle.gix_config_value_c.specs.Walks.{flags, IsKnown, name_in, include_status, step_struct, line_struct};
 
 use crate::files::{Setting, fault_status, push_text, push_value};
@@ -62,6 +65,8 @@ pub struct GcvKnown<'k> {
     pub real_git_dir: &'k [u8],
     /// The name of the branch.
     pub branch: &'k [u8],
+    /// The URLs of remotes: the values of all entries `remote.NAME.url`.
+    pub urls: &'k [&'k [u8]],
     /// Whether the directory where Git is installed is known.
     pub has_install_dir: u32,
     /// Whether the home directory is known.
@@ -74,6 +79,8 @@ pub struct GcvKnown<'k> {
     pub has_branch: u32,
     /// 1 if includes are followed as Git follows them, and 0 if none is.
     pub follows: u32,
+    /// 1 if the URLs of remotes are being sought, so that each condition on them holds.
+    pub seeks_urls: u32,
 }
 
 /// What a step of a walk tells.
@@ -227,6 +234,16 @@ fn repository_of<'r>(
     }
 }
 
+/// Returns the URLs of remotes, or `None` if the flag is neither 0 nor 1.
+fn urls_of<'k>(seeks: u32, urls: &'k [&'k [u8]]) -> Option<Urls<'k>>
+    ensures { MatchOption result (IsNoValue flag_number seeks) (AreUrls seeks urls.entry) }
+{
+    if flag_of(seeks)? {
+        return Some(Urls::Sought);
+    }
+    Some(Urls::Known(urls))
+}
+
 /// Returns what is known, or `None` if a flag is neither 0 nor 1.
 fn known_of<'k>(known: &GcvKnown<'k>) -> Option<Known<'k>>
     ensures { MatchOption result (HasBadFlag (flags known.now)) (IsKnown known.now) }
@@ -236,6 +253,7 @@ fn known_of<'k>(known: &GcvKnown<'k>) -> Option<Known<'k>>
     let git_dir = given(known.has_repository, known.git_dir)?;
     let branch = given(known.has_branch, known.branch)?;
     let real_home = given(known.has_real_home, known.real_home)?;
+    let urls = urls_of(known.seeks_urls, known.urls)?;
     let directories = Directories { home, install_dir };
     if !flag_of(known.follows)? {
         return Some(Known {
@@ -246,7 +264,7 @@ fn known_of<'k>(known: &GcvKnown<'k>) -> Option<Known<'k>>
     let repository = repository_of(git_dir, known.real_git_dir, branch, real_home);
     Some(Known {
         directories,
-        includes: Includes::AsGit(repository, Urls::Known(&[])),
+        includes: Includes::AsGit(repository, urls),
     })
 }
 

@@ -702,9 +702,11 @@ static gcv_status enters(walked *of, const char *file, const char *text)
     return gcv_enter(&of->walk, file, strlen(file), "/real/p", 7, text, strlen(text));
 }
 
-static const gcv_known nothing = {NULL, 0, NULL, 0, NULL, 0, NULL, 0, NULL, 0, NULL, 0};
-static const gcv_known all = {"/usr", 4, "/home/u", 7, "/w", 2, "/w/p/.git", 9, "/real/p/.git", 12, "main/x", 6};
-static const gcv_known kept = {NULL, 0, "/w", 2, NULL, 0, "/w/p/.git", 9, NULL, 0, NULL, 0};
+static const gcv_text remotes[] = {{"git@x:y", 7}, {"https://a/b", 11}};
+static const gcv_known nothing = {NULL, 0, NULL, 0, NULL, 0, NULL, 0, NULL, 0, NULL, 0, NULL, 1, 0};
+static const gcv_known all = {"/usr", 4, "/home/u", 7, "/w", 2, "/w/p/.git", 9, "/real/p/.git", 12, "main/x", 6, remotes, 2, 0};
+static const gcv_known kept = {NULL, 0, "/w", 2, NULL, 0, "/w/p/.git", 9, NULL, 0, NULL, 0, remotes, 1, 0};
+static const gcv_known seeking = {NULL, 0, NULL, 0, NULL, 0, NULL, 0, NULL, 0, NULL, 0, NULL, 0, 2};
 
 /* Includes as the section "Includes" of git-config(1) describes them. */
 static void includes(void)
@@ -743,7 +745,12 @@ static void includes(void)
         {"[includeIf \"gitdir:/v/\"]path", "includeif.gitdir:/v/.path", NULL, &all, GCV_NO_INCLUDE, NULL},
         {"[includeIf \"onbranch:main/\"]path=e", "includeif.onbranch:main/.path", "e", &all, GCV_OK, "/J\xf6rg/e"},
         {"[includeIf \"onbranch:main\"]path=e", "includeif.onbranch:main.path", "e", &all, GCV_NO_INCLUDE, NULL},
-        {"[includeIf \"hasconfig:remote.*.url:*\"]path=e", "includeif.hasconfig:remote.*.url:*.path", "e", &all, GCV_NO_INCLUDE, NULL},
+        {"[includeIf \"hasconfig:remote.*.url:*\"]path=e", "includeif.hasconfig:remote.*.url:*.path", "e", &all, GCV_OK, "/J\xf6rg/e"},
+        {"[includeIf \"hasconfig:remote.*.url:https://*/**\"]path=e", "includeif.hasconfig:remote.*.url:https://*/**.path", "e", &all, GCV_OK, "/J\xf6rg/e"},
+        {"[includeIf \"hasconfig:remote.*.url:https://*/**\"]path=e", "includeif.hasconfig:remote.*.url:https://*/**.path", "e", &kept, GCV_NO_INCLUDE, NULL},
+        {"[includeIf \"hasconfig:remote.*.url:**\"]path=e", "includeif.hasconfig:remote.*.url:**.path", "e", &nothing, GCV_NO_INCLUDE, NULL},
+        {"[includeIf \"hasconfig:remote.*.url:x\"]path=e", "includeif.hasconfig:remote.*.url:x.path", "e", &seeking, GCV_OK, "/J\xf6rg/e"},
+        {"[includeIf \"onbranch:**\"]path=e", "includeif.onbranch:**.path", "e", &seeking, GCV_NO_INCLUDE, NULL},
         {"[include]path=a.inc", "include.path", "a.inc", &nothing, GCV_OK, "/J\xf6rg/a.inc"},
         {"[include]path=~/b", "include.path", "~/b", &nothing, GCV_NO_DIRECTORY, NULL},
         {"[include]path=%(prefix)/c", "include.path", "%(prefix)/c", &nothing, GCV_NO_DIRECTORY, NULL},
@@ -840,10 +847,10 @@ static void overwritten(void)
             count(enters(&of, "main", text) == GCV_TOO_DEEP && is_same(&of.walk, &after), "a walk that was overwritten, entered");
         }
     }
-    for (uint32_t at = 0; at < 6; at++) {
-        gcv_raw_known known = {"", 0, "", 0, "", 0, "", 0, "", 0, "", 0, 0, 0, 0, 0, 0, 1};
-        uint32_t *const flags[] = {&known.has_install_dir, &known.has_home,   &known.has_real_home,
-                                   &known.has_repository,  &known.has_branch, &known.follows};
+    for (uint32_t at = 0; at < 7; at++) {
+        gcv_raw_known known = {"", 0, "", 0, "", 0, "", 0, "", 0, "", 0, remotes, 0, 0, 0, 0, 0, 0, 1, 0};
+        uint32_t *const flags[] = {&known.has_install_dir, &known.has_home, &known.has_real_home, &known.has_repository,
+                                   &known.has_branch,      &known.follows,  &known.seeks_urls};
         gcv_raw_step raw = {"?", 1, UNTOUCHED, UNTOUCHED, UNTOUCHED, UNTOUCHED, UNTOUCHED, GCV_ABSENT};
         gcv_raw_step before = raw;
         char buffer[32] = "?";
@@ -852,6 +859,84 @@ static void overwritten(void)
         count(gcv_raw_next(after.frames, 1, &after.count, &known, buffer, sizeof buffer, &raw) == GCV_BAD_FLAG &&
                   memcmp(&raw, &before, sizeof raw) == 0 && strcmp(buffer, "?") == 0 && is_same(&made.walk, &after),
               "a bad flag of a walk");
+    }
+}
+
+/* The variables of a command: names and values in turn. */
+static const char *variable(void *state, const char *name)
+{
+    const char *const *variables = (const char *const *)state;
+    for (; *variables; variables += 2) {
+        if (strcmp(*variables, name) == 0) {
+            return variables[1];
+        }
+    }
+    return NULL;
+}
+
+#define COUNTED(count, key, value) {"GIT_CONFIG_COUNT", count, "GIT_CONFIG_KEY_0", key, "GIT_CONFIG_VALUE_0", value, NULL}
+#define PARAMETERS(text) {"GIT_CONFIG_PARAMETERS", text, NULL}
+
+/* The settings of a command, as Git 2.55.0 reads them or refuses them, and the key and the value of the last one. */
+static void commands(void)
+{
+    static const struct {
+        const char *variables[14];
+        gcv_status status;
+        size_t settings;
+        const char *key, *value;
+    } rows[] = {
+        {{NULL}, GCV_OK, 0, NULL, NULL},
+        {COUNTED("", "a.b", "c"), GCV_OK, 0, NULL, NULL},
+        {COUNTED(" +1", "A.B", "c \"\\\n#"), GCV_OK, 1, "a.b", "c \"\\\n#"},
+        {COUNTED("1", "a.\xff B.c", ""), GCV_OK, 1, "a.\xff B.c", ""},
+        {PARAMETERS("'a.b=c' 'a.b'='d'\\''e'\t'x.y'"), GCV_OK, 3, "x.y", NULL},
+        {{"GIT_CONFIG_COUNT", "2", "GIT_CONFIG_KEY_0", "a.a", "GIT_CONFIG_VALUE_0", "1", "GIT_CONFIG_KEY_1", "a.c",
+          "GIT_CONFIG_VALUE_1", "2", "GIT_CONFIG_PARAMETERS", "'a.p'='3'", NULL}, GCV_OK, 3, "a.p", "3"},
+        {{"GIT_CONFIG_COUNT", "1", "GIT_CONFIG_KEY_0", "a.b", NULL}, GCV_MISSING_VALUE, 0, NULL, NULL},
+        {COUNTED("2", "a.b", "c"), GCV_MISSING_KEY, 0, NULL, NULL},
+        {COUNTED("x", "a.b", "c"), GCV_BAD_COUNT, 0, NULL, NULL},
+        {COUNTED("2147483648", "a.b", "c"), GCV_TOO_MANY_SETTINGS, 0, NULL, NULL},
+        {COUNTED("-1", "a.b", "c"), GCV_TOO_MANY_SETTINGS, 0, NULL, NULL},
+        {COUNTED("1", "", "c"), GCV_EMPTY_KEY, 0, NULL, NULL},
+        {COUNTED("1", "ab", "c"), GCV_NO_SECTION, 0, NULL, NULL},
+        {COUNTED("1", "a.", "c"), GCV_NO_KEY_NAME, 0, NULL, NULL},
+        {COUNTED("1", "a.b_c", "c"), GCV_BAD_KEY, 0, NULL, NULL},
+        {COUNTED("1", "a.\n.c", "c"), GCV_KEY_LINE_FEED, 0, NULL, NULL},
+        {PARAMETERS("a.b=c"), GCV_BAD_PARAMETERS, 0, NULL, NULL},
+        {PARAMETERS("'=c'"), GCV_NO_KEY, 0, NULL, NULL},
+    };
+    for (size_t at = 0; at < sizeof rows / sizeof rows[0]; at++) {
+        void *state = (void *)(uintptr_t)rows[at].variables;
+        size_t size = UNTOUCHED, needed = UNTOUCHED, index = 0, found = 0;
+        char text[256] = "?", bytes[256] = "";
+        gcv_place places[4];
+        gcv_settings settings = {bytes, sizeof bytes, 0, places, 4, 0};
+        gcv_setting setting = {NULL, NULL, 0};
+        gcv_file file;
+        int is_read = rows[at].status == GCV_OK;
+        gcv_status counts = gcv_command_text(variable, state, NULL, 0, &needed);
+        count(counts == (is_read && rows[at].settings > 0 ? GCV_SHORT_BUFFER : rows[at].status), "a command without room");
+        count(gcv_command_text(variable, state, text, sizeof text, &size) == rows[at].status && size == needed &&
+                  (is_read ? size < sizeof text : size == UNTOUCHED && text[0] == '?'),
+              "the text of a command");
+        if (!is_read) {
+            continue;
+        }
+        if (size > 0) {
+            char shorter[256] = "?";
+            count(gcv_command_text(variable, state, shorter, size - 1, &size) == GCV_SHORT_BUFFER && size == needed &&
+                      shorter[0] == '?',
+                  "a command with one byte too little");
+        }
+        count(gcv_add_file(&settings, text, size, &file) == GCV_OK && settings.count == rows[at].settings, "the lines of a command");
+        while (gcv_next_setting(&settings, &index, &setting) == GCV_OK) {
+            found++;
+        }
+        count(found == rows[at].settings &&
+                  (found == 0 || (strcmp(setting.key, rows[at].key) == 0 &&
+                                  (rows[at].value ? setting.value && strcmp(setting.value, rows[at].value) == 0 : !setting.value))),
+              "the last setting of a command");
     }
 }
 
@@ -906,7 +991,7 @@ static void patterns(void)
         char *text = (char *)malloc(front + once * rows[at].times + strlen(rows[at].back) + sizeof "[includeIf \"\"]path=e");
         char *tree = (char *)malloc(letters + sizeof "//.git");
         char *end = text + sprintf(text, "[includeIf \"%s", rows[at].front);
-        asked of = {text, {NULL, 0, NULL, 0, NULL, 0, tree, letters + 6, NULL, 0, tree + 1, letters}, GCV_REFUSED, 0};
+        asked of = {text, {NULL, 0, NULL, 0, NULL, 0, tree, letters + 6, NULL, 0, tree + 1, letters, NULL, 0, 0}, GCV_REFUSED, 0};
         pthread_t thread;
         for (size_t time = 0; time < rows[at].times; time++) {
             memcpy(end, rows[at].repeated, once);
@@ -952,6 +1037,7 @@ int main(void)
     walks();
     depth();
     overwritten();
+    commands();
     patterns();
     return finish();
 }

@@ -80,7 +80,10 @@ TYPES |= {f"Gcv{it.title()}": f"gcv_{it}" for it in ("integer", "name", "color",
 TYPES |= {f"Gcv{it.title()}": f"gcv_raw_{it}" for it in ("known", "step")}
 # the enums of C are numbers of 32 bits, and a text is of chars
 NUMBERED = re.compile(r"\bgcv_(status|kind|fault|suffix|depth|tag)\b")
-SIZES = {"int64_t": (8, 8), "uint32_t": (4, 4), "uint8_t": (1, 1), "size_t": (8, 8), "const uint8_t *": (8, 8)}
+# the pointers to what is in slices: bytes, and texts
+SLICES = {"&[u8]": "const uint8_t *", "&[&[u8]]": "const gcv_text *"}
+SIZES = {"int64_t": (8, 8), "uint32_t": (4, 4), "uint8_t": (1, 1), "size_t": (8, 8)}
+SIZES |= dict.fromkeys(SLICES.values(), (8, 8))
 LIFETIMES = re.compile(r"<'[^>]*>|'\w+ ")
 
 
@@ -125,8 +128,8 @@ def sources():
 def fields_of(body):
     """The fields of a struct of Rattle, as C has them. A slice is a pointer and a length."""
     for name, kind in re.findall(r"^    pub (\w+): (.*),$", body, re.MULTILINE):
-        if kind == "&[u8]":
-            yield from ((name, "const uint8_t *"), (f"{name}_length", "size_t"))
+        if kind in SLICES:
+            yield from ((name, SLICES[kind]), (f"{name}_length", "size_t"))
         else:
             yield name, TYPES[kind]
 

@@ -125,7 +125,7 @@ static gcv_status add_file(const void *state, char *buffer, size_t capacity, siz
 static gcv_status next(const void *state, char *buffer, size_t capacity, size_t *size)
 {
     static const char text[] = "[includeIf \"onbranch:ma*\"]path=~/x\\t";
-    static const gcv_known known = {NULL, 0, "/home/u", 7, NULL, 0, "/w/.git", 7, NULL, 0, "main", 4};
+    static const gcv_known known = {NULL, 0, "/home/u", 7, NULL, 0, "/w/.git", 7, NULL, 0, "main", 4, NULL, 0, 0};
     gcv_walk walk = {0}, before;
     gcv_step step;
     (void)state;
@@ -140,6 +140,19 @@ static gcv_status next(const void *state, char *buffer, size_t capacity, size_t 
         return step.include == GCV_OK ? status : UNTOUCHED;
     }
     return step.size == UNTOUCHED && memcmp(&before, &walk, sizeof walk) == 0 ? status : UNTOUCHED;
+}
+
+/* The variables of a command: one setting. */
+static const char *variable(void *state, const char *name)
+{
+    (void)state;
+    return strcmp(name, "GIT_CONFIG_PARAMETERS") == 0 ? "'a.b'='c'" : NULL;
+}
+
+static gcv_status command(const void *state, char *buffer, size_t capacity, size_t *size)
+{
+    (void)state;
+    return gcv_command_text(variable, NULL, buffer, capacity, size);
 }
 
 /* The call asks for memory this many times. If one of these requests is refused, the call writes nothing, and frees
@@ -178,6 +191,7 @@ int main(void)
     ASKS(read_and_show, "red bold", 0);
     ASKS(normalize, "16k", 0);
     ASKS(add_file, "a.b", 3);
+    ASKS(command, "[a]b=c\n", 10);
     ASKS(next, "includeif.onbranch:ma*.path\0~/x\t\0/home/u/x\t\0", 10);
     return finish();
 }

@@ -232,6 +232,9 @@ for builder in $pythons; do
             PYTHONPATH="$work/site" "$python" -X dev -W error -bb -m unittest test_package test_files
     done
 done
+if [ -n "$pythons" ]; then
+    counted "what Python reads in a folder" python3 "$root/compare/here.py" --places 60 --python "$work/site"
+fi
 for python in $pythons; do
     "$python" -m pip --version > /dev/null 2>&1 || continue
     holds "$("$python" -V) takes the wheel" "$python" -m pip install --quiet --disable-pip-version-check --no-index \

@@ -1,7 +1,9 @@
 //! Runs each caller of `crates/uses` on texts as a user writes them.
 
+use crate::host::{Calls, Faulty};
 use crate::support::equal;
 use bstr::BStr;
+use bumpalo::Bump;
 use config_file::settings::GetError;
 use config_file::{Key, Settings};
 use gix_config_value::canonical::normalize_as;
@@ -9,12 +11,15 @@ use gix_config_value::color::Depth;
 use gix_config_value::integer::Amount;
 use gix_config_value::path::interpolate::{Context, absent};
 use gix_config_value::{Boolean, Color, Fault, Path};
+use std::alloc::Alloc;
+use std::fs;
 use std::test::Fail;
 use uses::headline::color_of_both;
 use uses::literals::{default_limit, default_warning};
 use uses::paths::{path_at_home, path_of_user};
 use uses::push_default::{PushDefault, push_default};
 use uses::repository::{File, is_bare, read};
+use uses::six_settings::six_settings;
 use uses::theme::{drawn, preview};
 
 /// The files of the system, the user and the repository. The expected results are those of Git 2.39.5.
@@ -111,6 +116,56 @@ fn reads_a_kind_of_its_own(rt: HostRuntime) -> Result<(), Fail> {
     let entries: [(&[u8], &[u8]); 1] = [(b"push.default", b"matching")];
     assert!(rt; push_default(&entries) == Ok(PushDefault::Matching));
     assert!(rt; push_default(&[]) == Ok(PushDefault::Simple));
+    Ok(())
+}
+
+/// The files of a bare repository.
+const BARE: [(&str, &str); 4] = [
+    ("uses.six/HEAD", "ref: refs/heads/main\n"),
+    ("uses.six/objects/x", ""),
+    ("uses.six/refs/x", ""),
+    (
+        "uses.six/config",
+        "[core]\n\tbare = true\n\teditor = vim -c \\\"set tw=72\\\"\n[user]\n\tname = Bob\n\tname = Ann\n\
+            [pull]\n\trebase\n[remote \"origin\"]\n\turl = https://example.com/a.git\n",
+    ),
+];
+
+/// What `git config --show-scope --show-origin --get` shows there.
+const SIX: &str = "local\tconfig:2\tcore.bare = true\n\
+    local\tconfig:3\tcore.editor = vim -c \"set tw=72\"\n\
+    local\tconfig:6\tuser.name = Ann\n\
+    push.default is not set\n\
+    local\tconfig:8\tpull.rebase = true\n\
+    local\tconfig:10\tremote.origin.url = https://example.com/a.git\n";
+
+/// What the tool writes of this folder.
+fn six_of(host: &Faulty<'_>, folder: &[u8]) -> Result<Vec<u8>, Fail> {
+    let texts = Bump::new(host.alloc());
+    let mut written = Vec::new(host.alloc());
+    match six_settings(host, &texts, folder, &mut written) {
+        Ok(()) => Ok(written),
+        Err(_) => Err(Fail::new("settings that Git reads")),
+    }
+}
+
+#[test]
+fn writes_six_settings(rt: HostRuntime) -> Result<(), Fail> {
+    for (name, text) in BARE {
+        if let Some((folder, _)) = name.rsplit_once('/') {
+            fs::create_dir_all(&rt, folder)?;
+        }
+        fs::write(&rt, name, text.as_bytes())?;
+    }
+    let calls = Calls::new(usize::MAX);
+    let given = six_of(&Faulty::with(&rt, &calls, &[]), b"uses.six")?;
+    equal(
+        &rt,
+        BStr::new(&given),
+        BStr::new(SIX.as_bytes()),
+        "six settings",
+    );
+    fs::remove_dir_all(&rt, "uses.six")?;
     Ok(())
 }
 

@@ -1,10 +1,10 @@
 //! What is read in a folder. The wanted settings and refusals are those of Git 2.55.0, which was asked in the
 //! same folders with the same variables. Each row is named after the mistake that it catches.
 
-use crate::host::Faulty;
+use crate::host::{Calls, Faulty};
 use bumpalo::Bump;
 use config_host::{Here, HereError, read_here};
-use std::alloc::{AllocError, Global};
+use std::alloc::{Alloc, AllocError, Global};
 use std::fmt::Write;
 use std::string::ToString;
 use std::test::Fail;
@@ -231,14 +231,13 @@ fn text_of(alloc: Global, here: &Here<'_>) -> Result<String, Fail> {
     Ok(text)
 }
 
-/// What is read in the folder of a row.
-fn read(rt: &HostRuntime, row: &Row) -> Result<String, Fail> {
-    let host = Faulty::with(rt, row.variables);
-    let texts = Bump::new(rt.alloc());
-    let folder = format!(in rt.alloc(); "{ROOT}/{}", row.folder)?;
-    match read_here(&host, &texts, folder.as_bytes()) {
-        Ok(here) => text_of(rt.alloc(), &here),
-        Err(error) => Ok(format!(in rt.alloc(); "!{error}")?),
+/// What is read in this folder.
+fn read(host: &Faulty<'_>, folder: &str) -> Result<String, Fail> {
+    let texts = Bump::new(host.alloc());
+    let folder = format!(in host.alloc(); "{ROOT}/{folder}")?;
+    match read_here(host, &texts, folder.as_bytes()) {
+        Ok(here) => text_of(host.alloc(), &here),
+        Err(error) => Ok(format!(in host.alloc(); "!{error}")?),
     }
 }
 
@@ -247,7 +246,8 @@ fn what_is_read_in_a_folder(rt: HostRuntime) -> Result<(), Fail> {
     make(&rt)?;
     for row in &ROWS {
         let wanted = row.wanted.replace(rt.alloc(), "+", OWN)?;
-        let text = read(&rt, row)?;
+        let calls = Calls::new(usize::MAX);
+        let text = read(&Faulty::with(&rt, &calls, row.variables), row.folder)?;
         assert!(&rt;
             text.starts_with(wanted.as_str()),
             "{}: {text}",

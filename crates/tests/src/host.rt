@@ -1,6 +1,8 @@
 //! A system that refuses memory at one call, each call in turn, or that has no files.
 ghost use Rattle.std.specs.Io.{WritesAtMost};
 
+use crate::support::equal;
+use bstr::BStr;
 use bumpalo::Bump;
 use config_file::{Content, Files as Texts};
 use config_host::disk::Disk;
@@ -8,52 +10,35 @@ use config_host::environment::{HostError, arguments, variable};
 use config_host::error::HereError;
 use config_host::names::exists;
 use config_host::repository::find;
+use config_host::surroundings::Repository;
 use config_host::{files_here, read_here, shown};
 use std::alloc::{Alloc, AllocError, Allocator, Global};
 use std::cell::Cell;
 use std::env::{Env, FillError};
 use std::fmt::Display;
-use std::fs::{self, File, Files, Metadata, OpenOptions};
-use std::io::{self, ErrorKind};
+use std::fs::{self, File, Files, Metadata, OpenFile, OpenOptions, Permissions};
+use std::io::{self, ErrorKind, Read, Seek, SeekFrom, Write};
 use std::path::PathBuf;
 use std::test::Fail;
 
-/// The system of a test. The call with the number `fails_at` is refused, and GIT_DIR is `git_dir`, if that is
-/// not empty. It has these other variables.
+/// The calls of a system so far. The one with the number `fails_at` is refused.
 #[derive(Drop)]
-pub struct Faulty<'r> {
-    rt: &'r HostRuntime,
-    calls: Cell<usize>,
+pub struct Calls {
+    made: Cell<usize>,
     fails_at: usize,
-    git_dir: &'r [u8],
-    variables: &'r [(&'r str, &'r str)],
 }
 
-impl<'r> Faulty<'r> {
-    fn new(rt: &'r HostRuntime, fails_at: usize, git_dir: &'r [u8]) -> Faulty<'r> {
-        Faulty {
-            rt,
-            calls: Cell::new(0),
+impl Calls {
+    pub fn new(fails_at: usize) -> Calls {
+        Calls {
+            made: Cell::new(0),
             fails_at,
-            git_dir,
-            variables: &[],
-        }
-    }
-
-    /// A system that refuses nothing, and has these variables.
-    pub fn with(rt: &'r HostRuntime, variables: &'r [(&'r str, &'r str)]) -> Faulty<'r> {
-        Faulty {
-            rt,
-            calls: Cell::new(0),
-            fails_at: usize::MAX,
-            git_dir: b"",
-            variables,
         }
     }
 
     fn call(&self) -> io::Result<()> {
-        let number = self.calls.get();
-        self.calls.set(number.saturating_add(1));
+        let number = self.made.get();
+        self.made.set(number.saturating_add(1));
         if number == self.fails_at {
             return Err(io::Error::from(ErrorKind::OutOfMemory));
         }
@@ -61,8 +46,98 @@ impl<'r> Faulty<'r> {
     }
 
     /// Whether the call that is refused has come.
-    fn has_failed(&self) -> bool {
-        self.fails_at < self.calls.get()
+    pub fn has_failed(&self) -> bool {
+        self.fails_at < self.made.get()
+    }
+}
+
+/// The system of a test. GIT_DIR is `git_dir`, if that is not empty, and it has these other variables.
+#[derive(Drop)]
+pub struct Faulty<'r> {
+    rt: &'r HostRuntime,
+    calls: &'r Calls,
+    git_dir: &'r [u8],
+    variables: &'r [(&'r str, &'r str)],
+}
+
+impl<'r> Faulty<'r> {
+    pub fn new(rt: &'r HostRuntime, calls: &'r Calls, git_dir: &'r [u8]) -> Faulty<'r> {
+        Faulty {
+            rt,
+            calls,
+            git_dir,
+            variables: &[],
+        }
+    }
+
+    /// A system that has these variables.
+    pub fn with(
+        rt: &'r HostRuntime,
+        calls: &'r Calls,
+        variables: &'r [(&'r str, &'r str)],
+    ) -> Faulty<'r> {
+        Faulty {
+            rt,
+            calls,
+            git_dir: b"",
+            variables,
+        }
+    }
+}
+
+/// A file of such a system, whose reads, writes and other changes are calls too.
+#[derive(Drop)]
+pub struct Watched<'r> {
+    file: File,
+    calls: &'r Calls,
+}
+
+impl Read for Watched<'_> {
+    fn read(&mut self, buffer: &mut [u8]) -> io::Result<usize> {
+        self.calls.call()?;
+        self.file.read(buffer)
+    }
+}
+
+impl Write for Watched<'_> {
+    fn write(&mut self, bytes: &[u8]) -> io::Result<usize> {
+        self.calls.call()?;
+        self.file.write(bytes)
+    }
+
+    fn flush(&mut self) -> io::Result<()> {
+        self.file.flush()
+    }
+}
+
+impl Seek for Watched<'_> {
+    fn seek(&mut self, _to: SeekFrom) -> io::Result<u64> {
+        Err(io::Error::from(ErrorKind::Unsupported))
+    }
+}
+
+impl OpenFile for Watched<'_> {
+    fn metadata(&self) -> io::Result<Metadata> {
+        self.calls.call()?;
+        self.file.metadata()
+    }
+
+    fn set_len(&self, _size: u64) -> io::Result<()> {
+        Err(io::Error::from(ErrorKind::Unsupported))
+    }
+
+    fn sync_all(&self) -> io::Result<()> {
+        self.calls.call()?;
+        self.file.sync_all()
+    }
+
+    fn sync_data(&self) -> io::Result<()> {
+        Err(io::Error::from(ErrorKind::Unsupported))
+    }
+
+    fn set_permissions(&self, mode: Permissions) -> io::Result<()> {
+        self.calls.call()?;
+        self.file.set_permissions(mode)
     }
 }
 
@@ -113,19 +188,22 @@ impl Env for Faulty<'_> {
     }
 
     fn current_dir(&self, buf: &mut [u8]) -> io::Result<usize> {
-        self.call()?;
+        self.calls.call()?;
         self.rt.current_dir(buf)
     }
 }
 
-impl Files for Faulty<'_> {
-    type File = File;
+impl<'r> Files for Faulty<'r> {
+    type File = Watched<'r>;
 
     type Dir = File;
 
-    fn open_file(&self, how: &OpenOptions, path: &str) -> io::Result<File> {
-        self.call()?;
-        self.rt.open_file(how, path)
+    fn open_file(&self, how: &OpenOptions, path: &str) -> io::Result<Watched<'r>> {
+        self.calls.call()?;
+        Ok(Watched {
+            file: self.rt.open_file(how, path)?,
+            calls: self.calls,
+        })
     }
 
     fn open_dir(&self, _path: &str) -> io::Result<File> {
@@ -133,12 +211,12 @@ impl Files for Faulty<'_> {
     }
 
     fn metadata(&self, path: &str) -> io::Result<Metadata> {
-        self.call()?;
+        self.calls.call()?;
         self.rt.metadata(path)
     }
 
     fn symlink_metadata(&self, path: &str) -> io::Result<Metadata> {
-        self.call()?;
+        self.calls.call()?;
         self.rt.symlink_metadata(path)
     }
 
@@ -146,12 +224,14 @@ impl Files for Faulty<'_> {
         Err(io::Error::from(ErrorKind::Unsupported))
     }
 
-    fn rename(&self, _from: &str, _to: &str) -> io::Result<()> {
-        Err(io::Error::from(ErrorKind::Unsupported))
+    fn rename(&self, from: &str, to: &str) -> io::Result<()> {
+        self.calls.call()?;
+        self.rt.rename(from, to)
     }
 
-    fn remove_file(&self, _path: &str) -> io::Result<()> {
-        Err(io::Error::from(ErrorKind::Unsupported))
+    fn remove_file(&self, path: &str) -> io::Result<()> {
+        self.calls.call()?;
+        self.rt.remove_file(path)
     }
 
     fn create_dir(&self, _path: &str) -> io::Result<()> {
@@ -167,12 +247,12 @@ impl Files for Faulty<'_> {
     }
 
     fn canonicalize<B: Allocator>(&self, alloc: B, path: &str) -> io::Result<PathBuf<B>> {
-        self.call()?;
+        self.calls.call()?;
         self.rt.canonicalize(alloc, path)
     }
 
     fn read_link<B: Allocator>(&self, alloc: B, path: &str) -> io::Result<PathBuf<B>> {
-        self.call()?;
+        self.calls.call()?;
         self.rt.read_link(alloc, path)
     }
 }
@@ -247,11 +327,11 @@ fn is_right(host: &Faulty<'_>, call: usize) -> Result<bool, HostError> {
 }
 
 /// Whether the result is right, or the error says that memory was refused where it was.
-fn is_told(host: &Faulty<'_>, outcome: Result<bool, HostError>) -> bool {
+fn is_told(calls: &Calls, outcome: Result<bool, HostError>) -> bool {
     match outcome {
-        Ok(is_right) => is_right && !host.has_failed(),
+        Ok(is_right) => is_right && !calls.has_failed(),
         Err(HostError::System(error)) => {
-            host.has_failed() && matches!(error.kind(), ErrorKind::OutOfMemory)
+            calls.has_failed() && matches!(error.kind(), ErrorKind::OutOfMemory)
         }
         Err(HostError::Variable(_)) => false,
     }
@@ -263,23 +343,22 @@ fn refused_memory(rt: HostRuntime) -> Result<(), Fail> {
     make(&rt)?;
     for fails_at in 0..100 {
         for call in 0..4 {
-            let host = Faulty::new(&rt, fails_at, LINK);
-            let outcome = is_right(&host, call);
-            assert!(&rt; is_told(&host, outcome), "{call} at {fails_at}");
+            let calls = Calls::new(fails_at);
+            let outcome = is_right(&Faulty::new(&rt, &calls, LINK), call);
+            assert!(&rt; is_told(&calls, outcome), "{call} at {fails_at}");
         }
     }
     fs::remove_dir_all(&rt, "config_host.refused_memory")?;
     Ok(())
 }
 
-/// A system whose GIT_DIR and first argument are not UTF-8, and which refuses nothing.
-fn unrefused<'r>(rt: &'r HostRuntime) -> Faulty<'r> {
-    Faulty::new(rt, usize::MAX, b"\xff")
-}
+/// The GIT_DIR and the first argument of a system that are not UTF-8.
+const NO_TEXT: &[u8] = b"\xff";
 
 #[test]
 fn long_and_missing_variables(rt: HostRuntime) -> Result<(), Fail> {
-    let host = unrefused(&rt);
+    let calls = Calls::new(usize::MAX);
+    let host = Faulty::new(&rt, &calls, NO_TEXT);
     for (name, wanted) in [("LONG", Some(1000)), ("NONE", None)] {
         let length = variable(&host, name)?.map(|value| value.len());
         assert!(&rt; length == wanted);
@@ -297,7 +376,8 @@ fn told<E: Display + Drop>(alloc: Global, error: Option<E>) -> Result<String, Al
 
 #[test]
 fn names_that_are_not_utf8(rt: HostRuntime) -> Result<(), Fail> {
-    let host = unrefused(&rt);
+    let calls = Calls::new(usize::MAX);
+    let host = Faulty::new(&rt, &calls, NO_TEXT);
     let argument = told(rt.alloc(), arguments(&host).err())?;
     assert!(&rt; argument.as_str() == "\u{fffd}: the argument is not UTF-8");
     let texts = Bump::new(rt.alloc());
@@ -324,7 +404,8 @@ fn reason<'t>(content: &Content<'t>) -> &'t str {
 
 #[test]
 fn what_is_no_file(rt: HostRuntime) -> Result<(), Fail> {
-    let host = unrefused(&rt);
+    let calls = Calls::new(usize::MAX);
+    let host = Faulty::new(&rt, &calls, NO_TEXT);
     let texts = Bump::new(rt.alloc());
     let disk = Disk::new(&host, &texts);
     for (name, wanted) in NO_FILES {
@@ -332,6 +413,54 @@ fn what_is_no_file(rt: HostRuntime) -> Result<(), Fail> {
         assert!(&rt; reason(&content) == wanted);
     }
     assert!(&rt; !exists(&host, b"config_host.missing")?);
+    Ok(())
+}
+
+/// The branch of a repository, or nothing.
+fn branch_of(repository: Option<Repository>, alloc: Global) -> Vec<u8> {
+    match repository {
+        Some(repository) => repository.branch.unwrap_or(Vec::new(alloc)),
+        None => Vec::new(alloc),
+    }
+}
+
+/// The branch of the repository that is found in the folder of this name, or nothing.
+fn branch_in(disk: &Disk<'_, Faulty<'_>>, name: &[u8], alloc: Global) -> Result<Vec<u8>, Fail> {
+    match find(disk, name) {
+        Ok(location) => Ok(branch_of(location.repository, alloc)),
+        Err(_) => Err(Fail::new("a folder")),
+    }
+}
+
+/// Folders at and below the top of a work tree, and in its git directory, and the branch that HEAD names.
+const FOUND: [(&str, &[u8]); 3] = [
+    ("config_host.finds/top", b"a/b"),
+    ("config_host.finds/top/deep/er", b"a/b"),
+    ("config_host.finds/top/.git/refs", b"a/b"),
+];
+
+#[test]
+fn finds(rt: HostRuntime) -> Result<(), Fail> {
+    for folder in ["top/deep/er", "top/.git/objects", "top/.git/refs"] {
+        fs::create_dir_all(
+            &rt,
+            format!(in rt.alloc(); "config_host.finds/{folder}")?.as_str(),
+        )?;
+    }
+    fs::write(
+        &rt,
+        "config_host.finds/top/.git/HEAD",
+        b"ref: refs/heads/a/b\n",
+    )?;
+    let calls = Calls::new(usize::MAX);
+    let host = Faulty::new(&rt, &calls, b"");
+    let texts = Bump::new(rt.alloc());
+    let disk = Disk::new(&host, &texts);
+    for (folder, wanted) in FOUND {
+        let branch = branch_in(&disk, folder.as_bytes(), rt.alloc())?;
+        equal(&rt, BStr::new(&branch), BStr::new(wanted), folder);
+    }
+    fs::remove_dir_all(&rt, "config_host.finds")?;
     Ok(())
 }
 

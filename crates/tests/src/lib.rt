@@ -24,9 +24,13 @@ mod includes;
 #[cfg(test)]
 mod keys;
 #[cfg(test)]
+mod locked;
+#[cfg(test)]
 mod memory;
 #[cfg(test)]
 mod program;
+#[cfg(test)]
+mod settings;
 #[cfg(test)]
 mod support;
 #[cfg(test)]

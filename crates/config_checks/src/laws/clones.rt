@@ -10,10 +10,12 @@ use crate::reason::{Reason, Severity};
 use crate::row::Run;
 use crate::suggestion::UnknownKey;
 use crate::table::{BadRow, RowFault};
+use crate::version::Version;
 
-/// A clone of a form, a run of rows or the fault of a row is the same, and never fails.
+/// A clone of a form, a version, a run of rows or the fault of a row is the same, and never fails.
 pub fn rows()
     ensures forms { IsCopied ⟦<Form as Clone>⟧.is_clone ⟦<Form as Clone>⟧.is_infallible }
+    ensures versions { IsCopied ⟦<Version as Clone>⟧.is_clone ⟦<Version as Clone>⟧.is_infallible }
     ensures runs { IsCopied ⟦<Run<'static, 'static> as Clone>⟧.is_clone
         ⟦<Run<'static, 'static> as Clone>⟧.is_infallible }
     ensures faults { IsCopied ⟦<RowFault as Clone>⟧.is_clone ⟦<RowFault as Clone>⟧.is_infallible }

@@ -1,4 +1,10 @@
+use Rattle.std.proofs.Common.{◌≡◌, Option, Some, None}
+use Rattle.config_checks.specs.declared.reason.Reason.{Reason}
+use Rattle.config_checks.proofs.OneFinding.{int_once}
 use Rattle.config_checks.proofs.reason.is_boolean.Goals as goal
 
-pub returns-in-Err : goal.returns-in-Err
-returns-in-Err c = (λ no. absurd (cc), λ text. absurd (c.in-Err.ensures.1 text.0 text.1))
+no_reason : (r : Reason) → ¬ (None ≡ Some r)
+no_reason r same = absurd (cc)
+
+pub returns-in-Some : goal.returns-in-Some
+returns-in-Some c = (λ no. absurd (cc), λ right. absurd (no_reason _ (int_once c.args.text.now None (Some c.in-Some.field-0) right c.in-Some.ensures)))

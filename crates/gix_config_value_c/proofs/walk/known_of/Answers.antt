@@ -1,4 +1,3 @@
-use Rattle.std.proofs.Common.{refl}
 use Rattle.gix_config_value_c.specs.Walks.AreIncludes.{skipped, as_git}
 use Rattle.gix_config_value_c.proofs.GivenKnown.{repository_given}
 use Rattle.gix_config_value_c.proofs.walk.known_of.Goals as goal
@@ -16,5 +15,5 @@ returns c = record {
   home = c.in_ok-home.ensures;
   includes = as_git _ _ (rw c.if-not-branch.false at c.in_ok-flag_of.ensures)
       (repository_given c.args.known.now _ _ _ _ c.in_ok-git_dir.ensures c.in_ok-branch.ensures
-      c.in_ok-real_home.ensures c.repository_of-repository.ensures) refl;
+      c.in_ok-real_home.ensures c.repository_of-repository.ensures) c.in_ok-urls.ensures;
 }

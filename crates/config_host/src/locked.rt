@@ -1,0 +1,238 @@
+//! Replaces the text of a file as Git does: the new text is written beside it, into a file that is its lock,
+//! which then takes its place. So whoever reads the file finds its old text or the new one.
+ghost use Rattle.std.specs.Prelude.{◌≡◌, ◌≢◌};
+ghost use Rattle.std.specs.IoError.{error_kind};
+ghost use Rattle.std.specs.declared.io.ErrorKind.TheVariants.{AlreadyExists};
+ghost use Rattle.config_host.specs.declared.disk.ReadError.TheVariants.{System};
+ghost use Rattle.config_host.specs.declared.locked.LockError.TheVariants.{Held, Lock, Read};
+
+use crate::disk::{Disk, ReadError, known_length, opened};
+use crate::environment::Host;
+use crate::names::{copied, folder_of, inside, text_of};
+use bstr::BStr;
+use std::fs::{self, Files, OpenFile, OpenOptions, Permissions};
+use std::io::{self, ErrorKind, Write};
+use std::os::unix::fs::{MetadataExt, PermissionsExt};
+use thiserror::Error;
+
+/// How many links are followed from the name of a file, as many as the system follows.
+const LINKS: usize = 40;
+
+/// The bits of a mode that say who may read, write and run a file.
+const MODE: u32 = 0o7777;
+
+/// Why the text of a file is not replaced. The file then has its old text.
+#[derive(Debug, Drop, Error)]
+pub enum LockError {
+    /// The lock of this name is there: another program replaces the text, or was ended as it did.
+    #[error("{}: the lock is held", BStr::new(.0))]
+    Held(Vec<u8>),
+    /// The system makes no lock.
+    #[error("{0}")]
+    Lock(io::Error),
+    /// The name of the file, or its old text, is not read.
+    #[error("{0}")]
+    Read(ReadError),
+    /// The system does not take the new text.
+    #[error("{0}")]
+    Write(io::Error),
+}
+
+impl From<ReadError> for LockError {
+    ghost from_gives = { λ error refused. refused ≡ Read error };
+
+    fn from(error: ReadError) -> LockError {
+        LockError::Read(error)
+    }
+}
+
+impl From<io::Error> for LockError {
+    ghost from_gives = { λ _ refused. (error : _) × (refused ≡ Read error) };
+
+    fn from(error: io::Error) -> LockError {
+        LockError::Read(ReadError::from(error))
+    }
+}
+
+/// Why there is no lock of this name, if the system refuses to make it with this error.
+fn refusal(lock: Vec<u8>, error: io::Error) -> LockError
+    ensures held { error_kind error ≡ AlreadyExists → result ≡ Held lock }
+    ensures other { error_kind error ≢ AlreadyExists → result ≡ Lock error }
+{
+    match error.kind() {
+        ErrorKind::AlreadyExists => LockError::Held(lock),
+        _ => LockError::Lock(error),
+    }
+}
+
+/// What the link of this name leads to, or `None` if this is no link.
+fn target_of<R: Host>(host: &R, name: &[u8]) -> io::Result<Option<Vec<u8>>> {
+    match fs::read_link(host, text_of(name)?) {
+        Ok(target) => Ok(Some(copied(host, target.as_path().as_str().as_bytes())?)),
+        Err(error) if matches!(error.kind(), ErrorKind::InvalidInput | ErrorKind::NotFound) => Ok(
+            None,
+        ),
+        Err(error) => Err(error),
+    }
+}
+
+/// The name of the file to which the links from this name lead. There need not be such a file.
+fn behind_links<R: Host>(host: &R, name: &[u8]) -> io::Result<Vec<u8>> {
+    let mut name = copied(host, name)?;
+    for _ in 0..LINKS {
+        match target_of(host, &name)? {
+            Some(target) => name = inside(host, folder_of(&name), &target)?,
+            None => return Ok(name),
+        }
+    }
+    Err(io::Error::from(ErrorKind::FilesystemLoop))
+}
+
+/// A lock: a file that is open to be written, and is removed with this value while it is held.
+struct LockFile<'t, R: Files> {
+    host: &'t R,
+    name: Vec<u8>,
+    file: R::File,
+    is_held: bool,
+}
+
+impl<R: Files> Drop for LockFile<'_, R> {
+    fn drop(self) {
+        if self.is_held {
+            if let Ok(name) = text_of(&self.name) {
+                let _ = fs::remove_file(self.host, name);
+            }
+        }
+        let LockFile {
+            host: _,
+            name: _,
+            file: _,
+            is_held: _,
+        } = self;
+    }
+}
+
+/// The name of the lock of a file.
+fn lock_name<R: Host>(host: &R, name: &[u8]) -> io::Result<Vec<u8>> {
+    let mut lock = copied(host, name)?;
+    lock.extend_from_slice(b".lock")?;
+    Ok(lock)
+}
+
+/// Makes the lock of the file of this name, which nobody else may hold.
+fn lock_beside<'t, R: Host>(host: &'t R, name: &[u8]) -> Result<LockFile<'t, R>, LockError> {
+    let name = lock_name(host, name)?;
+    let made = OpenOptions::new()
+        .write(true)
+        .create_new(true)
+        .open(host, text_of(&name)?);
+    match made {
+        Ok(file) => Ok(LockFile {
+            host,
+            name,
+            file,
+            is_held: true,
+        }),
+        Err(error) => Err(refusal(name, error)),
+    }
+}
+
+/// The text of a regular file.
+fn text_in<'t, R: Host>(disk: &Disk<'t, R>, name: &str) -> Result<&'t [u8], ReadError> {
+    let file = opened(disk.host, name, false)?;
+    match known_length(&file, false)? {
+        Some(length) => disk.text(file, Some(length)),
+        None => Err(ReadError::Kind),
+    }
+}
+
+/// The mode of a file, or `None` if it is not there.
+fn mode_of<R: Host>(host: &R, name: &str) -> io::Result<Option<u32>> {
+    match fs::metadata(host, name) {
+        Ok(known) => Ok(Some(known.mode() & MODE)),
+        Err(error) if error.kind() == ErrorKind::NotFound => Ok(None),
+        Err(error) => Err(error),
+    }
+}
+
+/// The text and the mode of a file, or an empty text if it is not there.
+fn old_of<'t, R: Host>(
+    disk: &Disk<'t, R>,
+    name: &str,
+) -> Result<(&'t [u8], Option<u32>), ReadError> {
+    match mode_of(disk.host, name)? {
+        Some(mode) => Ok((text_in(disk, name)?, Some(mode))),
+        None => Ok((b"", None)),
+    }
+}
+
+/// A file whose text is replaced, and whose lock is held until then. If this value is let go, the lock is
+/// removed, and the file keeps its text. A program that is killed leaves the lock, which its user then has to
+/// remove, as with Git.
+///
+/// ```rust
+/// use bumpalo::Bump;
+/// use config_host::{Disk, Locked};
+///
+/// let texts = Bump::new(rt.alloc());
+/// let locked = Locked::of(&Disk::new(&rt, &texts), b"config").expect(&rt, "a lock");
+/// assert!(rt; locked.text().is_empty());
+/// locked.commit(b"[core]\n\tbare\n").expect(&rt, "a file that can be written");
+/// ```
+#[derive(Drop)]
+pub struct Locked<'t, R: Files> {
+    lock: LockFile<'t, R>,
+    name: Vec<u8>,
+    text: &'t [u8],
+    mode: Option<u32>,
+}
+
+impl<'t, R: Host> Locked<'t, R> {
+    /// Locks the file of this name, and then reads it. If the name is that of a link, this is the file to
+    /// which it leads, and the lock is beside that. The file has to be a regular one of at most 1 GiB, or not
+    /// there. It fails if the lock is held, and if the system does not make it or does not read the file.
+    pub fn of(disk: &Disk<'t, R>, name: &[u8]) -> Result<Locked<'t, R>, LockError> {
+        let name = behind_links(disk.host, &disk.opened_name(name)?)?;
+        let lock = lock_beside(disk.host, &name)?;
+        let (text, mode) = old_of(disk, text_of(&name)?)?;
+        Ok(Locked {
+            lock,
+            name,
+            text,
+            mode,
+        })
+    }
+
+    /// The text of the file as the lock found it, which is empty if there is no file.
+    pub fn text(&self) -> &'t [u8] {
+        self.text
+    }
+
+    /// Gives the file this text in place of its old one, and lets go of the lock. The file keeps its mode,
+    /// and one that was not there gets that of a new file. It fails if the system does not take the whole
+    /// text, and the file then has its old one.
+    pub fn commit(mut self, text: &[u8]) -> Result<(), LockError> {
+        match self.replace(text) {
+            Ok(()) => Ok(()),
+            Err(error) => Err(LockError::Write(error)),
+        }
+    }
+
+    fn replace(&mut self, text: &[u8]) -> io::Result<()> {
+        // whoever may not read the file reads no text of its lock
+        if let Some(mode) = self.mode {
+            self.lock
+                .file
+                .set_permissions(Permissions::from_mode(mode))?;
+        }
+        self.lock.file.write_all(text)?;
+        self.lock.file.sync_all()?;
+        fs::rename(
+            self.lock.host,
+            text_of(&self.lock.name)?,
+            text_of(&self.name)?,
+        )?;
+        self.lock.is_held = false;
+        Ok(())
+    }
+}

@@ -1,0 +1,410 @@
+//! The words that change a file: `set`, `unset`, `rename-section`, `remove-section`, and Git's older flags
+//! for them.
+
+use crate::arguments::{file_argument, flag};
+use crate::options::{type_argument, words_argument};
+use crate::output::tell;
+use crate::request::Texts;
+use crate::shown::Shown;
+use crate::sources::{named_by_variable, of_scope};
+use crate::words::{CHANGES, Misuse, shown_of, texts_of};
+use bstr::BStr;
+use bumpalo::Bump;
+use clap::{ArgMatches, Command};
+use config_file::edit::{self, EditError};
+use config_file::{KeyError, Scope};
+use config_host::repository::{Location, find};
+use config_host::sources::names;
+use config_host::{Disk, HereError, HostError, LockError, Locked};
+use gix_config_value::canonical::{CanonicalText, Kind, normalize};
+use std::alloc::{AllocError, Global};
+use std::io;
+
+/// A change of a file.
+#[derive(Clone, Copy, PartialEq, Eq)]
+pub enum Change<'a> {
+    /// The key, which has at most one entry, has this value.
+    Set(&'a str, &'a str),
+    /// The key has one more entry, of this value.
+    Add(&'a str, &'a str),
+    /// The key has this value, and no other.
+    Replace(&'a str, &'a str),
+    /// The key, which has one entry, has none.
+    Unset(&'a str),
+    /// The key has no entry.
+    UnsetAll(&'a str),
+    /// The sections of the first name have the second one.
+    Rename(&'a str, &'a str),
+    /// There is no section of this name.
+    Remove(&'a str),
+}
+
+/// The flags of the words, and Git's older flags: their names, and what they do.
+const FLAGS: &[(&str, &str)] = &[
+    ("system", "Change the file of the system"),
+    ("global", "Change the file of the user"),
+    ("local", "Change the file of the repository"),
+    ("worktree", "Change the file of the work tree"),
+    ("bool", "The same as --type=bool"),
+    ("int", "The same as --type=int"),
+    ("bool-or-int", "The same as --type=bool-or-int"),
+    ("bool-or-str", "The same as --type=bool-or-str"),
+    ("path", "The same as --type=path"),
+    ("expiry-date", "The same as --type=expiry-date"),
+    ("canonical", "Write a color by its canonical text"),
+    ("append", "Add an entry, and keep those of the key"),
+    (
+        "all",
+        "Change all entries of the key, and leave one, or with unset none",
+    ),
+];
+
+/// Git's older flags for changes.
+pub const OLDER: &[&str] = &[
+    "add",
+    "replace-all",
+    "unset",
+    "unset-all",
+    "rename-section",
+    "remove-section",
+];
+
+/// What follows the options in the help.
+const AFTER: &str = "\
+The words are set KEY VALUE, unset KEY, rename-section OLD NEW and remove-section NAME. Without a file or \
+a scope they change the file of the repository. All bytes but those of the change stay.
+
+Statuses: 0 if the file is as asked, 1 for a key with a wrong byte, 2 for a key without a section or a \
+name, 3 for a file that is no configuration file, 4 if the new file is not written, 5 if several entries \
+have the key or none, 128 if the value is none of its type or no section has the name, 129 for a wrong \
+usage, and 255 if the file is locked or no section can have the name.
+
+Examples:
+  config_value set core.editor 'vim -n'
+  config_value unset --global alias.st";
+
+/// The command line of the words.
+pub fn change_command<'a>(alloc: Global) -> Result<Command<'a>, AllocError> {
+    let mut command = Command::new(alloc, "config_value")
+        .about("Changes a setting in a file, as `git config set` and its like do")
+        .override_usage("config_value set [OPTIONS] KEY VALUE")
+        .version("0.1.0")
+        .args_override_self(true)
+        .infer_long_args(true)
+        .after_help(AFTER)
+        .arg(file_argument(alloc))?
+        .arg(type_argument(alloc))?
+        .arg(words_argument(
+            alloc,
+            "WORDS",
+            "The key and the value, or names of sections",
+        ))?;
+    for (name, help) in FLAGS {
+        command = command.arg(flag(alloc, name, help))?;
+    }
+    for name in OLDER {
+        command = command.arg(flag(alloc, name, "The older flag of this name").hide(true))?;
+    }
+    Ok(command)
+}
+
+/// The word that an older flag stands for, and whether it takes all entries or adds one. A key and a value
+/// alone are set.
+fn older<'m>(matches: &ArgMatches<'_>, word: &'m str) -> Result<(&'m str, bool, bool), Misuse> {
+    let word = if CHANGES.contains(&word) { word } else { "set" };
+    let mut found = (word, matches.get_flag("all"), matches.get_flag("append"));
+    let mut count = 0usize;
+    for name in OLDER {
+        if matches.get_flag(name) {
+            count = count.saturating_add(1);
+            found = match *name {
+                "add" => ("set", false, true),
+                "replace-all" => ("set", true, false),
+                "unset-all" => ("unset", true, false),
+                name => (name, false, false),
+            };
+        }
+    }
+    if count > 1 {
+        return Err(Misuse::Apart("only one change at a time"));
+    }
+    Ok(found)
+}
+
+/// The change that the arguments ask for.
+fn change_of<'a>(matches: &ArgMatches<'a>, word: &str) -> Result<Change<'a>, Misuse> {
+    let (word, all, append) = older(matches, word)?;
+    match (word, matches.get_strs("words").unwrap_or(&[])) {
+        ("set", [key, value]) if append => Ok(Change::Add(*key, *value)),
+        ("set", [key, value]) if all => Ok(Change::Replace(*key, *value)),
+        ("set", [key, value]) => Ok(Change::Set(*key, *value)),
+        ("unset", [key]) if all => Ok(Change::UnsetAll(*key)),
+        ("unset", [key]) => Ok(Change::Unset(*key)),
+        ("rename-section", [old, new]) => Ok(Change::Rename(*old, *new)),
+        ("remove-section", [name]) => Ok(Change::Remove(*name)),
+        _ => Err(Misuse::Count),
+    }
+}
+
+/// The text after a change.
+fn changed(
+    alloc: Global,
+    text: &[u8],
+    change: Change<'_>,
+    value: &[u8],
+) -> Result<Vec<u8>, EditError> {
+    match change {
+        Change::Set(key, _) => edit::set(alloc, text, key.as_bytes(), value),
+        Change::Add(key, _) => edit::add(alloc, text, key.as_bytes(), value),
+        Change::Replace(key, _) => edit::replace_all(alloc, text, key.as_bytes(), value),
+        Change::Unset(key) => edit::unset(alloc, text, key.as_bytes()),
+        Change::UnsetAll(key) => edit::unset_all(alloc, text, key.as_bytes()),
+        Change::Rename(old, new) => edit::rename_section(
+            alloc,
+            text,
+            old.as_bytes(),
+            new.as_bytes(),
+        ),
+        Change::Remove(name) => edit::remove_section(alloc, text, name.as_bytes()),
+    }
+}
+
+/// The value of a change.
+fn value_of<'a>(change: Change<'a>) -> &'a str {
+    match change {
+        Change::Set(_, value) | Change::Add(_, value) | Change::Replace(_, value) => value,
+        _ => "",
+    }
+}
+
+/// The kinds of which a value of this type has to be one. A type without a kind takes each text.
+fn kinds_of(shown: Shown) -> (Option<Kind>, Option<Kind>) {
+    match shown {
+        Shown::Canonical(kind) => (Some(kind), None),
+        Shown::BooleanOrAmount => (Some(Kind::Amount), Some(Kind::Boolean)),
+        Shown::BooleanOrText => (Some(Kind::Boolean), None),
+        Shown::Escape => (Some(Kind::Color), None),
+        _ => (None, None),
+    }
+}
+
+/// The canonical text of a value, if there is a kind and the value is of it.
+fn canonical_of(kind: Option<Kind>, value: &str) -> Option<CanonicalText> {
+    normalize(kind?, BStr::new(value.as_bytes()))
+}
+
+/// The text of a value that is written as a type asks, or `None` if the value is none of the type. A color stays
+/// as it is.
+fn written(alloc: Global, shown: Shown, value: &str) -> Result<Option<Vec<u8>>, AllocError> {
+    let (first, second) = kinds_of(shown);
+    let found = match canonical_of(first, value) {
+        Some(canonical) => Some(canonical),
+        None => canonical_of(second, value),
+    };
+    let mut text = Vec::new(alloc);
+    match found {
+        Some(canonical) if shown != Shown::Escape => {
+            text.extend_from_slice(canonical.as_str().as_bytes())?;
+        }
+        None if first.is_some() && shown != Shown::BooleanOrText => return Ok(None),
+        _ => text.extend_from_slice(value.as_bytes())?,
+    }
+    Ok(Some(text))
+}
+
+/// The statuses of Git.
+const NO_KEY: u8 = 1;
+
+const NO_SECTION: u8 = 2;
+
+const NO_FILE: u8 = 3;
+
+const NOT_WRITTEN: u8 = 4;
+
+const NOTHING: u8 = 5;
+
+const DIED: u8 = 128;
+
+const LOCKED: u8 = 255;
+
+/// Tells why a text is not changed.
+fn tell_refusal(
+    rt: &HostRuntime,
+    name: &[u8],
+    change: Change<'_>,
+    error: &EditError,
+) -> io::Result<()> {
+    match error {
+        EditError::Memory(_) => tell(rt, format_args!("config_value: out of memory")),
+        EditError::Key(error) => tell(rt, format_args!("config_value: {error}")),
+        EditError::Section => tell(rt, format_args!("config_value: invalid section name")),
+        EditError::Value => tell(
+            rt,
+            format_args!("config_value: a value cannot have a NUL byte"),
+        ),
+        EditError::File(error) => tell(rt, format_args!("{}:{error}", BStr::new(name))),
+        EditError::Several => tell(
+            rt,
+            format_args!("config_value: several entries have the key: use --all"),
+        ),
+        EditError::Absent => match change {
+            Change::Rename(section, _) | Change::Remove(section) => {
+                tell(rt, format_args!("config_value: no such section: {section}"))
+            }
+            _ => Ok(()),
+        },
+    }
+}
+
+/// The status after a text that is not changed.
+fn status_of(change: Change<'_>, error: &EditError) -> u8 {
+    match error {
+        EditError::Key(KeyError::NoSection | KeyError::NoName) => NO_SECTION,
+        EditError::Key(_) => NO_KEY,
+        EditError::File(_) => NO_FILE,
+        EditError::Section => LOCKED,
+        EditError::Several => NOTHING,
+        EditError::Absent => match change {
+            Change::Rename(..) | Change::Remove(..) => DIED,
+            _ => NOTHING,
+        },
+        EditError::Memory(_) | EditError::Value => DIED,
+    }
+}
+
+/// Tells why a file is not replaced. Returns the status.
+fn refuse_lock(rt: &HostRuntime, name: &[u8], error: &LockError) -> Result<u8, HostError> {
+    tell(
+        rt,
+        format_args!("config_value: {}: {error}", BStr::new(name)),
+    )?;
+    Ok(match error {
+        LockError::Held(_) | LockError::Lock(_) => LOCKED,
+        LockError::Read(_) => NO_FILE,
+        LockError::Write(_) => NOT_WRITTEN,
+    })
+}
+
+/// Changes the file of this name. Nothing is written if nothing changes.
+fn change_file<'t>(
+    rt: &'t HostRuntime,
+    disk: &Disk<'t, HostRuntime>,
+    name: &[u8],
+    change: Change<'_>,
+    value: &[u8],
+) -> Result<u8, HostError> {
+    let locked = match Locked::of(disk, name) {
+        Ok(locked) => locked,
+        Err(error) => return refuse_lock(rt, name, &error),
+    };
+    let new = match changed(rt.alloc(), locked.text(), change, value) {
+        Ok(new) => new,
+        Err(error) => {
+            tell_refusal(rt, name, change, &error)?;
+            return Ok(status_of(change, &error));
+        }
+    };
+    if new.as_slice() == locked.text() {
+        return Ok(0);
+    }
+    match locked.commit(new.as_slice()) {
+        Ok(()) => Ok(0),
+        Err(error) => refuse_lock(rt, name, &error),
+    }
+}
+
+/// Changes the file of a scope, which is that of the repository if the user says nothing.
+fn change_here<'t>(
+    rt: &'t HostRuntime,
+    texts: &'t Bump,
+    scope: Scope,
+    change: Change<'_>,
+    value: &[u8],
+) -> Result<u8, HereError<'t>> {
+    let disk = Disk::new(rt, texts);
+    let Location {
+        folder,
+        repository,
+        refusal,
+        stop,
+    } = find(&disk, b"")?;
+    if let Some(stop) = stop {
+        return Err(stop);
+    }
+    if let Some(refusal) = refusal {
+        tell(rt, format_args!("config_value: {refusal}"))?;
+    }
+    let disk = disk.within(&folder)?;
+    match of_scope(&disk, names(rt, repository.as_ref())?, scope)? {
+        Some(named) => Ok(change_file(rt, &disk, &named.name, change, value)?),
+        None => {
+            tell(
+                rt,
+                format_args!(
+                    "config_value: there is no file of the scope {} here",
+                    scope.name()
+                ),
+            )?;
+            Ok(DIED)
+        }
+    }
+}
+
+/// Does a change in the file that the arguments name.
+fn run_change(
+    rt: &HostRuntime,
+    texts: Texts<'_, '_>,
+    change: Change<'_>,
+    value: &[u8],
+) -> Result<u8, HostError> {
+    let kept = Bump::new(rt.alloc());
+    let outcome = match texts {
+        Texts::Named([.., file]) => change_file(
+            rt,
+            &Disk::new(rt, &kept),
+            file.as_bytes(),
+            change,
+            value,
+        )?,
+        Texts::OfScope(scope) => told(rt, change_here(rt, &kept, scope, change, value))?,
+        _ => match named_by_variable(rt)? {
+            Some(file) => change_file(rt, &Disk::new(rt, &kept), file.as_bytes(), change, value)?,
+            None => told(rt, change_here(rt, &kept, Scope::Local, change, value))?,
+        },
+    };
+    Ok(outcome)
+}
+
+/// Tells why Git stops as it looks for a repository.
+fn told(rt: &HostRuntime, outcome: Result<u8, HereError<'_>>) -> Result<u8, HostError> {
+    match outcome {
+        Ok(status) => Ok(status),
+        Err(error) => {
+            tell(rt, format_args!("config_value: {error}"))?;
+            Ok(DIED)
+        }
+    }
+}
+
+/// Changes what the arguments of a word ask. Returns the status.
+pub fn run<'a>(
+    rt: &HostRuntime,
+    matches: &ArgMatches<'a>,
+    word: &str,
+) -> Result<Result<u8, HostError>, Misuse> {
+    let change = change_of(matches, word)?;
+    let shown = shown_of(matches)?;
+    let texts = texts_of(matches)?;
+    let value = value_of(change);
+    Ok(match written(rt.alloc(), shown, value) {
+        Ok(Some(text)) => run_change(rt, texts, change, text.as_slice()),
+        Ok(None) => match tell(
+            rt,
+            format_args!("config_value: {value}: it is none of its type"),
+        ) {
+            Ok(()) => Ok(DIED),
+            Err(error) => Err(HostError::from(error)),
+        },
+        Err(error) => Err(HostError::from(error)),
+    })
+}

@@ -1,0 +1,71 @@
+// Search over names, folding of words in place, and filters of tables. FOUND and WORDS are in data.js.
+(() => {
+  const make = (name, more) => Object.assign(document.createElement(name), more);
+  document.documentElement.classList.add("js");
+
+  // an exact name comes first, then one in another case, then names that begin with or contain the text
+  const rank = (name, low, text, lower) => name === text ? 0 : low === lower ? 1
+    : low.split(/[.: ]+/).pop() === lower ? 2 : low.startsWith(lower) ? 3 : low.includes(lower) ? 4 : 9;
+  const box = make("input", { type: "search", id: "search", placeholder: "Search  ( / )", ariaLabel: "Search" });
+  const list = make("ul", { id: "found", hidden: true });
+  box.addEventListener("input", () => {
+    const text = box.value.trim(), lower = text.toLowerCase();
+    const hits = FOUND.map(row => [rank(row[0], row[0].toLowerCase(), text, lower), row]).filter(it => it[0] < 9);
+    hits.sort((a, b) => a[0] - b[0] || a[1][0].length - b[1][0].length);
+    list.replaceChildren(...hits.slice(0, 40).map(([, [name, what, href]]) => {
+      const link = make("a", { href });
+      link.append(make("code", { textContent: name }), " ", make("small", { textContent: what }));
+      const row = make("li");
+      row.append(link);
+      return row;
+    }));
+    if (text && !hits.length) list.append(make("li", { textContent: "nothing has this name" }));
+    list.hidden = !text;
+  });
+  const links = () => [...list.querySelectorAll("a")];
+  document.addEventListener("keydown", event => {
+    const at = links().indexOf(document.activeElement), step = { ArrowDown: 1, ArrowUp: -1 }[event.key];
+    if (event.key === "/" && !/INPUT/.test(document.activeElement.tagName)) box.focus();
+    else if (event.key === "Escape") list.hidden = true;
+    else if (event.key === "Enter" && document.activeElement === box && links()[0]) links()[0].click();
+    else if (step && !list.hidden) (links()[at + step] || box).focus();
+    else return;
+    event.preventDefault();
+  });
+  list.addEventListener("click", () => { list.hidden = true; });
+  document.querySelector("header").append(box, list);
+
+  // a word unfolds below the line that it stands in
+  document.addEventListener("click", event => {
+    const word = event.target.closest("a.w"), told = word && WORDS[decodeURIComponent(word.hash.slice(1))];
+    if (!told || event.ctrlKey || event.metaKey || event.shiftKey) return;
+    event.preventDefault();
+    if (word.unfolded) {
+      word.unfolded.remove();
+      word.unfolded = null;
+    } else {
+      word.unfolded = make("div", { className: "unfolded", innerHTML: told });
+      word.closest(".l").after(word.unfolded);
+    }
+    word.setAttribute("aria-expanded", Boolean(word.unfolded));
+  });
+
+  for (const table of document.querySelectorAll("table.rows")) {
+    const filter = make("input", { type: "search", id: "filter", placeholder: "Rows with", ariaLabel: "Rows with" });
+    const rows = [...table.tBodies[0].rows].map(row => [row, row.textContent.toLowerCase()]);
+    filter.addEventListener("input", () => {
+      const parts = filter.value.toLowerCase().split(/\s+/);
+      for (const [row, text] of rows) row.hidden = !parts.every(part => text.includes(part));
+    });
+    table.before(filter);
+  }
+
+  // what a link leads to is open
+  const open = () => {
+    const aim = document.getElementById(decodeURIComponent(location.hash.slice(1)));
+    for (let fold = aim; fold; fold = fold.parentElement) if (fold.tagName === "DETAILS") fold.open = true;
+    if (aim) aim.scrollIntoView();
+  };
+  addEventListener("hashchange", open);
+  open();
+})();

@@ -1,0 +1,146 @@
+#!/bin/sh
+# Makes packages for Debian of what install.sh installs: sh packaging/debian.sh FOLDER
+#
+# FOLDER gets gix-config-value-tools, libgix-config-value0.1, libgix-config-value-dev and python3-gix-config-value:
+# those for which install.sh has all that it needs. It says what it leaves out. The shared library's package has the
+# number of its soname, so that versions can be installed side by side. PROGRAMS and GCV_ARCHIVE are for install.sh.
+# DEBFULLNAME and DEBEMAIL, or otherwise Git's user.name and user.email, are the maintainer. It needs dpkg-dev and
+# binutils. The same inputs and SOURCE_DATE_EPOCH, which is otherwise the time of the last commit, give the same bytes.
+set -eu
+umask 022
+if [ $# -ne 1 ]; then
+    echo "usage: sh $0 FOLDER" >&2
+    exit 2
+fi
+root=$(CDPATH='' cd -- "$(dirname -- "$0")/.." && pwd)
+mkdir -p -- "$1"
+folder=$(CDPATH='' cd -- "$1" && pwd)
+version=$(cat "$root/crates/gix_config_value_c/VERSION")
+maintainer="${DEBFULLNAME:-$(git config user.name || id -un)} <${DEBEMAIL:-$(git config user.email || true)}>"
+case $maintainer in
+    *"<>") echo "the packages need a maintainer: set DEBEMAIL" >&2 && exit 2 ;;
+esac
+if [ -z "${SOURCE_DATE_EPOCH:-}" ] && ! SOURCE_DATE_EPOCH=$(git -C "$root" log -1 --format=%ct); then
+    echo "the packages need a time: set SOURCE_DATE_EPOCH" >&2
+    exit 2
+fi
+export SOURCE_DATE_EPOCH
+machine=$(dpkg --print-architecture)
+libdir=/usr/lib/$(dpkg-architecture -qDEB_HOST_MULTIARCH)
+python=/usr/lib/python3/dist-packages
+work=$(mktemp -d)
+trap 'rm -rf -- "$work"' EXIT
+# some shells run no EXIT trap after a signal
+trap 'exit 130' INT
+trap 'exit 143' TERM
+
+env DESTDIR="$work/all" LIBDIR="$libdir" PYTHONDIR="$python" sh "$root/install.sh" /usr > "$work/said"
+grep -e '^skipped' "$work/said" || true
+cd "$work"
+mkdir debian
+printf 'Source: gix-config-value\n\nPackage: any\nArchitecture: any\n' > debian/control
+# build.sh names the shared library by its version and by a shorter number, of which the package has its name
+library=libgix_config_value.so.$version
+soname=$(find all -path "all$libdir/*" -lname "$library" | sed 's,.*/,,')
+shared=libgix-config-value${soname#libgix_config_value.so.}
+
+# begins a package of those of these files that are there: of PACKAGE PATH.., and fails if there is none
+of() {
+    package=$1
+    shift
+    found=
+    for path in "$@"; do
+        [ -e "all$path" ] || continue
+        found=yes
+        mkdir -p -- "$package$(dirname -- "$path")"
+        cp -RP -- "all$path" "$package$path"
+    done
+    [ -n "$found" ]
+}
+# completes a package: package PACKAGE SECTION DEPENDS SUMMARY, and the lines of the description on standard input
+package() {
+    doc=$1/usr/share/doc/$1
+    mkdir -p -- "$1/DEBIAN" "$doc"
+    {
+        printf 'Format: https://www.debian.org/doc/packaging-manuals/copyright-format/1.0/\n'
+        printf 'Upstream-Name: gix_config_value\n\nFiles: *\nCopyright: '
+        sed -n 's/^Copyright (c) //p' "$root/LICENSE-MIT" | sed '2,$s/^/ /'
+        printf 'License: Expat or Apache-2.0\n\nLicense: Expat\n'
+        sed -e '1,/^Copyright.*repository/d' "$root/LICENSE-MIT" | sed -e 1d -e 's/^$/./' -e 's/^/ /'
+        printf '\nLicense: Apache-2.0\n On Debian systems the text is in /usr/share/common-licenses/Apache-2.0.\n'
+    } > "$doc/copyright"
+    printf '%s (%s-1) unstable; urgency=medium\n\n  * changelog.gz has what changed.\n\n -- %s  %s\n' gix-config-value \
+        "$version" "$maintainer" "$(LC_ALL=C date -u -R -d "@$SOURCE_DATE_EPOCH")" |
+        gzip -9n > "$doc/changelog.Debian.gz"
+    gzip -9n < "$root/CHANGELOG.md" > "$doc/changelog.gz"
+    depends=$3
+    # the programs and shared libraries, without what debuggers and linkers read
+    find "$1" -type f \( -path '*/bin/*' -o -name '*.so' -o -name '*.so.*' \) > binaries
+    if [ -s binaries ]; then
+        xargs strip --strip-unneeded --remove-section=.comment < binaries
+        # shellcheck disable=SC2046
+        needed=$(dpkg-shlibdeps -O $(sed 's/^/-e/' binaries) 2> shlibdeps) || { cat shlibdeps >&2 && exit 1; }
+        needed=${needed#shlibs:Depends=}
+        depends=$needed${needed:+${depends:+, }}$depends
+    fi
+    {
+        printf 'Package: %s\nSource: gix-config-value\nVersion: %s-1\nArchitecture: %s\n' "$1" "$version" "$machine"
+        printf 'Maintainer: %s\nInstalled-Size: %s\n' "$maintainer" "$(du -sk --apparent-size "$1" | cut -f 1)"
+        [ -z "$depends" ] || printf 'Depends: %s\n' "$depends"
+        printf 'Section: %s\nPriority: optional\nDescription: %s\n' "$2" "$4"
+        sed 's/^/ /'
+    } > control
+    mv control "$1/DEBIAN/control"
+    (cd "$1" && find usr -type f | LC_ALL=C sort | xargs md5sum > DEBIAN/md5sums)
+    dpkg-deb --root-owner-group -Zxz --build "$1" "$folder" > "$work/said"
+    echo "$folder/$1_$version-1_$machine.deb"
+}
+
+[ ! -d all/usr/share/zsh/site-functions ] || mv all/usr/share/zsh/site-functions all/usr/share/zsh/vendor-completions
+if [ -d all/usr/share/man ]; then
+    find all/usr/share/man -type f -exec gzip -9n {} +
+    # shellcheck disable=SC2016
+    find all/usr/share/man -type l -exec sh -c 'ln -s "$(readlink "$1").gz" "$1.gz" && rm -- "$1"' - {} \;
+fi
+
+if of gix-config-value-tools /usr/bin /usr/share/man /usr/share/bash-completion /usr/share/zsh; then
+    package gix-config-value-tools vcs "" "programs that read and check configuration files of Git" << 'END'
+config_value prints, lists and changes settings, as git config does.
+config_check, which is also git-config-check, reports values that Git
+refuses or ignores, misspelled keys and invalid lines.
+END
+fi
+if [ -n "$soname" ]; then
+    of "$shared" "$libdir/$soname" "$libdir/$library"
+    chmod 644 "$shared$libdir/$library"
+    mkdir "$shared/DEBIAN"
+    echo "libgix_config_value ${soname#libgix_config_value.so.} $shared (>= $version)" > "$shared/DEBIAN/shlibs"
+    echo "activate-noawait ldconfig" > "$shared/DEBIAN/triggers"
+    package "$shared" libs "" "readers of configuration values of Git, a shared library" << 'END'
+Booleans, integers with suffixes, colors, paths and whole files are read as
+Git reads them, by code that is proved to keep its contracts.
+END
+    of libgix-config-value-dev "$libdir/libgix_config_value.so" "$libdir/libgix_config_value.a" "$libdir/pkgconfig" \
+        /usr/include
+    package libgix-config-value-dev libdevel "$shared (= $version-1)" \
+        "readers of configuration values of Git, for C" << 'END'
+The header, the static library, and the file for pkg-config. Booleans,
+integers with suffixes, colors, paths and whole files are read as Git reads
+them, by code that is proved to keep its contracts.
+END
+fi
+if of python3-gix-config-value "$python"; then
+    mkdir python3-gix-config-value/DEBIAN
+    # as dh_python3 writes them: Python compiles the modules, and what it has compiled is taken away with them
+    for script in postinst:py3compile prerm:py3clean; do
+        printf '#!/bin/sh\nset -e\nif command -v %s > /dev/null; then\n    %s -p python3-gix-config-value\nfi\n' \
+            "${script#*:}" "${script#*:}" > "python3-gix-config-value/DEBIAN/${script%:*}"
+        chmod 755 "python3-gix-config-value/DEBIAN/${script%:*}"
+    done
+    package python3-gix-config-value python "python3 (>= 3.9)" \
+        "readers of configuration values of Git, for Python" << 'END'
+Booleans, integers with suffixes, colors, paths and whole files are read as
+Git reads them. The module is written in C over the library of
+libgix-config-value-dev, which it contains.
+END
+fi
