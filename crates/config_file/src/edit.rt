@@ -2,8 +2,8 @@
 //! (docs/GRAMMAR.md).
 //!
 //! An edit has the places of its bytes from the reader of this crate, and never from a search for `[` or a line
-//! end. It is proved what [`rename_section`] writes, and for the others why they refuse an edit; what they write
-//! is tested.
+//! end. It is proved what [`rename_section`] writes, and for edits of a key why its text, a value or a file is
+//! refused. What else they write and refuse is tested.
 ghost use Rattle.std.specs.Prelude.{◌≡◌, ◌++◌, ◌∷◌, [], List, ℕ, None, Some, true, map, ⊤, IfOk, MatchResult};
 ghost use Rattle.config_file.specs.Edit.{content, RefusesEdit, RenamesSection};
 ghost use Rattle.config_file.specs.Spelling.{HasNoSpelling};
