@@ -68,6 +68,7 @@ CHANGES = (
     (["rename-section", "a", "b"], b"# c\0d\n[a]\n\tk = 1\n", b"# c\0d\n[b]\n\tk = 1\n"),
     (["rename-section", "a", "b"], b"[a]\n\tk = x\\\n[a]\n\tl = 1\n", b"[b]\n\tk = x\\\n[a]\n\tl = 1\n"),
     (["rename-section", "a", "b"], b"\xef\xbb\xbf[a]\n\tk = 1\n", b"\xef\xbb\xbf[b]\n\tk = 1\n"),
+    (["rename-section", "a", "b"], b"[a]\n[c]\n\tk\n[a]\n", b"[b]\n[c]\n\tk\n[b]\n"),
     (["remove-section", "a"], b"[a]\n\tk = 1\n\n# about b\n[b]\n\tk = 2\n", b"# about b\n[b]\n\tk = 2\n"),
 )
 # ages, which Git reads so too, and dates that only Git reads
@@ -395,6 +396,11 @@ def changes(tests):
     change(["set", "-f", "new", "a.k", "v"], 0, b"[a]\n\tk = v\n", name=b"new")
     change(["unset", "-f", "absent", "a.k"], 5, None, name=b"absent")
     change(["remove-section", "-f", "absent", "a"], 128, None, b"config_value: no such section: a\n", name=b"absent")
+    tests.write(b"edit", b"[a]\n\tk = v\n")
+    for words, status, told in ((["rename-section", "-f", "edit", "z", "y"], 128, b"no such section: z"),
+                                (["rename-section", "-f", "edit", "a", "y_z"], 255, b"invalid section name"),
+                                (["remove-section", "-f", "edit", "z"], 128, b"no such section: z")):
+        change(words, status, b"[a]\n\tk = v\n", b"config_value: " + told + b"\n")
     tests.write(b"held", b"[a]\n\tk = v\n")
     tests.write(b"held.lock", b"")
     told = b"config_value: held: held.lock: the lock is held\n"
