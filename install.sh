@@ -13,21 +13,15 @@
 # is never replaced. The list of what is installed is PREFIX/share/doc/gix_config_value/installed.
 set -eu
 umask 022
-action=install
-if [ "${1:-}" = --uninstall ]; then
-    action=uninstall
-    shift
-fi
-if [ $# -ne 1 ]; then
-    echo "usage: sh $0 [--uninstall] PREFIX" >&2
-    exit 2
-fi
-root=$(CDPATH='' cd -- "$(dirname -- "$0")" && pwd)
+usage="[--uninstall] PREFIX"
+begin=$(dirname -- "$0")/packaging
+# shellcheck source=packaging/begin.sh
+. "$begin/begin.sh"
 library=$root/crates/gix_config_value_c
 dest=${DESTDIR:-}
-case $1 in
-    /*) prefix=$1 ;;
-    *) prefix=$PWD/$1 ;;
+case $word in
+    /*) prefix=$word ;;
+    *) prefix=$PWD/$word ;;
 esac
 list=$prefix/share/doc/gix_config_value/installed
 
@@ -41,7 +35,7 @@ uninstall() {
         esac
     done < "$dest$list"
 }
-if [ $action = uninstall ]; then
+if [ -n "$option" ]; then
     if [ ! -f "$dest$list" ]; then
         echo "nothing is installed in $dest$prefix: there is no $dest$list" >&2
         exit 1
@@ -51,11 +45,6 @@ if [ $action = uninstall ]; then
     exit
 fi
 
-work=$(mktemp -d)
-trap 'rm -rf -- "$work"' EXIT
-# some shells run no EXIT trap after a signal
-trap 'exit 130' INT
-trap 'exit 143' TERM
 stage=$work/stage
 share=$stage$prefix/share
 : > "$work/skipped"

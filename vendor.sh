@@ -11,46 +11,35 @@
 # line of DEST that it would replace or remove is not as an earlier run has written it, nothing is changed, and the
 # status is 1. With --diff nothing is changed: it prints what would be, and the status is 1 if that is anything.
 set -eu
-shows=
-if [ "${1:-}" = --diff ]; then
-    shows=yes
-    shift
-fi
-if [ $# -ne 1 ]; then
-    echo "usage: sh $0 [--diff] DEST" >&2
-    exit 2
-fi
-here=$(CDPATH='' cd -- "$(dirname -- "$0")" && pwd)
-[ -n "$shows" ] || mkdir -p -- "$1"
-dest=$(CDPATH='' cd -- "$1" && pwd)
-[ "$dest" != "$here" ] || { echo "$dest is this repository" >&2; exit 2; }
+usage="[--diff] DEST"
+begin=$(dirname -- "$0")/packaging
+# shellcheck source=packaging/begin.sh
+. "$begin/begin.sh"
+[ -n "$option" ] || mkdir -p -- "$word"
+dest=$(CDPATH='' cd -- "$word" && pwd)
+[ "$dest" != "$root" ] || { echo "$dest is this repository" >&2; exit 2; }
 library="config_text config_integer config_boolean config_word config_color config_path gix_config_value config_file \
 config_host"
 own=crates/gix_config_value
 list=$own/vendored
-work=$(mktemp -d)
-trap 'rm -rf -- "$work"' EXIT
-# some shells run no EXIT trap after a signal
-trap 'exit 130' INT
-trap 'exit 143' TERM
 
 # the new files, below $work/new
 for crate in $library; do
     mkdir -p -- "$work/new/crates/$crate"
     for part in src specs proofs; do
-        [ ! -d "$here/crates/$crate/$part" ] || cp -R -- "$here/crates/$crate/$part" "$work/new/crates/$crate/"
+        [ ! -d "$root/crates/$crate/$part" ] || cp -R -- "$root/crates/$crate/$part" "$work/new/crates/$crate/"
     done
-    grep "^$crate:" "$here/crates.txt" >> "$work/lines"
+    grep "^$crate:" "$root/crates.txt" >> "$work/lines"
 done
-cp -- "$here/LICENSE-MIT" "$here/LICENSE-APACHE" "$work/new/$own/"
+cp -- "$root/LICENSE-MIT" "$root/LICENSE-APACHE" "$work/new/$own/"
 mkdir "$work/new/$own/docs"
 grep -rhoE 'docs/[A-Z]+\.md' "$work/new/crates" | sort -u | while IFS= read -r page; do
-    cp -- "$here/$page" "$work/new/$own/docs/"
+    cp -- "$root/$page" "$work/new/$own/docs/"
 done
 (cd "$work/new" && find crates -type f | LC_ALL=C sort) > "$work/files"
 {
-    echo "# gix_config_value $(cat "$here/crates/gix_config_value_c/VERSION")" \
-        "$([ ! -e "$here/.git" ] || git -C "$here" rev-parse --short=12 HEAD 2> /dev/null || true)"
+    echo "# gix_config_value $(cat "$root/crates/gix_config_value_c/VERSION")" \
+        "$([ ! -e "$root/.git" ] || git -C "$root" rev-parse --short=12 HEAD 2> /dev/null || true)"
     sed 's/^/# crates.txt: /' "$work/lines"
     (cd "$work/new" && xargs sha256sum < "$work/files")
 } > "$work/list"
@@ -81,7 +70,7 @@ awk 'NR == FNR { order[NR] = $1; new[$1] = $0; next }
     END { for (i = 1; i in order; i++) if (!seen[order[i]]) print new[order[i]] }' \
     "$work/lines" "$work/were" > "$work/new/crates.txt"
 
-if [ -n "$shows" ]; then
+if [ -n "$option" ]; then
     cd "$work"
     ln -s "$dest" old
     echo crates.txt >> all

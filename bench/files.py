@@ -1,8 +1,10 @@
-"""Measures reading and checking files: python3 files.py CONFIG_VALUE CONFIG_CHECK [--runs N].
+"""Measures reading and checking files: python3 files.py CONFIG_VALUE CONFIG_CHECK [--prefix PREFIX] [--runs N].
 
 The programs are compared with `git config --list -z`, of the file alone and as the user's file, plain C that makes no
-entries (entries.c), and for the small file dulwich, if Python has it. The processor time is the least of the runs, made
-in turn; it includes a program's start and its output. If the list of config_value is not Git's, the status is 1.
+entries (entries.c), libgit2 if it is installed, and for the small file dulwich, if Python has it. PREFIX has the
+library for C, whose walk is measured too (walk.c). The processor time is the least of the runs, made in turn; it
+includes a program's start and its output. The last column has it as a part of that of Git with the file alone. If a
+list of config_value is not Git's, the status is 1.
 """
 import argparse
 import importlib.util
@@ -38,45 +40,62 @@ def listed(*command):
     return subprocess.run(command, stdout=subprocess.PIPE, check=True).stdout.split(b"\0")
 
 
-def commands(arguments, loop, file):
-    yield "`config_value --null`", (arguments.config_value, "--null", "--file", file)
+def walks(folder, prefix):
+    """The programs of walk.c that can be built, by their names."""
+    found = {"libgit2": ["-DLIBGIT2", "-lgit2"]}
+    if prefix:
+        found["the library for C"] = [f"-I{prefix}/include", f"{prefix}/lib/libgix_config_value.a"]
+    for name, words in found.items():
+        program = f"{folder}/{name.replace(' ', '_')}"
+        command = [*shlex.split(os.environ.get("CC", "cc")), "-O2", HERE / "walk.c", *words, "-o", program]
+        if subprocess.run(command, stderr=subprocess.DEVNULL, check=False).returncode == 0:
+            yield name, program
+
+
+def commands(arguments, folder, file):
     yield "`git config --list -z`", (shutil.which("git"), "config", "--file", file, "--list", "-z")
+    yield "`config_value list -z`", (arguments.config_value, "list", "--file", file, "-z")
+    yield "`config_value --null`, with lines", (arguments.config_value, "--null", "--file", file)
     yield "the same as the user's file", ("/usr/bin/env", f"GIT_CONFIG_GLOBAL={file}", "git", "config", "--list", "-z")
     yield "`config_check`", (arguments.config_check, file)
-    yield "plain C", (loop, file)
+    yield "plain C", (f"{folder}/entries", file)
+    for name, program in walks(folder, arguments.prefix):
+        yield name, (program, file)
     if importlib.util.find_spec("dulwich"):
         yield "dulwich", (sys.executable, "-c", DULWICH, file)
 
 
 def rows(measuring, asked, file, arguments):
-    """For each size and program the least milliseconds, and how many entries that is in a second."""
-    for size, asked in zip(SIZES, (asked, asked[:5])):
+    """For each size and program the least milliseconds, how many entries that is in a second, and the part of Git's."""
+    for size, asked in zip(SIZES, (asked, [it for it in asked if it[0] != "dulwich"])):
         text = "".join(SECTION % number for number in range(size // ENTRIES))
         pathlib.Path(file).write_text(text, encoding="utf-8")
-        (_, own), (_, git), *_ = asked
-        if listed(*own)[1::2] != listed(*git)[:-1]:
-            sys.exit("the list of config_value is not Git's")
+        git, same, with_lines = (listed(*command) for _, command in asked[:3])
+        if same != git or with_lines[1::2] != git[:-1]:
+            sys.exit("a list of config_value is not Git's")
         times = [[usage(measuring, *command)[0] for _, command in asked] for _ in range(arguments.runs)]
-        for (name, _), seconds in zip(asked, map(min, zip(*times))):
+        least = [min(seconds) for seconds in zip(*times)]
+        for (name, _), seconds in zip(asked, least):
             what = f"{size:,} entries, {len(text) / 1e6:.0f} MB"
-            yield what, name, f"{seconds * 1000:.0f}", f"{size / seconds / 1e6:.2f}"
+            yield what, name, f"{seconds * 1000:.0f}", f"{size / seconds / 1e6:.2f}", f"{seconds / least[0]:.2f}"
 
 
 def main():
     arguments = argparse.ArgumentParser()
     arguments.add_argument("config_value", type=os.path.abspath)
     arguments.add_argument("config_check", type=os.path.abspath)
+    arguments.add_argument("--prefix", type=os.path.abspath)
     arguments.add_argument("--runs", type=int, default=5)
     arguments = arguments.parse_args()
     before = load()
     with tempfile.TemporaryDirectory() as folder:
         for name in ("usage", "entries"):
             run(*shlex.split(os.environ.get("CC", "cc")), "-O2", HERE / f"{name}.c", "-o", f"{folder}/{name}")
-        asked = list(commands(arguments, f"{folder}/entries", f"{folder}/config"))
+        asked = list(commands(arguments, folder, f"{folder}/config"))
         table = list(rows(f"{folder}/usage", asked, f"{folder}/config", arguments))
     print(head(before))
-    print("| File | Program | Processor time, ms | Million entries in a second |")
-    print("|---|---|---|---|")
+    print("| File | Program | Processor time, ms | Million entries in a second | Of Git's time |")
+    print("|---|---|---|---|---|")
     for row in table:
         print("| " + " | ".join(row) + " |")
 

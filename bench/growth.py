@@ -21,6 +21,10 @@ class Given:
 
     words, folder, known = [], None, {}
 
+    def begin(self):
+        """Makes all as it was before a run."""
+        self.file.seek(0)
+
 
 class Lines(Given):
     """Lines on standard input."""
@@ -64,6 +68,18 @@ class Section(Given):
         pathlib.Path(self.folder, "config").write_text(f"[{'s' * size}]\n" + "k\n" * size, "ascii")
 
 
+class Edit(Given):
+    """A file with this many keys, of which a word of the program edits one, or the section of all."""
+
+    def __init__(self, size, *words):
+        self.made, self.file = tempfile.TemporaryDirectory(), tempfile.TemporaryFile()
+        self.words, self.folder = [words[0], "--file", "config", *words[1:]], self.made.name
+        self.text = "[s]\n" + "".join(f"\tk{number} = v # c\n" for number in range(size))
+
+    def begin(self):
+        pathlib.Path(self.folder, "config").write_text(self.text, "ascii")
+
+
 class Parameters(Given):
     """The settings of a command in one variable, in which the system lets there be 128 KiB."""
 
@@ -104,6 +120,11 @@ INPUTS = [
     ("included files of 100 entries", 400, lambda size: Includes(size, 100)),
     ("included files of one entry", 3_000, lambda size: Includes(size, 1)),
     ("keys of a section with a long name", 10_000, Section),
+    ("keys, one of them set", 100_000, lambda size: Edit(size, "set", "s.k9", "new")),
+    ("keys, one put behind them", 100_000, lambda size: Edit(size, "set", "s.new", "v")),
+    ("keys, one of them unset", 100_000, lambda size: Edit(size, "unset", "s.k9")),
+    ("keys, their section renamed", 100_000, lambda size: Edit(size, "rename-section", "s", "t")),
+    ("keys, their section removed", 100_000, lambda size: Edit(size, "remove-section", "s")),
     ("`*a` for each letter", 50_000, lambda size: Condition("*a" * size, "a" * size)),
     ("`*a` for each letter, then `b`", 50_000, lambda size: Condition("*a" * size + "b", "a" * size)),
     ("`*`, half the letters, `b`", 5_000, lambda size: Condition("*" + "a" * (size // 2) + "b", "a" * size)),
@@ -115,7 +136,7 @@ INPUTS = [
 
 def seconds(program, given):
     """The processor time of one run, user and system."""
-    given.file.seek(0)
+    given.begin()
     command, known = [program, *given.words], {**os.environ, **given.known}
     process = subprocess.Popen(command, cwd=given.folder, env=known, stdin=given.file, stdout=subprocess.DEVNULL)
     _, status, usage = os.wait4(process.pid, 0)

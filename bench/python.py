@@ -1,13 +1,16 @@
-"""Measures the Python package and plain Python: python3 bench/python.py FOLDER..
+"""Measures the Python package, plain Python and pygit2: python3 bench/python.py FOLDER..
 
-Each FOLDER has a package, as pip's --target makes it; the package of 0.1.0 (ctypes) is measured too, if it finds its
-library by GIX_CONFIG_VALUE_LIBRARY. A row has the least processor time of seven turns in microseconds, all in one run.
-The last row is the processor time of an import in milliseconds, without that of a bare start.
+Each FOLDER has a package, as pip's --target makes it. A row has the least processor time of seven turns, all in one
+run: first that of plain Python, in the rows of files that of pygit2 or `-` without it, then that of each package. That
+of an import is without a bare start, and memory is what is kept of the file with 100,000 entries, each time all of it.
 """
+import importlib.util
 import os
+import pathlib
 import resource
 import subprocess
 import sys
+import tempfile
 
 TURNS = 7
 PLAIN = """
@@ -52,15 +55,11 @@ lookup = value = lambda key: boolean(config[key])
 """
 OF_PACKAGE = """
 import gix_config_value as it
-boolean, integer, color = getattr(it, "boolean", None), getattr(it, "integer", None), it.Color.parse
+boolean, integer, color = it.boolean, it.integer, it.Color.parse
 entries = {f"core.key{at}": "yes" for at in range(1000)}
-lookup = value = lambda key: it.lookup("boolean", entries, key)
-if boolean is None:
-    boolean, integer, entries = it.Boolean.parse, lambda text: it.Integer.parse(text).to_decimal(), list(entries.items())
-config = dict(entries)
-if hasattr(it, "Configuration"):
-    config = it.Configuration(it.Entry("config", 1, *entry) for entry in entries.items())
-    value = lambda key: config.get(key, "boolean")
+config = it.Configuration(it.Entry("config", 1, *entry) for entry in entries.items())
+lookup = lambda key: it.lookup("boolean", entries, key)
+value = lambda key: config.value(key, boolean)
 
 def refused(text):
     try:
@@ -71,6 +70,30 @@ def refused(text):
 ROWS = {"a boolean": 'boolean("yes")', "an integer": 'integer("10m")', "a color": 'color("bold red ul blue")',
         "a refused boolean": 'refused("maybe")', "one of 1,000 settings": 'lookup("core.key500")',
         "a text by key": 'config["core.key500"]', "a boolean by key": 'value("core.key500")'}
+SECTION = """[branch "topic-%06d"]
+\tremote = origin
+\tmerge = refs/heads/topic ; "a comment"
+\tdescription = "one \\"quoted\\" word" # and another
+\trebase = true
+"""
+OF_PYGIT2 = """
+import pygit2
+read, read_repository = pygit2.Config, lambda folder: pygit2.Repository(folder).config
+listed = lambda config: [(entry.name, entry.value) for entry in config]
+"""
+OF_FILES = """
+from gix_config_value import read, read_repository
+listed = lambda config: [(entry.key, entry.text) for entry in config.entries]
+"""
+KEPT = """
+import resource
+def used():
+    with open("/proc/self/statm") as told:
+        return int(told.read().split()[1]) * resource.getpagesize()
+before = used()
+"""
+FILES = {"reading 100,000 entries": "read({file!r})", "the same, listed": "listed(read({file!r}))",
+         "a small repository": "read_repository({folder!r})"}
 
 
 def run(folder, code):
@@ -100,13 +123,34 @@ def milliseconds(folder, code):
     return min(times) * 1e3
 
 
+def files(folders, work):
+    """Prints the rows of files."""
+    file, folder = f"{work}/config", f"{work}/repository"
+    pathlib.Path(file).write_text("".join(SECTION % number for number in range(25_000)), encoding="utf-8")
+    subprocess.run(["git", "init", "-q", folder], check=True)
+    os.environ.update(HOME=work, GIT_CONFIG_NOSYSTEM="1")
+    pathlib.Path(work, ".gitconfig").write_text("[user]\n\tname = A\n\temail = a@b\n[core]\n\teditor = vi\n")
+    asked = [("", OF_PYGIT2)] if importlib.util.find_spec("pygit2") else []
+    asked += [(it, OF_FILES) for it in folders]
+    for name, statement in FILES.items():
+        statement = statement.format(file=file, folder=folder)
+        times = [microseconds(it, setup, statement) for it, setup in asked]
+        print(f"{name:24}", "        -" * (len(folders) + 1 - len(asked)), *(f"{time:9.0f}" for time in times))
+    kept = [float(run(it, f"{setup}{KEPT}config = read({file!r})\nprint(used() - before)")) for it, setup in asked]
+    print(f"{'bytes kept of an entry':24}", "        -" * (len(folders) + 1 - len(asked)),
+          *(f"{it / 100_000:9.0f}" for it in kept))
+
+
 def main():
     folders = sys.argv[1:]
     for name, statement in ROWS.items():
-        times = [microseconds("", PLAIN, statement), *(microseconds(folder, OF_PACKAGE, statement) for folder in folders)]
+        times = [microseconds("", PLAIN, statement), *(microseconds(it, OF_PACKAGE, statement) for it in folders)]
         print(f"{name:24}", *(f"{time:9.2f}" for time in times))
     bare = milliseconds("", "")
-    print(f"{'an import':24}", f"{0:9.2f}", *(f"{milliseconds(it, 'import gix_config_value') - bare:9.2f}" for it in folders))
+    imports = [milliseconds(it, "import gix_config_value") - bare for it in folders]
+    print(f"{'an import, ms':24}", f"{0:9.2f}", *(f"{it:9.2f}" for it in imports))
+    with tempfile.TemporaryDirectory() as work:
+        files(folders, work)
 
 
 main()

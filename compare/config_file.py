@@ -1,6 +1,7 @@
 """Compares how configuration files are read, by the built program and by a Git: the installed one, or that of --git.
 
-python3 config_file.py PROGRAM [--seed N] [--files N] [--short] [--patterns N] [--seconds N] [--git COMMAND]
+python3 config_file.py PROGRAM [--seed N] [--files N] [--short] [--trees N] [--patterns N] [--seconds N]
+                       [--git COMMAND]
 
 PROGRAM is config_value, which lists many files in one call; Git lists one in a call. Both have to give the same
 entries in the same order, and to refuse a file at the same line after the same entries. Git tells the line of an entry
@@ -10,9 +11,10 @@ The files are those of config_files.txt, as many random changes of them as --fil
 TABs and CRs, and as many of the short texts, which are all texts of up to 4 bytes of LETTERS; with --short all of these
 are taken.
 
-Then both follow includes: in the folders of includes.txt, in the repositories of STARS, and in as many folders as
---patterns says, whose file has PATTERNS random conditions on a git directory and a branch with a random name. In a
-repository of STARS the program may take --seconds of a processor.
+Then both follow includes: in the folders of includes.txt, in as many as --trees says of random files that include each
+other, in the repositories of STARS, and in as many folders as --patterns says, whose file has PATTERNS random
+conditions on a git directory and a branch with a random name. In a repository of STARS the program may take --seconds
+of a processor.
 
 A difference has to belong to a class of classes.OF_FILES that is expected in the version of this Git, and each class
 that is expected has to be seen. The run is the same for the same seed and numbers. The last line is 'N passed, M
@@ -70,6 +72,15 @@ PARTS = [" ", *r"""a b A B 1 - ! ^ : , _ ? * / ] \ é ** /**/ **/ /** [ [] [! [^
          [a-\c] [/] \* \A \[ [:alpha:] [[: :] :]] [[:upper:]a]""".split(), *(
              f"[{no}[:{name}:]]" for no in ("", "!") for name in
              "alnum alpha blank cntrl digit graph lower print punct space upper xdigit word ALPHA".split())]
+# the files of a random folder, and what their entries and includes are drawn from
+FILES = ["p", "h", "s", "d/q", "d/e/r"]
+ENTRIES = ["[a]k=1\n", "[a]\n\tk\n", '[A "B c"]K = "x y" ; z\n', "k=2\n", "[a.b]k=\\\n 3\n", "# c\n", "\r\n", "[a]k="]
+SECTIONS = ["include", "include", "Include", "includeIf", 'include "x"', 'includeIf "no"', 'includeIf "gitdir:./"', *(
+    f'includeIf "{kind}:{pattern}"' for kind, patterns in {
+        "gitdir": ("R/", "**/R/.git", "~/", "/", "./d/"), "gitdir/i": ("r/", "./.GIT"),
+        "onbranch": ("main", "ma*", "m/", "**")}.items() for pattern in patterns)]
+PATHS = ["h", "s", "p", "d/q", "d/e/r", "q", "e/r", "../h", "../s", "../../h", "./s", "l", "d/l", "~/q", "no", '"h" ; c',
+         "~no-such-user/h"]
 STARRED = ["*a", "*a", "*b", "a*", "?*", "**", "*/", "**/", "/**/", "*[ab]", "*ab", "a"]
 LONGEST_RUN = 60
 # a work tree, its branch, a condition that is slow if each star is tried again at all its places, whether it holds, and
@@ -334,6 +345,21 @@ def drawn(draw, pieces, length):
     return "".join(draw.choice(pieces) for _ in range(draw.randint(1, length)))
 
 
+def included(draw):
+    """The text of a random file, rarely with a line that is refused."""
+    pieces = [draw.choice(ENTRIES) if draw.randrange(2) else f"[{draw.choice(SECTIONS)}]path={draw.choice(PATHS)}\n"
+              for _ in range(draw.randint(0, 6))]
+    return "".join(pieces) + draw.choice([""] * 19 + ["[b"])
+
+
+def tree(draw):
+    """A line with random files that include each other, mostly in a repository."""
+    fields = [f"{name}={included(draw)}" for name in FILES if name == "p" or draw.randrange(5)]
+    fields += [field for field in ("@head ref: refs/heads/main", "@home d", "@link l h", "@link d/l ../s")
+               if draw.randrange(4)]
+    return " | ".join(fields).encode("unicode_escape").decode("ascii")
+
+
 def starred(draw, is_deep):
     """A pattern of several stars, or of many if the names have no `/`: older Gits take exponential time otherwise."""
     most = 5 if is_deep else 40
@@ -420,6 +446,12 @@ class Comparison:
             if difference is None or difference in self.expected:
                 self.follow("folders", Folder(folder / f"f{number}" / "R", line, self.git), difference)
 
+    def follow_files(self, arguments, folder):
+        """Compares folders of random files."""
+        draw = random.Random(arguments.seed)
+        for number in range(arguments.trees):
+            self.follow("folders of random files", Folder(folder / f"t{number}" / "R", tree(draw), self.git))
+
     def follow_stars(self, seconds, folder):
         """Compares the repositories of STARS with what Git said, and with this Git where it answers at once."""
         for number, star in enumerate(STARS):
@@ -456,6 +488,7 @@ def compare(arguments, folder):
     for at in range(0, len(texts), BATCH):
         comparison.ask(texts[at:at + BATCH])
     comparison.follow_trees(folder / "includes")
+    comparison.follow_files(arguments, folder / "trees")
     comparison.follow_stars(arguments.seconds, folder / "stars")
     comparison.follow_drawn(arguments, folder / "drawn")
     for name, count in comparison.counts.items():
@@ -474,6 +507,7 @@ def main():
     arguments.add_argument("--seed", type=int, default=1)
     arguments.add_argument("--files", type=int, default=1000)
     arguments.add_argument("--short", action="store_true")
+    arguments.add_argument("--trees", type=int, default=100)
     arguments.add_argument("--patterns", type=int, default=30)
     arguments.add_argument("--seconds", type=float, default=0.1)
     arguments.add_argument("--git", default="git")

@@ -335,7 +335,7 @@ def class_of(place, ours, git, running):
         classes.COMMAND_KEY: "blank key" in place.words and b"invalid key" in ours.told,
         classes.REFUSED_DIR: "GIT_DIR" in place.words and git.told.startswith(b"warning: "),
         classes.SOUGHT_DIR: "GIT_DIR" in place.words and git.told.startswith(b"fatal: remote URLs cannot be "),
-        classes.BARE: "safe.bareRepository" in place.words and place.where.endswith(".git"),
+        classes.BARE: "safe.bareRepository" in place.words and ".git" in place.where.split("/"),
     }
     return next((name for name, holds in rules.items()
                  if holds and classes.is_expected(classes.OF_PLACES[name], running)), None)
@@ -360,8 +360,8 @@ PLACES = [
     Shown(classes.COMMAND_KEY, {"blank key"}, {"GIT_CONFIG_PARAMETERS": "' a.b =c'"}, "top", {}),
     Shown(classes.REFUSED_DIR, {"GIT_DIR"}, {"GIT_DIR": ".git"}, "top",
           {"top/.git/config": "[core]repositoryformatversion=99\n", "system": ON_MAIN}),
-    Shown(classes.BARE, {"safe.bareRepository"}, {}, "top/.git",
-          {"top/.git/config": "[a]b=1\n", "system": "[safe]bareRepository=explicit\n"}),
+    Shown(classes.BARE, {"safe.bareRepository"}, {}, "top/.git/refs",
+          {"top/.git/config": "[extensions]worktreeConfig=x\n", "system": "[safe]bareRepository=explicit\n"}),
     Shown(classes.NOWHERE, set(), {}, "top/deep",
           {"top/deep/.git": "gitdir: nowhere\n", "top/.git/config": "[a]b=1\n"}),
     Shown(classes.NO_TREE, set(), {}, "top", {"top/.git/config": "[core]repositoryformatversion=0\n worktree=../x\n"}),

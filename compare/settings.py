@@ -337,7 +337,7 @@ def verdicts(program, version, questions):
                             stdout=subprocess.PIPE, stderr=subprocess.DEVNULL, check=False)
     found = dict.fromkeys(questions) | dict.fromkeys(asked, "takes")
     for line in run_of.stdout.splitlines():
-        _, number, severity, _ = line.split(b":", 3)
+        _, number, _, severity, _ = line.split(b":", 4)
         # each question takes two lines, and the second has its key
         found[asked[int(number) // 2 - 1]] = VERDICTS[severity.strip()]
     return found

@@ -78,20 +78,42 @@ class Reference:
     """The pages, and what stands on them."""
 
     def __init__(self, folder):
-        self.folder, self.library, self.words, self.found, self.contracts = folder, Library(), {}, [], set()
+        self.folder, self.library, self.words, self.found, self.others = folder, Library(), {}, [], {}
         self.types = {item.href(): item for listed in self.library.modules.values() for item in listed}
-        self.others = {}
-        for (crate, *path), names in self.library.passed.items():
-            for new, to in names.items():
-                to = self.library.find("::".join(to), CRATES / crate / "src/lib.rt")
-                if self.types.get(to) and [crate, *path] != [self.types[to].crate, *self.types[to].module]:
-                    self.others.setdefault(to, []).append("::".join([crate, *path, new]))
-        reading = (ROOT / "docs/READING.md").read_text("utf-8")
-        self.signs = re.search(r"^## Signs\n(.*?)(?=^## )", reading, re.MULTILINE | re.DOTALL)[1]
+        for place, names in self.library.passed.items():
+            for new, path in names.items():
+                to = self.types.get(self.library.find("::".join(path), CRATES / place[0] / "src/lib.rt"))
+                if to and place != to.place():
+                    self.others.setdefault(to.href(), []).append("::".join([*place, new]))
+        self.met = self.met_names()
+        # below the title and the sentence for those who read that page alone
+        self.signs = (ROOT / "docs/SIGNS.md").read_text("utf-8").split("\n\n", 2)[2]
         told = re.split(r"\n- |(?<=\.)\s+(?=`)", self.signs.replace("\n\n", "\n- "))
         # first by what a row explains, and then by what it names
         self.rows = [(set(re.findall(r"[^\s(){},`⟦⟧]+", part)), " ".join(it.split()).removeprefix("- "))
                      for cut in ("`: ", "\n\n") for it in told for part in [it.partition(cut)[0]]]
+
+    def met_names(self):
+        """The names that a user meets: those on the pages for callers, in examples and in crates/uses, those that a
+        crate passes on, and those of the types in their signatures. All other items are for the crates here."""
+        code = [name for names in self.library.passed.values() for name in names]
+        code += [it for page in ("README.md", "CALLING.md")
+                for it in re.findall(r"(?s)```.*?```|`[^`\n]+`", (ROOT / page).read_text("utf-8"))]
+        for file in words.sources():
+            crate, text = file.relative_to(CRATES).parts[0], opened(file).text
+            code += re.findall(r"(?s)/// ```.*?/// ```", text) if crate in LIBRARY else []
+            code += [words.without_comments(text)] if crate == "uses" else []
+        met, more = set(), set(re.findall(r"\b\w+\b(?!!)", "\n".join(code)))
+        while more - met:
+            met |= more
+            having = [it for item in self.types.values() if item.name in met for it in (item, *members(item).values())]
+            heads = "\n".join(it.head[:it.clauses()] for it in having)
+            more = set(re.findall(r"\w+", heads)) & set(self.library.named)
+        return met
+
+    def inner(self, item):
+        """What tells that no user calls an item."""
+        return ", for the crates here" * (item.name not in self.met and item.module[:1] != ("laws",))
 
     def page(self, name, title, body):
         links = {"index": "Items", "statements": "Statements", "headline": "Headline of values",
@@ -143,10 +165,11 @@ class Reference:
         return "".join(out)
 
     def type_spans(self, text, file):
-        for it in re.finditer(r"\b(?:\w+::)*[A-Z]\w*(?:::\w+)?\b", text):
-            to = self.library.find(it[0], file)
+        for it in re.finditer(r"(?m)(^ *)?\b(?P<path>(?:\w+::)*[A-Z]\w*(?:::\w+)?)\b", text):
+            # a name at the start of a line is that of a variant
+            to = (it[1] is None or "::" in it["path"]) and self.library.find(it["path"], file)
             if to:
-                yield it.start(), it.end(), f'<a href="{to}">', "</a>"
+                yield it.start("path"), it.end(), f'<a href="{to}">', "</a>"
 
     def href(self, word, here=()):
         page = "" if word.id in here else f"words.{word.crate if word.is_here else 'toolchain'}.html"
@@ -159,30 +182,24 @@ class Reference:
                 continue
             yield begin, end, f'<a class=w href="{self.href(word, here)}">', "</a>"
 
-    def meaning(self, word, comment):
-        """What a word means in words: its comment, or what docs/READING.md says of a word of the toolchain."""
-        parts = {part for part in word.name.split("◌") if part}
-        if not word.is_here:
-            return self.prose(next((it for head, it in self.rows if parts <= head), comment))
-        for item in items_of(word.file) if word.file.suffix == ".rt" and not comment else ():
-            if item.name != word.name or item.kind == "impl":
-                continue
-            more = f' <a href="{item.href()}">More</a>' * (item.href() in self.types)
-            return f"<p>{self.inline(lead(item.doc), item.file)}{more}</p>"
-        return self.prose(comment)
-
     def word(self, word, here=(), is_unfolded=False):
+        """A definition, with its comment, or with what docs/SIGNS.md says of a word of the toolchain."""
         lines, above = word.text.split("\n"), []
         while re.match(r" *(--|///)", lines[0]):
             above.append(re.sub(r"^ *(--|///) ?", "", lines.pop(0)))
-        shown = "\n".join(line for line in lines if not line.startswith("--"))
-        spans = self.word_spans(shown, word.file, here, word.id) if word.file.suffix == ".antt" else ()
+        shown, told = "\n".join(line for line in lines if not line.startswith("--")), "\n".join(above)
+        is_code = word.file.suffix == ".rt"
         if word.is_here:
+            told = self.prose(told.split("\n\n")[0] if is_code else told, word.file)
             line = opened(word.file).text.split(lines[0])[0].count("\n") + 1
             place = f'<a href="{source_page(word.file, line)}">{word.file.relative_to(CRATES)}</a>'
+            spans = self.type_spans(shown, word.file) if is_code else self.word_spans(shown, word.file, here, word.id)
         else:
+            parts = {part for part in word.name.split("◌") if part}
+            told = self.prose(next((it for head, it in self.rows if parts <= head), lead(told) if is_code else told))
             place = f"toolchain, {word.file.relative_to(words.library())}"
-        told, text = self.meaning(word, "\n".join(above)), code(shown, spans)
+            spans = () if is_code else self.word_spans(shown, word.file, here, word.id)
+        text = code(shown, spans)
         if is_unfolded:
             return f"{told}{text}<p class=small>{place}</p>"
         name = escape(word.name.replace("◌", " ").strip())
@@ -193,7 +210,6 @@ class Reference:
         """A signature, and below it its clauses, whose words unfold."""
         cut, source = item.clauses(), ""
         if item.head[cut:].strip():
-            self.contracts.add((item.file, item.line))
             spans = [(begin - cut, end - cut, *rest) for begin, end, *rest in
                      self.word_spans(item.head, item.file, here) if begin >= cut]
             source = code(item.head[cut:].rstrip(";"), spans, "clauses")
@@ -206,7 +222,6 @@ class Reference:
         for it in (it for it in listed if it.kind == "ghost"):
             if any("Laws" in word.file.parts for word in words.cited(it.text, it.file)):
                 continue
-            self.contracts.add((it.file, it.line))
             own = opened(it.file).members.get(it.name)
             spans = self.word_spans(it.text, it.file, (), own.id if own else "")
             out.append(self.prose(it.doc, it.file) + code(it.text, spans, "clauses"))
@@ -227,6 +242,7 @@ class Reference:
             if it.kind in ("field", "variant", "const"):
                 shown = re.sub(r"^pub |[,;]$", "", " ".join(re.sub(r"(?m)^ *///.*\n", "", it.text).split()))
                 mark = f' id="{owner}.{it.name}"' * bool(owner)
+                self.found += [[f"{owner}::{it.name}", it.kind, item.href(it.name)]] * bool(owner)
                 shown = marked(shown, self.type_spans(shown, it.file))
                 rows.append(f"<dt{mark}><code>{shown}</code></dt><dd>{self.prose(it.doc, it.file)}</dd>")
         return f"<dl>{''.join(rows)}</dl>" * bool(rows)
@@ -234,17 +250,17 @@ class Reference:
     def item(self, item, owner=None):
         name, level = (f"{owner.name}.{item.name}", 3) if owner else (item.name, 2)
         sign, clauses = self.head(item)
-        self.found.append([name.replace(".", "::"), f"{item.kind} of {'::'.join([item.crate, *item.module])}",
+        inner, others = ("", ()) if owner else (self.inner(item), self.others.get(item.href(), ()))
+        self.found.append([name.replace(".", "::"), f"{item.kind} of {'::'.join(item.place())}{inner}",
                            owner.href(item.name) if owner else item.href()])
-        others = "".join(f", also <code>{it}</code>" for it in (() if owner else self.others.get(item.href(), ())))
+        self.found += [[it, item.kind, item.href()] for it in others if it.rpartition("::")[2] != item.name]
+        more = "".join(f", also <code>{it}</code>" for it in others) + inner
         out = [f'<h{level} id="{name}">{escape(name.replace(".", "::"))}<small>{item.kind}, '
-               f'<a href="{source_page(item.file, item.line)}">source</a>{others}</small></h{level}>', sign,
+               f'<a href="{source_page(item.file, item.line)}">source</a>{more}</small></h{level}>', sign,
                self.prose(item.doc, item.file), clauses]
         if item.kind == "fn":
             return "".join([*out, self.failures(item)])
-        above = opened(item.file).text.split("\n")[:item.line - 1][-4:]
-        derived = re.findall(r"#\[derive\((.*)\)\]", "\n".join(above).rpartition("///")[2])
-        out.append(f"<p class=small>It derives {', '.join(derived)}.</p>" * bool(derived))
+        out.append(f"<p class=small>It derives {', '.join(item.derived)}.</p>" * bool(item.derived))
         out += [self.fields(item, item.name), self.ghosts(item.inside)]
         out += [self.item(it, item) for it in members(item).values() if it.kind == "fn" and it not in item.impls]
         for block in (it for it in item.impls if it.trait and it.inside):
@@ -264,21 +280,24 @@ class Reference:
     def module(self, key):
         """The page of a module: what it has, what it passes on, and the modules below it."""
         (crate, *path), (doc, file) = key, self.about(key)
-        page, name = page_of(crate, path), "::".join(key)
+        page, name = page_of(*key), "::".join(key)
         self.found.append([name, "module" if path else "crate", page])
-        own = [(it.href(), it.name, lead(it.doc), it.file) for it in self.library.modules[key]]
+        items = sorted(self.library.modules[key], key=self.inner)
+        own = [(it.href(), it.name, lead(it.doc) + " For the crates here." * bool(self.inner(it)), it.file)
+               for it in items]
         for new, to in self.library.passed.get(key, {}).items():
             to = self.library.find("::".join(to), file)
             of = self.types.get(to)
             if to and page not in to:
                 own.append((to, new, lead(of.doc) if of else "All of this module.", of and of.file))
-        below = [(page_of(crate, it[1:]), it[-1], *self.about(it)) for it in self.library.modules if it[:-1] == key]
-        lists = ["".join(f'<dt><a href="{to}"><code>{escape(it)}</code></a></dt><dd>{self.inline(lead(more), of)}</dd>'
+        modules = [(it, *self.about(it)) for it in self.library.modules if it[:-1] == key]
+        below = [(page_of(*it), it[-1], lead(more), of) for it, more, of in modules]
+        lists = ["".join(f'<dt><a href="{to}"><code>{escape(it)}</code></a></dt><dd>{self.inline(more, of)}</dd>'
                          for to, it, more, of in rows) for rows in (own, below)]
-        above = f'<p class=small>in <a href="{page_of(crate, path[:-1])}">{"::".join(key[:-1])}</a></p>' * bool(path)
+        above = f'<p class=small>in <a href="{page_of(*key[:-1])}">{"::".join(key[:-1])}</a></p>' * bool(path)
         self.page(page, name, "".join([
             above, self.prose(doc, file), f"<dl>{lists[0]}</dl>", f"<h2>Modules</h2><dl>{lists[1]}</dl>" * bool(below),
-            *map(self.item, self.library.modules[key])]))
+            *map(self.item, items)]))
 
     def glossary(self, crate, listed):
         """The page of a crate's definitions, or of those of the toolchain, file by file."""
@@ -294,13 +313,10 @@ class Reference:
         every = words.closure(items)
         here, quotes = {it.id for it in every}, re.findall(r"(?m)^(?:>.*\n)+", (ROOT / "README.md").read_text("utf-8"))
         out = [self.prose(quotes[name == "setting"])]
-        sums = ["{} rest on {} here and {} there".format(" and ".join(
-            f"<code>{it.name}</code>" for it in claims_of(of)), *words.counts(claims_of(of))) for of in claims]
         own, other = words.counts(items)
         out.append(f"""<p>This page rests on <b>{own} lines of definitions here</b> and on {other} of the toolchain, in
             {len(every)} words. All of them stand below, each after a text that cites it. Lines of comments are not
-            counted{": " * (len(sums) > 1)}{", ".join(sums) * (len(sums) > 1)}. The grammar of a kind, from the table of
-            <a href=statements.html>Statements</a>, comes on top.</p>""")
+            counted. The grammar of a kind comes on top: <a href=statements.html>Statements</a> has its lines.</p>""")
         for item in items:
             sign, clauses = self.head(item, here)
             source = f'<small><a href="{source_page(item.file, item.line)}">source</a></small>'
@@ -315,26 +331,25 @@ class Reference:
     def settings(self):
         """The built-in rows of `config_check`."""
         text = (CRATES / "config_checks/src/git.rt").read_text("utf-8").partition('SETTINGS: &str = "\\\n')[2]
-        rows, heads = [], ("Key", "Kind", "Words", "Since", "Before", "Marks")
+        rows, known, heads = [], set(), ("Key", "Kind", "Words", "Since", "Before", "Marks")
         form = re.compile(r"(\S+)\s+((?:\w+=\S+ |alone |needs-value |warn )*)(\S+) ?(.*)")
-        for line in re.sub(r"\\\n *", "", text.partition('\n";')[0]).split("\n"):
-            if not line.startswith("#"):
-                key, marks, kind, more = form.match(line).groups()
-                of = dict(it.split("=") for it in marks.split() if "=" in it)
-                plain = [it.replace("instead=", "use ") for it in marks.split() if not re.match("since|until", it)]
-                rows.append((key, kind, more, of.get("since", ""), of.get("until", ""), ", ".join(plain)))
-                self.found.append([key, f"setting, {kind}", f"settings.html#{urllib.parse.quote(key)}"])
-        first = {row[0]: at for at, row in reversed(list(enumerate(rows)))}
-        cells = ("".join(f'<td data-of="{head}">{escape(cell)}</td>' for head, cell in zip(heads, row)) for row in rows)
-        body = "".join("<tr{}>{}</tr>".format(f' id="{row[0]}"' * (first[row[0]] == at), shown)
-                       for at, (row, shown) in enumerate(zip(rows, cells)))
+        for line in re.findall(r"(?m)^[^#\n].*$", re.sub(r"\\\n *", "", text.partition('\n";')[0])):
+            key, marks, kind, more = form.match(line).groups()
+            of = dict(it.partition("=")[::2] for it in marks.split())
+            since, until = of.pop("since", ""), of.pop("until", "")
+            plain = ", ".join(f"use {to}" if to else mark for mark, to in of.items())
+            row = zip(heads, (key, kind, more, since, until, plain))
+            cells = "".join(f'<td data-of="{head}">{escape(cell)}</td>' for head, cell in row)
+            rows.append("<tr{}>{}</tr>".format(f' id="{key}"' * (key not in known), cells))
+            known.add(key)
+            self.found.append([key, f"setting, {kind}", f"settings.html#{urllib.parse.quote(key)}"])
         checking = (ROOT / "docs/CHECKING.md").read_text("utf-8")
         told = re.search(r"^## The kinds\n(.*?)^## ", checking, re.MULTILINE | re.DOTALL)[1]
         self.page("settings.html", "Settings that config_check knows", f"""<p>{len(rows)} rows. For a Git the first row
             with a key decides. Without <i>since</i> a row is for Git 2.39 too, and <i>before</i> names the first Git
             that it is not for.</p><details><summary>What the kinds and the marks mean</summary>{self.prose(told)}
             </details><table class=rows><thead><tr>{"".join(f"<th>{head}</th>" for head in heads)}</tr></thead>
-            <tbody>{body}</tbody></table>""")
+            <tbody>{"".join(rows)}</tbody></table>""")
 
     def define(self):
         """What each word unfolds into, and the pages of definitions."""
@@ -369,19 +384,19 @@ class Reference:
     def write(self):
         for key in self.library.modules:
             self.module(key)
-        counts = [len(self.types) + sum(it.kind == "fn" for of in self.types.values() for it in members(of).values()),
-                  len(self.contracts)]
         self.headline("headline", "The headline of values", ("headline", "joined"))
         self.headline("setting", "The headline of settings", ("setting",))
         shown = self.define()
         self.settings()
         self.state()
-        told = "{} items with {} contracts, and {} definitions".format(*counts, len(self.words))
+        inner, items = sum(map(bool, map(self.inner, self.types.values()))), len(self.types)
+        told = f"{items - inner} items for users, {inner} for the crates here, and {len(self.words)} definitions"
         listed = "".join(f"<dt><a href={crate}.html><code>{crate}</code></a></dt><dd>{self.inline(lead(doc))}</dd>"
                          for crate, (doc, _) in ((crate, self.about((crate,))) for crate in LIBRARY))
         self.page("index.html", "Reference", f"""<p>All that a user of the libraries can call, with its contract, and
-            what each word of a contract means. A word of a clause unfolds below its line. These pages are as the
-            sources were when they were written.</p><dl>{listed}</dl><p>{told}.</p>""")
+            what each word of a contract means. A word of a clause unfolds below its line. What is <i>for the crates
+            here</i> is public only because another crate of the repository needs it. These pages are as the sources
+            were when they were written.</p><dl>{listed}</dl><p>{told}.</p>""")
         for folder in (CRATES / crate / part for crate in LISTED for part in ("src", "specs")):
             for file in [*folder.rglob("*.rt"), *folder.rglob("*.antt")]:
                 self.page(source_page(file), str(file.relative_to(CRATES)), code(opened(file).text, (), "source", True))

@@ -1,9 +1,10 @@
 #!/usr/bin/env python3
 """Builds the reference and looks at it in a browser. The last line is 'N passed, M failed'.
 
-No link may be dead, and no anchor stand twice on a page. In Debian's chromium search has to find `Color`, a word of a
-headline and then a word in its definition to unfold and fold again, rows to be filtered, and no page to be wider than
-its window. Without the script a word leads to its definition. Without chromium these are skipped.
+No link may be dead, and no anchor stand twice on a page. In Debian's chromium search has to find types, a word of a
+headline and then a word in its definition to unfold and fold again, rows to be filtered, what no user calls to be
+marked, and no page to be wider than its window. Without the script a word leads to its definition. Without chromium
+these are skipped.
 """
 import collections
 import html
@@ -19,9 +20,12 @@ import reference
 
 # what a user does on a page, and then what is written into its title
 DONE = {
-    "search finds Color": ("index.html", "config_color.color.html#Color", """
-        const box = document.getElementById("search"); box.value = "Color"; box.dispatchEvent(new Event("input"));
-        document.title = document.querySelector("#found a").getAttribute("href")"""),
+    "search finds a type, another name of one, and a variant": ("index.html",
+        "config_color.color.html#Color config_file.errors.html#Error config_text.errors.html#Fault.OutOfRange", """
+        const box = document.getElementById("search");
+        document.title = ["Color", "FileError", "outofrange"].map(text => {
+            box.value = text; box.dispatchEvent(new Event("input"));
+            return document.querySelector("#found a").getAttribute("href") }).join(" ")"""),
     "search finds nothing": ("setting.html", "nothing has this name", """
         const box = document.getElementById("search"); box.value = "no-such"; box.dispatchEvent(new Event("input"));
         document.title = document.getElementById("found").textContent"""),
@@ -38,6 +42,16 @@ DONE = {
         const box = document.getElementById("filter"); box.value = "conflictst zdiff3";
         box.dispatchEvent(new Event("input"));
         document.title = [...document.querySelectorAll(".rows tbody tr:not([hidden])")].map(row => row.id).join()"""),
+    "rows have versions and marks": ("settings.html",
+        "index.skipHash|bool||2.40|| merge.stat|bool|||2.51| core.fsyncObjectFiles|bool||||use core.fsync", """
+        document.title = ["index.skipHash", "merge.stat", "core.fsyncObjectFiles"].map(key =>
+            [...document.getElementById(key).cells].map(cell => cell.textContent).join("|")).join(" ")"""),
+    "what no user calls is marked": ("config_text.digits.html",
+        "digit_of fn, source, for the crates here; For the crates here.", """
+        document.title = document.getElementById("digit_of").textContent.replace("fn", " fn") + ";"
+            + document.querySelector("dd").textContent.split(".")[1] + "." """),
+    "what users call is not marked": ("config_text.settings.html", "lookup fn, source", """
+        document.title = document.getElementById("lookup").textContent.replace("fn", " fn")"""),
 }
 # pages that are looked at in windows of 400 and 1,400 pixels, with and without the script
 LOOKED_AT = ("index", "statements", "headline", "setting", "settings", "config_file.settings", "words.config_file",

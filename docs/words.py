@@ -10,6 +10,7 @@ import functools
 import pathlib
 import re
 import subprocess
+import textwrap
 
 ROOT = pathlib.Path(__file__).resolve().parent.parent
 CRATES = ROOT / "crates"
@@ -25,10 +26,13 @@ HEAD = re.compile(rf"^(?:(?:{MARKS} )+(?!mod |use |{MARKS} )(\S+)"
                   r"|(?!use |mod |infix|module |unfolding )(\S+)(?: \{.*?\})* : )")
 USE = re.compile(r"^(?:abbrev |unfoldable )?(pub )?(?:ghost )?use ([\w.◌]+?)(?:\.\{([^}]*)\}| as (\w+))?;?$",
                  re.MULTILINE)
-RUST = r"^( *)(?:pub(?:\([a-z]+\))? )?(?:const )?(?:struct|enum|union|type|trait|const|static) {}\b"
+# a declaration of code, which ends on its line, or where its braces close on a line of their own
+DECLARED = (r"(?m)(?P<doc>(?:^ *///.*\n)*)(?:^ *#\[.*\n)*"
+            r"(?P<text>^( *)(?:pub(?:\([a-z]+\))? )?(?:const )?(?:struct|enum|union|type|trait|const|static) {}\b"
+            r"(?:.*(?:;|\{{\}})$|(?s:.*?)^\3[\]}})]+;?$))")
 
 
-@functools.lru_cache(maxsize=None)
+@functools.cache
 def library():
     said = subprocess.run(["rt", "doc"], stdout=subprocess.PIPE, text=True, check=True).stdout
     return pathlib.Path(said.split("\n")[0]).parent / "rattle"
@@ -38,25 +42,19 @@ def folder_of(crate):
     return CRATES / crate if (CRATES / crate).is_dir() else library() / crate
 
 
-@functools.lru_cache(maxsize=None)
+@functools.cache
 def file_of(module):
-    """The file of a module of definitions, by its path, and that path written out. A module may be passed on."""
-    parts = module.split(".")
-    if parts[0] == "Prim":
-        return None
-    if parts[0] == "Rattle":
-        top, head, rest = folder_of(parts[1]) / "specs", parts[:3], parts[3:]
-    else:
-        top, head, rest = library() / PLACES.get(parts[0], f"logic/{parts[0].capitalize()}"), parts[:1], parts[1:]
-    for cut in range(len(rest)):
-        above = top.joinpath(*rest[:cut])
-        listed = above / "Lib.antt" if cut == 0 else above.with_suffix(".antt")
-        if listed.exists():
-            for _, path, names, _ in USE.findall(listed.read_text("utf-8")):
-                if not names and path.split(".")[-1] == rest[cut] and path != ".".join(head + rest[:cut + 1]):
-                    return file_of(".".join([path, *rest[cut + 1:]]))
-    file = top.joinpath(*rest).with_suffix(".antt") if rest else top / "Lib.antt"
-    return file if file.exists() else None
+    """The file of a module of definitions, by its path. A list above it may pass it on from another path."""
+    above, *rest = module.split(".")
+    top = library() / PLACES.get(above, f"logic/{above.capitalize()}")
+    if above == "Rattle":
+        top, above, rest = folder_of(rest[0]) / "specs", f"Rattle.{rest[0]}.specs", rest[2:]
+    files = [top.joinpath(*rest[:cut] or ["Lib"]).with_suffix(".antt") for cut in range(len(rest) + 1)]
+    for cut, listed in enumerate(files[:-1]):
+        for _, path, names, _ in USE.findall(listed.read_text("utf-8")) if listed.exists() else ():
+            if not names and path.split(".")[-1] == rest[cut] and path != ".".join([above, *rest[:cut + 1]]):
+                return file_of(".".join([path, *rest[cut + 1:]]))
+    return files[-1] if files[-1].exists() else None
 
 
 def without_comments(text):
@@ -71,10 +69,6 @@ class Word:
         self.is_here = CRATES in file.parents
         parts = file.relative_to(CRATES if self.is_here else library()).with_suffix("").parts
         self.crate, self.id = parts[0], ".".join([*(part for part in parts if part not in ("specs", "src")), name])
-
-    @property
-    def lines(self):
-        return without_comments(self.text).count("\n") + 1
 
 
 class File:
@@ -108,13 +102,12 @@ class File:
             if head:
                 name = head[1] or head[2]
                 word = self.words.setdefault(name, Word(name, self.file, ""))
-                word.text, kept = "\n".join([word.text] * bool(word.text) + [*kept, line]), []
-            elif re.match("--|infix|#", line):
+            if re.match("--|infix|#", line) and not head:
                 kept.append(line)
             elif not line.strip() or re.match(rf"({MARKS} )*(use|mod) ", line):
                 kept = []
             elif word:
-                word.text, kept = "\n".join([word.text, *kept, line]), []
+                word.text, kept = "\n".join([*[word.text] * bool(word.text), *kept, line]), []
         for word in list(self.words.values()):
             # the cases of a type lead to it
             if re.search(rf"^(?:{MARKS} )*data ", word.text, re.MULTILINE):
@@ -123,35 +116,22 @@ class File:
                         self.words.setdefault(name, word)
 
 
-@functools.lru_cache(maxsize=None)
-def opened(file):
-    return File(file)
+opened = functools.cache(File)
 
 
-def end_of(text, place):
-    """Where a declaration ends: at its `;`, or where its braces close."""
-    depth = 0
-    for place in range(place, len(text)):
-        depth += {"{": 1, "(": 1, "}": -1, ")": -1}.get(text[place], 0)
-        if depth == 0 and text[place] in ";}":
-            return place + 1
-    return len(text)
-
-
-@functools.lru_cache(maxsize=None)
+@functools.cache
 def declared(crate, path):
     """A type, a variant or a constant of the code, by what it is declared as."""
     name = path[-2] if path[-1] == "TheVariants" else path[-1]
     for part in (crate, *(PARTS_OF_STD if crate == "std" else ())):
         for file in sorted(folder_of(part).glob("src/**/*.rt"), key=lambda file: (file.stem not in path, file)):
-            text = opened(file).text
-            found = re.search(RUST.format(name), text, re.MULTILINE)
+            found = re.search(DECLARED.format(name), opened(file).text)
             if found:
-                return Word(name, file, text[found.start():end_of(text, found.end())])
+                return Word(name, file, found["doc"] + found["text"])
     return None
 
 
-@functools.lru_cache(maxsize=None)
+@functools.cache
 def looked_up(module, name):
     """The word of that name that a module has or passes on, or None if it is the prover's own."""
     parts = module.split(".")
@@ -180,20 +160,16 @@ def marks(text, file):
         bound |= set(re.findall(r"^ +(?:pub )?(\S+) : ", text, re.MULTILINE))
     tokens = [(it.start(), it[0].rstrip(".")) for it in re.finditer(r"[^\s(){};,.][^\s(){};,]*", text)]
     present = {part for _, token in tokens for part in (token, token.split(".")[0])}
-    of = {}
-    for name in {**known.names, **known.words}:
-        parts = [part for part in name.split("◌") if part]
-        if all(part in present for part in parts) and name not in bound:
-            of.update(dict.fromkeys(parts, name))
+    of = {part: name for name in {**known.names, **known.words} if name not in bound
+          for parts in [list(filter(None, name.split("◌")))] if present.issuperset(parts) for part in parts}
     for place, token in tokens:
         head, _, rest = token.partition(".")
-        part = token if token in of else head
-        word = None
+        part, word = token if token in of else head, None
         if part in of:
-            word = known.words[of[part]] if of[part] in known.words else looked_up(*known.names[of[part]])
+            word = known.words.get(of[part]) or looked_up(*known.names[of[part]])
         elif rest and head in known.modules and head not in bound:
             part, (first, _, more) = token, rest.rpartition(".")
-            word = looked_up(f"{known.modules[head]}.{first}" if first else known.modules[head], more)
+            word = looked_up(".".join(filter(None, [known.modules[head], first])), more)
         if word:
             found.append((place, place + len(part), word))
     for it in re.finditer(r"(?:\b[A-Z]\w*\.)?\b([a-z]\w+)", text) if file.suffix == ".rt" else ():
@@ -205,7 +181,7 @@ def marks(text, file):
     return sorted(found, key=lambda it: it[:2])
 
 
-@functools.lru_cache(maxsize=None)
+@functools.cache
 def sources():
     return sorted(CRATES.glob("*/src/**/*.rt"))
 
@@ -231,30 +207,44 @@ def closure(claims):
 
 
 def counts(claims):
-    words = closure(claims)
-    return [sum(it.lines for it in words if it.is_here is side) for side in (True, False)]
+    """How many lines of definitions some items of code rest on, here and in the toolchain."""
+    lines = [(it.is_here, without_comments(it.text).count("\n") + 1) for it in closure(claims)]
+    return [sum(count for is_here, count in lines if is_here is side) for side in (True, False)]
+
+
+# an item at the left of a text, as `rt fmt` lays it out: a head, and in braces what is inside
+ITEM = re.compile(r"(?m)(?P<doc>(?:^///.*\n)*)(?P<attributes>(?:^#\[(?:.*(?<!\])\n)*.*\]\n)*)"
+                  r"^(?P<head>(?:pub |impl\b|fn |trait |ghost (?!use)|const |type |mod |[A-Z]|bitflag_items).*"
+                  r"(?:(?<![;{},])(?:\n(?: .*(?<!;))?)*\n(?: .*;|[^ \n].*))*)"
+                  r"(?P<inside>(?<=\{)\n(?:(?: .*)?\n)*\}.*)?$")
+KINDS = ("fn", "struct", "enum", "trait", "type", "const", "mod", "use", "impl", "ghost", "bitflag_items")
 
 
 class Item:
     """What a file of code declares: its comment, its head up to its body, its whole text, and what is inside."""
 
-    def __init__(self, file, line, doc, head, text):
-        self.file, self.line, self.doc, self.head, self.text, self.inside = file, line, doc, head, text, []
-        self.crate, *self.module = file.relative_to(CRATES).with_suffix("").parts
-        self.module = [part for part in self.module if part not in ("src", "lib")]
+    def __init__(self, file, line, doc, head, inside):
+        self.file, self.line, self.doc, self.text, self.impls = file, line, doc, head + inside, []
+        parts = file.relative_to(CRATES).with_suffix("").parts
+        self.crate, *self.module = (part for part in parts if part not in ("src", "lib"))
+        self.head = re.sub(r" ?\{\}?$", "", head).rstrip()
         found = re.match(r"(pub )?(?:(?:const|unsafe)\b (?=fn|trait|impl))?(\w+)!?(?: (?:mut )?(\w+))?", head)
         self.is_public, self.kind, self.name = bool(found[1]), found[2], found[3] or found[2]
-        if self.kind not in ("fn", "struct", "enum", "trait", "type", "const", "mod", "use", "impl", "ghost"):
+        if self.kind not in KINDS:
             self.kind, self.name = "field" if head[found.end(2):][:1] == ":" else "variant", found[2]
-        self.head = text if self.kind == "ghost" else head
         if self.kind == "impl":
-            self.shown = " ".join(head.split())
+            self.shown = " ".join(self.head.split())
             of = re.sub(r"^impl(<(?:[^<>]|<[^<>]*>)*>)? ", "", self.shown).rpartition(" for ")
             self.trait, self.name = of[0], re.match(r"\w*", of[2])[0]
+        inside = "" if self.kind == "fn" else textwrap.dedent(inside.rpartition("\n")[0])
+        self.inside = list(parsed(file, inside, line + head.count("\n")))
+
+    def place(self):
+        return (self.crate, *self.module)
 
     def href(self, member=""):
         """Where it stands in the reference, below the module by which a caller reaches it."""
-        return f"{page_of(self.crate, self.module)}#{self.name}" + f".{member}" * bool(member)
+        return f"{page_of(*self.place())}#{self.name}" + f".{member}" * bool(member)
 
     def clauses(self):
         """Where the clauses begin in the head."""
@@ -262,125 +252,77 @@ class Item:
         return found.start() if found else len(self.head)
 
 
-def parsed(file, lines, first, last, indent):
-    """The items of some lines, by their indents, as `rt fmt` lays them out."""
-    doc, place = [], first
-    while place < last:
-        own, begin = lines[place][indent:], place
-        if own.startswith("///"):
-            doc.append(own[4:])
-        elif own.startswith("#["):
-            while not lines[place].endswith("]"):
-                place += 1
-        elif re.match(r"(pub |impl\b|fn |trait |ghost (?!use)|(const|type) |mod |[A-Z]\w*\b|bitflag_items)", own):
-            has_body = False
-            while not lines[place].endswith(";"):
-                is_level = lines[place][indent:indent + 1].strip()
-                has_body = is_level and lines[place].endswith("{")
-                if has_body or is_level and re.search(r"[},]$", lines[place]):
-                    break
-                place += 1
-            head, body = place, place + 1
-            if has_body:
-                place = next(at for at in range(body, last) if lines[at].startswith(" " * indent + "}"))
-            text = ["\n".join(line[indent:] for line in lines[begin:to + 1]) for to in (head, place)]
-            item = Item(file, begin + 1, "\n".join(doc), re.sub(r" ?\{\}?$", "", text[0]).rstrip(), text[1])
-            if item.kind in ("struct", "enum", "trait", "impl", "mod", "variant"):
-                item.inside = list(parsed(file, lines, body, place, indent + 4)) * has_body
-            if own.startswith("bitflag_items"):
-                yield from parsed(file, lines, body, place, indent + 4)
-            else:
-                yield item
-            doc = []
-        else:
-            doc = []
-        place += 1
+def parsed(file, text, line=1):
+    """The items of a text, which begins on this line of a file."""
+    for found in ITEM.finditer(text):
+        doc, begins = re.sub(r"(?m)^/// ?", "", found["doc"]).rstrip("\n"), text.count("\n", 0, found.start("head"))
+        item = Item(file, line + begins, doc, found["head"], found["inside"] or "")
+        item.derived = re.findall(r"#\[derive\((.*)\)\]", found["attributes"])
+        yield from item.inside if item.kind == "bitflag_items" else [item]
 
 
-@functools.lru_cache(maxsize=None)
+@functools.cache
 def items_of(file):
-    lines = opened(file).text.split("\n")
-    return list(parsed(file, lines, 0, len(lines), 0))
+    return list(parsed(file, opened(file).text))
 
 
-@functools.lru_cache(maxsize=None)
-def imported(file):
-    """What the names of a file of code stand for, by their paths."""
-    found = {}
-    form = r"^ *(?:pub )?use ([\w:]+?)(?:::\{([^}]*)\})?(?: as \w+)?;"
-    for path, names in re.findall(form, opened(file).text, re.MULTILINE):
+def used(text, crate):
+    """What lines of code bring in: each name, and the path that it stands for."""
+    for path, names in re.findall(r"(?m)^ *(?:pub )?use ([\w: ]+?)(?:::\{([^}]*)\})?;", text):
         for name in filter(None, re.split(r",\s*", names.strip())) if names else [path]:
             known, _, new = name.partition(" as ")
-            whole = (f"{path}::{known}" if names else path).replace("crate", file.relative_to(CRATES).parts[0])
-            found[new or known.split("::")[-1]] = whole.split("::")
-    return found
+            whole = f"{path}::{known}" if names else known
+            yield new or known.split("::")[-1], re.sub("^crate(?=::)", crate, whole).split("::")
 
 
-def page_of(crate, module=()):
-    return ".".join([crate, *module, "html"])
+@functools.cache
+def imported(file):
+    return dict(used(opened(file).text, file.relative_to(CRATES).parts[0]))
+
+
+def page_of(*place):
+    return ".".join([*place, "html"])
 
 
 class Library:
     """The public items of the libraries, each under the module by which a caller reaches it."""
 
     def __init__(self):
-        self.modules, self.named, self.passed, self.hidden, impls = {}, {}, {}, set(), []
+        self.modules, self.named, self.passed = {}, {}, {}
         files = [file for crate in LIBRARY for file in sorted((CRATES / crate / "src").rglob("*.rt"))]
         files.sort(key=lambda file: len(file.parts) - (file.stem == "lib"))
         found = [item for file in files for item in items_of(file)]
         for item in found:
-            if item.kind == "mod" and not item.is_public:
-                self.hidden.add((item.crate, *item.module, item.name))
+            # a module may stand in a file, and the list grows by what it has
+            for inner in item.inside if item.kind == "mod" else ():
+                inner.module = [*item.module, item.name]
+                found.append(inner)
+        hidden = {(*it.place(), it.name) for it in found if it.kind == "mod" and not it.is_public}
+        inner = {it for it in found if any(it.place()[:end + 1] in hidden for end in range(len(it.place())))}
         for item in found:
-            self.pass_on(item)
+            if item.kind == "use" and item.is_public and item not in inner:
+                self.passed.setdefault(item.place(), {}).update(used(item.text, item.crate))
+        homes = {tuple(path): place for place, names in self.passed.items() for path in names.values()}
         for item in found:
-            if item.kind == "impl":
-                impls.append(item)
-            elif item.is_public and item.kind not in ("mod", "use") and self.is_reached(item):
-                self.modules.setdefault((item.crate, *item.module), []).append(item)
+            home = homes.get((*item.place(), item.name)) if item in inner else item.place()
+            if item.is_public and home and item.kind not in ("mod", "use"):
+                item.module = home[1:]
+                self.modules.setdefault(home, []).append(item)
                 self.named.setdefault(item.name, []).append(item)
-                item.impls = []
-        for item in impls:
-            for of in self.named.get(item.name, ()):
-                if of.crate == item.crate:
-                    of.impls.append(item)
+        for item in (it for it in found if it.kind == "impl"):
+            for of in (it for it in self.named.get(item.name, ()) if it.crate == item.crate):
+                of.impls.append(item)
         for key in (key[:end] for key in [*self.modules, *self.passed] for end in range(1, len(key) + 1)):
             self.modules.setdefault(key, [])
-
-    def is_hidden(self, item):
-        key = (item.crate, *item.module)
-        return any(key[:end] in self.hidden for end in range(len(key) + 1))
-
-    def pass_on(self, item):
-        """Keeps what a `pub use` passes on, also in a module that stands in a file."""
-        if self.is_hidden(item) or not item.is_public:
-            return
-        if item.kind == "mod":
-            for inner in item.inside:
-                inner.module = [*item.module, item.name]
-                self.pass_on(inner)
-        if item.kind == "use":
-            base, names = re.match(r"pub use ([\w: ]+?)(?:::\{(.*)\})?;", " ".join(item.text.split())).groups()
-            for name in filter(None, re.split(r",\s*", names.strip())) if names else [base]:
-                known, _, new = name.partition(" as ")
-                path = (f"{base}::{known}" if names else known).replace("crate", item.crate).split("::")
-                self.passed.setdefault((item.crate, *item.module), {})[new or path[-1]] = path
-
-    def is_reached(self, item):
-        if self.is_hidden(item):
-            path = [item.crate, *item.module, item.name]
-            item.module = next((list(to[1:]) for to, names in self.passed.items() if path in names.values()), None)
-        return item.module is not None
 
     def find(self, path, file):
         """The link to what a path of code means in a file, or None."""
         parts, crate = re.sub(r"[^\w:].*", "", path).split("::"), file.relative_to(CRATES).parts[0]
         known = imported(file).get(parts[0])
-        parts = [*known, *parts[1:]] if known else parts
-        parts = [crate, *parts[1:]] if parts[0] in ("crate", "self", "super") else parts
-        if known and parts[0] not in LIBRARY:
+        if known and known[0] not in LIBRARY:
             return None
-        parts = parts if parts[0] in LIBRARY else [crate, *parts]
+        parts = [*(known or parts[:1]), *parts[1:]]
+        parts = parts if parts[0] in LIBRARY else [crate, *parts[parts[0] in ("crate", "self", "super"):]]
         for _ in range(3):
             for count in range(1, min(3, len(parts))):
                 near = [it for it in self.named.get(parts[-count], ()) if it.crate == parts[0]]
@@ -388,8 +330,8 @@ class Library:
                 if near and (count == 1 or parts[-1] in members(near[0])):
                     return near[0].href(parts[-1] if count == 2 else "")
             if tuple(parts) in self.modules:
-                return page_of(parts[0], parts[1:])
-            at = [names[part] + parts[place + 1:] for (crate, *_), names in self.passed.items() if crate == parts[0]
+                return page_of(*parts)
+            at = [[*names[part], *parts[place + 1:]] for (crate, *_), names in self.passed.items() if crate == parts[0]
                   for place, part in enumerate(parts) if place and part in names]
             if not at or at[0][0] not in LIBRARY:
                 return None

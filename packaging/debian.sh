@@ -1,20 +1,19 @@
 #!/bin/sh
 # Makes packages for Debian of what install.sh installs: sh packaging/debian.sh FOLDER
 #
-# FOLDER gets gix-config-value-tools, libgix-config-value0.1, libgix-config-value-dev and python3-gix-config-value:
+# FOLDER gets gix-config-value-tools, libgix-config-value0.2, libgix-config-value-dev and python3-gix-config-value:
 # those for which install.sh has all that it needs. It says what it leaves out. The shared library's package has the
 # number of its soname, so that versions can be installed side by side. PROGRAMS and GCV_ARCHIVE are for install.sh.
 # DEBFULLNAME and DEBEMAIL, or otherwise Git's user.name and user.email, are the maintainer. It needs dpkg-dev and
 # binutils. The same inputs and SOURCE_DATE_EPOCH, which is otherwise the time of the last commit, give the same bytes.
 set -eu
 umask 022
-if [ $# -ne 1 ]; then
-    echo "usage: sh $0 FOLDER" >&2
-    exit 2
-fi
-root=$(CDPATH='' cd -- "$(dirname -- "$0")/.." && pwd)
-mkdir -p -- "$1"
-folder=$(CDPATH='' cd -- "$1" && pwd)
+usage=FOLDER
+begin=$(dirname -- "$0")
+# shellcheck source=packaging/begin.sh
+. "$begin/begin.sh"
+mkdir -p -- "$word"
+folder=$(CDPATH='' cd -- "$word" && pwd)
 version=$(cat "$root/crates/gix_config_value_c/VERSION")
 maintainer="${DEBFULLNAME:-$(git config user.name || id -un)} <${DEBEMAIL:-$(git config user.email || true)}>"
 case $maintainer in
@@ -28,11 +27,6 @@ export SOURCE_DATE_EPOCH
 machine=$(dpkg --print-architecture)
 libdir=/usr/lib/$(dpkg-architecture -qDEB_HOST_MULTIARCH)
 python=/usr/lib/python3/dist-packages
-work=$(mktemp -d)
-trap 'rm -rf -- "$work"' EXIT
-# some shells run no EXIT trap after a signal
-trap 'exit 130' INT
-trap 'exit 143' TERM
 
 env DESTDIR="$work/all" LIBDIR="$libdir" PYTHONDIR="$python" sh "$root/install.sh" /usr > "$work/said"
 grep -e '^skipped' "$work/said" || true

@@ -1,24 +1,22 @@
-/* The module gix_config_value._core, over the calls of gix_config_value.h, for CPython's stable ABI of 3.9.
+/* The module gix_config_value._core, over the calls of gix_config_value.h. `_entries.c` has its type Entries.
  *
- * Every object is a value that some text reads to, so each has a canonical text, and `str` cannot fail.
+ * A value is one that some text reads to, so each has a canonical text, and `str` cannot fail.
  *
  * What a macro expands to with the headers of one Python must be right with every other Python. So no format has a `#`,
  * whose length has a type that depends on the version, and no macro returns None, which 3.12 and later do not count. */
-#define Py_LIMITED_API 0x03090000
-#include <Python.h>
-#include <string.h>
+#include "_core.h"
 
-#include "gix_config_value.h"
+#include <stdlib.h>
 
 /* An immutable Name, Attribute or Color. A name is kept as the color that has only this foreground, and a set of
- * attributes as the color that has only these, so one order, one hash and one text serve all three. */
+ * attributes as the color that has only these, so one order, one hash and one text serve all three. Its type has the
+ * module, so the state is there as long as the value. The collector knows only the constants of Attribute: no other
+ * value is in what its type has. */
 typedef struct {
     PyObject_HEAD
+    State *state;
     gcv_color color;
 } Value;
-
-static PyTypeObject *name_type, *attribute_type, *color_type;
-static PyObject *refused_type, *invalid_file_type;
 
 static const char *const kinds[] = {"suffix", "integer",   "amount", "boolean",
                                     "name",   "attribute", "color",  NULL};
@@ -68,19 +66,11 @@ static uint32_t known_bits(void)
     return bits;
 }
 
-/* Returns a new reference to the object. */
-static PyObject *counted(PyObject *object)
-{
-    Py_INCREF(object);
-    return object;
-}
-
 /* Texts */
 
-/* Returns the bytes of a text, as a new object of the type `bytes` itself. A str is encoded as UTF-8, with the bytes
- * from which os.fsdecode made surrogates; anything else is read by the buffer protocol. No method of the text is
- * called, so a subclass cannot report another length. */
-static PyObject *bytes_of(PyObject *text)
+/* A str is encoded as UTF-8, with the bytes from which os.fsdecode made surrogates; anything else is read by the buffer
+ * protocol. No method of the text is called, so a subclass cannot report another length. */
+PyObject *bytes_of(PyObject *text)
 {
     static const char *const handlers[] = {"surrogateescape", "surrogatepass"};
     if (PyBytes_CheckExact(text))
@@ -104,8 +94,7 @@ static PyObject *bytes_of(PyObject *text)
     return bytes;
 }
 
-/* Returns the bytes for C, and their number; null for None, and, with an exception, for what is not `bytes`. */
-static const char *part_of(PyObject *bytes, size_t *length)
+const char *part_of(PyObject *bytes, size_t *length)
 {
     char *text = NULL;
     Py_ssize_t size = 0;
@@ -138,8 +127,7 @@ static int is_kind(PyObject *name, gcv_kind *kind)
     return 0;
 }
 
-/* Raises an exception that was just made, unless making it failed. Always returns NULL. */
-static PyObject *raised(PyObject *type, PyObject *error)
+PyObject *raised(PyObject *type, PyObject *error)
 {
     if (error)
         PyErr_SetObject(type, error);
@@ -147,40 +135,66 @@ static PyObject *raised(PyObject *type, PyObject *error)
     return NULL;
 }
 
+PyObject *refuse_file(const State *state, const char *code, gcv_status status, PyObject *file, size_t line)
+{
+    if (PyErr_Occurred()) {
+        Py_XDECREF(file);
+        return NULL;
+    }
+    return raised(state->invalid_file, PyObject_CallFunction(state->invalid_file, "ssNn", code, gcv_status_text(status),
+                                                             file, (Py_ssize_t)line));
+}
+
+State *state_of(PyObject *type)
+{
+    PyObject *module = PyObject_GetAttrString(type, "_core");
+    State *state = module ? PyModule_GetState(module) : NULL;
+    Py_XDECREF(module);
+    return state;
+}
+
 /* Raises Refused for a text, given as `bytes`. Always returns NULL. */
-static PyObject *refuse(gcv_fault fault, PyObject *bytes)
+static PyObject *refuse(const State *state, gcv_fault fault, PyObject *bytes)
 {
     char text[GCV_LONGEST_TEXT];
     size_t size = 0;
     (void)gcv_fault_text(fault, text, sizeof text, &size);
-    return raised(refused_type,
-                  PyObject_CallFunction(refused_type, "sNO", codes[fault], ascii(text, size), bytes));
+    return raised(state->refused,
+                  PyObject_CallFunction(state->refused, "sNO", codes[fault], ascii(text, size), bytes));
 }
 
 /* Readers */
 
-static PyObject *value_of(PyTypeObject *type, const gcv_color *color)
+static PyObject *value_of(State *state, PyTypeObject *type, const gcv_color *color)
 {
     Value *value = (Value *)PyType_GenericAlloc(type, 0);
-    if (value)
+    if (value) {
+        PyObject_GC_UnTrack(value);
+        value->state = state;
         value->color = *color;
+    }
     return (PyObject *)value;
 }
 
-static PyObject *name_of(const gcv_name *name)
+static PyObject *name_of(State *state, const gcv_name *name)
 {
     gcv_color color = {0};
     if (name->tag == GCV_NO_NAME)
         return counted(Py_None);
     color.foreground = *name;
-    return value_of(name_type, &color);
+    return value_of(state, state->name, &color);
 }
 
-static PyObject *attributes_of(uint32_t bits)
+static PyObject *attributes_of(State *state, uint32_t bits)
 {
     gcv_color color = {0};
     color.attributes = bits;
-    return value_of(attribute_type, &color);
+    return value_of(state, state->attribute, &color);
+}
+
+static PyObject *color_of(State *state, const gcv_color *color)
+{
+    return value_of(state, state->color, color);
 }
 
 static PyObject *suffix_of(gcv_suffix suffix)
@@ -190,71 +204,87 @@ static PyObject *suffix_of(gcv_suffix suffix)
     return PyUnicode_FromString(suffixes[suffix]);
 }
 
-/* Returns the value of a text of a kind, or raises Refused. */
-static PyObject *read_bytes(gcv_kind kind, PyObject *bytes)
-{
-    const char *text = PyBytes_AsString(bytes);
-    size_t length = (size_t)PyBytes_Size(bytes);
-    gcv_fault fault = GCV_FAULT_NONE;
-    gcv_suffix unit = GCV_NO_SUFFIX;
-    uint32_t number = 0;
-    int64_t amount = 0;
+/* What the reader of a kind writes. */
+typedef union {
+    gcv_suffix suffix;
     gcv_integer integer;
+    int64_t amount;
+    uint32_t number;
     gcv_name name;
     gcv_color color;
+} Read;
+
+static gcv_status read_as(gcv_kind kind, const char *text, size_t length, Read *to, gcv_fault *fault)
+{
     switch (kind) {
     case GCV_SUFFIX:
-        if (gcv_read_suffix(text, length, &unit, &fault) == GCV_OK)
-            return suffix_of(unit);
-        break;
+        return gcv_read_suffix(text, length, &to->suffix, fault);
     case GCV_INTEGER:
-        if (gcv_read_integer(text, length, &integer, &fault) == GCV_OK)
-            return Py_BuildValue("LN", (long long)integer.value, suffix_of(integer.suffix));
-        break;
+        return gcv_read_integer(text, length, &to->integer, fault);
     case GCV_AMOUNT:
-        if (gcv_read_amount(text, length, &amount, &fault) == GCV_OK)
-            return PyLong_FromLongLong(amount);
-        break;
+        return gcv_read_amount(text, length, &to->amount, fault);
     case GCV_BOOLEAN:
-        if (gcv_read_boolean(text, length, &number, &fault) == GCV_OK)
-            return PyBool_FromLong((long)number);
-        break;
+        return gcv_read_boolean(text, length, &to->number, fault);
     case GCV_NAME:
-        if (gcv_read_name(text, length, &name, &fault) == GCV_OK)
-            return name_of(&name);
-        break;
+        return gcv_read_name(text, length, &to->name, fault);
     case GCV_ATTRIBUTE:
-        if (gcv_read_attribute(text, length, &number, &fault) == GCV_OK)
-            return attributes_of(number);
-        break;
+        return gcv_read_attribute(text, length, &to->number, fault);
     default:
-        if (gcv_read_color(text, length, &color, &fault) == GCV_OK)
-            return value_of(color_type, &color);
+        return gcv_read_color(text, length, &to->color, fault);
     }
-    return refuse(fault, bytes);
 }
 
-static PyObject *read_text(gcv_kind kind, PyObject *text)
+/* Returns the value of a text of a kind, or raises Refused. */
+static PyObject *read_bytes(State *state, gcv_kind kind, PyObject *bytes)
 {
-    PyObject *bytes = bytes_of(text);
-    PyObject *value = bytes ? read_bytes(kind, bytes) : NULL;
+    size_t length = (size_t)PyBytes_Size(bytes);
+    const char *text = PyBytes_AsString(bytes);
+    gcv_fault fault = GCV_FAULT_NONE;
+    Read read;
+    PyThreadState *waiting = begin(length);
+    gcv_status status = read_as(kind, text, length, &read, &fault);
+    end(waiting);
+    if (status != GCV_OK)
+        return refuse(state, fault, bytes);
+    switch (kind) {
+    case GCV_SUFFIX:
+        return suffix_of(read.suffix);
+    case GCV_INTEGER:
+        return Py_BuildValue("LN", (long long)read.integer.value, suffix_of(read.integer.suffix));
+    case GCV_AMOUNT:
+        return PyLong_FromLongLong(read.amount);
+    case GCV_BOOLEAN:
+        return PyBool_FromLong((long)read.number);
+    case GCV_NAME:
+        return name_of(state, &read.name);
+    case GCV_ATTRIBUTE:
+        return attributes_of(state, read.number);
+    default:
+        return color_of(state, &read.color);
+    }
+}
+
+static PyObject *read_text(State *state, gcv_kind kind, PyObject *text)
+{
+    PyObject *bytes = state ? bytes_of(text) : NULL;
+    PyObject *value = bytes ? read_bytes(state, kind, bytes) : NULL;
     Py_XDECREF(bytes);
     return value;
 }
 
-/* defines the reader NAME of a kind, as a function of the module or a class method */
-#define READER(NAME, KIND)                                           \
-    static PyObject *NAME(PyObject *Py_UNUSED(self), PyObject *text) \
-    {                                                                \
-        return read_text(KIND, text);                                \
+/* defines the reader NAME of a kind: a function of the module, or a class method */
+#define READER(NAME, KIND, STATE)                         \
+    static PyObject *NAME(PyObject *self, PyObject *text) \
+    {                                                     \
+        return read_text(STATE(self), KIND, text);        \
     }
-READER(read_suffix, GCV_SUFFIX)
-READER(read_integer_parts, GCV_INTEGER)
-READER(read_amount, GCV_AMOUNT)
-READER(read_boolean, GCV_BOOLEAN)
-READER(read_name, GCV_NAME)
-READER(read_attribute, GCV_ATTRIBUTE)
-READER(read_color, GCV_COLOR)
+READER(read_suffix, GCV_SUFFIX, PyModule_GetState)
+READER(read_integer_parts, GCV_INTEGER, PyModule_GetState)
+READER(read_amount, GCV_AMOUNT, PyModule_GetState)
+READER(read_boolean, GCV_BOOLEAN, PyModule_GetState)
+READER(read_name, GCV_NAME, state_of)
+READER(read_attribute, GCV_ATTRIBUTE, state_of)
+READER(read_color, GCV_COLOR, state_of)
 
 /* What all values share */
 
@@ -312,16 +342,22 @@ static PyObject *formatted(PyObject *self, PyObject *format)
     return result;
 }
 
+static State *state_in(PyObject *self)
+{
+    return ((Value *)self)->state;
+}
+
 /* Returns the arguments with which the type builds an equal value. */
 static PyObject *parts_of(PyObject *self)
 {
+    State *state = state_in(self);
     const gcv_color *color = &((Value *)self)->color;
-    if (Py_TYPE(self) == name_type)
+    if (Py_TYPE(self) == state->name)
         return Py_BuildValue("(N)", shown(self));
-    if (Py_TYPE(self) == attribute_type)
+    if (Py_TYPE(self) == state->attribute)
         return Py_BuildValue("(I)", color->attributes);
-    return Py_BuildValue("NNN", name_of(&color->foreground), name_of(&color->background),
-                         attributes_of(color->attributes));
+    return Py_BuildValue("NNN", name_of(state, &color->foreground), name_of(state, &color->background),
+                         attributes_of(state, color->attributes));
 }
 
 static PyObject *reduced(PyObject *self, PyObject *Py_UNUSED(unused))
@@ -333,7 +369,7 @@ static PyObject *represented(PyObject *self)
 {
     PyObject *parts = parts_of(self), *text = NULL;
     if (parts)
-        text = Py_TYPE(self) == name_type ? PyUnicode_FromFormat("Name(%R)", PyTuple_GetItem(parts, 0))
+        text = Py_TYPE(self) == state_in(self)->name ? PyUnicode_FromFormat("Name(%R)", PyTuple_GetItem(parts, 0))
                                           : PyUnicode_FromFormat("Color%R", parts);
     Py_XDECREF(parts);
     return text;
@@ -343,7 +379,14 @@ static PyObject *represented(PyObject *self)
     {"__format__", formatted, METH_O, NULL},                  \
     {"__reduce__", reduced, METH_NOARGS, NULL}, { NULL, NULL, 0, NULL }
 
+static int visit_type(PyObject *self, visitproc visit, void *arg)
+{
+    Py_VISIT(Py_TYPE(self));
+    return 0;
+}
+
 static PyType_Slot shared_slots[] = {
+    {Py_tp_traverse, visit_type},
     {Py_tp_str, shown},
     {Py_tp_hash, hashed},
     {Py_tp_richcompare, compared},
@@ -361,13 +404,13 @@ static int is_of(PyObject *value, PyTypeObject *type, const char *wanted)
 
 /* Names */
 
-static PyObject *name_new(PyTypeObject *Py_UNUSED(type), PyObject *args, PyObject *keywords)
+static PyObject *name_new(PyTypeObject *type, PyObject *args, PyObject *keywords)
 {
     static char *names[] = {"text", NULL};
     PyObject *text;
     if (!PyArg_ParseTupleAndKeywords(args, keywords, "O:Name", names, &text))
         return NULL;
-    return read_text(GCV_NAME, text);
+    return read_text(state_of((PyObject *)type), GCV_NAME, text);
 }
 
 static PyObject *name_palette(PyObject *self, void *Py_UNUSED(closure))
@@ -415,23 +458,24 @@ static uint32_t bits_of(PyObject *self)
     return ((Value *)self)->color.attributes;
 }
 
-static PyObject *attribute_new(PyTypeObject *Py_UNUSED(type), PyObject *args, PyObject *keywords)
+static PyObject *attribute_new(PyTypeObject *type, PyObject *args, PyObject *keywords)
 {
     static char *names[] = {"bits", NULL};
     PyObject *number = NULL;
     if (!PyArg_ParseTupleAndKeywords(args, keywords, "|O:Attribute", names, &number))
         return NULL;
-    if (!number)
-        return attributes_of(0);
-    if (!PyLong_Check(number))
+    if (number && !PyLong_Check(number))
         return PyErr_Format(PyExc_TypeError, "bits are an int, and not %R", Py_TYPE(number));
     int overflow = 0;
-    long long bits = PyLong_AsLongLongAndOverflow(number, &overflow);
+    long long bits = number ? PyLong_AsLongLongAndOverflow(number, &overflow) : 0;
     if (bits == -1 && PyErr_Occurred())
         return NULL;
-    if (overflow || bits < 0 || bits & ~(long long)known_bits())
+    if (overflow)
+        return PyErr_Format(PyExc_ValueError, "the number has bits of no attribute");
+    if (bits < 0 || bits & ~(long long)known_bits())
         return PyErr_Format(PyExc_ValueError, "%R has bits of no attribute", number);
-    return attributes_of((uint32_t)bits);
+    State *state = state_of((PyObject *)type);
+    return state ? attributes_of(state, (uint32_t)bits) : NULL;
 }
 
 static PyObject *attribute_repr(PyObject *self)
@@ -456,7 +500,7 @@ static PyObject *attribute_iter(PyObject *self)
     for (int word = 0; list && word < WORDS; word++) {
         if (!(bits_of(self) & words[word].bit))
             continue;
-        PyObject *one = attributes_of(words[word].bit);
+        PyObject *one = attributes_of(state_in(self), words[word].bit);
         if (!one || PyList_Append(list, one) != 0)
             Py_CLEAR(list);
         Py_XDECREF(one);
@@ -476,7 +520,7 @@ static Py_ssize_t attribute_length(PyObject *self)
 
 static int attribute_contains(PyObject *self, PyObject *other)
 {
-    if (!is_of(other, attribute_type, "an Attribute contains an Attribute"))
+    if (!is_of(other, state_in(self)->attribute, "an Attribute contains an Attribute"))
         return -1;
     return (bits_of(self) & bits_of(other)) == bits_of(other);
 }
@@ -488,17 +532,17 @@ static int attribute_bool(PyObject *self)
 
 static PyObject *attribute_invert(PyObject *self)
 {
-    return attributes_of(known_bits() & ~bits_of(self));
+    return attributes_of(state_in(self), known_bits() & ~bits_of(self));
 }
 
-/* defines the operator NAME, of two sets */
-#define OPERATOR(NAME, BITS)                                                       \
-    static PyObject *NAME(PyObject *first, PyObject *second)                       \
-    {                                                                              \
-        if (Py_TYPE(first) != attribute_type || Py_TYPE(second) != attribute_type) \
-            return counted(Py_NotImplemented);                                              \
-        uint32_t one = bits_of(first), other = bits_of(second);                    \
-        return attributes_of(BITS);                                                \
+/* defines the operator NAME, of two sets: one of the two is a set */
+#define OPERATOR(NAME, BITS)                                    \
+    static PyObject *NAME(PyObject *first, PyObject *second)    \
+    {                                                           \
+        if (Py_TYPE(first) != Py_TYPE(second))                  \
+            return counted(Py_NotImplemented);                  \
+        uint32_t one = bits_of(first), other = bits_of(second); \
+        return attributes_of(state_in(first), BITS);            \
     }
 OPERATOR(attribute_or, one | other)
 OPERATOR(attribute_and, one &other)
@@ -538,18 +582,20 @@ static PyObject *color_new(PyTypeObject *type, PyObject *args, PyObject *keyword
     static char *names[] = {"foreground", "background", "attributes", NULL};
     PyObject *parts[3] = {Py_None, Py_None, Py_None};
     gcv_color color;
-    if (!PyArg_ParseTupleAndKeywords(args, keywords, "|OOO:Color", names, &parts[0], &parts[1], &parts[2]))
+    State *state = state_of((PyObject *)type);
+    if (!state ||
+        !PyArg_ParseTupleAndKeywords(args, keywords, "|OOO:Color", names, &parts[0], &parts[1], &parts[2]))
         return NULL;
     memset(&color, 0, sizeof color);
     for (int at = 0; at < 2; at++) {
         if (parts[at] == Py_None)
             continue;
-        if (!is_of(parts[at], name_type, "a foreground or a background is a Name or None"))
+        if (!is_of(parts[at], state->name, "a foreground or a background is a Name or None"))
             return NULL;
         *(at == 0 ? &color.foreground : &color.background) = ((Value *)parts[at])->color.foreground;
     }
     if (parts[2] != Py_None) {
-        if (!is_of(parts[2], attribute_type, "attributes are an Attribute or None"))
+        if (!is_of(parts[2], state->attribute, "attributes are an Attribute or None"))
             return NULL;
         color.attributes = bits_of(parts[2]);
     }
@@ -557,32 +603,32 @@ static PyObject *color_new(PyTypeObject *type, PyObject *args, PyObject *keyword
         PyErr_SetString(PyExc_ValueError, "no text has a background without a foreground");
         return NULL;
     }
-    return value_of(type, &color);
+    return color_of(state, &color);
 }
 
 static PyObject *color_foreground(PyObject *self, void *Py_UNUSED(closure))
 {
-    return name_of(&((Value *)self)->color.foreground);
+    return name_of(state_in(self), &((Value *)self)->color.foreground);
 }
 
 static PyObject *color_background(PyObject *self, void *Py_UNUSED(closure))
 {
-    return name_of(&((Value *)self)->color.background);
+    return name_of(state_in(self), &((Value *)self)->color.background);
 }
 
 static PyObject *color_attributes(PyObject *self, void *Py_UNUSED(closure))
 {
-    return attributes_of(bits_of(self));
+    return attributes_of(state_in(self), bits_of(self));
 }
 
 static PyObject *color_compose(PyObject *self, PyObject *other)
 {
     gcv_color color;
-    if (!is_of(other, color_type, "a Color is composed with a Color"))
+    if (!is_of(other, state_in(self)->color, "a Color is composed with a Color"))
         return NULL;
     if (gcv_compose(&((Value *)self)->color, &((Value *)other)->color, &color) != GCV_OK)
         return PyErr_Format(PyExc_ValueError, "%R and %R have more than two names", self, other);
-    return value_of(color_type, &color);
+    return color_of(state_in(self), &color);
 }
 
 static PyGetSetDef color_fields[] = {
@@ -613,7 +659,7 @@ static int reduce(PyObject *self, PyObject *colors, gcv_color *out)
 static PyObject *color_reduced(PyObject *self, PyObject *colors)
 {
     gcv_color color;
-    return reduce(self, colors, &color) ? value_of(color_type, &color) : NULL;
+    return reduce(self, colors, &color) ? color_of(state_in(self), &color) : NULL;
 }
 
 static PyObject *color_escape(PyObject *self, PyObject *args, PyObject *names)
@@ -655,22 +701,23 @@ static PyType_Slot color_slots[] = {
     {0, NULL},
 };
 
-static PyObject *over(PyObject *Py_UNUSED(module), PyObject *args)
+static PyObject *over(PyObject *module, PyObject *args)
 {
+    State *state = PyModule_GetState(module);
     PyObject *base, *top;
     gcv_color color;
     if (!PyArg_ParseTuple(args, "OO:over", &base, &top) ||
-        !is_of(base, color_type, "a Color is laid over a Color") ||
-        !is_of(top, color_type, "a Color is laid over a Color"))
+        !is_of(base, state->color, "a Color is laid over a Color") ||
+        !is_of(top, state->color, "a Color is laid over a Color"))
         return NULL;
     if (gcv_over(&((Value *)base)->color, &((Value *)top)->color, &color) != GCV_OK)
         return PyErr_Format(PyExc_SystemError, "a color has a name that is none");
-    return value_of(color_type, &color);
+    return color_of(state, &color);
 }
 
 /* Texts of a kind */
 
-static PyObject *normalized(PyObject *Py_UNUSED(module), PyObject *args)
+static PyObject *normalized(PyObject *module, PyObject *args)
 {
     PyObject *name, *text;
     char canonical[GCV_LONGEST_TEXT];
@@ -681,16 +728,20 @@ static PyObject *normalized(PyObject *Py_UNUSED(module), PyObject *args)
     PyObject *bytes = is_kind(name, &kind) ? bytes_of(text) : NULL, *result = NULL;
     if (!bytes)
         return NULL;
-    if (gcv_normalize(kind, PyBytes_AsString(bytes), (size_t)PyBytes_Size(bytes), canonical, sizeof canonical,
-                      &size) == GCV_OK)
+    const char *given = PyBytes_AsString(bytes);
+    size_t length = (size_t)PyBytes_Size(bytes);
+    PyThreadState *waiting = begin(length);
+    gcv_status status = gcv_normalize(kind, given, length, canonical, sizeof canonical, &size);
+    end(waiting);
+    if (status == GCV_OK)
         result = ascii(canonical, size);
     else
-        result = read_bytes(kind, bytes); /* raises, with the fault */
+        result = read_bytes(PyModule_GetState(module), kind, bytes); /* raises, with the fault */
     Py_DECREF(bytes);
     return result;
 }
 
-static PyObject *same(PyObject *Py_UNUSED(module), PyObject *args)
+static PyObject *same(PyObject *module, PyObject *args)
 {
     PyObject *name, *texts[2], *bytes[2] = {NULL, NULL}, *result = NULL;
     uint32_t is_same = 0;
@@ -698,12 +749,16 @@ static PyObject *same(PyObject *Py_UNUSED(module), PyObject *args)
         return NULL;
     gcv_kind kind;
     if (is_kind(name, &kind) && (bytes[0] = bytes_of(texts[0])) && (bytes[1] = bytes_of(texts[1]))) {
-        if (gcv_same(kind, PyBytes_AsString(bytes[0]), (size_t)PyBytes_Size(bytes[0]),
-                     PyBytes_AsString(bytes[1]), (size_t)PyBytes_Size(bytes[1]), &is_same) == GCV_OK)
+        const char *first = PyBytes_AsString(bytes[0]), *second = PyBytes_AsString(bytes[1]);
+        size_t length = (size_t)PyBytes_Size(bytes[0]), other = (size_t)PyBytes_Size(bytes[1]);
+        PyThreadState *waiting = begin(length > other ? length : other);
+        gcv_status status = gcv_same(kind, first, length, second, other, &is_same);
+        end(waiting);
+        if (status == GCV_OK)
             result = PyBool_FromLong((long)is_same);
         else /* one of the two readers raises */
             for (int at = 0; at < 2 && !PyErr_Occurred(); at++)
-                Py_XDECREF(read_bytes(kind, bytes[at]));
+                Py_XDECREF(read_bytes(PyModule_GetState(module), kind, bytes[at]));
     }
     Py_XDECREF(bytes[0]);
     Py_XDECREF(bytes[1]);
@@ -717,15 +772,16 @@ static PyObject *encoded(PyObject *Py_UNUSED(module), PyObject *text)
 
 /* Paths */
 
-/* A callable that finds the homes of users, and the home that it found, as `bytes`. */
+/* A callable that finds the homes of users, and the home that it found, as `bytes`. Other threads run if `waiting` is
+ * not null, but not while it is called. */
 typedef struct {
     PyObject *callable, *home;
+    PyThreadState *waiting;
 } Users;
 
-/* A gcv_find_home, which asks the callable once. It may leave an exception. */
-static const char *home_of_user(void *state, const char *name, size_t length)
+/* Calls the callable once, and returns the home that it finds, or null. It may leave an exception. */
+static const char *found_home(Users *users, const char *name, size_t length)
 {
-    Users *users = state;
     char *text = NULL;
     if (!users->home) {
         PyObject *user = PyUnicode_DecodeUTF8(name, (Py_ssize_t)length, NULL);
@@ -740,11 +796,35 @@ static const char *home_of_user(void *state, const char *name, size_t length)
     return users->home && PyBytes_AsStringAndSize(users->home, &text, NULL) == 0 ? text : NULL;
 }
 
+/* A gcv_find_home. */
+static const char *home_of_user(void *state, const char *name, size_t length)
+{
+    Users *users = state;
+    int others_run = users->waiting != NULL;
+    end(users->waiting);
+    const char *home = found_home(users, name, length);
+    users->waiting = others_run ? PyEval_SaveThread() : NULL;
+    return home;
+}
+
+static gcv_status interpolate(PyObject *path, const gcv_context *context, Users *users, PyObject *to, size_t *size,
+                              gcv_fault *fault)
+{
+    size_t length = (size_t)PyBytes_Size(path), capacity = to ? *size : 0;
+    const char *text = PyBytes_AsString(path);
+    char *buffer = to ? PyBytes_AsString(to) : NULL;
+    gcv_find_home *find = users->callable == Py_None ? NULL : home_of_user;
+    users->waiting = begin(length);
+    gcv_status status = gcv_interpolate_with(text, length, context, find, users, buffer, capacity, size, fault);
+    end(users->waiting);
+    return status;
+}
+
 /* Interpolates a path. Takes it, the install directory and the home, as bytes or None, and what finds a user's home. */
-static PyObject *interpolated(PyObject *Py_UNUSED(module), PyObject *args)
+static PyObject *interpolated(PyObject *module, PyObject *args)
 {
     PyObject *path, *prefix, *home, *whole = NULL;
-    Users users = {NULL, NULL};
+    Users users = {NULL, NULL, NULL};
     gcv_fault fault = GCV_FAULT_NONE;
     gcv_context context = {0};
     size_t size = 0;
@@ -754,22 +834,18 @@ static PyObject *interpolated(PyObject *Py_UNUSED(module), PyObject *args)
     context.home = part_of(home, &context.home_length);
     if (PyErr_Occurred())
         return NULL;
-    const char *text = PyBytes_AsString(path);
-    size_t length = (size_t)PyBytes_Size(path);
-    gcv_find_home *find = users.callable == Py_None ? NULL : home_of_user;
-    gcv_status status = gcv_interpolate_with(text, length, &context, find, &users, NULL, 0, &size, &fault);
+    gcv_status status = interpolate(path, &context, &users, NULL, &size, &fault);
     if (status == GCV_OK || status == GCV_SHORT_BUFFER) {
         whole = PyBytes_FromStringAndSize(NULL, (Py_ssize_t)size);
         if (whole)
-            status = gcv_interpolate_with(text, length, &context, find, &users, PyBytes_AsString(whole), size,
-                                          &size, &fault);
+            status = interpolate(path, &context, &users, whole, &size, &fault);
     }
     Py_XDECREF(users.home);
     if (status == GCV_OK || PyErr_Occurred())
         return whole;
     Py_XDECREF(whole);
     if (status == GCV_REFUSED)
-        return refuse(fault, path);
+        return refuse(PyModule_GetState(module), fault, path);
     return status == GCV_NO_MEMORY ? PyErr_NoMemory()
                                    : PyErr_Format(PyExc_ValueError, "%s", gcv_status_text(status));
 }
@@ -787,199 +863,142 @@ static PyObject *mark_cut(PyObject *Py_UNUSED(module), PyObject *path)
     return result;
 }
 
-/* Files */
+/* The settings of a command */
 
-/* Returns a text of a file, which may have any bytes except NUL, as a str. */
-static PyObject *text_of(const char *bytes)
+/* The codes of the statuses for settings and edits that are refused, from GCV_BAD_COUNT on. */
+static const char *const status_codes[] = {"bad_count",  "too_many_settings", "missing_key",   "missing_value",
+                                           "bad_parameters", "no_key",        "empty_key",     "no_section",
+                                           "no_key_name", "bad_key",          "key_line_feed", "bad_value",
+                                           "bad_section", "several"};
+
+/* A gcv_get_variable. */
+static const char *get_variable(void *Py_UNUSED(state), const char *name)
 {
-    return PyUnicode_DecodeUTF8(bytes, (Py_ssize_t)strlen(bytes), "surrogateescape");
+    return getenv(name);
 }
 
-/* A walk, and for each file that it is in the tuple from which it borrows. */
+/* Returns the settings of a command, from the variables of the environment, as the text of a file. */
+static PyObject *command_text(PyObject *module, PyObject *Py_UNUSED(unused))
+{
+    PyObject *text = NULL;
+    size_t size = 0;
+    gcv_status status = gcv_command_text(get_variable, NULL, NULL, 0, &size);
+    if (status == GCV_OK || status == GCV_SHORT_BUFFER) {
+        text = PyBytes_FromStringAndSize(NULL, (Py_ssize_t)size);
+        status = text ? gcv_command_text(get_variable, NULL, PyBytes_AsString(text), size, &size) : GCV_NO_MEMORY;
+    }
+    if (status == GCV_OK)
+        return text;
+    Py_XDECREF(text);
+    if (status != GCV_NUL && (status < GCV_BAD_COUNT || status > GCV_KEY_LINE_FEED))
+        return PyErr_NoMemory();
+    return refuse_file(PyModule_GetState(module), status == GCV_NUL ? "nul" : status_codes[status - GCV_BAD_COUNT],
+                       status, PyUnicode_FromString("command line"), 0);
+}
+
+/* Edits */
+
+typedef gcv_status edit_by_one(const char *text, size_t length, const char *name, size_t name_length,
+                               char *GCV_RESTRICT buffer, size_t capacity, size_t *size, size_t *line);
+typedef gcv_status edit_by_two(const char *text, size_t length, const char *first, size_t first_length,
+                               const char *second, size_t second_length, char *GCV_RESTRICT buffer, size_t capacity,
+                               size_t *size, size_t *line);
+
+/* An edit takes the text of a file, and a key or a name; an edit by two also a value, or another name. */
 typedef struct {
-    gcv_walk walk;
-    PyObject *files[GCV_MOST_FRAMES];
-    char *buffer;
-    size_t capacity;
-} Walk;
+    const char *name;
+    edit_by_one *by_one;
+    edit_by_two *by_two;
+    int is_of_sections;
+} Edit;
 
-/* Goes on in a file: a tuple of its name as a str, and its name, its real directory and its text as `bytes`. If it is
- * none, returns GCV_REFUSED and raises an exception. */
-static gcv_status enter(Walk *walk, PyObject *file)
+static const Edit edits[] = {
+    {"set", NULL, gcv_set, 0},
+    {"replace_all", NULL, gcv_replace_all, 0},
+    {"add", NULL, gcv_add, 0},
+    {"unset", gcv_unset, NULL, 0},
+    {"unset_all", gcv_unset_all, NULL, 0},
+    {"rename_section", NULL, gcv_rename_section, 1},
+    {"remove_section", gcv_remove_section, NULL, 1},
+};
+enum { EDITS = sizeof edits / sizeof edits[0], EDIT_ROOM = 64 };
+
+/* Calls an edit with these texts, of type `bytes`, of which an edit by one has no last one. */
+static gcv_status call_edit(const Edit *edit, PyObject *const given[3], char *buffer, size_t *size, size_t *line)
 {
-    PyObject *shown, *name, *directory, *text;
-    size_t depth = walk->walk.count;
-    if (!PyArg_ParseTuple(file, "USSS", &shown, &name, &directory, &text))
-        return GCV_REFUSED;
-    gcv_status status = gcv_enter(&walk->walk, PyBytes_AsString(name), (size_t)PyBytes_Size(name),
-                                  PyBytes_AsString(directory), (size_t)PyBytes_Size(directory),
-                                  PyBytes_AsString(text), (size_t)PyBytes_Size(text));
-    if (status == GCV_OK) {
-        Py_XDECREF(walk->files[depth]);
-        walk->files[depth] = counted(file);
-    }
+    const char *texts[3];
+    size_t lengths[3], capacity = *size;
+    gcv_status status;
+    for (int at = 0; at < 3 && given[at]; at++)
+        texts[at] = part_of(given[at], &lengths[at]);
+    PyThreadState *waiting = begin(lengths[0]);
+    if (edit->by_one)
+        status = edit->by_one(texts[0], lengths[0], texts[1], lengths[1], buffer, capacity, size, line);
+    else
+        status = edit->by_two(texts[0], lengths[0], texts[1], lengths[1], texts[2], lengths[2], buffer, capacity, size,
+                              line);
+    end(waiting);
     return status;
 }
 
-/* Takes a step, with a longer buffer if it needs one. */
-static gcv_status take(Walk *walk, const gcv_known *known, gcv_step *step)
+/* Raises an exception for the status of an edit: InvalidFile for the text, or Refused for what was given with it.
+ * Always returns NULL. */
+static PyObject *refuse_edit(const State *state, const Edit *edit, gcv_status status, PyObject *file,
+                             PyObject *const given[3], size_t line)
 {
-    gcv_status status = gcv_next(&walk->walk, known, walk->buffer, walk->capacity, step);
-    if (status == GCV_SHORT_BUFFER) {
-        PyMem_Free(walk->buffer);
-        walk->buffer = PyMem_Malloc(walk->capacity = 2 * step->size);
-        status = walk->buffer ? gcv_next(&walk->walk, known, walk->buffer, walk->capacity, step) : GCV_NO_MEMORY;
+    if (status == GCV_BAD_LINE || status == GCV_NUL)
+        return refuse_file(state, status == GCV_NUL ? "nul" : "bad_line", status, counted(file), line);
+    if (status != GCV_ABSENT && (status < GCV_BAD_COUNT || status > GCV_SEVERAL))
+        return PyErr_NoMemory();
+    const char *code = "absent", *fault = edit->is_of_sections ? "no section has the name" : "no entry has the key";
+    if (status != GCV_ABSENT) {
+        code = status_codes[status - GCV_BAD_COUNT];
+        fault = gcv_status_text(status);
     }
-    return status;
+    int is_last = status == GCV_BAD_VALUE || (status == GCV_BAD_SECTION && edit->is_of_sections);
+    return raised(state->refused,
+                  PyObject_CallFunction(state->refused, "ssO", code, fault, given[is_last && given[2] ? 2 : 1]));
 }
 
-/* Returns the file, the line, the key and the text of an entry, and how many files the walk is in. The text of a key
- * without `=` is None. */
-static PyObject *row_of(const Walk *walk, const gcv_step *step)
+/* Returns the text of a file after an edit, which takes these texts, of type `bytes`. */
+static PyObject *text_after(const State *state, const Edit *edit, PyObject *file, PyObject *const given[3])
 {
-    PyObject *file = PyTuple_GetItem(walk->files[walk->walk.count - 1], 0);
-    PyObject *text = step->value ? text_of(step->value) : counted(Py_None);
-    return Py_BuildValue("OnNNn", file, (Py_ssize_t)step->line, text_of(step->key), text,
-                         (Py_ssize_t)walk->walk.count);
-}
-
-/* Goes on in the file that an entry includes. `open` takes the entry and the name of the file, or None if the library
- * does not know a directory. It returns a file as `enter` takes it, or None if it is not there. */
-static gcv_status follow(Walk *walk, const gcv_step *step, PyObject *row, PyObject *open)
-{
-    if (step->include == GCV_NO_INCLUDE)
-        return GCV_OK;
-    if (step->include == GCV_NO_VALUE)
-        return GCV_NO_VALUE;
-    PyObject *name = step->included ? PyBytes_FromString(step->included) : counted(Py_None);
-    PyObject *file = name ? PyObject_CallFunctionObjArgs(open, row, name, NULL) : NULL;
-    gcv_status status = !file ? GCV_REFUSED : file == Py_None ? GCV_OK : enter(walk, file);
-    Py_XDECREF(name);
-    Py_XDECREF(file);
-    return status;
-}
-
-/* Raises an exception for the status with which a walk ended, unless there is one: InvalidFile, at the last step. */
-static void raise_for(gcv_status status, const gcv_step *step)
-{
-    const char *code = status == GCV_BAD_LINE   ? "bad_line"
-                       : status == GCV_NUL      ? "nul"
-                       : status == GCV_NO_VALUE ? "no_value"
-                                                : "too_deep";
-    if (status == GCV_NO_MEMORY)
-        PyErr_NoMemory();
-    else if (!PyErr_Occurred())
-        raised(invalid_file_type,
-               PyObject_CallFunction(invalid_file_type, "ssNn", code, gcv_status_text(status),
-                                     PyUnicode_DecodeFSDefaultAndSize(step->file, (Py_ssize_t)step->file_length),
-                                     (Py_ssize_t)step->line));
-}
-
-/* Reads the URLs of remotes: a list of `bytes`, or None while they are sought. Returns the array, or null. */
-static gcv_text *urls_of(PyObject *list, gcv_known *known)
-{
-    known->seeks_urls = list == Py_None;
-    Py_ssize_t count = known->seeks_urls ? 0 : PyList_Size(list);
-    gcv_text *urls = count < 0 ? NULL : PyMem_Malloc((size_t)(count + 1) * sizeof *urls);
-    for (Py_ssize_t at = 0; urls && at < count; at++) {
-        urls[at].bytes = PyBytes_AsString(PyList_GetItem(list, at));
-        urls[at].length = urls[at].bytes ? (size_t)PyBytes_Size(PyList_GetItem(list, at)) : 0;
+    size_t size = EDIT_ROOM, line = 0;
+    char *buffer = NULL;
+    gcv_status status = GCV_SHORT_BUFFER;
+    for (int at = 0; at < 3 && given[at]; at++)
+        size += (size_t)PyBytes_Size(given[at]);
+    while (status == GCV_SHORT_BUFFER) {
+        char *room = PyMem_Realloc(buffer, size);
+        buffer = room ? room : buffer;
+        status = room ? call_edit(edit, given, buffer, &size, &line) : GCV_NO_MEMORY;
     }
-    known->urls = urls;
-    known->urls_length = (size_t)(count < 0 ? 0 : count);
-    if (!urls && !PyErr_Occurred())
-        PyErr_NoMemory();
-    return urls;
-}
-
-/* Reads the members of a gcv_known, each of them `bytes` or None, and the URLs. `*urls` has to be freed. */
-static int is_known(PyObject *parts, gcv_known *known, gcv_text **urls)
-{
-    PyObject *all[7];
-    if (!PyArg_ParseTuple(parts, "OOOOOOO", &all[0], &all[1], &all[2], &all[3], &all[4], &all[5], &all[6]))
-        return 0;
-    *urls = urls_of(all[6], known);
-    known->install_dir = part_of(all[0], &known->install_dir_length);
-    known->home = part_of(all[1], &known->home_length);
-    known->real_home = part_of(all[2], &known->real_home_length);
-    known->git_dir = part_of(all[3], &known->git_dir_length);
-    known->real_git_dir = part_of(all[4], &known->real_git_dir_length);
-    known->branch = part_of(all[5], &known->branch_length);
-    return !PyErr_Occurred();
-}
-
-/* Appends the entries of a file, and of the files that they include, to a list. Takes the file as `enter` does, what
- * includes may refer to, or None if none is followed, what opens files for `follow`, and the list. */
-static PyObject *entries_of(PyObject *Py_UNUSED(module), PyObject *args)
-{
-    PyObject *file, *parts, *open, *rows;
-    gcv_text *urls = NULL;
-    Walk walk = {0};
-    gcv_known known = {0};
-    gcv_step step = {0};
-    gcv_status status = GCV_REFUSED;
-    if (PyArg_ParseTuple(args, "OOOO", &file, &parts, &open, &rows) &&
-        (parts == Py_None || is_known(parts, &known, &urls)))
-        status = enter(&walk, file);
-    while (status == GCV_OK && (status = take(&walk, parts == Py_None ? NULL : &known, &step)) == GCV_OK) {
-        PyObject *row = row_of(&walk, &step);
-        status = row && PyList_Append(rows, row) == 0 ? follow(&walk, &step, row, open) : GCV_REFUSED;
-        Py_XDECREF(row);
-    }
-    if (status != GCV_ABSENT)
-        raise_for(status, &step);
-    for (int depth = 0; depth < GCV_MOST_FRAMES; depth++)
-        Py_XDECREF(walk.files[depth]);
-    PyMem_Free(walk.buffer);
-    PyMem_Free(urls);
-    return status == GCV_ABSENT ? counted(Py_None) : NULL;
-}
-
-/* The codes of the statuses for the settings of a command that are refused, from GCV_BAD_COUNT on. */
-static const char *const command_codes[] = {"bad_count",  "too_many_settings", "missing_key", "missing_value",
-                                            "bad_parameters", "no_key",        "empty_key",   "no_section",
-                                            "no_key_name", "bad_key",          "key_line_feed"};
-
-/* A callable that finds variables as `bytes`, and a list of what it has found. */
-typedef struct {
-    PyObject *callable, *found;
-} Variables;
-
-/* A gcv_get_variable. It may leave an exception. */
-static const char *variable_of(void *state, const char *name)
-{
-    Variables *variables = state;
-    PyObject *value = PyErr_Occurred() ? NULL : PyObject_CallFunction(variables->callable, "y", name);
-    int is_set = value && value != Py_None && PyList_Append(variables->found, value) == 0;
-    const char *text = is_set ? PyBytes_AsString(value) : NULL;
-    Py_XDECREF(value);
+    PyObject *text = status == GCV_OK ? PyBytes_FromStringAndSize(buffer, (Py_ssize_t)size)
+                                      : refuse_edit(state, edit, status, file, given, line);
+    PyMem_Free(buffer);
     return text;
 }
 
-/* Returns the settings of a command as the text of a file. Takes what finds variables. */
-static PyObject *command_text(PyObject *Py_UNUSED(module), PyObject *get)
+/* Takes the name of an edit, that of the file, its text as `bytes`, and the one or two texts of the edit. */
+static PyObject *edited(PyObject *module, PyObject *args)
 {
-    Variables variables = {get, PyList_New(0)};
-    PyObject *text = NULL;
-    size_t size = 0;
-    gcv_status status = variables.found ? gcv_command_text(variable_of, &variables, NULL, 0, &size) : GCV_NO_MEMORY;
-    if (status == GCV_OK || status == GCV_SHORT_BUFFER) {
-        text = PyBytes_FromStringAndSize(NULL, (Py_ssize_t)size);
-        if (text)
-            status = gcv_command_text(variable_of, &variables, PyBytes_AsString(text), size, &size);
-    }
-    Py_XDECREF(variables.found);
-    if (status == GCV_OK && !PyErr_Occurred())
-        return text;
-    Py_XDECREF(text);
-    if (PyErr_Occurred())
+    const char *name;
+    PyObject *file, *text, *first, *second = NULL, *result = NULL;
+    int at = 0;
+    if (!PyArg_ParseTuple(args, "sUSO|O", &name, &file, &text, &first, &second))
         return NULL;
-    if (status != GCV_NUL && (status < GCV_BAD_COUNT || status > GCV_KEY_LINE_FEED))
-        return PyErr_NoMemory();
-    raised(invalid_file_type, PyObject_CallFunction(invalid_file_type, "sssi",
-                                                    status == GCV_NUL ? "nul" : command_codes[status - GCV_BAD_COUNT],
-                                                    gcv_status_text(status), "command line", 0));
-    return NULL;
+    while (at < EDITS && strcmp(edits[at].name, name) != 0)
+        at++;
+    if (at == EDITS || !edits[at].by_two != !second)
+        return PyErr_Format(PyExc_TypeError, "no edit %s takes these texts", name);
+    first = bytes_of(first);
+    second = first && second ? bytes_of(second) : NULL;
+    PyObject *const given[3] = {text, first, second};
+    if (!PyErr_Occurred())
+        result = text_after(PyModule_GetState(module), &edits[at], file, given);
+    Py_XDECREF(first);
+    Py_XDECREF(second);
+    return result;
 }
 
 /* The module */
@@ -1020,48 +1039,128 @@ static PyMethodDef functions[] = {
     {"encode", encoded, METH_O, NULL},
     {"cut_mark", mark_cut, METH_O, NULL},
     {"interpolate", interpolated, METH_VARARGS, NULL},
-    {"entries", entries_of, METH_VARARGS, NULL},
-    {"command_text", command_text, METH_O, NULL},
+    {"read_file", file_read, METH_VARARGS, NULL},
+    {"line", line_read, METH_O, NULL},
+    {"link", link_read, METH_O, NULL},
+    {"real", real_name, METH_O, NULL},
+    {"variable", variable, METH_O, NULL},
+    {"command_text", command_text, METH_NOARGS, NULL},
+    {"edit", edited, METH_VARARGS, NULL},
     {NULL, NULL, 0, NULL},
 };
 
-static PyModuleDef definition = {
-    PyModuleDef_HEAD_INIT, "gix_config_value._core", NULL, -1, functions, NULL, NULL, NULL, NULL};
+/* Sets an attribute of a type, which may be immutable to others. */
+static int set(PyTypeObject *type, const char *name, PyObject *value)
+{
+    PyObject *text = PyUnicode_InternFromString(name);
+    int status = text && value ? PyObject_GenericSetAttr((PyObject *)type, text, value) : -1;
+    Py_XDECREF(text);
+    PyType_Modified(type);
+    return status;
+}
 
-/* Makes a type of values, and adds it to the module. Its instances cannot be changed, and it cannot be subclassed. */
-static PyTypeObject *add_type(PyObject *module, const char *name, PyType_Slot *slots)
+/* Makes a type, and adds it to the module, which the type has as its attribute `_core`. */
+static PyTypeObject *add_type(PyObject *module, PyType_Spec *spec)
+{
+    PyTypeObject *type = (PyTypeObject *)PyType_FromSpec(spec);
+    if (!type || set(type, "_core", module) != 0 ||
+        PyObject_SetAttrString(module, strchr(spec->name, '.') + 1, (PyObject *)type) != 0)
+        Py_CLEAR(type);
+    return type;
+}
+
+/* The same for a type of values. Its instances cannot be changed, and it cannot be subclassed. */
+static PyTypeObject *add_value_type(PyObject *module, const char *name, PyType_Slot *slots)
 {
     PyType_Slot all[MOST_SLOTS];
-    PyType_Spec spec = {name, (int)sizeof(Value), 0, Py_TPFLAGS_DEFAULT, all};
+    PyType_Spec spec = {name, (int)sizeof(Value), 0, Py_TPFLAGS_DEFAULT | Py_TPFLAGS_HAVE_GC | IMMUTABLE, all};
     memcpy(all, shared_slots, sizeof shared_slots);
     for (int at = SHARED_SLOTS; (all[at] = *slots).slot != 0; at++)
         slots++;
-    PyObject *type = PyType_FromSpec(&spec);
-    if (!type || PyObject_SetAttrString(module, strchr(name, '.') + 1, type) != 0)
-        return NULL;
-    return (PyTypeObject *)type;
+    return add_type(module, &spec);
 }
+
+/* Takes the classes of Python that the module makes objects of, and the seeds of hashes, from Python's own seed. */
+static int take_classes(State *state)
+{
+    PyObject *own = PyImport_ImportModule("gix_config_value._errors");
+    state->refused = own ? PyObject_GetAttrString(own, "Refused") : NULL;
+    state->invalid_file = state->refused ? PyObject_GetAttrString(own, "InvalidFile") : NULL;
+    state->entry = state->invalid_file ? PyObject_GetAttrString(own, "Entry") : NULL;
+    state->tuple_new = state->entry ? PyObject_GetAttrString((PyObject *)&PyTuple_Type, "__new__") : NULL;
+    for (int at = 0; state->tuple_new && at < 2; at++) {
+        PyObject *text = PyUnicode_FromString(at == 0 ? "the keys" : "of entries");
+        state->seed[at] = text ? (uint64_t)PyObject_Hash(text) : 0;
+        Py_XDECREF(text);
+    }
+    Py_XDECREF(own);
+    return PyErr_Occurred() ? -1 : 0;
+}
+
+static int fill(PyObject *module)
+{
+    State *state = PyModule_GetState(module);
+    if (take_classes(state) != 0 || !(state->name = add_value_type(module, "gix_config_value.Name", name_slots)) ||
+        !(state->attribute = add_value_type(module, "gix_config_value.Attribute", attribute_slots)) ||
+        !(state->color = add_value_type(module, "gix_config_value.Color", color_slots)) ||
+        !(state->entries = add_type(module, &entries_spec)) ||
+        PyModule_AddStringConstant(module, "version", gcv_version()) != 0)
+        return -1;
+    for (int word = 0; word < WORDS; word++) {
+        PyObject *one = attributes_of(state, words[word].bit);
+        int status = set(state->attribute, words[word].name, one);
+        if (one)
+            PyObject_GC_Track(one);
+        Py_XDECREF(one);
+        if (status != 0)
+            return -1;
+    }
+    return 0;
+}
+
+static int visit_state(PyObject *module, visitproc visit, void *arg)
+{
+    State *state = PyModule_GetState(module);
+    PyObject *const held[] = {(PyObject *)state->name, (PyObject *)state->attribute, (PyObject *)state->color,
+                              (PyObject *)state->entries, state->refused, state->invalid_file, state->entry,
+                              state->tuple_new};
+    for (size_t at = 0; at < sizeof held / sizeof held[0]; at++)
+        Py_VISIT(held[at]);
+    return 0;
+}
+
+static int clear_state(PyObject *module)
+{
+    State *state = PyModule_GetState(module);
+    Py_CLEAR(state->name);
+    Py_CLEAR(state->attribute);
+    Py_CLEAR(state->color);
+    Py_CLEAR(state->entries);
+    Py_CLEAR(state->refused);
+    Py_CLEAR(state->invalid_file);
+    Py_CLEAR(state->entry);
+    Py_CLEAR(state->tuple_new);
+    return 0;
+}
+
+static void free_state(void *module)
+{
+    (void)clear_state(module);
+}
+
+/* the slot of 3.12 with which the module may be in interpreters with a lock of their own; older versions refuse it */
+static PyModuleDef_Slot slots[] = {{Py_mod_exec, fill}, {3, (void *)2}, {0, NULL}};
+static PyModuleDef_Slot older_slots[] = {{Py_mod_exec, fill}, {0, NULL}};
+#define DEFINITION(SLOTS)                                                                                        \
+    {                                                                                                            \
+        PyModuleDef_HEAD_INIT, "gix_config_value._core", NULL, sizeof(State), functions, SLOTS, visit_state,     \
+            clear_state, free_state                                                                              \
+    }
+static PyModuleDef definition = DEFINITION(slots), older_definition = DEFINITION(older_slots);
 
 PyMODINIT_FUNC PyInit__core(void)
 {
-    PyObject *module = PyModule_Create(&definition);
-    if (!module)
-        return NULL;
-    if (!(name_type = add_type(module, "gix_config_value.Name", name_slots)) ||
-        !(attribute_type = add_type(module, "gix_config_value.Attribute", attribute_slots)) ||
-        !(color_type = add_type(module, "gix_config_value.Color", color_slots)))
-        return NULL;
-    PyObject *own = PyImport_ImportModule("gix_config_value._errors");
-    refused_type = own ? PyObject_GetAttrString(own, "Refused") : NULL;
-    invalid_file_type = refused_type ? PyObject_GetAttrString(own, "InvalidFile") : NULL;
-    Py_XDECREF(own);
-    if (!invalid_file_type || PyModule_AddStringConstant(module, "version", gcv_version()) != 0)
-        return NULL;
-    for (int word = 0; word < WORDS; word++) {
-        PyObject *one = attributes_of(words[word].bit);
-        if (!one || PyObject_SetAttrString((PyObject *)attribute_type, words[word].name, one) != 0)
-            return NULL;
-        Py_DECREF(one);
-    }
-    return module;
+    const char *version = Py_GetVersion();
+    int is_older = version[0] == '3' && version[1] == '.' && strtol(version + 2, NULL, 10) < 12;
+    return PyModuleDef_Init(is_older ? &older_definition : &definition);
 }

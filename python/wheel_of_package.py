@@ -4,12 +4,15 @@ It needs a C compiler (CC, or cc), the headers of Python and `pkg-config`, and p
 serves Python 3.9 and later. The same sources, compiler, zlib and SOURCE_DATE_EPOCH give the same bytes.
 """
 import base64
+import gzip
 import hashlib
+import io
 import os
 import pathlib
 import platform
 import re
 import shlex
+import shutil
 import subprocess
 import sysconfig
 import tarfile
@@ -20,10 +23,15 @@ import zipfile
 HERE = pathlib.Path(__file__).resolve().parent
 PACKAGE = "gix_config_value"
 LICENSES = ("LICENSE-APACHE", "LICENSE-MIT")
-SOURCES = ("_core.c", "pyproject.toml", "wheel_of_package.py")
+SOURCES = ("_core.c", "_core.h", "_entries.c", "pyproject.toml", "wheel_of_package.py")
 MODULE = "_core.abi3.so"
 # the C library of manylinux2014, which a wheel for any Linux may ask for
 OLDEST_GLIBC = 17
+
+
+# a file of the repository that the archive of the sources has too
+VERSION = "VERSION"
+PLACES = {VERSION: "crates/gix_config_value_c/VERSION"}
 
 
 def _said(key):
@@ -32,9 +40,16 @@ def _said(key):
     return re.search(rf'^{key} = "(.*)"$', text, re.MULTILINE).group(1)
 
 
-def _license(name):
-    """The text of a license, in a copy of the sources or in the repository."""
-    return next(place / name for place in (HERE, HERE.parent) if (place / name).exists()).read_bytes()
+def _shared(name):
+    """A file that the repository has in another place, beside the archive's sources or in the repository."""
+    for place in (HERE / name, HERE.parent / PLACES.get(name, name)):
+        if place.exists():
+            return place.read_bytes()
+    raise SystemExit(f"{HERE} has no {name}: build_sdist in the repository makes an archive of the sources that has it")
+
+
+def _version():
+    return _shared(VERSION).decode().strip()
 
 
 def _words(variable, default=""):
@@ -44,23 +59,27 @@ def _words(variable, default=""):
 def _library(asked):
     """What pkg-config says about the C library."""
     command = [*_words("PKG_CONFIG", "pkg-config"), asked, PACKAGE]
-    run = subprocess.run(command, stdout=subprocess.PIPE, text=True, check=False)
+    if not shutil.which(command[0]):
+        raise SystemExit(f"{command[0]}, which finds the C library {PACKAGE}, is not installed")
+    run = subprocess.run(command, stdout=subprocess.PIPE, stderr=subprocess.DEVNULL, text=True, check=False)
     if run.returncode != 0:
-        raise SystemExit(f"pkg-config does not find {PACKAGE}: build it by `sh crates/gix_config_value_c/build.sh "
-                         "PREFIX`, and set PKG_CONFIG_PATH=PREFIX/lib/pkgconfig")
-    return run.stdout.strip()
+        raise SystemExit(f"the C library {PACKAGE} is missing: build.sh or install.sh of the repository installs it "
+                         "into a PREFIX, where PKG_CONFIG_PATH=PREFIX/lib/pkgconfig lets pkg-config find it")
+    # pkg-config writes a backslash before a space
+    return re.sub(r"\\(.)", r"\1", run.stdout.strip())
 
 
 def _compiled():
     """The bytes of the module, which exports only its entry point."""
-    found, wanted = _library("--modversion"), _said("version")
+    found, wanted = _library("--modversion"), _version()
     if found != wanted:
         raise SystemExit(f"pkg-config finds {PACKAGE} {found}, and the package needs {wanted}")
     include, folder = _library("--variable=includedir"), _library("--variable=libdir")
     with tempfile.TemporaryDirectory() as work:
         module = pathlib.Path(work, MODULE)
-        subprocess.run([*_words("CC", "cc"), "-std=c99", "-O2", "-fPIC", "-fvisibility=hidden", *_words("CFLAGS"),
-                        f"-I{sysconfig.get_path('include')}", f"-I{include}", "-shared", "_core.c",
+        subprocess.run([*_words("CC", "cc"), "-std=c99", "-O2", "-fPIC", "-fvisibility=hidden",
+                        "-Werror=implicit-function-declaration", *_words("CFLAGS"),
+                        f"-I{sysconfig.get_path('include')}", f"-I{include}", "-shared", "_core.c", "_entries.c",
                         f"{folder}/lib{PACKAGE}.a", *_words("LDFLAGS"), "-Wl,--exclude-libs,ALL", "-s", "-o", module],
                        cwd=HERE, check=True)
         return module.read_bytes()
@@ -80,13 +99,12 @@ def _metadata():
     # the docstring of the package is the description on its page
     description = re.match(r'"""(.*?)"""', (HERE / PACKAGE / "__init__.py").read_text("utf-8"), re.DOTALL)[1]
     classifiers = ("Development Status :: 4 - Beta", "Intended Audience :: Developers",
-                   "License :: OSI Approved :: Apache Software License", "License :: OSI Approved :: MIT License",
                    "Operating System :: POSIX :: Linux", "Programming Language :: C",
                    "Programming Language :: Python :: 3", "Topic :: Software Development :: Version Control :: Git",
                    "Typing :: Typed")
     return "".join([
-        f"Metadata-Version: 2.1\nName: {_said('name')}\nVersion: {_said('version')}\n",
-        f"Summary: {_said('description')}\nLicense: {_said('license')}\n",
+        f"Metadata-Version: 2.4\nName: {_said('name')}\nVersion: {_version()}\n",
+        f"Summary: {_said('description')}\nLicense-Expression: {_said('license')}\n",
         *(f"License-File: {name}\n" for name in LICENSES),
         *(f"Classifier: {classifier}\n" for classifier in classifiers),
         f"Requires-Python: {_said('requires-python')}\nDescription-Content-Type: text/plain\n\n{description}",
@@ -111,10 +129,10 @@ def _record(name, data):
 def build_wheel(wheel_directory, config_settings=None, metadata_directory=None):
     """Writes the wheel, and returns its file name."""
     module = _compiled()
-    name = f"{_said('name')}-{_said('version')}"
+    name = f"{_said('name')}-{_version()}"
     info, tag = f"{name}.dist-info", _tag(module)
     files = {**_package(), f"{PACKAGE}/{MODULE}": module, f"{info}/METADATA": _metadata()}
-    files.update((f"{info}/licenses/{license}", _license(license)) for license in LICENSES)
+    files.update((f"{info}/licenses/{license}", _shared(license)) for license in LICENSES)
     tags = "".join(f"Tag: cp39-abi3-{one}\n" for one in tag.rpartition("-")[2].split("."))
     files[f"{info}/WHEEL"] = f"Wheel-Version: 1.0\nGenerator: {__name__}\nRoot-Is-Purelib: false\n{tags}".encode()
     records = "".join(_record(path, data) for path, data in files.items())
@@ -131,15 +149,14 @@ def build_wheel(wheel_directory, config_settings=None, metadata_directory=None):
 
 def build_sdist(sdist_directory, config_settings=None):
     """Writes an archive of the sources, and returns its name. From it a wheel can be made if the C library is there."""
-    name = f"{_said('name')}-{_said('version')}"
+    name = f"{_said('name')}-{_version()}"
     files = {**_package(), **{source: (HERE / source).read_bytes() for source in SOURCES},
-             **{license: _license(license) for license in LICENSES}, "PKG-INFO": _metadata()}
-    with tarfile.open(pathlib.Path(sdist_directory, f"{name}.tar.gz"), "w:gz", format=tarfile.PAX_FORMAT) as archive:
+             **{name: _shared(name) for name in (*LICENSES, VERSION)}, "PKG-INFO": _metadata()}
+    with (open(pathlib.Path(sdist_directory, f"{name}.tar.gz"), "wb") as file,
+          gzip.GzipFile("", "wb", fileobj=file, mtime=_time()) as packed,
+          tarfile.open(fileobj=packed, mode="w", format=tarfile.PAX_FORMAT) as archive):
         for path, data in files.items():
-            with tempfile.TemporaryFile() as file:
-                file.write(data)
-                file.seek(0)
-                entry = tarfile.TarInfo(f"{name}/{path}")
-                entry.size, entry.mtime = len(data), _time()
-                archive.addfile(entry, file)
+            entry = tarfile.TarInfo(f"{name}/{path}")
+            entry.size, entry.mtime = len(data), _time()
+            archive.addfile(entry, io.BytesIO(data))
     return f"{name}.tar.gz"

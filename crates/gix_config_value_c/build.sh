@@ -10,24 +10,18 @@
 # A PREFIX that has moved is found by `pkg-config --define-prefix`.
 # If GCV_ARCHIVE names a static library that `rt` has built already, this script takes that one and proves nothing.
 set -eu
-action=install
-if [ "${1:-}" = --uninstall ]; then
-    action=uninstall
-    shift
-fi
-if [ $# -ne 1 ]; then
-    echo "usage: sh $0 [--uninstall] PREFIX" >&2
-    exit 2
-fi
-here=$(CDPATH='' cd -- "$(dirname -- "$0")" && pwd)
-root=$(CDPATH='' cd -- "$here/../.." && pwd)
+usage="[--uninstall] PREFIX"
+begin=$(dirname -- "$0")/../../packaging
+# shellcheck source=packaging/begin.sh
+. "$begin/begin.sh"
+here=$root/crates/gix_config_value_c
 absolute() {
     case $1 in
         /*) printf '%s\n' "$1" ;;
         *) printf '%s\n' "$PWD/$1" ;;
     esac
 }
-prefix=$(absolute "$1")
+prefix=$(absolute "$word")
 libdir=$(absolute "${LIBDIR:-$prefix/lib}")
 include=${DESTDIR:-}$prefix/include
 lib=${DESTDIR:-}$libdir
@@ -39,12 +33,12 @@ case $version in
     *) soname=libgix_config_value.so.${version%%.*} ;;
 esac
 
-if [ $action = uninstall ]; then
+if [ -n "$option" ]; then
     rm -f -- "$include/gix_config_value.h" "$lib/libgix_config_value.a" "$lib/libgix_config_value.so" "$lib/$soname" \
         "$lib/libgix_config_value.so.$version" "$lib/pkgconfig/gix_config_value.pc" \
         "$doc/LICENSE-APACHE" "$doc/LICENSE-MIT"
     # the folders, unless something else is in them
-    for folder in "$doc" "$lib/pkgconfig" "$lib" "$include"; do
+    for folder in "$doc" "${doc%/*}" "${doc%/*/*}" "$lib/pkgconfig" "$lib" "$include"; do
         rmdir -- "$folder" 2> /dev/null || true
     done
     echo "gix_config_value $version is no longer in $prefix"
@@ -61,11 +55,6 @@ if [ ! -f "$heap" ]; then
     echo "the toolchain has no $heap" >&2
     exit 2
 fi
-work=$(mktemp -d)
-trap 'rm -rf -- "$work"' EXIT
-# some shells run no EXIT trap after a signal
-trap 'exit 130' INT
-trap 'exit 143' TERM
 
 # for every processor of x86-64, which is not the default of the toolchain
 archive=${GCV_ARCHIVE:-}

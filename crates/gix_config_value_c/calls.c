@@ -24,7 +24,7 @@ const char *gcv_status_text(gcv_status status)
     case GCV_TOO_MANY_NAMES:
         return "the colors have more than two names together";
     case GCV_ABSENT:
-        return "no entry has the name, or none is left";
+        return "no entry or section has the name, or no entry is left";
     case GCV_UNKNOWN_KIND:
         return "no kind has the number";
     case GCV_UNKNOWN_FAULT:
@@ -36,7 +36,7 @@ const char *gcv_status_text(gcv_status status)
     case GCV_BAD_FLAG:
         return "a flag is neither 0 nor 1";
     case GCV_BAD_LENGTHS:
-        return "the lengths are not those of texts that fill the bytes, or the walk is invalid";
+        return "the lengths are not those of texts that fill the bytes, or the walk or the settings are invalid";
     case GCV_SHORT_BUFFER:
         return "the buffer is too short";
     case GCV_NO_MEMORY:
@@ -77,6 +77,12 @@ const char *gcv_status_text(gcv_status status)
         return "invalid key";
     case GCV_KEY_LINE_FEED:
         return "invalid key (newline)";
+    case GCV_BAD_VALUE:
+        return "the value has a NUL";
+    case GCV_BAD_SECTION:
+        return "no header can have the section";
+    case GCV_SEVERAL:
+        return "several entries have the key";
     }
     return "unknown status";
 }
@@ -307,4 +313,80 @@ gcv_status gcv_command_text(gcv_get_variable *get, void *state, char *GCV_RESTRI
         *size = needed;
     }
     return status;
+}
+
+/* A proved edit of a text by a key and a value, or by two names of sections. */
+typedef gcv_status edit_by_two(const char *text, size_t length, const char *first, size_t first_length,
+                               const char *second, size_t second_length, char *buffer, size_t capacity, size_t *size,
+                               size_t *line);
+
+/* A proved edit of a text by a key, or by the name of a section. */
+typedef gcv_status edit_by_one(const char *text, size_t length, const char *name, size_t name_length, char *buffer,
+                               size_t capacity, size_t *size, size_t *line);
+
+/* Calls an edit, which takes no null pointer. */
+static gcv_status call_with_two(edit_by_two *edit, const char *text, size_t length, const char *first,
+                                size_t first_length, const char *second, size_t second_length, char *buffer,
+                                size_t capacity, size_t *size, size_t *line)
+{
+    char none[1] = {0};
+    size_t unused = 0;
+    return edit(gcv_bytes(text, length), length, gcv_bytes(first, first_length), first_length,
+                gcv_bytes(second, second_length), second_length, capacity == 0 ? none : buffer, capacity, size,
+                line ? line : &unused);
+}
+
+/* Calls an edit, which takes no null pointer. */
+static gcv_status call_with_one(edit_by_one *edit, const char *text, size_t length, const char *name,
+                                size_t name_length, char *buffer, size_t capacity, size_t *size, size_t *line)
+{
+    char none[1] = {0};
+    size_t unused = 0;
+    return edit(gcv_bytes(text, length), length, gcv_bytes(name, name_length), name_length,
+                capacity == 0 ? none : buffer, capacity, size, line ? line : &unused);
+}
+
+gcv_status gcv_set(const char *text, size_t length, const char *key, size_t key_length, const char *value,
+                   size_t value_length, char *GCV_RESTRICT buffer, size_t capacity, size_t *size, size_t *line)
+{
+    return call_with_two(gcv_raw_set, text, length, key, key_length, value, value_length, buffer, capacity, size, line);
+}
+
+gcv_status gcv_replace_all(const char *text, size_t length, const char *key, size_t key_length, const char *value,
+                           size_t value_length, char *GCV_RESTRICT buffer, size_t capacity, size_t *size, size_t *line)
+{
+    return call_with_two(gcv_raw_replace_all, text, length, key, key_length, value, value_length, buffer, capacity,
+                         size, line);
+}
+
+gcv_status gcv_add(const char *text, size_t length, const char *key, size_t key_length, const char *value,
+                   size_t value_length, char *GCV_RESTRICT buffer, size_t capacity, size_t *size, size_t *line)
+{
+    return call_with_two(gcv_raw_add, text, length, key, key_length, value, value_length, buffer, capacity, size, line);
+}
+
+gcv_status gcv_unset(const char *text, size_t length, const char *key, size_t key_length, char *GCV_RESTRICT buffer,
+                     size_t capacity, size_t *size, size_t *line)
+{
+    return call_with_one(gcv_raw_unset, text, length, key, key_length, buffer, capacity, size, line);
+}
+
+gcv_status gcv_unset_all(const char *text, size_t length, const char *key, size_t key_length,
+                         char *GCV_RESTRICT buffer, size_t capacity, size_t *size, size_t *line)
+{
+    return call_with_one(gcv_raw_unset_all, text, length, key, key_length, buffer, capacity, size, line);
+}
+
+gcv_status gcv_rename_section(const char *text, size_t length, const char *old_name, size_t old_name_length,
+                              const char *new_name, size_t new_name_length, char *GCV_RESTRICT buffer,
+                              size_t capacity, size_t *size, size_t *line)
+{
+    return call_with_two(gcv_raw_rename_section, text, length, old_name, old_name_length, new_name, new_name_length,
+                         buffer, capacity, size, line);
+}
+
+gcv_status gcv_remove_section(const char *text, size_t length, const char *name, size_t name_length,
+                              char *GCV_RESTRICT buffer, size_t capacity, size_t *size, size_t *line)
+{
+    return call_with_one(gcv_raw_remove_section, text, length, name, name_length, buffer, capacity, size, line);
 }

@@ -10,6 +10,8 @@ import shutil
 import subprocess
 import tempfile
 
+import words
+
 ROOT = pathlib.Path(__file__).resolve().parent.parent.parent
 # each library, with the calls and types that a user needs first
 CALLS = {
@@ -20,25 +22,22 @@ CALLS = {
     "config_color": ("compose", "space_at"),
     "config_path": ("interpolate", "home_for_user"),
     "gix_config_value": ("from_str", "normalize", "same", "refusal", "run"),
+    "config_file": ("text", "get", "spell_value", "is_remote_url"),
 }
+# the type of the library that no example shows
+WITHOUT = ("EditError",)
 # the crates that use the library, whose other types need no example
-MORE = {"config_file": ("Entries", "Settings", "text"), "config_checks": ("check_file",)}
-COMMENT = re.compile(r"^ *//[/!] ?(.*)$")
-ITEM = re.compile(r"^ *(?:pub )?(struct|enum|trait|fn) (\w+)")
+MORE = {"config_host": ("settings_here", "Locked"), "config_checks": ("check_file",)}
 FENCED = re.compile(r"^```(\w*)\n(.*?)^```$", re.MULTILINE | re.DOTALL)
 CITED = re.compile(r"docs/GRAMMAR\.md, ([A-Z][^.]*)")
 AT_THE_ROOT = ("Boolean", "Color", "Error", "Fault", "Integer", "Path", "Returned")
 
 
-def comments(file):
-    """Each doc comment of a file, with the match of the item that follows it, and whether that item is public."""
-    taken = []
-    for line in file.read_text(encoding="utf-8").split("\n"):
-        if COMMENT.match(line):
-            taken.append(COMMENT.match(line).group(1))
-        elif not (taken and line.lstrip().startswith("#[")):
-            yield "\n".join(taken), ITEM.match(line), line.startswith("pub ")
-            taken = []
+def commented(items):
+    """The comment, the name and the item of each item, and of those in it."""
+    for item in items:
+        yield item.doc, item.name, item
+        yield from commented(item.inside)
 
 
 def blocks(text):
@@ -65,7 +64,7 @@ def run(tests):
                         ignore=shutil.ignore_patterns("out", "wrong_bodies"))
         line = re.search("^config_checks:.*\n", (ROOT / "crates.txt").read_text(encoding="utf-8"), re.MULTILINE)[0]
         with open(root / "crates.txt", "a", encoding="utf-8") as listed:
-            listed.write(line + "examples: bstr " + " ".join(CALLS | MORE) + "\n")
+            listed.write(line + "examples: bstr bumpalo " + " ".join(CALLS | MORE) + "\n")
         (root / "crates/examples/src").mkdir(parents=True)
         text = "#![tactic(auto)]\nuse std::test::Fail;\n" + "".join(test(*named) for named in tests.items())
         (root / "crates/examples/src/lib.rt").write_text(text, encoding="utf-8")
@@ -85,18 +84,19 @@ def results():
     for crate, calls in (CALLS | MORE).items():
         missing = set(calls)
         for file in sorted((ROOT / "crates" / crate / "src").rglob("*.rt")):
-            for comment, item, is_public in comments(file):
-                kind, name = item.groups() if item else ("", "page")
+            lines, items = re.findall(r"(?m)^ *//([/!]) ?(.*)$", file.read_text("utf-8")), words.items_of(file)
+            page = "\n".join(line for sign, line in lines if sign == "!")
+            for comment, name, item in [(page, "page", None), *commented(items)]:
                 found = blocks(comment)
-                if is_public and kind in ("struct", "enum", "trait") and crate in CALLS:
+                is_type = item in items and item.is_public and item.kind in ("struct", "enum", "trait")
+                if is_type and crate in CALLS and name not in WITHOUT:
                     checked.append((f"{file}: {name} has no example", bool(found)))
-                if found:
-                    missing.discard(name)
+                missing -= {name} if found else set()
                 for block in found:
-                    label = f"{file.stem}_{re.sub(r'(?<=[a-z])(?=[A-Z])', '_', name).lower()}"
-                    tests[label + "_too" * (label in tests)] = block
-                for cited in CITED.findall(" ".join(comment.split())):
-                    is_there = any(cited.startswith(section) for section in sections)
-                    checked.append((f"{file}: docs/GRAMMAR.md has no section {cited}", is_there))
+                    label = re.sub(r"(?<=[a-z])(?=[A-Z])", "_", f"{crate}_{file.stem}_{name}").lower()
+                    tests[f"{label}_{len(tests)}"] = block
+            for cited in CITED.findall(" ".join(line for _, line in lines)):
+                is_there = any(cited.startswith(section) for section in sections)
+                checked.append((f"{file}: docs/GRAMMAR.md has no section {cited}", is_there))
         checked.append((f"{crate} has calls without an example: {missing}", not missing))
     return checked + run(tests)

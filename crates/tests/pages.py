@@ -2,17 +2,16 @@
 """Compares the pages with the definitions, and runs the examples in comments (examples.py).
 
 A word, a bit, a number or a row fails if it is in a table of docs/GRAMMAR.md and not in `specs/`, or the other way
-round. So does a row of counts of docs/reference.py that docs/READING.md lacks, and a word of the toolchain that a
-definition uses and docs/READING.md does not explain. The last line is 'N passed, M failed'.
+round. So does a row of counts of docs/reference.py that docs/READING.md lacks, and a sign or a word of the toolchain
+that a definition uses, if neither docs/SIGNS.md nor a comment explains it. The last line is 'N passed, M failed'.
 """
 import pathlib
 import re
 import sys
 
-import examples
-
 ROOT = pathlib.Path(__file__).resolve().parent.parent.parent
 sys.path.insert(0, str(ROOT / "docs"))
+import examples  # noqa: E402
 import reference  # noqa: E402
 import words  # noqa: E402
 
@@ -190,25 +189,36 @@ def lengths():
 
 
 def reading():
-    """The line counts in docs/READING.md, and the words that it has to explain."""
+    """The line counts in docs/READING.md."""
     page = (ROOT / "docs/READING.md").read_text("utf-8")
-    explained = " ".join(re.findall("`+([^`]+)`+", page))
     rows = reference.table()
     yield "docs/READING.md, the lines of claims", rows, [row for row in rows if row in page]
+
+
+def has_comment(module, name):
+    word = words.looked_up(module, name)
+    return word is not None and word.text.startswith("--")
+
+
+def signs():
+    """The signs and the words of the toolchain that docs/SIGNS.md has to explain."""
+    explained = " ".join(re.findall("`+([^`]+)`+", (ROOT / "docs/SIGNS.md").read_text("utf-8")))
     own = tuple(f"Rattle.{crate}." for crate in LIBRARY)
     for crate in LIBRARY:
         for file in sorted((words.CRATES / crate / "specs").glob("*.antt")):
-            used = [name for name, (module, _) in words.opened(file).names.items() if not module.startswith(own)]
-            text = re.sub('"[^"]*"|◌', " ", words.without_comments(file.read_text("utf-8")))
+            brought = words.opened(file).names.items()
+            used = [name for name, known in brought if not known[0].startswith(own) and not has_comment(*known)]
+            text = re.sub(r'"(?:[^"\\]|\\.)*"|◌', " ", words.without_comments(file.read_text("utf-8")))
             used += sorted(set(re.findall(r"[^\s\w(){};,.\[\]]+|Type \d|\[\]|\b(?:%s)\b" % KEYWORDS, text)))
             missing = [name for name in used if not all(
                 re.search(rf"(?<!\w){re.escape(part)}(?!\w)", explained) for part in name.split("◌"))]
-            yield f"docs/READING.md, signs of {crate} {file.stem}", missing, []
+            yield f"docs/SIGNS.md, signs of {crate} {file.stem}", missing, []
 
 
 def main():
     results = examples.results()
-    for compared in (suffixes, integers, booleans, names, attributes, colors, spaces, paths, answers, lengths, places, bodies, reading):
+    for compared in (suffixes, integers, booleans, names, attributes, colors, spaces, paths, answers, lengths, places,
+                     bodies, reading, signs):
         try:
             for what, known, told in compared():
                 results.append((f"{what}: {known} in the code, {told} on the page", known == told))

@@ -30,7 +30,7 @@ def tree(folder):
 
 def older(folder):
     """A library of an earlier version: one file has other bytes, one is not there any more, and a line is shorter."""
-    for name in ("LICENSE-MIT", "LICENSE-APACHE", "crates.txt", "vendor.sh", "docs",
+    for name in ("LICENSE-MIT", "LICENSE-APACHE", "crates.txt", "vendor.sh", "packaging/begin.sh", "docs",
                  "crates/gix_config_value_c/VERSION", *(f"crates/{crate}" for crate in CRATES)):
         (folder / name).parent.mkdir(parents=True, exist_ok=True)
         copy = shutil.copytree if (ROOT / name).is_dir() else shutil.copy

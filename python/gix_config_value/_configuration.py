@@ -1,101 +1,75 @@
 """Configurations from files: all entries in Git's order, and their values by key."""
 import os
-from collections import namedtuple
+from collections.abc import Mapping, Sequence
 
-from . import _repository, _walk
+from . import _core, _repository, _walk
+from ._core import Entries, boolean
 from ._errors import Refused
-from ._values import READERS, Readers, home_of_user, interpolate
 
-
-class Entry(namedtuple("Entry", "file line key text scope", defaults=(None,))):
-    """An entry of a file: the file, the line from 1, the key as Git lists it, the text, and the scope.
-
-    The text is `None` if the key has no `=`. The scope is `None`, or in `read_repository` one of `system`, `global`,
-    `local`, `worktree` and `command`. The settings of a command are in a file of the name `command line`, and their
-    lines mean nothing.
-    """
-
-    __module__ = "gix_config_value"
-    __slots__ = ()
-
-    @property
-    def origin(self):
-        """Where it is, as `git config --show-origin` says it."""
-        is_command = self.scope == "command" and self.file == _walk.COMMAND
-        return "command line:" if is_command else f"file:{self.file}"
-
-
+Sequence.register(Entries)
 _ABSENT = object()
 
 
-def _path(text):
-    return interpolate(text, home=os.environ.get("HOME"), users=home_of_user)
+def _value(read, text):
+    """What a reader makes of the text of an entry."""
+    if text is not None:
+        return read(text)
+    if read is boolean:
+        return True
+    raise Refused("no_value", "no value", b"")
 
 
-_READERS = Readers(READERS, path=_path, text=str)
+def _refuse(error, entry):
+    """Raises the refusal of an entry for the error of a reader."""
+    if isinstance(error, Refused):
+        raise Refused(error.code, error.fault, error.input, entry) from None
+    raise Refused("value", str(error), _core.encode(entry.text), entry) from error
 
 
-def _alone(read):
-    """The value of a key without `=`."""
-    if read is str:
-        return None
-    # a boolean is true; no other reader accepts these texts
-    return read("" if read is _path else "true")
-
-
-def _lower(text):
-    # a section or a last part that is not ASCII is in no file
-    return text.lower() if text.isascii() else text
-
-
-def _listed(key):
-    """A key as Git lists it: its section and its last part in lower case, the subsection between as it is."""
-    if not isinstance(key, str):
-        raise TypeError(f"a key is a str, and not {type(key)}")
-    section, dot, rest = key.partition(".")
-    subsection, last_dot, name = rest.rpartition(".")
-    return _lower(section) + dot + subsection + last_dot + _lower(name)
-
-
-class Configuration(dict):
+class Configuration(Mapping):
     """The texts of settings by their keys, and the entries that they come from.
 
     A key is as Git lists it, `branch.Main.rebase`, and its section and its last part may be in any case. The last entry
-    with the key decides. Its text is `None` if the key has no `=`. A configuration cannot be changed. `refusal` says in
-    Git's words why `read_repository` has used no repository although one is there, and otherwise is `None`.
+    with the key decides. Its text is `None` if the key has no `=`. A configuration cannot be changed.
 
-    >>> config = Configuration([Entry("config", 2, "core.bare", "yes")])
-    >>> config["core.bare"], config.get("Core.Bare", "boolean")
-    ('yes', True)
+    >>> config = Configuration([Entry("config", 2, "core.bare", "yes"), Entry("config", 3, "core.abbrev", "12")])
+    >>> config["core.bare"], config.get("core.editor", "vi"), config.value("Core.Bare", boolean)
+    ('yes', 'vi', True)
+    >>> config.value("core.abbrev", int)
+    12
     """
 
     __module__ = "gix_config_value"
-    __slots__ = ("_entries", "_by_key", "_refusal")
+    __slots__ = ("_entries", "_refusal")
 
     def __init__(self, entries=(), refusal=None):
-        self._entries = tuple(entries)
-        self._by_key = None
+        self._entries = entries if isinstance(entries, Entries) else Entries(entries)
         self._refusal = refusal
-        super().__init__((entry.key, entry.text) for entry in self._entries)
 
     @property
     def entries(self):
-        """All entries, in order."""
+        """All entries, in order: a sequence, which makes each `Entry` when it is asked for."""
         return self._entries
 
     @property
     def refusal(self):
-        """Why Git uses no repository, although one is there."""
+        """Why Git uses no repository although one is there, in Git's words; `None` if it uses one, or none is there."""
         return self._refusal
 
-    def __missing__(self, key):
-        text = dict.get(self, _listed(key), _ABSENT)
+    def __getitem__(self, key):
+        text = self._entries._text(key, _ABSENT)
         if text is _ABSENT:
             raise KeyError(key)
         return text
 
     def __contains__(self, key):
-        return dict.__contains__(self, key) or dict.__contains__(self, _listed(key))
+        return self._entries._text(key, _ABSENT) is not _ABSENT
+
+    def __iter__(self):
+        return iter(self._entries._keys())
+
+    def __len__(self):
+        return self._entries._key_count()
 
     def __repr__(self):
         more = "" if self._refusal is None else f", {self._refusal!r}"
@@ -104,51 +78,49 @@ class Configuration(dict):
     def __reduce__(self):
         return Configuration, (self._entries, self._refusal)
 
-    def entries_of(self, key):
-        """The entries with a key, in order: the last one decides."""
-        if self._by_key is None:
-            by_key = {}
-            for entry in self._entries:
-                by_key.setdefault(entry.key, []).append(entry)
-            self._by_key = by_key
-        return tuple(self._by_key.get(key) or self._by_key.get(_listed(key), ()))
+    def get(self, key, default=None):
+        """The text of the last entry with a key, or the default if there is no such entry."""
+        return self._entries._text(key, default)
 
-    def get(self, key, kind="text", default=None):
-        """The value of the last entry with a key, or the default if there is no such entry: `get(key, default=0)`.
+    def value(self, key, read, default=None):
+        """What a reader makes of the text of the last entry with a key, or the default if there is no such entry.
 
-        The kinds are those of `lookup`, and `path` and `text`. A path is interpolated, with the home directory of
-        HOME and the users of this system. A key without `=` is true as a boolean, has no text, and no other value.
-        If the text has no value of the kind, raises `Refused`, which names the entry.
+        A reader takes a `str`, and raises `ValueError` for one that it refuses: `boolean`, `integer`, `Color.parse`,
+        `path`, `int`, or one of yours. If it refuses the text, `Refused` names the entry. A key without `=` is true
+        for `boolean`, and refused for any other reader.
         """
-        read_text = _READERS[kind]
-        text = dict.get(self, key, _ABSENT)
+        text = self._entries._text(key, _ABSENT)
         if text is _ABSENT:
-            text = dict.get(self, _listed(key), _ABSENT)
-            if text is _ABSENT:
-                return default
+            return default
         try:
-            return _alone(read_text) if text is None else read_text(text)
-        except Refused as refused:
-            raise refused.of(self.entries_of(key)[-1]) from None
+            return _value(read, text)
+        except ValueError as error:
+            return _refuse(error, self.entries_of(key)[-1])
 
-    def get_all(self, key, kind="text"):
-        """The values of all entries with a key, in order."""
-        read_text, values = _READERS[kind], []
+    def values_of(self, key, read):
+        """What a reader makes of the texts of all entries with a key, in order, as `value` does."""
+        values = []
         for entry in self.entries_of(key):
             try:
-                values.append(_alone(read_text) if entry.text is None else read_text(entry.text))
-            except Refused as refused:
-                raise refused.of(entry) from None
+                values.append(_value(read, entry.text))
+            except ValueError as error:
+                _refuse(error, entry)
         return values
 
-    def copy(self):
-        """This configuration itself, as it cannot be changed."""
-        return self
+    def entries_of(self, key):
+        """The entries with a key, in order: the last one decides."""
+        return self._entries._all(key)
 
-    def _unchanged(self, *_args, **_keywords):
-        raise TypeError("a Configuration cannot be changed")
+    def subsections(self, section):
+        """The subsections of a section, each once, in the order in which they come first: the names of all remotes for
+        `remote`. The case of the section does not count."""
+        prefix = f"{section.lower() if section.isascii() else section}."
+        parts = (key[len(prefix):].rpartition(".") for key in self if key.startswith(prefix))
+        return list(dict.fromkeys(subsection for subsection, dot, _ in parts if dot))
 
-    __setitem__ = __delitem__ = __or__ = __ror__ = __ior__ = clear = pop = popitem = setdefault = update = _unchanged
+    def in_scope(self, *scopes):
+        """The configuration of the entries that have one of these scopes."""
+        return Configuration((entry for entry in self._entries if entry.scope in scopes), self._refusal)
 
 
 def read(*paths, includes=False, repository=None):
@@ -158,13 +130,13 @@ def read(*paths, includes=False, repository=None):
     about the repository of the folder `repository`, and about the remotes in all these files; without a repository
     only those on remotes hold.
 
-    Raises `OSError` if a file cannot be read, and `InvalidFile`, with the place, for an invalid line or a NUL outside a
-    comment.
+    Raises `OSError` if a file cannot be read, or has more than 1 GiB, and `InvalidFile`, with the place, for an invalid
+    line or a NUL outside a comment.
     """
     known = None
     if includes:
         known = _walk.known_in(repository and _repository.find(os.fsdecode(repository)).repository)
-    return Configuration(map(Entry._make, _walk.entries([_walk.opened(path) for path in paths], known)))
+    return Configuration(_walk.entries([_walk.opened(path) for path in paths], known))
 
 
 def read_repository(path="."):
@@ -179,4 +151,4 @@ def read_repository(path="."):
     setting of the repository's format, or of the command.
     """
     place = _repository.find(os.fsdecode(path))
-    return Configuration(map(Entry._make, _repository.entries(place)), place.refusal)
+    return Configuration(_repository.entries(place), place.refusal)

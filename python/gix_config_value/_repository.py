@@ -3,7 +3,8 @@ import os
 from collections import namedtuple
 
 from . import _walk
-from ._core import boolean, integer
+from ._core import boolean, integer, line, link, variable
+from ._core import real as _real
 from ._errors import InvalidFile, Refused
 from ._values import home_of_user, interpolate
 
@@ -29,24 +30,16 @@ class NotUsed(Exception):
     """Why Git does not use a repository that is there, in Git's words."""
 
 
-def _is_on(variable):
-    return boolean(os.environ.get(variable, ""))
+def _is_on(name):
+    value = variable(name)
+    return value is not None and boolean(value)
 
 
-def _line(file):
-    """The text of a regular file without the line ends at its end, or `None` if it cannot be read."""
-    try:
-        if os.path.isfile(file):
-            with open(file, "rb") as opened:
-                return os.fsdecode(opened.read().rstrip(b"\r\n"))
-    except OSError:
-        pass
-    return None
-
-
-def _real(name):
-    """The name from the root without links, or `None` if there is no such file."""
-    return os.path.realpath(name) if os.path.exists(name) else None
+def _join(folder, name):
+    """The name of a file in a folder; "" is the current one."""
+    if name.startswith("/") or not folder:
+        return name
+    return folder + name if folder.endswith("/") else f"{folder}/{name}"
 
 
 # ---- directories of Git
@@ -54,10 +47,11 @@ def _real(name):
 
 def _head(directory):
     """What HEAD names: the reference, or `None`, and the text if it is no reference."""
-    file = os.path.join(directory, "HEAD")
-    if os.path.islink(file):
-        return os.readlink(file), None
-    text = _line(file)
+    file = _join(directory, "HEAD")
+    target = link(file)
+    if target is not None:
+        return target, None
+    text = line(file)
     if text is None or not text.startswith("ref:"):
         return None, text
     return text[4:].strip(WHITE), None
@@ -72,10 +66,11 @@ def _branch(directory):
 
 def _shared(directory):
     """The directory that worktrees share: that of GIT_COMMON_DIR or of a file, or `None`."""
-    if "GIT_COMMON_DIR" in os.environ:
-        return os.environ["GIT_COMMON_DIR"]
-    shared = _line(os.path.join(directory, "commondir"))
-    return None if shared is None else os.path.join(directory, shared)
+    given = variable("GIT_COMMON_DIR")
+    if given is not None:
+        return given
+    shared = line(_join(directory, "commondir"))
+    return None if shared is None else _join(directory, shared)
 
 
 def _is_git_dir(directory):
@@ -86,15 +81,15 @@ def _is_git_dir(directory):
     is_head = is_object if reference is None else reference.startswith("refs/")
     common = _shared(directory)
     common = directory if common is None else common
-    return is_head and all(os.path.isdir(os.path.join(common, name)) for name in ("objects", "refs"))
+    return is_head and os.path.isdir(_join(common, "objects")) and os.path.isdir(_join(common, "refs"))
 
 
 def _linked(file):
     """The directory that the line `gitdir: ..` of this file names, or `None`."""
-    line = _line(file)
-    if line is None or not line.startswith("gitdir: "):
+    text = line(file)
+    if text is None or not text.startswith("gitdir: "):
         return None
-    name = os.path.join(os.path.dirname(file), line[8:])
+    name = _join(os.path.dirname(file), text[8:])
     return _real(name) or name
 
 
@@ -106,7 +101,7 @@ def _are_owned(*names):
     if _is_on("GIT_TEST_ASSUME_DIFFERENT_OWNER"):
         return False
     users = {os.geteuid()}
-    sudo = os.environ.get("SUDO_UID", "")
+    sudo = variable("SUDO_UID") or ""
     if users == {0} and sudo.isascii() and sudo[sudo.startswith("+"):].isdigit():
         users.add(int(sudo))
     try:
@@ -118,10 +113,10 @@ def _are_owned(*names):
 def _names_folder(value, asked, folder):
     """Whether a value of `safe.directory` names this folder."""
     try:
-        path = interpolate(value, home=os.environ.get("HOME"), users=home_of_user)
+        path = interpolate(value, home=variable("HOME"), users=home_of_user)
     except Refused:
         return False
-    path = os.path.join(asked.name, ".") if path == "." else path
+    path = _join(asked.name, ".") if path == "." else path
     if not path.startswith("/") and value != ".":
         return False
     if path.endswith("/*"):
@@ -162,19 +157,22 @@ def _safe(asked, found, *names):
 def _folder(name):
     """The folder of this name, which has to be there."""
     name = "" if name == os.curdir else name
-    known, shown = os.stat(os.path.join(name, os.curdir)), os.environ.get("PWD", "")
-    if shown.startswith("/") and os.path.exists(shown) and os.path.samestat(os.stat(shown), known):
-        return Folder(name, shown)
-    return Folder(name, os.path.realpath(name))
+    known, shown = os.stat(_join(name, os.curdir)), variable("PWD") or ""
+    try:
+        if shown.startswith("/") and os.path.samestat(os.stat(shown), known):
+            return Folder(name, shown)
+    except OSError:
+        pass
+    return Folder(name, _walk.real(name or os.curdir))
 
 
 def _found_in(asked, folder):
     """The directory of Git that a folder has or is, or `None`."""
-    link, here = os.path.join(folder.name, ".git"), folder.name or "."
-    target = _linked(link)
-    if _is_git_dir(target or link):
-        found = Found(folder, target or link, target or ".git", "below")
-        return _safe(asked, found, link, here, found.name)
+    below, here = _join(folder.name, ".git"), folder.name or "."
+    target = _linked(below)
+    if _is_git_dir(target or below):
+        found = Found(folder, target or below, target or ".git", "below")
+        return _safe(asked, found, below, here, found.name)
     if not _is_git_dir(folder.name):
         return None
     if not _may_be_bare(asked, _real(here) or folder.path):
@@ -185,7 +183,7 @@ def _found_in(asked, folder):
 def _ceilings():
     """The folders of GIT_CEILING_DIRECTORIES, without links. Those after an empty one are taken as they are."""
     folders, is_resolved = [], True
-    for folder in os.environ.get("GIT_CEILING_DIRECTORIES", "").split(":"):
+    for folder in (variable("GIT_CEILING_DIRECTORIES") or "").split(":"):
         is_resolved = is_resolved and folder != ""
         folders.append((_real(folder) or folder) if is_resolved else folder)
     return folders
@@ -193,14 +191,20 @@ def _ceilings():
 
 def _search(asked):
     """The directory of Git for a folder: that of GIT_DIR, or the first one upwards."""
-    given = os.environ.get("GIT_DIR")
+    given = variable("GIT_DIR")
     if given is not None:
-        whole = os.path.join(asked.name, given)
+        whole = _join(asked.name, given)
         target = _linked(whole)
         if not given or not _is_git_dir(target or whole):
             raise NotUsed(f"not a git repository: '{given}'")
         return Found(asked, target or whole, target or given, "given")
-    found, above = _found_in(asked, asked), os.path.realpath(asked.name)
+    found = _found_in(asked, asked)
+    return found or _search_above(asked)
+
+
+def _search_above(asked):
+    """The first directory of Git in the folders above one, or `None`."""
+    found, above = None, _walk.real(asked.name or os.curdir)
     device, ceilings = os.stat(above).st_dev, _ceilings()
     crosses = _is_on("GIT_DISCOVERY_ACROSS_FILESYSTEM")
     while not found and above != "/":
@@ -293,12 +297,12 @@ def _entries_of(file):
 def _format(found, shared):
     """The format of a directory of Git. What worktrees share says nothing of the top of one."""
     told = Format()
-    for entry in _entries_of(os.path.join(found.name if shared is None else shared, "config")):
+    for entry in _entries_of(_join(found.name if shared is None else shared, "config")):
         told.take(entry)
     if told.version is None or told.version < 0:
         told = Format()
     if told.has_own_files:
-        for entry in _entries_of(os.path.join(found.name, "config.worktree")):
+        for entry in _entries_of(_join(found.name, "config.worktree")):
             told.take_work_tree(entry)
     elif shared is not None:
         told.is_bare, told.work_tree = False, None
@@ -310,10 +314,11 @@ def _format(found, shared):
 
 def _top(asked, found, told):
     """The top of the work tree that GIT_WORK_TREE or `core.worktree` names, or `None`."""
-    if "GIT_WORK_TREE" in os.environ:
-        top = os.path.join(asked.name, os.environ["GIT_WORK_TREE"])
+    given = variable("GIT_WORK_TREE")
+    if given is not None:
+        top = _join(asked.name, given)
     elif told.work_tree is not None and not told.is_bare:
-        top = os.path.join(found.name, told.work_tree)
+        top = _join(found.name, told.work_tree)
     else:
         return None
     return _real(top) or top
@@ -323,7 +328,7 @@ def _workplace(asked, found, told):
     """The folder in which Git works, and the name of the directory of Git there."""
     top = _top(asked, found, told)
     if top is not None:
-        if os.path.realpath(asked.name).startswith(top.rstrip("/") + "/"):
+        if _walk.real(asked.name or os.curdir).startswith(top.rstrip("/") + "/"):
             return Folder(top, top), _real(found.name) or found.name
     elif found.form == "below" and not told.is_bare:
         return found.folder, found.named
@@ -338,8 +343,8 @@ def _shown(folder, name):
 
 def _located(asked, found, shared, told):
     place, named = _workplace(asked, found, told)
-    path = os.path.join(place.path, named)
-    common = named if shared is None else shared if "GIT_COMMON_DIR" in os.environ else _real(shared) or shared
+    path = _join(place.path, named)
+    common = named if shared is None else shared if variable("GIT_COMMON_DIR") is not None else _real(shared) or shared
     files = [("local", _shown(common, "config"))]
     if told.has_own_files:
         files.append(("worktree", _shown(named, "config.worktree")))
@@ -366,10 +371,12 @@ def find(name):
 
 def _protected_files():
     """The files that no repository can change, with their scopes: those of the system and of the user."""
-    home, own = os.environ.get("HOME"), os.environ.get("XDG_CONFIG_HOME")
-    names = [] if _is_on("GIT_CONFIG_NOSYSTEM") else [("system", os.environ.get("GIT_CONFIG_SYSTEM", "/etc/gitconfig"))]
-    if "GIT_CONFIG_GLOBAL" in os.environ:
-        return names + [("global", os.environ["GIT_CONFIG_GLOBAL"])]
+    home, own = variable("HOME"), variable("XDG_CONFIG_HOME")
+    names, system, given = [], variable("GIT_CONFIG_SYSTEM"), variable("GIT_CONFIG_GLOBAL")
+    if not _is_on("GIT_CONFIG_NOSYSTEM"):
+        names.append(("system", "/etc/gitconfig" if system is None else system))
+    if given is not None:
+        return [*names, ("global", given)]
     if own:
         names.append(("global", f"{own}/git/config"))
     elif home is not None:
@@ -383,10 +390,10 @@ def _sources(folder, files):
         skipped = (*_walk.MISSING, PermissionError) if scope == "global" else _walk.MISSING
         try:
             if name:
-                yield _walk.opened(os.path.join(folder.name, name), scope)
+                yield _walk.opened(_join(folder.name, name), scope)
         except skipped:
             pass
-    yield _walk.command()
+    yield from _walk.command()
 
 
 def _protected(asked):

@@ -73,6 +73,15 @@ def interpolate(path, *, prefix=None, home=None, users=None):
     return whole.decode("utf-8", "surrogateescape") if isinstance(path, str) else whole
 
 
+def path(text):
+    """The path that a text means, with the home directory of HOME and the users of this system.
+
+    >>> path("/etc/%x")
+    '/etc/%x'
+    """
+    return interpolate(text, home=os.environ.get("HOME"), users=home_of_user)
+
+
 def home_of_user(name):
     """The home directory of a user of this system, or `None`; for `interpolate`."""
     import pwd  # pylint: disable=import-outside-toplevel

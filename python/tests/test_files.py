@@ -1,24 +1,31 @@
-"""Tests configurations from files, and compares them with Git if it is installed.
+"""Tests configurations from files, and edits of files, and compares them with Git if it is installed.
 
-Run: python -W error -bb -m unittest discover -s tests, where the package can be imported.
+Run in this folder, with the package installed: python -W error -bb -m unittest test_files
 """
 import concurrent.futures
 import copy
+import errno
 import getpass
 import json
 import os
 import pathlib
 import pickle
 import re
+import resource
 import shutil
+import signal
+import stat
 import subprocess
+import sys
 import tempfile
 import threading
 import time
 import unittest
+from collections.abc import Mapping, Sequence
 from unittest import mock
 
-from gix_config_value import Color, Configuration, Entry, InvalidFile, Refused, lookup, read, read_repository
+from gix_config_value import (Color, Configuration, Entry, InvalidFile, Refused, boolean, edit, integer, lookup, path,
+                              read, read_repository)
 
 TYPED = """[core]
     bare
@@ -91,6 +98,45 @@ STOPS = [({"GIT_CONFIG_COUNT": "x"}, "bad_count"), ({"GIT_CONFIG_COUNT": "1"}, "
          ("[core]bare=x", "bad_format"), ("[core]repositoryformatversion=x", "bad_format"),
          ("[core]repositoryformatversion=1\n[extensions]objectFormat=md5", "bad_format")]
 
+# edits after which a file is as Git leaves it, one after the other; what they begin with has Git's own layout
+AS_GIT = [
+    ("", [("set", "user.name", "A B"), ("set", "user.name", "C"), ("add", "user.name", " x"), ("unset_all", "user.name"),
+          ("set", "branch.Main.merge", "a;b"), ("set", "branch.main.merge", "")]),
+    ("# top\n[core]\n\tbare = true\n[user]\n\tname = A\n", [
+        ("set", "core.bare", "no"), ("set", "core.editor", "vi \\ \"q\"\t\n"), ("unset", "user.name"),
+        ("add", "core.bare", "\u00e9\udcff"), ("replace_all", "core.bare", "x # y"), ("unset", "core.bare")]),
+    ("[a]\n\tk = 1\n\tk = 2\n\tj = 3\n[b]\n\tk = 4\n[a]\n\tk = 5\n", [
+        ("replace_all", "a.k", "6"), ("add", "a.k", "7"), ("unset_all", "a.k"), ("rename_section", "a", "c.D e"),
+        ("remove_section", "b"), ("remove_section", "c.D e")]),
+]
+# edits of this file that are refused, by Git too, and the code
+SEVERAL = "[a]\n\tk = 1\n\tk = 2\n"
+REFUSED = [(("set", "ab", "v"), "no_section"), (("set", "a.", "v"), "no_key_name"), (("add", "a.k_", "v"), "bad_key"),
+           (("set", "a.x\ny.k", "v"), "key_line_feed"), (("set", "a.k", "v"), "several"), (("unset", "a.k"), "several"),
+           (("unset", "a.j"), "absent"), (("unset_all", "b.k"), "absent"), (("rename_section", "b", "c"), "absent"),
+           (("remove_section", "b"), "absent"), (("rename_section", "a", "b c"), "bad_section")]
+# edits of what has another layout than Git's, and the text that is left
+KEPT = [("[user]\n\tname = A # me\n", ("set", "user.name", "B C"), "[user]\n\tname = B C # me\n"),
+        ("[a] Bare\r\n", ("set", "a.bare", "no"), "[a] Bare = no\r\n"),
+        ("[a]\r\n\tk=v\r\n", ("add", "a.j", "w"), "[a]\r\n\tk=v\r\n\tj = w\r\n"),
+        ("[a] k = v\\", ("set", "b.k", "w"), "[a] k = v\\\n\n[b]\n\tk = w\n"),
+        ("[a] k = v # c\n[b]\n", ("unset", "a.k"), "[b]\n"),
+        ("[a]\n\tk = v\n\n# of b\n[b]\n", ("remove_section", "a"), "# of b\n[b]\n")]
+# adds to a file, from one of two processes
+ADDS = """
+import sys, time
+from gix_config_value import edit
+end = time.monotonic() + 60
+for at in range(60):
+    while time.monotonic() < end:
+        try:
+            with edit("main") as file:
+                file.add(f"a.{sys.argv[1]}", str(at))
+            break
+        except FileExistsError:
+            pass
+"""
+
 
 def listing(output):
     """The entries that `git config --list -z --show-origin` writes, as a file, a key and a text."""
@@ -133,6 +179,15 @@ class Files(unittest.TestCase):
         with self.assertRaises((Refused, InvalidFile)) as caught:
             call(*words, **keywords)
         return caught.exception
+
+    def texts(self, *names):
+        """The texts of these files, `None` for one that is not there."""
+        files = [pathlib.Path(self.root, name) for name in names]
+        return [os.fsdecode(file.read_bytes()) if file.exists() else None for file in files]
+
+    def edit(self, name, word, *words):
+        with edit(name) as file:
+            getattr(file, word)(*words)
 
 
 @unittest.skipUnless(shutil.which("git"), "Git is not there")
@@ -197,7 +252,7 @@ class AsGit(Files):
             self.git("-C", "r", "config", "extensions.worktreeConfig", "true")
             self.git("-C", "r", "config", "--worktree", "own.r", "1")
             self.git("-C", "w", "config", "--worktree", "own.w", "2")
-        self.assertEqual([read_repository(name).get("own.w", "integer") for name in "rw"], [None, 2])
+        self.assertEqual([read_repository(name).value("own.w", integer) for name in "rw"], [None, 2])
         self.variables()
 
     def variables(self):
@@ -219,6 +274,23 @@ class AsGit(Files):
                 self.repository("deep", same_names=False, top="r")
         os.environ["GIT_CEILING_DIRECTORIES"] = f"{self.root}/r"
         self.assertEqual(len(self.repository("deep/er", same_names=False)), 2)
+
+    def test_edits(self):
+        for text, edits in AS_GIT:
+            self.write({"ours": text, "git": text})
+            for word, *words in edits:
+                self.edit("ours", word, *words)
+                flags = [] if word == "set" else [f"--{word.replace('_', '-')}"]
+                self.git("config", "--file", "git", *flags, *words)
+                ours, git = self.texts("ours", "git")
+                self.assertEqual(ours, git, (text, word, words))
+
+    def test_refused_edits(self):
+        self.write({"main": SEVERAL})
+        for (word, *words), _ in REFUSED:
+            flags = [] if word == "set" else [f"--{word.replace('_', '-')}"]
+            self.git("config", "--file", "main", *flags, *words, fails=True)
+        self.assertEqual(self.texts("main"), [SEVERAL])
 
     def test_broken_repositories(self):
         self.git("init", "-q", "r")
@@ -255,7 +327,7 @@ class AsGit(Files):
         for more in ({}, counted, {"GIT_CONFIG_PARAMETERS": "'a.b=c' 'a.d' 'a.e'='f'\\''g'"}):
             with self.subTest(more), mock.patch.dict(os.environ, more):
                 config = self.is_listed()
-                self.assertEqual((config.get_all("hit.k"), config.refusal), ([None], None))
+                self.assertEqual((config["hit.k"], len(config.entries_of("hit.k")), config.refusal), (None, 1, None))
         self.assertEqual([entry.scope for entry in config.entries_of("a.e")], ["command"])
 
     def test_refused_repositories(self):
@@ -311,10 +383,10 @@ class AsGit(Files):
     def test_typed(self):
         self.write({"main": TYPED})
         config = read("main")
-        for kind, name, key in (("bool", "boolean", "core.bare"), ("int", "integer", "core.limit"),
-                                ("path", "path", "core.hooksPath"), ("bool", "boolean", "branch.Main.rebase")):
+        for kind, reader, key in (("bool", boolean, "core.bare"), ("int", integer, "core.limit"),
+                                  ("path", path, "core.hooksPath"), ("bool", boolean, "branch.Main.rebase")):
             told = self.git("config", "-f", "main", f"--type={kind}", key).decode().strip()
-            self.assertEqual(told, str(config.get(key, name)).replace("False", "false").replace("True", "true"))
+            self.assertEqual(told, str(config.value(key, reader)).replace("False", "false").replace("True", "true"))
 
 
 class Configurations(Files):
@@ -325,59 +397,116 @@ class Configurations(Files):
 
     def test_values(self):
         config = self.config
-        self.assertIs(config.get("core.bare", "boolean"), False)
-        self.assertEqual(config.get_all("core.bare", "boolean"), [True, False])
-        self.assertEqual(config.get_all("core.bare"), [None, "no"])
-        self.assertEqual(config.get("CORE.Limit", "integer"), 10240)
-        self.assertEqual(read("main", pathlib.Path("more")).get("core.limit", "amount"), 1 << 30)
-        self.assertEqual(config.get("core.hookspath", "path"), f"{self.root}/home/hooks")
-        self.assertEqual(config.get_all("color.branch.current", "text"), ["red bold", "reddish"])
-        self.assertEqual(Configuration(config.entries[:6]).get("color.branch.current", "color"), Color.parse("red bold"))
-        self.assertEqual((config.get("a.b", "color"), config.get("a.b", "color", 5), config.get("a.b", default=5)),
+        self.assertIs(config.value("core.bare", boolean), False)
+        self.assertEqual(config.values_of("core.bare", boolean), [True, False])
+        self.assertEqual([entry.text for entry in config.entries_of("core.bare")], [None, "no"])
+        self.assertEqual(config.value("CORE.Limit", integer, 5), 10240)
+        self.assertEqual(read("main", pathlib.Path("more")).value("core.limit", integer), 1 << 30)
+        self.assertEqual(config.value("core.hookspath", path), f"{self.root}/home/hooks")
+        self.assertEqual(config.values_of("color.branch.current", str), ["red bold", "reddish"])
+        self.assertEqual(Configuration(config.entries[:6]).value("color.branch.current", Color.parse),
+                         Color.parse("red bold"))
+        self.assertEqual((config.value("a.b", Color.parse), config.value("a.b", Color.parse, 5), config.get("a.b", 5)),
                          (None, 5, 5))
-        self.assertEqual((config.get_all("a.b"), config.entries_of("a.b")), ([], ()))
-        self.assertEqual((config.get("branch.Main.rebase"), config.get("branch.Main.rebase", "boolean")), (None, True))
+        self.assertEqual((config.values_of("a.b", str), config.entries_of("a.b")), ([], ()))
+        self.assertEqual((config.get("branch.Main.rebase", 5), config.value("branch.Main.rebase", boolean)), (None, True))
         self.assertEqual(config.entries_of("core.Limit"), (Entry("main", 3, "core.limit", "10k"),))
         self.assertIs(lookup("boolean", config, "Core.bare"), False)
-        for call in (config.get, config.get_all):
-            for key in ("core.bare", "a.b"):
-                self.assertRaises(ValueError, call, key, "number")
-            self.assertRaises(TypeError, call, 3)
+        self.assertEqual(config.value("core.editor", str.upper), "VI")
+        self.assertRaises(ZeroDivisionError, config.value, "core.editor", lambda text: 1 // 0)
 
     def test_mapping(self):
         config = self.config
         self.assertEqual(list(config), ["core.bare", "core.limit", "core.editor", "core.hookspath",
                                         "color.branch.current", "branch.Main.rebase"])
+        self.assertEqual(dict(config), {key: config[key] for key in config.keys()})
         self.assertEqual((len(config), config["core.editor"], config["BRANCH.Main.Rebase"]), (6, "vi", None))
         self.assertTrue("core.EDITOR" in config and "branch.Main.REBASE" in config)
+        self.assertIsInstance(config, Mapping)
         # \u212a is the sign of Kelvin, whose lower case is k
-        for key in ("branch.main.rebase", "core", "", "core.bare.", "core.hoo\u212aspath"):
+        for key in ("branch.main.rebase", "core", "", "core.bare.", "core.hoo\u212aspath", "core.bare\0", 5, None, b"core.bare"):
             self.assertNotIn(key, config)
             self.assertRaises(KeyError, config.__getitem__, key)
+            self.assertEqual((config.get(key), config.get(key, "vi"), config.entries_of(key)), (None, "vi", ()))
         for again in (copy.copy(config), copy.deepcopy(config), pickle.loads(pickle.dumps(config)), eval(repr(config))):
             self.assertEqual((again, again.entries, type(again)), (config, config.entries, Configuration))
-        self.assertEqual(json.loads(json.dumps(config)), dict(config))
-        for call in (lambda: config.update(a=1), config.clear, lambda: config.pop("core.bare"), config.popitem,
-                     lambda: config.setdefault("a", 1), lambda: config.__setitem__("a", 1),
-                     lambda: config.__delitem__("core.bare"), lambda: config.__ior__({})):
-            self.assertRaises(TypeError, call)
+        self.assertEqual(json.loads(json.dumps(dict(config))), dict(config))
+        for call in (lambda: config.__setitem__("a", 1), lambda: config.__delitem__("core.bare"), lambda: config.clear()):
+            self.assertRaises(AttributeError, call)
         self.assertEqual((len(config), len(Configuration())), (6, 0))
 
+    def test_entries(self):
+        entries, rows = self.config.entries, list(self.config.entries)
+        self.assertIsInstance(entries, Sequence)
+        self.assertEqual((len(entries), entries[-1], entries[2:5], entries[::-2]),
+                         (8, rows[7], tuple(rows[2:5]), tuple(rows[::-2])))
+        self.assertEqual((entries.index(rows[3]), entries.count(rows[0]), rows[3] in entries, list(reversed(entries))),
+                         (3, 1, True, rows[::-1]))
+        self.assertEqual(repr(entries), repr(rows))
+        for call in (lambda: entries[8], lambda: entries[-9]):
+            self.assertRaises(IndexError, call)
+        for call in (lambda: entries["a"], lambda: hash(entries), lambda: Configuration([("f", 1, "a.b", b"1", None, 1)]),
+                     lambda: Configuration([("f", 1, "a.b")]), lambda: Configuration([("f", "1", "a.b", None)])):
+            self.assertRaises(TypeError, call)
+        for row in (("f", 1, "a.b\0", "x"), ("f", 1, "a.b", "x\0"), ("f", -1, "a.b", "x"), ("f", 2 ** 32, "a.b", "x")):
+            self.assertRaises(ValueError, Configuration, [row])
+        for at, part in enumerate(("g", 2, "a.c", None, "local")):
+            other = ["f", 1, "a.b", "x", None]
+            one = Configuration([other]).entries
+            other[at] = part
+            self.assertFalse(one == Configuration([other]).entries or one != Configuration([("f", 1, "a.b", "x")]).entries)
+
+    def test_many_keys(self):
+        rows = [(f"f{at // 7}", at + 1, f"a.{at % 700}.k", None if at % 3 else str(at), "local") for at in range(5000)]
+        config = Configuration(rows)
+        self.assertEqual(list(config.entries), rows)
+        self.assertEqual(dict(config), {key: text for _, _, key, text, _ in rows})
+        for key in config:
+            self.assertEqual(config.entries_of(key), tuple(row for row in rows if row[2] == key))
+
+    def test_memory(self):
+        text = "".join(f"[branch \"topic-{at}\"]\n\tremote = origin\n\trebase\n" for at in range(20_000))
+        self.write({"long": text})
+        config = read("long")
+        texts = sum(len(entry.key) + len(entry.text or "") for entry in config.entries)
+        self.assertEqual(len(config.entries), 40_000)
+        self.assertLess(sys.getsizeof(config.entries) - texts, 100 * 40_000)
+
+    def test_equal_keys(self):
+        # a section's name is kept once: otherwise these 60 kB would need 400 MB
+        self.write({"long": f"[{'s' * 20000}]\n" + "k\n" * 20000})
+        config = read("long")
+        self.assertEqual((len(config.entries), len(config)), (20000, 1))
+        self.assertLess(sys.getsizeof(config.entries), 2_000_000)
+
+    def test_scopes(self):
+        config = Configuration([("a", 1, "user.name", "A", "global"), ("b", 1, "user.name", "B", "local"),
+                                ("b", 2, "remote.o.url", "x", "local"), ("c", 1, "remote.p.q.url", "y", "worktree"),
+                                ("c", 2, "remote.o.prune", None, "worktree"), ("c", 3, "remote.pushdefault", "o", "worktree"),
+                                ("c", 4, "remote..url", "z", "worktree")])
+        self.assertEqual([config.in_scope(scope).get("user.name") for scope in ("global", "local", "x")], ["A", "B", None])
+        self.assertEqual(list(config.in_scope("global", "worktree")), ["user.name", "remote.p.q.url", "remote.o.prune",
+                                                                      "remote.pushdefault", "remote..url"])
+        self.assertEqual((config.subsections("Remote"), config.subsections("user")), (["o", "p.q", ""], []))
+
     def test_refusals(self):
-        for key, kind, code, line, text in (("core.editor", "boolean", "boolean", 4, b"vi"),
-                                            ("core.Editor", "integer", "integer", 4, b"vi"),
-                                            ("color.branch.current", "color", "color", 9, b"reddish"),
-                                            ("branch.Main.rebase", "integer", "integer", 11, b""),
-                                            ("branch.Main.rebase", "path", "path_missing", 11, b"")):
-            refused = self.refused(self.config.get, key, kind)
+        for key, reader, code, line, text in (("core.editor", boolean, "boolean", 4, b"vi"),
+                                              ("core.Editor", integer, "integer", 4, b"vi"),
+                                              ("color.branch.current", Color.parse, "color", 9, b"reddish"),
+                                              ("branch.Main.rebase", integer, "no_value", 11, b""),
+                                              ("branch.Main.rebase", path, "no_value", 11, b""),
+                                              ("branch.Main.rebase", str, "no_value", 11, b""),
+                                              ("core.editor", int, "value", 4, b"vi")):
+            refused = self.refused(self.config.value, key, reader)
             self.assertEqual((refused.file, refused.line, refused.key.lower()), ("main", line, key.lower()))
             self.assertEqual((refused.code, refused.input), (code, text))
-            shown = repr(text) if text else "no value"
-            self.assertEqual(str(refused), f"main:{line}: {refused.key}: {refused.fault}: {shown}")
+            shown = f"{refused.fault}: {text!r}" if text else "no value"
+            self.assertEqual(str(refused), f"main:{line}: {refused.key}: {shown}")
             again = pickle.loads(pickle.dumps(refused))
             self.assertEqual((str(again), again.line, again.input), (str(refused), line, text))
-        self.assertEqual(self.refused(self.config.get_all, "color.branch.current", "color").line, 9)
-        self.assertEqual(self.refused(self.config.get_all, "core.bare", "integer").line, 2)
+        self.assertIsInstance(refused.__cause__, ValueError)
+        self.assertEqual(self.refused(self.config.values_of, "color.branch.current", Color.parse).line, 9)
+        self.assertEqual(self.refused(self.config.values_of, "core.bare", integer).line, 2)
 
     def test_invalid_files(self):
         self.write({"bad": "[a]\nb = 1\n[c\n", "nul": "[a]\nb = \0"})
@@ -394,7 +523,7 @@ class Configurations(Files):
         self.write({str(at): f"[hit]k={at}\n[include]path={at + 1}\n[hit]k=-{at}" for at in range(12)})
         self.write({"main": "[a]k\n[include]path=main"})
         below = [str(at) for at in range(1, 12)] + [str(-at) for at in range(11, 0, -1)]
-        self.assertEqual(read("1", includes=True).get_all("hit.k"), below)
+        self.assertEqual(read("1", includes=True).values_of("hit.k", str), below)
         for name, file in (("0", "10"), ("main", "main")):
             invalid = self.refused(read, name, includes=True)
             self.assertEqual((invalid.code, invalid.file, invalid.line), ("too_deep", file, 2))
@@ -412,6 +541,48 @@ class Configurations(Files):
         self.assertEqual([(entry.file, entry.text) for entry in config.entries], [
             ("main", "~ann/s/x\udcff"), (f"{self.root}/home/s/x\udcff", "y"), (f"{self.root}/home/s/y", "2"),
             (f"{self.root}/home/s/x\udcff", "1")])
+
+    def test_no_files(self):
+        os.mkfifo("pipe")
+        self.write({"main": "[a]b\n[include]path=pipe", "zero": "\n[include]path=/dev/zero", "null": "[include]path=/dev/null"})
+        self.write({"r/.git": "gitdir: none\0b", "r/x": ""})
+        invalid = self.refused(read, "main", includes=True)
+        self.assertEqual((invalid.code, invalid.line, invalid.fault),
+                         ("unreadable", 2, "pipe cannot be read: it is no regular file"))
+        self.assertEqual(len(read("null", includes=True)), 1)
+        self.assertEqual(dict(read_repository("r")), {})
+        with self.assertRaises(OSError) as raised:
+            read("/dev/zero")
+        self.assertEqual((raised.exception.strerror, raised.exception.filename), ("it is longer than 1 GiB", "/dev/zero"))
+
+    def test_threads(self):
+        # other threads run while a file is read, although none has to let another one run, and a signal ends it
+        self.addCleanup(sys.setswitchinterval, sys.getswitchinterval())
+        sys.setswitchinterval(100)
+        self.write({"long": "[a]\n" + "k = v\n" * 300_000})
+        is_read, seen, done = [False], [], threading.Event()
+
+        def look():
+            while not done.wait(0.0005):
+                seen.extend([True] * is_read[0])
+
+        thread = threading.Thread(target=look)
+        thread.start()
+        for _ in range(100):
+            is_read[0] = True
+            self.assertEqual(len(read("long").entries), 300_000)
+            is_read[0] = False
+            if seen:
+                break
+        done.set()
+        thread.join()
+        self.assertTrue(seen)
+        before = signal.signal(signal.SIGALRM, lambda *_: 1 // 0)
+        signal.setitimer(signal.ITIMER_REAL, 0.01)
+        try:
+            self.assertRaises(ZeroDivisionError, lambda: [read("long") for _ in range(100)])
+        finally:
+            signal.signal(signal.SIGALRM, before)
 
     def test_unknown_directories(self):
         del os.environ["HOME"]
@@ -460,6 +631,147 @@ class Configurations(Files):
                          [(f"{self.root}/home/.gitconfig", 1, "a.b"), (f"{self.root}/home/.gitconfig", 2, "in.it"),
                           ("r/.git/../.git/config", 1, "includeif.onbranch:main.path"), ("r/.git/../.git/../in", 1, "in.it")])
         self.assertEqual((config["in.it"], dict(read_repository())), ("1", {"a.b": None, "in.it": "0"}))
+
+
+class Edits(Files):
+    def fails(self, error, call, *words):
+        """Whether a call raises an error, and leaves the file and no lock. Returns the error."""
+        before = self.texts("main")
+        with self.assertRaises(error) as caught:
+            call(*words)
+        self.assertEqual(self.texts("main", "main.lock"), [*before, None], words)
+        return caught.exception
+
+    def test_other_layouts(self):
+        for text, words, wanted in KEPT:
+            self.write({"main": text})
+            self.edit("main", *words)
+            self.assertEqual(self.texts("main"), [wanted])
+
+    def test_refused(self):
+        self.write({"main": SEVERAL})
+        more = [(("set", "a.j", "v\0"), "bad_value"), (("add", "a.\0.k", "v"), "bad_section")]
+        for words, code in [*REFUSED, *more]:
+            refused = self.fails(Refused, self.edit, "main", *words)
+            at = -1 if code in ("bad_value", "bad_section") and words[0] != "add" else 1
+            self.assertEqual((refused.code, refused.input), (code, words[at].encode()))
+            if code == "absent":
+                wanted = "no section has the name" if words[0].endswith("section") else "no entry has the key"
+                self.assertEqual(refused.fault, wanted)
+        for words in ((None, "v"), ("a.j", None), ("a.j", True), ("a.j", 1)):
+            self.fails(TypeError, self.edit, "main", "set", *words)
+        with edit(b"main") as file:
+            for words, _ in REFUSED:
+                self.assertRaises(Refused, getattr(file, words[0]), *words[1:])
+            self.assertEqual(file.text, SEVERAL.encode())
+            file.set(b"a.j", bytearray(b"v"))
+        self.assertEqual(self.texts("main"), [f"{SEVERAL}\tj = v\n"])
+
+    def test_invalid_files(self):
+        for text, code in (("[a]\n[b\n", "bad_line"), ("[a]\nk = \0\n", "nul")):
+            self.write({"main": text})
+            invalid = self.fails(InvalidFile, self.edit, "main", "set", "a.k", "v")
+            self.assertEqual((invalid.code, invalid.file, invalid.line), (code, "main", 2))
+
+    def test_end(self):
+        def raises():
+            with edit("main") as file:
+                file.set("a.k", "v")
+                raise KeyboardInterrupt
+
+        def changes_folder():
+            with edit("main") as file:
+                os.mkdir("s")
+                self.enter("s")
+                file.set("a.k", "v")
+
+        self.fails(KeyboardInterrupt, raises)
+        self.assertEqual(os.listdir(), [])
+        changes_folder()
+        self.assertEqual(self.texts("main", "main.lock"), ["[a]\n\tk = v\n", None])
+        with edit(f"{self.root}/main") as file:
+            # each of these bytes takes two
+            file.add("a.k", '"' * 100_000)
+        self.assertEqual(read(f"{self.root}/main").values_of("a.k", len), [1, 100_000])
+        for call in (lambda: file.text, lambda: file.set("a.k", "v"), lambda: file.remove_section("a")):
+            self.assertRaises(ValueError, call)
+
+    def test_no_change(self):
+        self.write({"main": "[a]k=v # c\n"})
+        os.utime("main", (5, 5))
+        with edit("main") as file:
+            file.set("a.k", "v")
+            file.set("a.j", "w")
+            file.unset("a.j")
+            file.add("b.k", "w")
+            file.remove_section("b")
+            file.replace_all("a.k", "v")
+        with edit("none"):
+            pass
+        self.assertEqual((os.stat("main").st_mtime, os.listdir()), (5, ["main"]))
+
+    def test_locks(self):
+        self.write({"main": "[a]k=v", "other.lock": "theirs"})
+        with edit("main") as file:
+            with self.assertRaises(FileExistsError) as held:
+                self.edit("main", "set", "a.k", "w")
+            self.assertEqual(held.exception.filename, f"{self.root}/main.lock")
+            file.set("a.k", "x")
+            self.assertEqual(self.texts("main", "main.lock"), ["[a]k=v", ""])
+        self.assertEqual(self.texts("main", "main.lock"), ["[a]k=x", None])
+        self.assertRaises(FileExistsError, self.edit, "other", "set", "a.k", "w")
+        self.assertEqual(self.texts("other", "other.lock"), [None, "theirs"])
+
+    def test_links_and_modes(self):
+        self.write({"s/t/own": "[a]k=v"})
+        os.chmod("s/t/own", 0o640)
+        for link, target in (("s/t/link", "own"), ("far", "s/t/link"), ("away", "s/new")):
+            os.symlink(target, link)
+        for name, own in (("far", "s/t/own"), ("away", "s/new")):
+            with edit(name) as file:
+                file.set("a.k", "w")
+                self.assertEqual(self.texts(f"{own}.lock", f"{name}.lock"), ["", None])
+            self.assertTrue(os.path.islink(name))
+        self.assertEqual(self.texts("s/t/own", "s/new"), ["[a]k=w", "[a]\n\tk = w\n"])
+        mask = os.umask(0)
+        os.umask(mask)
+        self.assertEqual([os.stat(name).st_mode & 0o7777 for name in ("far", "away")], [0o640, 0o666 & ~mask])
+
+    def test_system_faults(self):
+        self.write({"main": "[a]\n\tk = v\n"})
+        fault = OSError(errno.EIO, "a fault")
+        for call in ("stat", "fchmod", "fsync", "rename"):
+            faulty = mock.patch.object(os, call, mock.Mock(side_effect=fault))(self.edit)
+            self.assertIs(self.fails(OSError, faulty, "main", "set", "a.k", "w"), fault)
+        # a file may have ten bytes, as if no room was left
+        limits = resource.getrlimit(resource.RLIMIT_FSIZE)
+        resource.setrlimit(resource.RLIMIT_FSIZE, (10, limits[1]))
+        try:
+            for value in ("w", "w" * 100_000):
+                self.assertEqual(self.fails(OSError, self.edit, "main", "set", "a.k", value).errno, errno.EFBIG)
+        finally:
+            resource.setrlimit(resource.RLIMIT_FSIZE, limits)
+
+    def test_no_files(self):
+        os.mkdir("s")
+        os.mkfifo("pipe")
+        os.symlink("loop", "loop")
+        for name in ("s", "pipe", "loop", "none/main", "s/main/x", "main\0"):
+            self.fails((OSError, ValueError), self.edit, name, "set", "a.k", "v")
+        self.assertEqual(sorted(os.listdir()), ["loop", "pipe", "s"])
+        # a device, which is no file to be replaced, although it can be read
+        self.write({"main": ""})
+        device = mock.patch.object(os, "stat", lambda _: os.stat_result([stat.S_IFCHR] + [0] * 9))(self.edit)
+        self.fails(OSError, device, "main", "set", "a.k", "v")
+
+    def test_two_processes(self):
+        self.write({"main": "# top\n"})
+        variables = {**os.environ, "PYTHONPATH": ":".join(sys.path)}
+        both = [subprocess.Popen([sys.executable, "-B", "-c", ADDS, name], env=variables) for name in "xy"]
+        self.assertEqual([process.wait() for process in both], [0, 0])
+        config = read("main")
+        self.assertEqual([config.values_of(key, int) for key in ("a.x", "a.y")], [list(range(60))] * 2)
+        self.assertEqual(os.listdir(), ["main"])
 
 
 if __name__ == "__main__":

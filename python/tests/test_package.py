@@ -1,6 +1,6 @@
 """Tests the package over the stored answers of the Rust crate, and its values as values of Python.
 
-Run: PYTHONPATH=SITE python -W error -bb -m unittest discover -s python/tests, where SITE has the installed package.
+Run in this folder, with the package installed: python -W error -bb -m unittest test_package
 """
 import array
 import copy
@@ -16,6 +16,7 @@ import re
 import shutil
 import subprocess
 import sys
+import threading
 import unittest
 
 import gix_config_value as gcv
@@ -204,8 +205,9 @@ class Values(unittest.TestCase):
         self.assertEqual((both & ~Attribute.BOLD, both ^ Attribute.BOLD, both - Attribute.BOLD), (Attribute.UL,) * 3)
         self.assertEqual((len(both), bool(both), bool(Attribute()), int(both)), (2, True, False, 18))
         self.assertTrue(Attribute.UL in both and Attribute() in both and Attribute.DIM not in both)
-        for bits in (1, -1, 1 << 31, 1 << 32, 1 << 80):
-            self.assertRaises(ValueError, Attribute, bits)
+        for bits in (1, -1, 1 << 31, 1 << 32, 1 << 80, 1 << 200_000):
+            with self.assertRaisesRegex(ValueError, "has bits of no attribute"):
+                Attribute(bits)
         for call in (lambda: both | 1, lambda: 1 in both, lambda: Attribute("bold"), lambda: both < 1):
             self.assertRaises(TypeError, call)
         for word, attribute in zip(WORDS, ATTRIBUTES):
@@ -290,7 +292,6 @@ class Values(unittest.TestCase):
                                  (at < place, at <= place, at == place, at >= place, at > place, at != place))
         self.assertRaises(TypeError, lambda: names[0] < colors[0])
 
-
     def test_references(self):
         objects = [Name, Attribute, Color, Refused, ATTRIBUTES[0]]
         if sys.version_info < (3, 12):  # in later versions these are immortal
@@ -306,6 +307,109 @@ class Values(unittest.TestCase):
             self.assertRaises(Refused, interpolate, "~u", users={}.get)
         for one, count in zip(objects, before):
             self.assertLess(abs(sys.getrefcount(one) - count), 100, one)
+
+
+    @unittest.skipIf(sys.version_info < (3, 10), "types that cannot be changed are in Python 3.10")
+    def test_types_cannot_be_changed(self):
+        for kind in (Name, Attribute, Color, gcv.Entries):
+            for call in (lambda kind=kind: setattr(kind, "other", 1), lambda kind=kind: setattr(kind, "__eq__", None),
+                         lambda kind=kind: delattr(kind, "__repr__")):
+                self.assertRaises(TypeError, call)
+        self.assertRaises(TypeError, setattr, Attribute, "BOLD", 5)
+
+
+# what each interpreter, and each module that is imported again, has to do: its own exceptions, types and values
+AGAIN = """
+import sys
+from gix_config_value import Attribute, Color, Configuration, InvalidFile, Refused, boolean, interpolate, read
+for call in (lambda: boolean("maybe"), lambda: Color.parse("rde"), lambda: interpolate("~"),
+             lambda: Configuration([("f", 1, "a.b", "x")]).value("a.b", boolean)):
+    try:
+        call()
+    except Refused as refused:
+        assert type(refused) is Refused
+try:
+    read("/proc/self/cmdline")
+except InvalidFile as invalid:
+    assert invalid.code in ("bad_line", "nul")
+color = Color.parse("bold red")
+assert (repr(color), color.attributes, type(color)) == ("Color(Name('red'), None, Attribute.BOLD)", Attribute.BOLD, Color)
+"""
+
+
+class Interpreters(unittest.TestCase):
+    def test_imported_again(self):
+        code = f"""
+kept = []
+for _ in range(20):
+    exec({AGAIN!r})
+    kept.append(color)
+    for name in [name for name in sys.modules if name.startswith("gix_config_value")]:
+        del sys.modules[name]
+    del Attribute, Color, Configuration, InvalidFile, Refused, boolean, interpolate, read
+assert kept[0] != kept[-1] and str(kept[0]) == str(kept[-1]) == "red bold" and kept[0].attributes != kept[1].attributes
+import gc
+gc.collect()
+assert {{str(one.foreground) for one in kept}} == {{"red"}}
+kept.clear()
+del color
+gc.collect()
+assert not [one for one in gc.get_objects() if type(one) is type and one.__module__ == "gix_config_value"]
+"""
+        done = run("-c", code)
+        self.assertEqual((done.returncode, done.stderr), (0, b""))
+
+    def test_interpreters(self):
+        # the modules that Python's own tests use; one kind of interpreters has a lock of its own since 3.12
+        code = f"""
+import sys
+try:
+    import _interpreters as them
+except ImportError:
+    import _xxsubinterpreters as them
+code = "import sys; sys.path[:] = " + repr(sys.path) + chr(10) + {AGAIN!r}
+exec(code)
+kinds = [{{}}] if sys.version_info < (3, 12) else [{{"isolated": True}}, {{"isolated": False}}]
+if sys.version_info >= (3, 13):
+    kinds = [{{"config": "isolated"}}, {{"config": "legacy"}}]
+for kind in kinds:
+    for _ in range(3):
+        made = them.create(*kind.values()) if "config" in kind else them.create(**kind)
+        failed = them.run_string(made, code)
+        assert failed is None, failed
+        them.destroy(made)
+exec(code)
+"""
+        done = subprocess.run([sys.executable, "-c", code], check=False, stdout=subprocess.PIPE, stderr=subprocess.PIPE)
+        self.assertEqual((done.returncode, done.stderr), (0, b""))
+
+    def test_other_threads_run(self):
+        # with this interval no thread has to let another one run: a call that reads many bytes does it by itself
+        self.addCleanup(sys.setswitchinterval, sys.getswitchinterval())
+        sys.setswitchinterval(100)
+        blanks, number, where, seen, done = " " * 9_000_000, f"0x{'0' * 9_000_000}1", [None], set(), threading.Event()
+
+        def look():
+            while not done.wait(0.0005):
+                seen.add(where[0])
+
+        thread = threading.Thread(target=look)
+        thread.start()
+        text = b"[a]\n" + b"k = v\n" * 500_000
+        calls = [lambda: Color.parse(blanks), lambda: gcv.normalize("color", blanks), lambda: boolean(number),
+                 lambda: gcv.same("integer", number, number), lambda: gcv._core.edit("add", "file", text, "a.k", "v")]
+        try:
+            for at, call in enumerate(calls):
+                for _ in range(100):
+                    where[0] = at
+                    call()
+                    where[0] = None
+                    if at in seen:
+                        break
+        finally:
+            done.set()
+            thread.join()
+        self.assertLessEqual({0, 1, 2, 3, 4}, seen)
 
 
 class Paths(unittest.TestCase):
@@ -345,15 +449,16 @@ class Package(unittest.TestCase):
         for kind in (Name, Attribute, Color):
             body = re.search(rf"(?ms)^class {kind.__name__}:$(.*?)^(?=\S)", stubs)[1]
             told = set(re.findall(r"^    (?:def )?(\w+)", body, re.MULTILINE))
-            here = {name for name in vars(kind) if not name.startswith("__")}
-            self.assertEqual({name for name in told if not name.startswith("__")}, here)
+            here = {name for name in vars(kind) if not name.startswith("_")}
+            self.assertEqual({name for name in told if not name.startswith("_")}, here)
             for name in told:
                 self.assertTrue(hasattr(kind, name), name)
 
     def test_import(self):
         code = "import sys, gix_config_value; print(*sorted({'ctypes', 'dataclasses', 'enum', 're', 'typing', 'pwd'}"
-        loaded = [run("-S", "-c", f"{code} & set(sys.modules)))").stdout, run("-S", "-c", "print()").stdout]
-        self.assertEqual(*loaded)
+        # without `site`, which may load some of them
+        done = run("-S", "-c", f"{code} & set(sys.modules)))", PYTHONPATH=str(pathlib.Path(gcv.__file__).parents[1]))
+        self.assertEqual((done.returncode, done.stdout), (0, b"\n"))
 
     def test_command(self):
         for text, wanted in (("0x10k", (0, b"16k\n")), ("x", (1, b""))):

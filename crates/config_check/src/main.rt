@@ -1,13 +1,20 @@
 //! Reports wrong values, unknown keys and invalid lines in Git configuration files.
 #![tactic(auto)]
 
+mod causes;
+mod hints;
+mod lines;
+mod source;
+
+use crate::lines::{Format, Lines, Style};
+use crate::source::Source;
 use bstr::BStr;
 use bumpalo::Bump;
 use clap::{Arg, ArgAction, ArgMatches, Command};
-use config_checks::check::{CheckError, Counts, check_file};
-use config_checks::finding::{push_include, push_shown};
+use config_checks::check::{CheckError, Counts, Receiver, check_file};
+use config_checks::finding::{Finding, push_shown};
 use config_checks::git::{NEWEST, SETTINGS};
-use config_checks::options::{Format, Options};
+use config_checks::options::Options;
 use config_checks::outcome::Outcome;
 use config_checks::reason::{Severity, outside};
 use config_checks::row::Row;
@@ -64,7 +71,7 @@ errors.";
 /// The command line of the program.
 fn command<'a>(alloc: Global) -> Result<Command<'a>, AllocError> {
     Command::new(alloc, "config_check")
-        .version("0.1.0")
+        .version("0.2.0")
         .about(
             "Reports what is wrong in Git configuration files: those named, or those that Git reads here",
         )
@@ -229,11 +236,51 @@ struct Checking<'c, 't> {
     rt: &'t HostRuntime,
     rows: &'c [Row<'c>],
     options: Options,
+    style: Style,
     disk: Disk<'t, HostRuntime>,
     surroundings: Surroundings<'t>,
     /// The real names of the files that are checked, or named and checked later.
     seen: BTreeSet<Vec<u8>>,
+    /// The files that are open: each is included by the one before.
+    open: Vec<Source<'t>>,
     outcome: Outcome,
+}
+
+/// The failure of a check.
+fn failed<T>(checked: Result<T, CheckError>) -> Result<T, Failure<'static>> {
+    match checked {
+        Ok(done) => Ok(done),
+        Err(CheckError::Write(error)) => Err(Failure::Write(error)),
+        Err(CheckError::Memory(error)) => Err(Failure::Memory(error)),
+    }
+}
+
+/// Writes a finding about what an entry of a file that is open includes.
+fn write_include<'f>(
+    rt: &HostRuntime,
+    style: Style,
+    source: &mut Source<'_>,
+    setting: &'f Setting<'f>,
+    severity: Severity,
+    reason: &'f str,
+) -> Result<(), Failure<'static>> {
+    let mut lines = Lines {
+        alloc: rt.alloc(),
+        style,
+        source,
+        writer: rt.stdout(),
+    };
+    failed(lines.receive(&Finding {
+        file: setting.file,
+        line: setting.line,
+        severity,
+        key: Some(&setting.key),
+        row: None,
+        value: setting.value.as_deref(),
+        reason: reason.as_bytes(),
+        fault: None,
+        suggestion: None,
+    }))
 }
 
 impl<'t> Checking<'_, 't> {
@@ -270,22 +317,45 @@ impl<'t> Checking<'_, 't> {
         }
     }
 
-    /// Checks the text of a file and adds its counts.
-    fn check(&mut self, name: &[u8], text: &[u8]) -> Result<(), Failure<'static>> {
-        let Ok(name) = str::from_utf8(name) else {
+    /// Checks the text of a file, which is open from now on, and adds its counts.
+    fn check(&mut self, name: &'t [u8], text: &'t [u8]) -> Result<(), Failure<'static>> {
+        let Ok(file) = str::from_utf8(name) else {
             return Ok(());
         };
         let alloc = self.rt.alloc();
-        let mut writer = match BufWriter::new(alloc, self.rt.stdout()) {
+        let writer = match BufWriter::new(alloc, self.rt.stdout()) {
             Ok(writer) => writer,
             Err(error) => return Err(Failure::Write(error)),
         };
-        match check_file(alloc, self.rows, &self.options, name, text, &mut writer) {
-            Ok(counts) => self.outcome.add(counts),
-            Err(CheckError::Write(error)) => return Err(Failure::Write(error)),
-            Err(CheckError::Memory(error)) => return Err(Failure::Memory(error)),
+        let mut source = Source::new(name, text);
+        let mut lines = Lines {
+            alloc,
+            style: self.style,
+            source: &mut source,
+            writer,
+        };
+        let checked = check_file(alloc, self.rows, &self.options, file, text, &mut lines);
+        if let Err(error) = lines.flush() {
+            return Err(Failure::Write(error));
         }
-        Ok(())
+        self.outcome.add(failed(checked)?);
+        match self.open.push(Source::new(name, text)) {
+            Ok(()) => Ok(()),
+            Err(_) => Err(Failure::Memory(AllocError)),
+        }
+    }
+
+    /// Closes the files that are open after the one of this name.
+    fn close_after(&mut self, name: &[u8]) {
+        for _ in 0..self.open.len() {
+            match self.open.last() {
+                Some(source) if source.name != name => {
+                    let count = self.open.len().saturating_sub(1);
+                    self.open.truncate(count);
+                }
+                _ => break,
+            }
+        }
     }
 
     /// Writes a finding about what an entry includes, and counts it.
@@ -301,10 +371,9 @@ impl<'t> Checking<'_, 't> {
         };
         let alloc = self.rt.alloc();
         let setting = Setting::of_entry(alloc, file, entry)?;
-        let mut line = Vec::new(alloc);
-        push_include(&mut line, &self.options, &setting, severity, reason)?;
-        if let Err(error) = self.rt.stdout().write_all(&line) {
-            return Err(Failure::Write(error));
+        self.close_after(place.name);
+        if let Some(source) = self.open.last_mut() {
+            write_include(self.rt, self.style, source, &setting, severity, reason)?;
         }
         self.outcome.add(Counts {
             findings: 1,
@@ -388,7 +457,8 @@ impl<'t> Checking<'_, 't> {
         let Some((place, text)) = self.read(name)? else {
             return Ok(());
         };
-        self.check(name, text)?;
+        self.open.clear();
+        self.check(place.name, text)?;
         let mut walk = Walk::new(place, text);
         for _ in 0..u64::MAX {
             match walk.next(self.rt.alloc(), &self.surroundings.known())? {
@@ -480,6 +550,15 @@ fn format_of(matches: &ArgMatches<'_>) -> Format {
     }
 }
 
+/// How findings are shown on this standard output.
+fn style_of(rt: &HostRuntime, matches: &ArgMatches<'_>) -> Result<Style, AllocError> {
+    Ok(Style {
+        format: format_of(matches),
+        color: wants_color(rt, matches)?,
+        excerpts: rt.stdout().is_terminal(),
+    })
+}
+
 /// Checks the files by these rows, and keeps their texts in `texts`.
 fn check_in<'t>(
     rt: &'t HostRuntime,
@@ -492,9 +571,11 @@ fn check_in<'t>(
         rt,
         rows,
         options,
+        style: style_of(rt, matches)?,
         disk: Disk::new(rt, texts),
         surroundings: Surroundings::new(rt, Followed::Everything)?,
         seen: BTreeSet::new(rt.alloc()),
+        open: Vec::new(rt.alloc()),
         outcome: Outcome::default(),
     };
     check_all(&mut checking, matches.get_strs("file"), fails_on(matches))
@@ -521,8 +602,6 @@ fn run_in<'m, 't>(
     let options = Options {
         git,
         canonical: matches.get_flag("canonical"),
-        format: format_of(matches),
-        color: wants_color(rt, matches)?,
     };
     check_in(rt, texts, &rows, options, matches)
 }

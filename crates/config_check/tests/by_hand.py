@@ -1,13 +1,18 @@
 """Compares single entries, keys, rows and arguments with the tables of rows.py."""
 import itertools
+import pathlib
 import re
 
 import made
+import plain_reader
 import rows
-from checking import CANNOT, Ended, arguments, ended, expect_json, summary, with_errors_cut
-from plain_reader import finding, key_of, shown
+from checking import CANNOT, Ended, arguments, ended, expect_json, summary, with_errors_cut, without_cause
+from plain_reader import cut, finding, key_of, named, shown
 
 ROWS = 10_000
+# the built-in rows
+TABLE = pathlib.Path(__file__).resolve().parents[2] / "config_checks/src/git.rt"
+BUILT_IN = plain_reader.rows_of(re.sub(rb"\\\n *", b"", TABLE.read_bytes().split(b'"\\\n', 1)[1].split(b'";')[0]))
 WRONG_USE = re.compile(rb"[Uu]sage|error")
 
 
@@ -22,8 +27,9 @@ def expect_entries(group, program, how, entries):
     All entries are in one file, a line each; if that fails, each entry is tested on its own.
     """
     data = b"".join(entry for entry, _, _, _ in entries)
-    output = b"".join(finding(number, key, value, reason)
-                      for number, (_, key, value, reason) in enumerate(entries, 1) if reason is not None)
+    places = [place for place, _, _ in plain_reader.entries(data)[0]]
+    output = b"".join(finding(place, (key, b""), None if value is None else value if isinstance(value, tuple) else (value, b""), reason)
+                      for place, (_, key, value, reason) in zip(places, entries) if reason is not None)
     count = len(entries)
     wanted = ended(output, (count, count, 0, output.count(b"\n")))
     came = program.run(how, data)
@@ -37,9 +43,22 @@ def expect_entries(group, program, how, entries):
         group.expect((how, data), wanted, came)
 
 
+HINTS = [(rows.BOOLEAN_FAULT, plain_reader.boolean_hint), (rows.INTEGER_FAULT, plain_reader.number_hint),
+         (rows.COLOR_FAULT, plain_reader.color_hint), (b"error: not a boolean, nor one of: ", plain_reader.boolean_hint),
+         (b"error: not an integer, nor one of: ", plain_reader.number_hint)]
+
+
+def hint(reason, value):
+    """What the plain reader suggests for a value that is refused for a reason of the tables."""
+    return next((of(value) for front, of in HINTS if value is not None and reason.removeprefix(b"warning: ").removeprefix(b"error: ")
+                 .startswith(front.removeprefix(b"error: "))), b"")
+
+
 def expect_values(group, program, how, key, values, reason):
     """Expects values that are shown as they are, and that all have this reason."""
-    expect_entries(group, program, how, [(made.line_of(key, value), key, value, reason) for value in values])
+    expect_entries(group, program, how, [
+        (made.line_of(key, value), key, None if value is None else cut(value), reason and reason + hint(reason, value))
+        for value in values])
 
 
 def values(group, program):
@@ -57,7 +76,7 @@ def values(group, program):
     for key, spellings in rows.SPELLINGS:
         expect_values(group, program, how, key, spellings, None)
         expect_entries(group, program, canonical, [
-            (made.line_of(key, value), key, value, b"note: should be " + text) for value, text in spellings.items()])
+            (made.line_of(key, value), key, cut(value), b"note: should be " + text) for value, text in spellings.items()])
     for key, accepted in rows.CANONICAL:
         expect_values(group, program, canonical, key, accepted, None)
 
@@ -69,7 +88,7 @@ def escapes(group, program):
     expect_entries(group, program, how, [
         (made.line_of(key, value), key, shown, rows.NO_WORD) for value, shown in rows.SHOWN])
     expect_entries(group, program, how, [
-        (made.line_of(key, value), key, shown, reason) for key, value, shown, reason in rows.SHOWN_OF_KINDS])
+        (made.line_of(key, value), key, shown, reason + hint(reason, value)) for key, value, shown, reason in rows.SHOWN_OF_KINDS])
     expect_entries(group, program, how, [
         (made.line_of(key, value), key, value, None) for key, value in rows.UNSHOWN_ACCEPTED])
 
@@ -78,8 +97,9 @@ def expect_unknown(group, program, how, keys):
     """Expects keys that are reported as unknown, each with the key that is suggested, or None."""
     for key, meant in keys:
         entry = made.line_of(key, b"x")
-        hint = b"" if meant is None else b"; did you mean %s?" % meant
-        output = b"-:1: warning: %s: unknown key%s\n" % (shown(listed(key)), hint)
+        asked = b"" if meant is None else b"; did you mean %s?" % meant
+        place = plain_reader.entries(entry)[0][0][0]
+        output = finding(place, cut(listed(key)), None, b"warning: unknown key" + asked)
         group.expect(entry, ended(output, (1, 0, 1, 1)), program.run(how, entry))
 
 
@@ -87,25 +107,26 @@ def keys(group, program):
     """Which row covers a key, if one does; the value is not an integer."""
     how = arguments(program.settings(rows.SETTINGS))
     expect_entries(group, program, how, [
-        (made.line_of(key, b"x"), shown or listed(key), b"x", rows.INTEGER_FAULT) for key, shown in rows.KNOWN_KEYS])
+        (made.line_of(key, b"x"), shown or named(made.ROWS, listed(key)), b"x", rows.INTEGER_FAULT) for key, shown in rows.KNOWN_KEYS])
     expect_unknown(group, program, how, rows.MISSPELLED_KEYS + [(key, None) for key in rows.OWN_KEYS])
     expect_unknown(group, program, ["-"], rows.MISSPELLED_BUILT_IN)
     for key in rows.UNKNOWN_KEYS + rows.UNKNOWN_BUILT_IN:
         entry = made.line_of(key, b"x")
         group.expect(entry, ended(b"", (1, 0, 1, 0)), program.run(how, entry))
     expect_entries(group, program, how, [
-        (made.line_of(key, value), listed(key), value, reason) for key, value, reason in rows.FIRST_ROWS])
+        (made.line_of(key, value), named(made.ROWS, listed(key)), value, reason and reason + hint(reason, value))
+        for key, value, reason in rows.FIRST_ROWS])
 
 
 def files(group, program):
     """Whole files, including files that Git cannot read."""
     how = arguments(program.settings(rows.SETTINGS))
     for data, output, counts in rows.FILES:
-        group.expect(data, ended(output, counts), program.run(how, data))
+        group.expect(data, ended(output, counts), without_cause(program.run(how, data)))
     names = [program.settings(b"[test]\n\tint = x\n"), str(program.folder / "missing"), program.settings(b"test\n=")]
     first, missing, last = (name.encode() for name in names)
-    output = finding(2, b"test.int", b"x", rows.INTEGER_FAULT, first) + last + b":2: " + rows.BAD_LINE
-    came = program.run([*how[:-1], *names])
+    output = finding((2, 2), (b"test.int", b""), (b"x", b""), rows.INTEGER_FAULT, first) + last + b":2: " + rows.BAD_LINE
+    came = without_cause(program.run([*how[:-1], *names]))
     group.expect("a file that is missing", (2, output, True, summary((2, 1, 1, 2))),
                  (came.status, came.output, came.errors.startswith(b"config_check: " + missing + b": "),
                   b"".join(came.errors.splitlines(True)[1:])))
@@ -120,7 +141,8 @@ def as_json(group, program):
     data, output = rows.JSON_LINE
     group.expect(data, ended(output, (1, 1, 0, 1)), program.run(["--format", "json", *how], data))
     for data, members in rows.JSON:
-        objects = [dict(zip(("line", "severity", "key", "value", "reason", "suggestion"), one), file="-") for one in members]
+        members = [dict(zip(("line", "severity", "key", "value", "reason", "suggestion"), one)) for one in members]
+        objects = [{"file": "-", "column": 1, **one} for one in members]
         expect_json(group, program, how, data, objects)
 
 
@@ -142,14 +164,16 @@ def built_in(group, program):
     """Built-in rows, and other rows that come before them."""
     for key, value, reason in rows.BUILT_IN:
         entry = made.line_of(key, value)
-        wanted = b"" if reason is None else finding(1, listed(key), value, reason)[:-1]
+        wanted = b"" if reason is None else finding(
+            plain_reader.entries(entry)[0][0][0], cut(named(BUILT_IN, listed(key))), None if value is None else cut(value), reason)[:-1]
         came = program.run(["-"], entry)
         is_line = came.output.count(b"\n") == 1
         group.expect(entry, ended(wanted, (1, 1, 0, 1 if wanted else 0)),
                      came._replace(output=came.output[:len(wanted)]) if is_line else came)
     how = arguments(program.settings(rows.OWN_SETTINGS))
     expect_entries(group, program, how, [
-        (made.line_of(key, value), listed(key), value, reason) for key, value, reason in rows.OWN_ROWS])
+        (made.line_of(key, value), named(BUILT_IN, listed(key)), value, reason and reason + hint(reason, value))
+        for key, value, reason in rows.OWN_ROWS])
 
 
 def settings_files(group, program):
@@ -180,7 +204,7 @@ def wrong_and_other_arguments(group, program):
         told = f"config_check: not a version of Git, as 2.39 is: {text}\n".encode()
         group.expect(["--git", text], Ended(2, b"", told), program.run(["--git", text, "-"], b"[a]b\n"))
     for text, severity in rows.VERSIONS.items():
-        output = b"" if severity is None else finding(1, b"pull.autostash", b"true", severity + b": Git reads it only since 2.51")
+        output = b"" if severity is None else finding((1, 8), (b"pull.autoStash", b""), (b"true", b""), severity + b": Git reads it only since 2.51")
         group.expect(["--git", text], ended(output, (1, 1, 0, int(bool(output)))),
                      program.run(["--git", text, "-"], b"[pull] autoStash = true\n"))
     for more in rows.ILL_FORMED_ARGUMENTS:

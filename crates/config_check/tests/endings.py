@@ -14,7 +14,7 @@ FINDING = b"[test] bool = maybe\n"
 MANY = 200_000
 # a file that is larger than the address space of a process, and that address space, in bytes
 LONG, ADDRESSES = 20_000_000, 16_000_000
-# the length of a value that fits into it, and whose line does not, since each byte is shown as four
+# the length of a value that fits into it, and whose JSON does not, since each byte is shown as six
 SHOWN = 3_000_000
 RED, PLAIN = b"\x1b[31m", b"\x1b[m"
 
@@ -35,7 +35,7 @@ def closed_pipe(group, program, how):
         group.expect("a pipe that nothing reads", Ended(2, None, b""), came)
     shell = ["sh", "-c", '{ "$@"; echo "status $?" >&2; } | head -c 10', "sh", program.path, *how]
     came = run(shell, FINDING * MANY)
-    group.expect("a pipe that is closed early", Ended(0, b"-:1: error", b"status 2\n"), came)
+    group.expect("a pipe that is closed early", Ended(0, b"-:1:8: err", b"status 2\n"), came)
 
 
 def full_device(group, program, how):
@@ -79,9 +79,9 @@ def memory(group, program, how):
         came = program.run(how, stdin=entries, preexec_fn=starve)
     group.expect("no memory", Ended(2, b"", b"config_check: no memory\n"), came)
     came = program.run(how, FINDING, preexec_fn=starve)
-    line = finding(1, b"test.bool", b"maybe", rows.BOOLEAN_FAULT)
+    line = finding((1, 8), (b"test.bool", b""), (b"maybe", b""), rows.BOOLEAN_FAULT)
     group.expect("memory enough", Ended(1, line, summary((1, 1, 0, 1))), came)
-    came = program.run(how, b'[test] bool = "' + b"\1" * SHOWN + b'"\n', preexec_fn=starve)
+    came = program.run(["--format", "json", *how], b'[test] bool = "' + b"\1" * SHOWN + b'"\n', preexec_fn=starve)
     group.expect("no memory for a line", Ended(2, b"", b"config_check: no memory\n"), came)
 
 
@@ -110,23 +110,33 @@ def on_terminal(program, how, data, environment):
 
 def terminal(group, program, how):
     """The severity has its color on a terminal that TERM names, and not as dumb, unless NO_COLOR has a value, and
-    nowhere else, unless --color says so."""
+    nowhere else, unless --color says so. On any terminal the line of the file follows."""
     environment = dict(os.environ, TERM="xterm")
     environment.pop("NO_COLOR", None)
     data = FINDING + b'[test] bool = "\x1b[31m"\nx\0'
-    lines = [finding(1, b"test.bool", b"maybe", rows.BOOLEAN_FAULT),
-             finding(2, b"test.bool", b"\\x1b[31m", rows.BOOLEAN_FAULT), b"-:3: " + rows.NUL]
+    lines = [finding((1, 8), (b"test.bool", b""), (b"maybe", b""), rows.BOOLEAN_FAULT),
+             finding((2, 8), (b"test.bool", b""), (b"\\x1b[31m", b""), rows.BOOLEAN_FAULT), b"-:3:2: " + rows.NUL]
+    excerpts = [(b"[test] bool = maybe", 14, 5), (b'[test] bool = "?[31m"', 15, 5), (b"x?", 1, 1)]
     plain = Ended(1, b"".join(lines), summary((2, 2, 0, 3)))
     red = plain._replace(output=plain.output.replace(b" error: ", b" " + RED + b"error: " + PLAIN))
-    for more, wanted in (({}, red), ({"NO_COLOR": ""}, red), ({"NO_COLOR": "0"}, plain), ({"TERM": "dumb"}, plain)):
+
+    def shown(color):
+        """The lines, each with the line of the file, and marks under what is wrong."""
+        marked = [line + b"    " + text + b"\n" + b" " * (4 + before) + (RED if color else b"") + b"^" * count
+                  + (PLAIN if color else b"") + b"\n" for line, (text, before, count) in
+                  zip((red if color else plain).output.splitlines(True), excerpts)]
+        return plain._replace(output=b"".join(marked))
+
+    for more, wanted in (({}, shown(True)), ({"NO_COLOR": ""}, shown(True)), ({"NO_COLOR": "0"}, shown(False)),
+                         ({"TERM": "dumb"}, shown(False))):
         group.expect(("a terminal", more), wanted, on_terminal(program, how, data, environment | more))
     nameless = {name: value for name, value in environment.items() if name != "TERM"}
-    group.expect("a terminal without TERM", plain, on_terminal(program, how, data, nameless))
+    group.expect("a terminal without TERM", shown(False), on_terminal(program, how, data, nameless))
     came = on_terminal(program, ["--format", "json", *how], data, environment)
     group.expect("JSON on a terminal", (1, 3, False), (came.status, came.output.count(b"\n"), b"\x1b" in came.output))
     group.expect("a pipe", plain, program.run(how, data, env=environment))
     group.expect("--color=always", red, program.run(["--color=always", *how], data, env=environment | {"NO_COLOR": "1"}))
-    group.expect("--color=never", plain, on_terminal(program, ["--color=never", *how], data, environment))
+    group.expect("--color=never", shown(False), on_terminal(program, ["--color=never", *how], data, environment))
     came = program.run(["--color", "always", "-"], b"[core]\n\tbare = x\n\tbares = x\n[pull]\n\tautoStash\n", env=environment)
     shown = [line.split(b": ")[1:2] for line in came.output.splitlines()]
     group.expect("three colors", [[b"\x1b[31merror"], [b"\x1b[33mwarning"]], shown)

@@ -9,9 +9,10 @@ import sys
 import tempfile
 
 import made
+import plain_reader
 import rows
 from checking import arguments
-from plain_reader import finding, shown
+from plain_reader import cut, finding
 
 sys.path.append(str(pathlib.Path(__file__).resolve().parents[3] / "compare"))
 
@@ -81,9 +82,10 @@ def canonical_texts(program, how, key, values):
     """The canonical text of each value, according to the program's report; None if the value is wrong."""
     data = b"".join(made.line_of(key, value) for value in values)
     found = list(values)
+    places = [place for place, _, _ in plain_reader.entries(data)[0]]
     for line in program.run(how, data).output.splitlines(True):
         number = int(line.split(b":")[1])
-        front = finding(number, key, shown(values[number - 1]), SHOULD_BE)[:-1]
+        front = finding(places[number - 1], (key, b""), cut(values[number - 1]), SHOULD_BE)[:-1]
         found[number - 1] = line.removeprefix(front)[:-1] if line.startswith(front) else None
     return found
 

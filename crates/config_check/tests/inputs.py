@@ -6,7 +6,7 @@ import time
 import made
 import plain_reader
 import rows
-from checking import arguments, by_plain_reader, expect_json
+from checking import arguments, by_plain_reader, expect_json, without_cause
 
 ENTRIES_OF_A_FILE = 1000
 TINY_FILES = 300
@@ -21,7 +21,7 @@ SHORT = (b"\xef\xbb\xbfint\n[test]\r\n\tbool = maybe # yes\n\tint;\n int = 2g\n"
 def compare(group, program, how, data, **chosen):
     """Compares the program with the plain reader on one file."""
     wanted = by_plain_reader(made.ROWS, data, **chosen)
-    return group.expect((how[2:-1], data), wanted, program.run(how, data))
+    return group.expect((how[2:-1], data), wanted, without_cause(program.run(how, data)))
 
 
 def cut(group, program):
@@ -38,7 +38,7 @@ def large(group, program, draw, count):
     data = made.whole(draw, count)
     wanted = by_plain_reader(made.ROWS, data, canonical=True)
     before = time.monotonic()
-    came = program.run(how, data)
+    came = without_cause(program.run(how, data))
     seconds = time.monotonic() - before
     group.expect(f"{count} entries", wanted, came)
     took = f"{seconds:.1f} s for {count:,} entries"
@@ -78,7 +78,7 @@ def pieces(group, program, draw):
     for size, count in ((1, 20), (2, 20), (3, 20), (7, 100), (100, 1000)):
         data = made.many(draw, count)
         wanted = by_plain_reader(made.ROWS, data, canonical=True)
-        group.expect((size, data), wanted, run_in_pieces(program, how, data, size))
+        group.expect((size, data), wanted, without_cause(run_in_pieces(program, how, data, size)))
 
 
 def mutated(group, program, draw, count):

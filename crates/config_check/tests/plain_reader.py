@@ -135,7 +135,7 @@ def of_bool(_, text):
     if found is not None and product(*found) in BITS_64:
         in_range(found, *bounds([]))
     if boolean(text) is None:
-        raise Refused(BOOLEAN_FAULT)
+        raise Refused(BOOLEAN_FAULT + boolean_hint(text))
     return bool_shown(boolean(text))
 
 
@@ -158,7 +158,7 @@ def bounds(words):
 def of_int(words, text):
     found = integer(text)
     if found is None:
-        raise Refused(INTEGER_FAULT)
+        raise Refused(INTEGER_FAULT + number_hint(text))
     if product(*found) not in BITS_64:
         raise Refused(OVERFLOW_FAULT)
     return in_range(found, *bounds(words))
@@ -178,8 +178,61 @@ def of_bool_or_int(words, text):
 
 def of_color(_, text):
     if color(text) is None:
-        raise Refused(COLOR_FAULT)
+        raise Refused(COLOR_FAULT + color_hint(text))
     return color(text)
+
+
+# what to write in place of a value that is refused
+
+BLANKS = b" \t\n\r\f"
+NEAR_BOOLEANS = [b"true", b"false", b"yes", b"off"]
+FOR_TRUE, FOR_FALSE = [b"enable", b"enabled", b"y", b"t"], [b"disable", b"disabled", b"n", b"f"]
+COLORS_MEANT = [b"normal", b"default", *COLORS, *(b"bright" + color for color in COLORS),
+                b"bold", b"dim", b"italic", b"ul", b"blink", b"reverse", b"strike", b"reset",
+                b"nobold", b"nodim", b"noitalic", b"noul", b"noblink", b"noreverse", b"nostrike"]
+
+
+def asked(meant):
+    return b"; did you mean %s?" % shown(meant)
+
+
+def nearest_text(words, text):
+    """The first of the words of three bytes or more that are nearest to a text, or None."""
+    found = nearest([few_edits(word, text) if len(word) > 2 else None for word in words])
+    return None if found is None else words[found]
+
+
+def boolean_hint(text):
+    text = text.strip(BLANKS)
+    if text.lower() in FOR_TRUE + FOR_FALSE:
+        return asked(b"true" if text.lower() in FOR_TRUE else b"false")
+    word = nearest_text(NEAR_BOOLEANS, text)
+    return b"" if word is None else asked(word)
+
+
+def number_hint(text):
+    """The number without blanks, `_` and `,`, and without the bytes of a unit: 500MB is 500m."""
+    plain = re.sub(rb"([kmg])i?b$", rb"\1", re.sub(rb"[ \t_,]", b"", text).lower())
+    found = integer(plain) if b"\n" not in plain else None
+    return b"" if plain == text or found is None or product(*found) not in BITS_64 else asked(plain)
+
+
+def color_hint(text):
+    """The word that is wrong, if there are several, and the color that is meant."""
+    words = re.split(rb"[ \t\n\r\f]", text)
+    wrong = next((word for word in words if color(word) is None), None)
+    if wrong is None:
+        return b""
+    named = b"" if wrong == text.strip(BLANKS) else b"; '%s' is none" % cut(wrong)[0]
+    parts = re.sub(rb"[-_,+/]", b" ", text).lower().strip(BLANKS)
+    if color(parts) is not None:
+        return named + asked(b" ".join(part for part in re.split(rb"[ \t\n\r\f]", parts) if part))
+    word = nearest_text(COLORS_MEANT, wrong)
+    if word is None:
+        return named
+    at = words.index(wrong)
+    whole = b" ".join(part for part in words[:at] + [word] + words[at + 1:] if part)
+    return named + asked(word if color(whole) is None else whole)
 
 
 # words of a row, which may end in `*`
@@ -240,6 +293,15 @@ def meant(words, text):
     return b"" if found is None else b"; did you mean %s?" % shown(words[found])
 
 
+# how many words of a list are shown
+MOST_WORDS = 10
+
+
+def hint(form, text):
+    """The boolean or number that is suggested if no word is near and the form takes one."""
+    return {b"bool-or-word": boolean_hint, b"int-or-word": number_hint}.get(form, lambda _: b"")(text)
+
+
 def of_words(kind, words, text):
     """The canonical text; a word that differs only in case is spelled as in the row."""
     form, any_case = kind.removesuffix(ANY_CASE), kind.endswith(ANY_CASE)
@@ -248,7 +310,8 @@ def of_words(kind, words, text):
         return word if word.lower() == text.lower() else text
     spelling = spelled_by_form(form, words, text, any_case)
     if spelling is None:
-        raise Refused(FORMS[form] + b", ".join(map(shown, words)) + meant(words, text))
+        more = b" and %d more" % (len(words) - MOST_WORDS) if len(words) > MOST_WORDS else b""
+        raise Refused(FORMS[form] + b", ".join(map(shown, words[:MOST_WORDS])) + more + (meant(words, text) or hint(form, text)))
     return spelling
 
 
@@ -437,12 +500,24 @@ def filled(pattern, key):
     return b".".join(parts)
 
 
+# sections whose names are those of commands or helpers
+TOPICS = [b"advice", b"color", b"credential", b"pager"]
+
+
+def is_moved(pattern, key):
+    """Whether the key of a row has the last part of a key in another section, and neither has a middle."""
+    return (pattern.middle is None and key.middle is None and pattern.last == key.last and pattern.first != key.first
+            and pattern.first not in TOPICS)
+
+
 def unknown(rows, text):
     """The severity and the reason of a key that no row covers; None if it is not reported."""
     key = key_of(text)
     if key is None:
         return None
     found = nearest([apart(row.key, key) for row in rows])
+    if found is None and any(row.key.first == key.first for row in rows):
+        found = next((at for at, row in enumerate(rows) if is_moved(row.key, key)), None)
     if found is not None:
         return b"warning: unknown key; did you mean %s?" % shown(filled(rows[found].text, key))
     is_own = key.middle is None and key.first not in SHARED and any(row.key.first == key.first for row in rows)
@@ -464,6 +539,20 @@ def character_shown(match):
 def shown(text):
     """A text as it is shown in a finding."""
     return UNSHOWN.sub(character_shown, text.decode(errors="surrogateescape")).encode()
+
+
+# a key or a value of more bytes is cut
+MOST_BYTES = 80
+
+
+def cut(text):
+    """How a text is shown, and its length if it is cut, before a character."""
+    if len(text) <= MOST_BYTES:
+        return shown(text), b""
+    end = MOST_BYTES
+    for _ in range(3):
+        end -= 0x80 <= text[end] < 0xC0
+    return shown(text[:end]) + b"..", b" (%d bytes)" % len(text)
 
 
 NAME, BLANK = re.compile(rb"[A-Za-z0-9.-]*"), re.compile(rb"[ \t\r]*")
@@ -538,8 +627,13 @@ def line_of(data, at):
     return data.count(b"\n", 0, at) + 1 + (at > len(data))
 
 
+def place_of(data, at):
+    """The line and the column of a byte, both from 1."""
+    return line_of(data, at), at - data.rfind(b"\n", 0, at)
+
+
 def entries(data):
-    """The line, key and value of each entry, and the line at which Git stops and why, or None if it does not stop."""
+    """The place, key and value of each entry, and the line at which Git stops and why, or None if it does not stop."""
     found, front, at = [], b"", 3 if data.startswith(b"\xef\xbb\xbf") else 0
     try:
         while at < len(data):
@@ -555,11 +649,12 @@ def entries(data):
                 # an incomplete mark does not begin an item
                 raise Stopped(at, mark is not None and END.match(data, mark.end()) is not None)
             elif data[key.end():key.end() + 1] == b"=":
+                place = place_of(data, at)
                 value, at = value_at(data, key.end() + 1)
-                found.append((line_of(data, at), front + key[1].lower(), value))
+                found.append((place, front + key[1].lower(), value))
             elif END.match(data, key.end()):
+                found.append((place_of(data, at), front + key[1].lower(), None))
                 at = key.end()
-                found.append((line_of(data, at), front + key[1].lower(), None))
             else:
                 raise Stopped(key.end(), False)
     except Stopped as stopped:
@@ -568,36 +663,42 @@ def entries(data):
     return found, None
 
 
-def finding(line, key, value, why, name=b"-"):
-    """The line of a finding, whose key and value are given as they are shown."""
-    severity, _, text = why.partition(b": ")
-    quoted = b"" if value is None else b"'%s': " % value
-    return b"%s:%d: %s: %s: %s%s\n" % (name, line, severity, key, quoted, text)
+def named(rows, key):
+    """A key as its row writes it, or as it is if no row covers it."""
+    row = row_for(rows, key)
+    return key if row is None else filled(row.text, key_of(key))
+
+
+def finding(place, key, value, why, name=b"-"):
+    """The line of a finding, whose key and value are given as they are shown, each with what follows it."""
+    (line, column), (severity, _, text) = place, why.partition(b": ")
+    said = b"" if value is None else b"'%s'%s: " % value
+    return b"%s:%d:%d: %s: %s%s: %s%s\n" % (name, line, column, severity, *key, said, text)
 
 
 def told(rows, data, canonical=False):
-    """The line, the key, the value and the reason of each finding, and the counts: entries, judged ones, unknown keys
-    and findings. The line that Git cannot read has no key."""
+    """The place, the key, the value and the reason of each finding, and the counts: entries, judged ones, unknown keys
+    and findings. The line that Git cannot read has no key, and no column."""
     found, stopped = entries(data)
     judged, lines = 0, []
     said = functools.cache(lambda key: unknown(rows, key))
-    for line, key, value in found:
+    for place, key, value in found:
         row = row_for(rows, key)
         judged += row is not None
         why = said(key) if row is None else reason(row, value, canonical)
         if why is not None:
-            lines.append((line, key, None if row is None else value, why))
+            lines.append((place, key, None if row is None else value, why))
     if stopped is not None:
-        lines.append((stopped[0], None, None, b"error: " + stopped[1]))
+        lines.append(((stopped[0], None), None, None, b"error: " + stopped[1]))
     return lines, (len(found), judged, len(found) - judged, len(lines))
 
 
 def findings(rows, data, canonical=False):
-    """The output for standard input, and the counts."""
+    """The output for standard input, without the column and the cause of a line that Git cannot read, and the counts."""
     lines, counts = told(rows, data, canonical)
-    return b"".join(b"-:%d: %s\n" % (line, why) if key is None
-                    else finding(line, shown(key), None if value is None else shown(value), why)
-                    for line, key, value, why in lines), counts
+    return b"".join(b"-:%d: %s\n" % (place[0], why) if key is None
+                    else finding(place, cut(named(rows, key)), None if value is None else cut(value), why)
+                    for place, key, value, why in lines), counts
 
 
 # JSON
@@ -612,9 +713,9 @@ def suggestion(why):
     return match and SHOWN.sub(lambda one: bytes.fromhex(one[1].decode()) if one[1] else b"\\", match[1] or match[2] or b"")
 
 
-def as_json(line, key, value, why):
-    """The JSON members of a finding in standard input."""
+def as_json(place, key, value, why):
+    """The JSON members of a finding in standard input; the line that Git cannot read has no column."""
     severity, _, text = why.partition(b": ")
     members = {"key": key, "reason": text, "severity": severity, "suggestion": suggestion(why), "value": value}
     texts = {name: None if member is None else member.decode(errors="replace") for name, member in members.items()}
-    return {"file": "-", "line": line} | texts
+    return {"file": "-", "line": place[0], "column": place[1]} | texts

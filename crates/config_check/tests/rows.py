@@ -362,9 +362,10 @@ MISSPELLED_KEYS = [
     (b"test.x.int", b"test.int"), (b"test..int", b"test.int"), (b"middle.LAST", b"middle.NAME.last"),
     (b"middle.other", b"middle.Exact.Other"), (b"empty.middle", b"empty..middle"),
     (b"test.int-or-words-first", b"test.int-or-word"), (b"any-lasted.x", b"any-last.x"), (b"ay-lastt.x", b"any-last.x"),
+    (b"test.needs", b"mark.needs"), (b"mark.text", b"test.text"), (b"test.both", b"mark.both"),
 ]
 # keys in sections in which only the rows have settings
-OWN_KEYS = [b"test.wrong", b"test.tni", b"any-both.y", b"literal.last-one", b"test.key", b"test.sort"]
+OWN_KEYS = [b"test.wrong", b"test.tni", b"any-both.y", b"literal.last-one", b"test.key", b"test.nothing"]
 UNKNOWN_KEYS = [
     b".test.int", b"..int", b"te.int", b"middle.Exact.x", b"middle.two.other",
     b"empty.xx.middle", b"any-last.x.y", b"any-last..x", b"any-last.sub.x.y", b"literal.abcd.last", b"xx.star",
@@ -390,7 +391,9 @@ MISSPELLED_BUILT_IN = [
     (b"push.autoSetup", b"push.autoSetupRemote"), (b"core.exclude", b"core.excludesFile"), (b"push.default-mode", b"push.default"),
     (b"remote.url", b"remote.NAME.url"), (b"branch.merge", b"branch.NAME.merge"), (b"user.work.email", b"user.email"),
     (b"core.x.bare", b"core.bare"), (b"url.insteadof", b"url.NAME.insteadOf"), (b"filter.clean", b"filter.NAME.clean"),
-    (b"maintainance.auto", b"maintenance.auto"), (b"diff.renam", b"diff.renames"), (b"core.longpath", b"core.longpaths"),
+    (b"rebase.conflictstyle", b"merge.conflictStyle"), (b"pull.default", b"push.default"), (b"push.rebase", b"pull.rebase"),
+    (b"commit.signoff", b"format.signOff"), (b"core.defaultbranch", b"init.defaultBranch"), (b"user.editor", b"core.editor"),
+    (b"core.email", b"user.email"), (b"maintainance.auto", b"maintenance.auto"), (b"diff.renam", b"diff.renames"), (b"core.longpath", b"core.longpaths"),
 ]
 
 # built-in rows: key, value, and a prefix of the line's severity and reason
@@ -449,17 +452,17 @@ GOOD_ROWS = [b"", b"\n", b"\n\n", b"#\n", b"# nodot bool", b"#nodot bool\n\n", b
 # files, the output for them, and the numbers of entries, judged entries, unknown keys and findings
 FILES = [
     (b"", b"", (0, 0, 0, 0)), (b"# [test] int\n;", b"", (0, 0, 0, 0)), (b"int\n", b"", (1, 0, 1, 0)),
-    (b"\xef\xbb\xbf[test]int", b"-:1: error: test.int: no value\n", (1, 1, 0, 1)),
-    (b"[TEST]\r\n\tINT = 1\\\r\n0x # no\n", b"-:3: error: test.int: '10x': " + INTEGER_FAULT[7:] + b"\n", (1, 1, 0, 1)),
-    (b"[test]\nint\n[test\nint\n", b"-:2: error: test.int: no value\n-:3: " + BAD_LINE, (1, 1, 0, 2)),
+    (b"\xef\xbb\xbf[test]int", b"-:1:10: error: test.int: no value\n", (1, 1, 0, 1)),
+    (b"[TEST]\r\n\tINT = 1\\\r\n0x # no\n", b"-:2:2: error: test.int: '10x': " + INTEGER_FAULT[7:] + b"\n", (1, 1, 0, 1)),
+    (b"[test]\nint\n[test\nint\n", b"-:2:1: error: test.int: no value\n-:3: " + BAD_LINE, (1, 1, 0, 2)),
     (b'[test]\n\tint = "1\n', b"-:2: " + BAD_LINE, (0, 0, 0, 1)), (b"\n=", b"-:2: " + BAD_LINE, (0, 0, 0, 1)),
     (b"[test]\nint = 1\\2\n", b"-:2: " + BAD_LINE, (0, 0, 0, 1)), (b"#\0\n[x]y\0", b"-:2: " + NUL, (0, 0, 0, 1)),
-    (b"[test]\nint\nint = 1\0\n", b"-:2: error: test.int: no value\n-:3: " + NUL, (1, 1, 0, 2)),
+    (b"[test]\nint\nint = 1\0\n", b"-:2:1: error: test.int: no value\n-:3: " + NUL, (1, 1, 0, 2)),
 ]
 
 # a file, and the line of JSON for it
 JSON_LINE = (b'[test]\nint = "\\"\\\\\\n\x1b\xff\xc3\xa9"\n',
-             b'{"file":"-","key":"test.int","line":2,"reason":"Integers needs to be positive or negative numbers which may'
+             b'{"column":1,"file":"-","key":"test.int","line":2,"reason":"Integers needs to be positive or negative numbers which may'
              b' have a suffix like 1k, 42, or 50G","severity":"error","suggestion":null,'
              b'"value":"\\"\\\\\\n\\u001b\xef\xbf\xbd\xc3\xa9"}\n')
 # files, and the line, severity, key, value, reason and suggestion of each finding

@@ -19,6 +19,7 @@ import git_types
 import here
 import inputs
 import page
+import planted
 from checking import Group, Program
 
 
@@ -30,6 +31,7 @@ def groups(program, seed, count, large):
     return [
         ("the pages of Git", page.check),
         ("rows, keys and arguments", lambda group: by_hand.check(group, program)),
+        ("planted mistakes", lambda group: planted.check(group, program)),
         ("files that are cut off", lambda group: inputs.cut(group, program)),
         ("files that arrive in pieces", lambda group: inputs.pieces(group, program, draw())),
         ("the files that Git reads here", lambda group: here.check(group, program)),

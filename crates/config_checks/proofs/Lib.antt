@@ -4,7 +4,6 @@ mod RunLemmas
 mod WordLemmas
 mod ShownLemmas
 mod SuggestionLemmas
-mod WriteLemmas
 mod ReadLemmas
 mod CheckLemmas
 mod TableLemmas

@@ -104,22 +104,25 @@ abbrev members_of : Data → Members
 members_of (object members) = members
 members_of _ = no_members
 
-pub finding_one_line : (f : Finding) → IsOneLine (compact_text (finding_json f))
-finding_one_line f = (
+pub finding_one_line : (column : ℕ) (f : Finding) → IsOneLine (compact_text (finding_json column f))
+finding_one_line column f = (
   (λ e. omega arith),
-  in_braces false (members_of (finding_json f)) (
-    in_quotes f.file,
+  in_braces false (members_of (finding_json column f)) (
+    in_digits column,
     (
-      text_or_none f.key,
+      in_quotes f.file,
       (
-        in_digits f.line,
+        text_or_none f.key,
         (
-          in_quotes (utf8_lossy f.reason),
+          in_digits f.line,
           (
-            in_quotes (severity_name f.severity),
+            in_quotes (utf8_lossy f.reason),
             (
-              text_or_none f.suggestion,
-              (text_or_none f.value, tt),
+              in_quotes (severity_name f.severity),
+              (
+                text_or_none f.suggestion,
+                (text_or_none f.value, tt),
+              ),
             ),
           ),
         ),

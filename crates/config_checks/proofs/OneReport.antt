@@ -9,7 +9,9 @@ use Rattle.config_file.specs.Header as header
 use Rattle.config_file.specs.Header.{Section, Header}
 use Rattle.config_file.specs.Value as value
 use Rattle.config_file.specs.Value.{Ending, outside, at_backslash, SpellsValue}
-use Rattle.config_file.specs.Key.{written}
+use Rattle.config_file.specs.Key.{Key, written}
+use Rattle.config_file.specs.KeyView.{key_of}
+use Rattle.config_text.specs.declared.errors.Fault as faults
 use Rattle.config_file.specs.Listing as listing
 use Rattle.config_file.specs.Listing.{IsListed}
 use Rattle.config_file.specs.File as file
@@ -23,13 +25,12 @@ use Rattle.config_checks.specs.declared.reason.Reason.TheVariants.{NotCanonical,
 use Rattle.config_checks.specs.declared.reason.Severity.{Severity}
 use Rattle.config_checks.specs.declared.reason.Severity.TheVariants.{Note, Warning}
 use Rattle.config_checks.specs.declared.check.Counts.{Counts}
-use Rattle.config_checks.specs.declared.check.CheckError.{CheckError}
 use Rattle.config_checks.specs.Rows.{Decides, IsUnknown}
 use Rattle.config_checks.specs.Settings.{IsSettingOf, IsValueOf, value_of}
 use Rattle.config_checks.specs.Suggestions.{IsPassed, IsUnknownKey, suggestion_text, unknown_text}
 use Rattle.config_checks.specs.Reasons.{HasFinding, IsSameFinding, severity_of}
-use Rattle.config_checks.specs.Findings.{reason_text, no_word_text}
-use Rattle.config_checks.specs.Report.{line_of, suggestion_of, key_meant, counted, finding_line}
+use Rattle.config_checks.specs.Findings.{Finding, reason_text, no_word_text}
+use Rattle.config_checks.specs.Report.{suggestion_of, fault_of, fault_of_list, key_meant, counted, reason_finding}
 use Rattle.config_checks.specs.Report.{ReportsSetting, unknown, misspelled, right, found}
 use Rattle.config_checks.specs.Report.{Report, nothing, next, EndsReport, HasSettings, IsReport, BeginsReport}
 use Rattle.config_checks.proofs.OneFinding.{finding_once}
@@ -119,12 +120,6 @@ begin_once name (e ∷ before) after (x ∷ first) (y ∷ all) clear p q =
     let (others, parts, are) = begin_once name before after first all clear.1 p.1 q.1 in
     (others, λ i. one i ∷ parts i, are)
 
-nothing_after : (name : List ℕ) (after : List Entry) (others : List Setting) → after ≡ []
-    → AllZip (IsSettingOf name) after others → others ≡ []
-nothing_after name [] [] is are = refl
-nothing_after name [] (x ∷ others) is are = absurd are
-nothing_after name (e ∷ after) others is are = absurd (cc)
-
 settings_once : (name text : List ℕ) (a b : List Setting) (e f : Option errors.Error) → HasSettings name text a e
     → HasSettings name text b f → (map facts a ≡ map facts b) × (e ≡ f)
 settings_once name text a b e f (entries, is, are) (entries', is', are') =
@@ -140,31 +135,35 @@ no_finding : (reason : Reason) → ¬ (IsSameFinding None (Some reason))
 no_finding reason same = absurd (cc)
 
 module _ (options : Options) where
-  -- the line of a setting with these facts
-  abbrev line_for : Facts → Severity → List ℕ → Option (List ℕ) → List ℕ
-  line_for f severity text suggestion = line_of options (record {
+  -- the finding about a setting with these facts
+  abbrev found_for : Facts → Option Key → Severity → List ℕ → Option faults.Fault → Option (List ℕ) → Finding
+  found_for f row severity text fault suggestion = record {
     file = f.0;
     line = f.1;
     severity = severity;
     key = Some f.2;
+    row = row;
     value = f.3;
     reason = text;
+    fault = fault;
     suggestion = suggestion;
-  })
+  }
 
-  -- the line of a setting with these facts, whose key is unknown
-  abbrev key_line : Facts → List ℕ → Option (List ℕ) → List ℕ
-  key_line f text meant = line_for (f.0, f.1, f.2, None) Warning text meant
+  -- the finding about a setting with these facts, whose key is unknown
+  abbrev found_key : Facts → List ℕ → Option (List ℕ) → Finding
+  found_key f text meant = found_for (f.0, f.1, f.2, None) None Warning text None meant
 
-  same_line : (f : Facts) (goes_on : Bool) (a b : Reason) → IsSameFinding (Some a) (Some b)
-      → line_for f (severity_of goes_on a) (reason_text a) (suggestion_of a)
-      ≡ line_for f (severity_of goes_on b) (reason_text b) (suggestion_of b)
-  same_line f goes_on (NotCanonical c) (NotCanonical d) same =
-      ap (λ l. line_for f Note (codes "should be " ++ l) (Some l)) same
-  same_line f goes_on (NoWord l v) (NoWord m w) same =
-      λ i. line_for f (severity_of goes_on (NoWord l v)) (no_word_text (same.0 i) (same.1 i)) (option_copied (same.1 i))
-  same_line f goes_on a b same =
-      let is : a ≡ b = cc in ap (λ r. line_for f (severity_of goes_on r) (reason_text r) (suggestion_of r)) is
+  same_found : (f : Facts) (row : Option Key) (goes_on : Bool) (a b : Reason) → IsSameFinding (Some a) (Some b)
+      → found_for f row (severity_of goes_on a) (reason_text a) (fault_of a) (suggestion_of a)
+      ≡ found_for f row (severity_of goes_on b) (reason_text b) (fault_of b) (suggestion_of b)
+  same_found f row goes_on (NotCanonical c) (NotCanonical d) same =
+      ap (λ l. found_for f row Note (codes "should be " ++ l) None (Some l)) same
+  same_found f row goes_on (NoWord l v) (NoWord m w) same =
+      λ i. found_for f row (severity_of goes_on (NoWord l v)) (no_word_text (same.0 i) (same.1 i))
+      (fault_of_list (same.0 i).form (same.1 i)) (option_copied (same.1 i))
+  same_found f row goes_on a b same =
+      let is : a ≡ b = cc in
+      ap (λ r. found_for f row (severity_of goes_on r) (reason_text r) (fault_of r) (suggestion_of r)) is
 
   same_severity : (goes_on : Bool) (a b : Reason) → IsSameFinding (Some a) (Some b)
       → severity_of goes_on a ≡ severity_of goes_on b
@@ -174,22 +173,22 @@ module _ (options : Options) where
 
   module _ (rows : List Row) where
     -- a setting with the same facts is reported in the same way
-    moved : (a b : Setting) (s s' : Counts) (line : List ℕ) → facts b ≡ facts a → ReportsSetting rows options b s line s'
-        → ReportsSetting rows options a s line s'
-    moved a b s s' line same (unknown u passed none is) =
+    moved : (a b : Setting) (s s' : Counts) (said : List Finding) → facts b ≡ facts a → ReportsSetting rows options b s said s'
+        → ReportsSetting rows options a s said s'
+    moved a b s s' said same (unknown u passed none is) =
         unknown (subst (IsUnknown rows) (ap (λ f. f.2) same) u) (subst (IsPassed rows) (ap (λ f. f.2) same) passed) none is
-    moved a b s s' line same (misspelled key is_key shown is) =
+    moved a b s s' said same (misspelled key is_key shown is) =
         misspelled key (subst (λ k. IsUnknownKey rows k key) (ap (λ f. f.2) same) is_key)
-        (shown ∙ ap (λ f. key_line f (unknown_text key) (key_meant key)) same) is
-    moved a b s s' line same (right row decides good none is) =
+        (shown ∙ ap (λ f. found_key f (unknown_text key) (key_meant key) ∷ []) same) is
+    moved a b s s' said same (right row decides good none is) =
         right row (subst (λ k. Decides rows k row) (ap (λ f. f.2) same) decides)
         (subst (λ v. HasFinding options.git options.canonical row v None) (ap (λ f. f.3) same) good) none is
-    moved a b s s' line same (found row reason decides bad shown is) =
+    moved a b s s' said same (found row reason decides bad shown is) =
         found row reason (subst (λ k. Decides rows k row) (ap (λ f. f.2) same) decides)
         (subst (λ v. HasFinding options.git options.canonical row v (Some reason)) (ap (λ f. f.3) same) bad)
-        (shown ∙ ap (λ f. line_for f (severity_of row.goes_on reason) (reason_text reason) (suggestion_of reason)) same) is
+        (shown ∙ ap (λ f. found_for f (Some (key_of row.key)) (severity_of row.goes_on reason) (reason_text reason) (fault_of reason) (suggestion_of reason) ∷ []) same) is
 
-    setting_once : (setting : Setting) (s : Counts) (line line' : List ℕ) (t t' : Counts)
+    setting_once : (setting : Setting) (s : Counts) (line line' : List Finding) (t t' : Counts)
         → ReportsSetting rows options setting s line t → ReportsSetting rows options setting s line' t'
         → (line ≡ line') × (t ≡ t')
     setting_once setting s line line' t t' (unknown u passed none is) (unknown u' passed' none' is') =
@@ -204,7 +203,7 @@ module _ (options : Options) where
         absurd (not_passed rows setting.key.items key is_key passed)
     setting_once setting s line line' t t' (misspelled key is_key shown is) (misspelled key' is_key' shown' is') =
         let nearest = nearest_same rows setting.key.items key key' is_key is_key' in
-        (shown ∙ ap (λ k. key_line (facts setting) (suggestion_text k) (option_map written k)) nearest ∙ sym shown', is ∙ sym is')
+        (shown ∙ ap (λ k. found_key (facts setting) (suggestion_text k) (option_map written k) ∷ []) nearest ∙ sym shown', is ∙ sym is')
     setting_once setting s line line' t t' (misspelled key is_key shown is) (right row decides good none' is') =
         absurd (known_once rows setting.key.items row decides is_key.unknown)
     setting_once setting s line line' t t' (misspelled key is_key shown is) (found row reason decides bad shown' is') =
@@ -232,8 +231,8 @@ module _ (options : Options) where
         let same = row_once rows setting.key.items row' row decides' decides in
         let finding = finding_once options.git row options.canonical (value_of setting) (Some reason) (Some reason') bad
         (subst (λ r. HasFinding options.git options.canonical r (value_of setting) (Some reason')) same bad') in
-        let text = same_line (facts setting) row.goes_on reason reason' finding in
-        let written = subst (λ r. line' ≡ finding_line options setting (severity_of r.goes_on reason') reason') same shown' in
+        let text = ap (λ f. f ∷ []) (same_found (facts setting) (Some (key_of row.key)) row.goes_on reason reason' finding) in
+        let written = subst (λ r. line' ≡ reason_finding setting r reason' ∷ []) same shown' in
         let counts = subst (λ r. t' ≡ counted (severity_of r.goes_on reason') (record s { entries = s.entries + 1 })) same is' in
         let severities = same_severity row.goes_on reason reason' finding in
         (shown ∙ text ∙ sym written, is ∙ ap (λ v. counted v (record s { entries = s.entries + 1 })) severities ∙ sym counts)
@@ -253,7 +252,7 @@ module _ (options : Options) where
     one_more (x ∷ es) (y ∷ fs) e f same =
         let rest = one_more es fs e f (cc) in (let more = rest.0 in cc, rest.1)
 
-    lines_once : {es fs : List Setting} {o p : List ℕ} {s t : Counts} → Report rows options es o s
+    lines_once : {es fs : List Setting} {o p : List Finding} {s t : Counts} → Report rows options es o s
         → Report rows options fs p t → map facts es ≡ map facts fs → (o ≡ p) × (s ≡ t)
     lines_once nothing nothing same = (refl, refl)
     lines_once nothing (next fs p t f line t' before adds) same =
@@ -268,19 +267,19 @@ module _ (options : Options) where
         (subst (λ c. ReportsSetting rows options f c line' t') (sym earlier.1) adds')) in
         (let first = earlier.0 in let second = last.0 in cc, last.1)
 
-    ends_once : (name : List ℕ) (error : Option errors.Error) (s t t' : Counts) (last last' : List ℕ)
-        → EndsReport options name error s last t → EndsReport options name error s last' t' → (last ≡ last') × (t ≡ t')
+    ends_once : (name : List ℕ) (error : Option errors.Error) (s t t' : Counts) (last last' : List Finding)
+        → EndsReport name error s last t → EndsReport name error s last' t' → (last ≡ last') × (t ≡ t')
     ends_once name None s t t' last last' p q = (p.0 ∙ sym q.0, p.1 ∙ sym q.1)
     ends_once name (Some error) s t t' last last' p q = (p.0 ∙ sym q.0, p.1 ∙ sym q.1)
 
-    pub report_once : (name text a b : List ℕ) (s t : Counts) → IsReport rows options name text a s
+    pub report_once : (name text : List ℕ) (a b : List Finding) (s t : Counts) → IsReport rows options name text a s
         → IsReport rows options name text b t → (a ≡ b) × (s ≡ t)
     report_once name text a b s t p q =
         let read = settings_once name text p.settings q.settings p.error q.error p.of_file q.of_file in
         let reports = lines_once p.report q.report read.0 in
         let ends = ends_once name p.error p.s s t p.last q.last p.ends
-        (subst (λ c. EndsReport options name p.error c q.last t) (sym reports.1)
-        (subst (λ e. EndsReport options name e q.s q.last t) (sym read.1) q.ends)) in
+        (subst (λ c. EndsReport name p.error c q.last t) (sym reports.1)
+        (subst (λ e. EndsReport name e q.s q.last t) (sym read.1) q.ends)) in
         (p.parts ∙ (λ i. reports.0 i ++ ends.0 i) ∙ sym q.parts, ends.1)
 
     no_front : (x y : List Facts) → [] ≡ x ++ y → x ≡ []
@@ -295,9 +294,9 @@ module _ (options : Options) where
     ]
 
     -- the lines of the first settings are a prefix of the lines of all settings
-    lines_begin : {first all : List Setting} {p o : List ℕ} {s t : Counts} → Report rows options first p s
+    lines_begin : {first all : List Setting} {p o : List Finding} {s t : Counts} → Report rows options first p s
         → Report rows options all o t → (others : List Facts) → map facts all ≡ map facts first ++ others
-        → (rest : List ℕ) × (o ≡ p ++ rest)
+        → (rest : List Finding) × (o ≡ p ++ rest)
     lines_begin {first = first} {p = p} report nothing others same =
         let none = lines_once nothing report (sym (no_front (map facts first) others same)) in
         ([], none.0 ∙ sym (append-nil p))
@@ -314,36 +313,14 @@ module _ (options : Options) where
           (rest ++ line, ap (λ l. l ++ line) parts ∙ append_assoc p rest line)
     ]
 
-    join : (a missing lines rest last whole : List ℕ) → lines ≡ a ++ missing → whole ≡ (lines ++ rest) ++ last
-        → (more : List ℕ) × (whole ≡ a ++ more)
-    join a missing lines rest last whole e f = (
-      missing ++ (rest ++ last),
-      f ∙ ap (λ l. (l ++ rest) ++ last) e ∙ append_assoc (a ++ missing) rest last
-          ∙ append_assoc a missing (rest ++ last),
-    )
-
-    -- what was written before an error is a prefix of the report
-    pub report_begins : (name text a b : List ℕ) (e : CheckError) (s : Counts) → BeginsReport rows options name text a e
-        → IsReport rows options name text b s → (more : List ℕ) × (b ≡ a ++ more)
-    report_begins name text a b e s p q =
+    -- what was found before an error are the first findings of the report
+    pub report_begins : (name text : List ℕ) (a b : List Finding) (s : Counts) → BeginsReport rows options name text a
+        → IsReport rows options name text b s → (more : List Finding) × (b ≡ a ++ more)
+    report_begins name text a b s p q =
         let (entries, is, are) = q.of_file in
         let first = p.of_file in
         let read = one_reading text (first.before ++ first.after) entries first.error q.error first.is_file is in
         let (others, parts, rest) = begin_once name first.before first.after p.first q.settings
         (all_clear no_section first.is_file.reads) first.are (subst (λ l. AllZip (IsSettingOf name) l q.settings) (sym read.0) are) in
-        elim first.at_end [
-          | inl none ↦
-              let no_last = (subst (λ t. EndsReport options name t p.s p.last p.s') none p.ends).0 in
-              let (more, whole) = lines_begin p.report q.report (map facts others) parts in
-              join a p.missing p.lines more q.last b
-              (sym (append-nil p.lines) ∙ sym (ap (λ l. p.lines ++ l) no_last) ∙ p.parts)
-              (q.parts ∙ ap (λ l. l ++ q.last) whole)
-          | inr all ↦
-              let no_others = nothing_after name first.after others all.0 rest in
-              let reports = lines_once q.report p.report
-              (parts ∙ ap (λ l. map facts p.first ++ map facts l) no_others ∙ append-nil (map facts p.first)) in
-              let ends = ends_once name q.error q.s s p.s' q.last p.last q.ends
-              (subst (λ c. EndsReport options name q.error c p.last p.s') (sym reports.1)
-              (subst (λ t. EndsReport options name t p.s p.last p.s') (all.1 ∙ read.1) p.ends)) in
-              (p.missing, q.parts ∙ (λ i. reports.0 i ++ ends.0 i) ∙ p.parts)
-        ]
+        let (more, whole) = lines_begin p.report q.report (map facts others) parts in
+        (more ++ q.last, q.parts ∙ ap (λ l. l ++ q.last) whole ∙ append_assoc a more q.last)

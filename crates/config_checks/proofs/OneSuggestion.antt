@@ -7,7 +7,10 @@ use Rattle.config_checks.specs.declared.row.Row.{Row}
 use Rattle.config_checks.specs.declared.suggestion.UnknownKey.{UnknownKey}
 use Rattle.config_checks.specs.Nearest.{AreFar}
 use Rattle.config_checks.specs.Suggestions.{Fills, FillsSubsection, FillsKey, IsOwn, IsPassed, IsUnknownKey, RowEdits, Suggests, nearest_of}
+use Rattle.config_checks.specs.Suggestions.{IsMovedRow, IsElsewhere, IsNowhere, IsSuggested}
+use Rattle.config_checks.specs.Suggestions.IsSuggested.{near, moved}
 use Rattle.config_checks.specs.Suggestions.IsPassed.{no_dot, foreign}
+use Rattle.config_checks.proofs.RunLemmas.{such_once, no_such}
 use Rattle.config_checks.proofs.NearestLemmas.{nearest_once, no_far}
 
 -- ---- the parts of a key that is suggested
@@ -36,12 +39,26 @@ key_once row key x y p q =
 -- ---- the key that is suggested
 
 module _ (rows : List Row) where
+  not_nowhere : (key : Key) (row : Row) → IsElsewhere rows key row → ¬ (IsNowhere rows key)
+  not_nowhere key row (has, first) (inl none) = none has
+  not_nowhere key row (has, first) (inr none) = no_such (IsMovedRow key) rows row first none
+
+  not_suggested : (key : Key) (row : Row) → IsSuggested rows key row → AreFar (RowEdits key) rows → ¬ (IsNowhere rows key)
+  not_suggested key row (near is) far none = no_far (RowEdits key) rows row is far
+  not_suggested key row (moved far is) also none = not_nowhere key row is none
+
+  row_suggested : (key : Key) (x y : Row) → IsSuggested rows key x → IsSuggested rows key y → x ≡ y
+  row_suggested key x y (near is) (near also) = nearest_once (RowEdits key) rows x y is also
+  row_suggested key x y (near is) (moved far also) = absurd (no_far (RowEdits key) rows x is far)
+  row_suggested key x y (moved far is) (near also) = absurd (no_far (RowEdits key) rows y also far)
+  row_suggested key x y (moved far is) (moved far' also) = such_once (IsMovedRow key) rows x y is.1 also.1
+
   suggested_once : (key : Key) (x y : Option Key) → Suggests rows key x → Suggests rows key y → x ≡ y
   suggested_once key None None p q = refl
-  suggested_once key None (Some y) p q = absurd (no_far (RowEdits key) rows q.0 q.1 p.0)
-  suggested_once key (Some x) None p q = absurd (no_far (RowEdits key) rows p.0 p.1 q.0)
-  suggested_once key (Some x) (Some y) (r, near, fills) (r', near', fills') =
-      let rows_same = nearest_once (RowEdits key) rows r' r near' near in
+  suggested_once key None (Some y) p q = absurd (not_suggested key q.0 q.1 p.0 p.1.0)
+  suggested_once key (Some x) None p q = absurd (not_suggested key p.0 p.1 q.0 q.1.0)
+  suggested_once key (Some x) (Some y) (r, is, fills) (r', is', fills') =
+      let rows_same = row_suggested key r' r is' is in
       ap Some (key_once (key_of r.key) key x y fills (subst (λ row. FillsKey (key_of row.key) key y) rows_same fills'))
 
   pub nearest_same : (t : List ℕ) (x y : UnknownKey) → IsUnknownKey rows t x → IsUnknownKey rows t y
@@ -50,12 +67,13 @@ module _ (rows : List Row) where
       suggested_once q.key (nearest_of x) (nearest_of y)
       (subst (λ key. Suggests rows key (nearest_of x)) (cut_same p.cut q.cut) p.suggests) q.suggests
 
-  suggests_far : (key : Key) (nearest : Option Key) → Suggests rows key nearest → AreFar (RowEdits key) rows → IsOwn rows key
-  suggests_far key None suggests far = suggests.1
-  suggests_far key (Some k) (row, near, fills) far = absurd (no_far (RowEdits key) rows row near far)
+  suggests_far : (key : Key) (nearest : Option Key) → Suggests rows key nearest → AreFar (RowEdits key) rows
+      → IsNowhere rows key → IsOwn rows key
+  suggests_far key None suggests far none = suggests.1.1
+  suggests_far key (Some k) (row, is, fills) far none = absurd (not_suggested key row is far none)
 
   pub not_passed : (t : List ℕ) (x : UnknownKey) → IsUnknownKey rows t x → ¬ (IsPassed rows t)
   not_passed t x p (no_dot none) = cut_has_dot p.cut none
-  not_passed t x p (foreign key is far not) =
+  not_passed t x p (foreign key is far none not) =
       not (suggests_far key (nearest_of x)
-      (subst (λ key. Suggests rows key (nearest_of x)) (cut_same p.cut is) p.suggests) far)
+      (subst (λ key. Suggests rows key (nearest_of x)) (cut_same p.cut is) p.suggests) far none)

@@ -1,5 +1,7 @@
 -- Rows in runs of one section.
+use Rattle.std.proofs.Common.{Option, None, Some, MatchOption, Bor, inr}
 use Rattle.std.proofs.Common.{◌≡◌, ◌+◌, ◌<◌, ℕ, List, [], ◌∷◌, ◌++◌, length, take, drop, get_or, arith, sym, ap, subst, ◌∙◌, ◌||◌, nat_lt, if◌then◌else◌}
+use Rattle.std.proofs.lemmas.List.{get_or-take, get_or_default, length-take}
 use Rattle.std.proofs.lemmas.List.{length-append, length-map, take-append-le, get_or_append_left, get_or-append-add, flat_map_more, take-append-drop}
 use Rattle.std.proofs.lemmas.List.Elements.{All-append}
 use Rattle.std.proofs.lemmas.Grind.{flat_map-append}
@@ -16,7 +18,7 @@ use Rattle.config_checks.specs.declared.row.Run.{Run}
 use Rattle.config_checks.specs.Keys.{Covers}
 use Rattle.config_checks.specs.Nearest.{AreFar, most_edits}
 use Rattle.config_checks.specs.Rows.{CoversNone, Decides, IsFirstCovering, rows_of}
-use Rattle.config_checks.specs.Suggestions.{RowEdits, HasSection}
+use Rattle.config_checks.specs.Suggestions.{RowEdits, HasSection, HasNone, IsFirstSuch, IsMovedRow, IsNowhere, IsElsewhere}
 use Rattle.config_checks.specs.Suggestions.OnePartEdits.{in_rest, in_section}
 use Rattle.config_checks.proofs.NearestLemmas.{take_more, lengths_near}
 
@@ -119,3 +121,49 @@ pub runs_grow : (rows : List Row) (runs : List Run) (run : Run) (start : ℕ) �
 runs_grow rows runs run start so_far cut =
     sym (flat_map_more (λ r. r.rows.now) [] runs run) ∙ ap (λ l. l ++ run.rows.now) so_far ∙ ap (λ l. take start rows ++ l) cut
     ∙ sym (take-add start (length run.rows.now) rows)
+
+-- ---- the first row of which something holds
+
+module _ (P : Row → Type 0) where
+  such_within : (xs ys zs : List Row) (row : Row) → HasNone P xs → IsFirstSuch P ys row → IsFirstSuch P ((xs ++ ys) ++ zs) row
+  such_within xs ys zs row none first =
+      let inside = first.inside in
+      let below : length xs + first.place < length (xs ++ ys) = omega (arith, inside, length-append xs ys) in
+      record {
+        place = length xs + first.place;
+        inside = omega (arith, below, length-append (xs ++ ys) zs);
+        stands = get_or_append_left (xs ++ ys) zs row (length xs + first.place) below ∙ get_or-append-add xs ys first.place row
+            ∙ first.stands;
+        is = first.is;
+        first = subst (HasNone P)
+            (sym (take-append-le (length xs + first.place) (xs ++ ys) zs (omega (arith, below)) ∙ take-append-add xs ys first.place))
+            (All-append (λ row. ¬ (P row)) xs (take first.place ys) none first.first);
+      }
+
+  pub first_such : (runs : List Run) (i : ℕ) (run : Run) (row : Row) → i < length runs → get_or runs i run ≡ run
+      → HasNone P (rows_of (take i runs)) → IsFirstSuch P run.rows.now row → IsFirstSuch P (rows_of runs) row
+  first_such runs i run row below here none first =
+      subst (λ l. IsFirstSuch P l row) (sym (rows_around runs i run below here))
+      (such_within (rows_of (take i runs)) run.rows.now (rows_of (drop (i + 1) runs)) row none first)
+
+  such_before : (rows : List Row) (a b : Row) (p : IsFirstSuch P rows a) (q : IsFirstSuch P rows b) → ¬ (p.place < q.place)
+  such_before rows a b p q before =
+      let inside = q.inside in
+      q.first p.place a (omega (arith, length-take {A = Row}, before, inside))
+      (subst P (sym (get_or-take q.place rows p.place a before ∙ p.stands)) p.is)
+
+  pub such_once : (rows : List Row) (a b : Row) → IsFirstSuch P rows a → IsFirstSuch P rows b → a ≡ b
+  such_once rows a b p q =
+      let less = such_before rows a b p q in let more = such_before rows b a q p in
+      let same : p.place ≡ q.place = omega (arith, less, more) in
+      sym p.stands ∙ ap (λ n. get_or rows n a) same ∙ get_or_default rows q.place a b q.inside ∙ q.stands
+
+  pub no_such : (rows : List Row) (row : Row) → IsFirstSuch P rows row → ¬ (HasNone P rows)
+  no_such rows row first none =
+      none first.place row first.inside (subst P (sym first.stands) first.is)
+
+pub elsewhere_of : (rows : List Row) (key : Key) (r : Option (Bor Row)) → HasSection rows key.section
+    → MatchOption r (HasNone (IsMovedRow key) rows) (λ row. IsFirstSuch (IsMovedRow key) rows row.now)
+    → MatchOption r (IsNowhere rows key) (λ row. IsElsewhere rows key row.now)
+elsewhere_of rows key None has none = inr none
+elsewhere_of rows key (Some row) has first = (has, first)

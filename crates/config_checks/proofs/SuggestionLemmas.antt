@@ -6,7 +6,7 @@ use Rattle.config_text.specs.SameWord.{SameWord}
 use Rattle.config_file.specs.Key.{Key}
 use Rattle.config_checks.specs.Keys.{CoversSubsection, CoversName}
 use Rattle.config_checks.specs.Suggestions.{NameEdits, EditsAfter, OnePartEdits, SectionEdits, SubsectionEdits}
-use Rattle.config_checks.specs.Suggestions.NameEdits.{few, by_word}
+use Rattle.config_checks.specs.Suggestions.NameEdits.{few, by_run}
 use Rattle.config_checks.specs.Suggestions.EditsAfter.{in_name, in_subsection}
 use Rattle.config_checks.specs.Suggestions.OnePartEdits.{in_rest, in_section}
 use Rattle.config_checks.proofs.NearestLemmas.{one_count}
@@ -76,9 +76,9 @@ one_subsection S (Some a) (Some b) m n is also = one_count a b m n is.0 also.0
 
 one_name : (row key : Key) (m n : ℕ) → NameEdits row key m → NameEdits row key n → m ≡ n
 one_name row key m n (few is) (few also) = one_count row.name key.name m n is.0 also.0
-one_name row key m n (few is) (by_word none absent lacks also) = absurd (none m is)
-one_name row key m n (by_word none absent lacks is) (few also) = absurd (none n also)
-one_name row key m n (by_word none absent lacks is) (by_word none' absent' lacks' also) = is ∙ sym also
+one_name row key m n (few is) (by_run none absent lacks also) = absurd (none m is)
+one_name row key m n (by_run none absent lacks is) (few also) = absurd (none n also)
+one_name row key m n (by_run none absent lacks is) (by_run none' absent' lacks' also) = is ∙ sym also
 
 one_after : (row key : Key) (m n : ℕ) → EditsAfter row key m → EditsAfter row key n → m ≡ n
 one_after row key m n (in_name covers not is) (in_name c d also) = one_name row key m n is also

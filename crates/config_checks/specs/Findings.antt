@@ -1,13 +1,16 @@
--- A finding, and its line of text.
+-- A finding, and the texts of its parts.
 use Rattle.std.specs.Prelude.{ℕ, zero, suc, ◌-◌, ◌/◌, ◌%◌, ◌==◌, ◌&&◌, ◌||◌, nat_lt, List, [], ◌∷◌, ◌++◌}
-use Rattle.std.specs.Prelude.{take, flat_map}
-use Rattle.std.specs.Prelude.{option_copied}
+use Rattle.std.specs.Prelude.{take, length, flat_map}
+use Rattle.std.specs.Prelude.{option_copied, option_map}
 use Rattle.std.specs.Fmt.{decimal, signed_decimal}
-use Rattle.std.specs.Prelude.{codes, Bool, true, false, Option, None, Some, if◌then◌else◌}
+use Rattle.std.specs.Prelude.{codes, Bool, Option, None, Some, if◌then◌else◌}
 use Rattle.std.specs.Char.{digit_char}
 use denote.Ref.{Bor}
 use Rattle.bstr.specs.Utf8.{decoded}
 use Rattle.config_text.specs.Faults.{fault_text}
+use Rattle.config_text.specs.declared.errors.Fault.{Fault}
+use Rattle.config_file.specs.Key.{Key}
+use Rattle.config_file.specs.KeyView.{key_of}
 use Rattle.config_integer.specs.declared.amount.Amount.{Amount}
 use Rattle.config_checks.specs.declared.finding.Finding as findings
 use Rattle.config_checks.specs.declared.kind.Form.{Form}
@@ -18,7 +21,6 @@ use Rattle.config_checks.specs.declared.reason.Reason.TheVariants.{NoValue, Refu
 use Rattle.config_checks.specs.declared.reason.Reason.TheVariants.{TooNew, Gone, Deprecated, NotCanonical, OtherCase}
 use Rattle.config_checks.specs.declared.version.Version.{Version}
 use Rattle.config_checks.specs.declared.reason.Severity.{Severity}
-use Rattle.config_checks.specs.declared.reason.Severity.TheVariants.{Error, Warning, Note}
 
 -- ---- texts shown safely
 
@@ -81,8 +83,17 @@ no_word_front forms.Words = codes "not a list of: "
 no_word_front forms.Date = codes "not a date: it has no digit, nor one of: "
 no_word_front forms.SortKey = codes "not a key to sort by: "
 
+-- how many words are not shown, if some are not
+abbrev pub more_text : ℕ → List ℕ
+more_text zero = []
+more_text (suc n) = codes " and " ++ (decimal (suc n) ++ codes " more")
+
+-- at most ten words, and how many more there are
+abbrev pub few_words_text : List (Bor (List ℕ)) → List ℕ
+few_words_text words = words_text (take 10 words) ++ more_text (length words - 10)
+
 abbrev pub list_text : WordList → List ℕ
-list_text list = no_word_front list.form ++ words_text list.words.items
+list_text list = no_word_front list.form ++ few_words_text list.words.items
 
 abbrev pub word_asked : List ℕ → List ℕ
 word_asked word = shown word ++ codes "?"
@@ -106,51 +117,22 @@ reason_text (Deprecated word) = codes "deprecated: use " ++ shown word.now
 reason_text (NotCanonical canonical) = codes "should be " ++ canonical.bytes
 reason_text (OtherCase word) = codes "should be " ++ shown word.now
 
-abbrev pub severity_text : Severity → List ℕ
-severity_text Error = codes "error: "
-severity_text Warning = codes "warning: "
-severity_text Note = codes "note: "
-
--- ---- parts of the line
-
 abbrev pub line_feed : ℕ
 line_feed = 10
 
--- the value in quotes, or nothing if there is no value
-abbrev pub value_shown : Option (List ℕ) → List ℕ
-value_shown None = []
-value_shown (Some t) = codes "'" ++ shown t ++ codes "': "
+-- ---- the finding
 
--- the escape sequence of a severity: red, yellow or cyan
-abbrev pub color_of : Severity → List ℕ
-color_of Error = 0x1B ∷ codes "[31m"
-color_of Warning = 0x1B ∷ codes "[33m"
-color_of Note = 0x1B ∷ codes "[36m"
-
--- the severity in its color if colors are wanted, and otherwise as it is
-abbrev pub painted : Bool → Severity → List ℕ
-painted true severity = color_of severity ++ severity_text severity ++ (0x1B ∷ codes "[m")
-painted false severity = severity_text severity
-
--- the name of a file, and the number of a line
-abbrev pub place : List ℕ → ℕ → List ℕ
-place file line = shown file ++ codes ":" ++ decimal line ++ codes ": "
-
--- the key, or nothing if there is no key
-abbrev pub key_part : Option (List ℕ) → List ℕ
-key_part None = []
-key_part (Some key) = shown key ++ codes ": "
-
--- ---- the line
-
--- a finding; a key alone and an unknown key have no value, and a line that Git cannot read has no key either
+-- a finding; a key alone and an unknown key have no value, and a line that Git cannot read has no key either; an unknown
+-- key has no row
 pub record Finding : Type 0 where
   pub file : List ℕ
   pub line : ℕ
   pub severity : Severity
   pub key : Option (List ℕ)
+  pub row : Option Key
   pub value : Option (List ℕ)
   pub reason : List ℕ
+  pub fault : Option Fault
   pub suggestion : Option (List ℕ)
 
 abbrev pub finding_of : findings.Finding → Finding
@@ -159,14 +141,9 @@ finding_of f = record {
   line = f.line;
   severity = f.severity;
   key = option_copied f.key;
+  row = option_map key_of f.row;
   value = option_copied f.value;
   reason = f.reason.now;
+  fault = f.fault;
   suggestion = option_copied f.suggestion;
 }
-
-abbrev pub setting_shown : Finding → List ℕ
-setting_shown f = key_part f.key ++ value_shown f.value
-
-abbrev pub text_line : (color : Bool) → Finding → List ℕ
-text_line color f =
-    place f.file f.line ++ painted color f.severity ++ setting_shown f ++ f.reason ++ line_feed ∷ []

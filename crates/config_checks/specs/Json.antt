@@ -1,9 +1,8 @@
 -- A finding as JSON.
-use Rattle.std.specs.Prelude.{◌≢◌, List, ℕ, ◌∷◌, [], ◌++◌, codes, Option, None, Some}
+use Rattle.std.specs.Prelude.{◌≢◌, List, ℕ, codes, Option, None, Some}
 use Rattle.std.specs.List.{AllByRecursion}
 use Rattle.std.specs.Str.Lossy.{utf8_lossy}
 use Rattle.serde_json.specs.Data.{Data, null, number, unsigned, string, object, member, no_members}
-use Rattle.serde_json.specs.Written.{compact_text}
 use Rattle.config_checks.specs.declared.reason.Severity.{Severity}
 use Rattle.config_checks.specs.declared.reason.Severity.TheVariants.{Error, Warning, Note}
 use Rattle.config_checks.specs.Findings.{Finding, line_feed}
@@ -22,18 +21,16 @@ text_or_null None = null
 text_or_null (Some t) = text_json t
 
 -- the members in the order of their names
-abbrev pub finding_json : Finding → Data
-finding_json f =
-    object (member (codes "file") (string f.file)
+abbrev pub finding_json : (column : ℕ) → Finding → Data
+finding_json column f =
+    object (member (codes "column") (number (unsigned column))
+    (member (codes "file") (string f.file)
     (member (codes "key") (text_or_null f.key)
     (member (codes "line") (number (unsigned f.line))
     (member (codes "reason") (text_json f.reason)
     (member (codes "severity") (string (severity_name f.severity))
     (member (codes "suggestion") (text_or_null f.suggestion)
-    (member (codes "value") (text_or_null f.value) no_members)))))))
-
-abbrev pub json_line : Finding → List ℕ
-json_line f = compact_text (finding_json f) ++ line_feed ∷ []
+    (member (codes "value") (text_or_null f.value) no_members))))))))
 
 -- the text has no line feed
 abbrev pub IsOneLine : List ℕ → Type 0

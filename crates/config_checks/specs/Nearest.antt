@@ -38,8 +38,8 @@ pub data LeavesOut : List ℕ → List ℕ → Type 0 where
   kept : {x : ℕ} {xs ys : List ℕ} → LeavesOut xs ys → LeavesOut (x ∷ xs) (x ∷ ys)
 
 -- the first text has at least five bytes, and is the second one without one run of bytes, ignoring ASCII case
-abbrev pub LacksWord : List ℕ → List ℕ → Type 0
-LacksWord a b = (5 ≤ length a) × LeavesOut (lower a) (lower b)
+abbrev pub LacksRun : List ℕ → List ℕ → Type 0
+LacksRun a b = (5 ≤ length a) × LeavesOut (lower a) (lower b)
 
 -- ---- the nearest of several
 

@@ -1,4 +1,5 @@
 -- Keys that no row covers, and the nearest key of the rows, which is suggested for them.
+use Rattle.std.specs.Prelude.{◌<◌, length, take, slice_index_or, All}
 use Rattle.std.specs.Prelude.{◌≡◌, ◌≢◌, ◌⊎◌, ℕ, List, [], ◌∷◌, ◌++◌, codes, Option, None, Some, true, option_map}
 use Rattle.std.specs.List.{Any, list_all}
 use Rattle.config_text.specs.SameWord.{SameWord}
@@ -9,7 +10,7 @@ use Rattle.config_checks.specs.declared.row.Row.{Row}
 use Rattle.config_checks.specs.declared.suggestion.UnknownKey.{UnknownKey}
 use Rattle.config_checks.specs.Findings.{shown}
 use Rattle.config_checks.specs.Keys.{CoversSubsection, CoversName}
-use Rattle.config_checks.specs.Nearest.{FewEdits, LacksWord, AreFar, IsNearest}
+use Rattle.config_checks.specs.Nearest.{FewEdits, LacksRun, AreFar, IsNearest}
 use Rattle.config_checks.specs.Rows.{IsUnknown}
 
 -- ---- how far two keys are apart
@@ -26,8 +27,8 @@ SubsectionEdits same_name None None n = ⊥
 -- of bytes of the other, which counts as three edits
 pub data NameEdits (row key : Key) (n : ℕ) : Type 0 where
   few : FewEdits 5 row.name key.name n → NameEdits row key n
-  by_word : ((m : ℕ) → ¬ (FewEdits 5 row.name key.name m)) → key.subsection ≡ None
-      → LacksWord row.name key.name ⊎ LacksWord key.name row.name → n ≡ 3 → NameEdits row key n
+  by_run : ((m : ℕ) → ¬ (FewEdits 5 row.name key.name m)) → key.subsection ≡ None
+      → LacksRun row.name key.name ⊎ LacksRun key.name row.name → n ≡ 3 → NameEdits row key n
 
 -- after their sections, the two keys differ either in the name or in the subsection, by `n` edits
 pub data EditsAfter (row key : Key) (n : ℕ) : Type 0 where
@@ -84,11 +85,51 @@ HasSection rows t = Any (λ row. SameWord (key_of row.key).section t) rows
 abbrev pub IsOwn : List Row → Key → Type 0
 IsOwn rows key = (key.subsection ≡ None) × (¬ (IsShared key.section) × HasSection rows key.section)
 
--- what is suggested for an unknown key: the nearest key of the rows, or nothing if all rows are far and only
--- rows have settings in its section (`IsOwn`)
+-- ---- a name in another section
+
+-- a section whose names are those of commands, or of what helpers ask for
+abbrev pub IsTopic : List ℕ → Type 0
+IsTopic t = SameWord (codes "advice") t ⊎ (SameWord (codes "color") t ⊎ (SameWord (codes "credential") t ⊎ SameWord (codes "pager") t))
+
+-- the key of the row has the key's name in another section, and neither key has a subsection
+pub record IsMoved (row key : Key) : Type 0 where
+  pub row_alone : row.subsection ≡ None
+  pub key_alone : key.subsection ≡ None
+  pub name : SameWord row.name key.name
+  pub section : ¬ (SameWord row.section key.section)
+  pub no_topic : ¬ (IsTopic row.section)
+
+abbrev pub IsMovedRow : Key → Row → Type 0
+IsMovedRow key row = IsMoved (key_of row.key) key
+
+abbrev pub HasNone : (Row → Type 0) → List Row → Type 0
+HasNone P rows = All (λ row. ¬ (P row)) rows
+
+-- the first row of which this holds
+pub record IsFirstSuch (P : Row → Type 0) (rows : List Row) (row : Row) : Type 0 where
+  pub place : ℕ
+  pub inside : place < length rows
+  pub stands : slice_index_or rows place row ≡ row
+  pub is : P row
+  pub first : HasNone P (take place rows)
+
+-- a row has the key's section, and this is the first row that has the name in another section
+abbrev pub IsElsewhere : List Row → Key → Row → Type 0
+IsElsewhere rows key row = HasSection rows key.section × IsFirstSuch (IsMovedRow key) rows row
+
+abbrev pub IsNowhere : List Row → Key → Type 0
+IsNowhere rows key = ¬ (HasSection rows key.section) ⊎ HasNone (IsMovedRow key) rows
+
+-- the row whose key is suggested: the nearest one or, if all rows are far, the first with the name in another section
+pub data IsSuggested (rows : List Row) (key : Key) (row : Row) : Type 0 where
+  near : IsNearest (RowEdits key) rows row → IsSuggested rows key row
+  moved : AreFar (RowEdits key) rows → IsElsewhere rows key row → IsSuggested rows key row
+
+-- what is suggested for an unknown key: the key of such a row, or nothing if there is none and only rows have settings in
+-- the key's section (`IsOwn`)
 abbrev pub Suggests : List Row → Key → Option Key → Type 0
-Suggests rows key None = AreFar (RowEdits key) rows × IsOwn rows key
-Suggests rows key (Some nearest) = (row : Row) × IsNearest (RowEdits key) rows row × FillsKey (key_of row.key) key nearest
+Suggests rows key None = AreFar (RowEdits key) rows × (IsNowhere rows key × IsOwn rows key)
+Suggests rows key (Some nearest) = (row : Row) × IsSuggested rows key row × FillsKey (key_of row.key) key nearest
 
 -- the key that is suggested for an unknown key, if there is one
 abbrev pub nearest_of : UnknownKey → Option Key
@@ -101,10 +142,11 @@ pub record IsUnknownKey (rows : List Row) (t : List ℕ) (k : UnknownKey) : Type
   pub unknown : IsUnknown rows t
   pub suggests : Suggests rows key (nearest_of k)
 
--- the text is not reported: it has no dot, or all rows are far and `IsOwn` does not hold
+-- the text is not reported: it has no dot, or all rows are far, its name is nowhere else and `IsOwn` does not hold
 pub data IsPassed (rows : List Row) (t : List ℕ) : Type 0 where
   no_dot : list_all is_no_dot t ≡ true → IsPassed rows t
-  foreign : (key : Key) → IsCut t key → AreFar (RowEdits key) rows → ¬ (IsOwn rows key) → IsPassed rows t
+  foreign : (key : Key) → IsCut t key → AreFar (RowEdits key) rows → IsNowhere rows key → ¬ (IsOwn rows key)
+      → IsPassed rows t
 
 -- ---- the text about an unknown key
 

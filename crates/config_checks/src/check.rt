@@ -1,34 +1,46 @@
-//! Checks the settings of a file, and writes a line for each finding.
-ghost use Rattle.std.specs.Prelude.{◌≡◌, ◌==◌, if◌then◌else◌, OnOk, OnErr, IfOk, IfErr, Some};
-ghost use Rattle.std.specs.Io.KnownBytes.{Appends, Keeps};
-ghost use Rattle.config_checks.specs.Report.{counted, counts_shown, finding_line, unknown_line};
-ghost use Rattle.config_checks.specs.Report.{Completes, Fails};
-ghost use Rattle.config_checks.specs.declared.reason.Severity.TheVariants.{Warning};
-ghost use Rattle.config_checks.specs.Rows.{IsUnknown, rows_of};
-ghost use Rattle.config_checks.specs.Reading.Steps.{HasRoom, HasRoomForFinding, Reports, ReportsPart, Tells};
-ghost use Rattle.config_checks.specs.Reading.Steps.{AppendsPart};
-ghost use Rattle.config_checks.specs.Reading.Steps.{TellsPart, ReportsEntries, WritesPart, IsWrite};
+//! Checks the settings of a file, and hands on each finding.
+ghost use Rattle.std.specs.Prelude.{◌≡◌, ◌==◌, ◌∷◌, [], List, Option, if◌then◌else◌, OnOk, OnErr, IfOk, IfSome, Some};
+ghost use Rattle.config_checks.specs.Findings.{Finding, finding_of};
+ghost use Rattle.config_checks.specs.Report.{counted, counts_shown, reason_finding};
+ghost use Rattle.config_checks.specs.Report.{Receives, Completes, Fails};
+ghost use Rattle.config_checks.specs.Rows.{rows_of, IsUnknown};
+ghost use Rattle.config_checks.specs.Reading.Steps.{HasRoom, HasRoomForFinding, Reports};
+ghost use Rattle.config_checks.specs.Reading.Steps.{IsSaid, said_findings, is_reported};
+ghost use Rattle.config_checks.specs.Reading.Steps.{Tells, ReportsEntries};
 
-use crate::finding::{push_finding, push_misspelled, push_refusal, value_of};
+use crate::finding::{
+    Finding, bytes_of, fault_of, fault_text, key_meant, push_reason, suggestion_of, value_of,
+};
 use crate::lookup::{row_for, runs_of};
 use crate::options::Options;
 use crate::reason::{Reason, Severity, find};
 use crate::row::{Row, Run};
 use crate::setting::Setting;
-use crate::suggestion::{UnknownKey, unknown_key};
+use crate::suggestion::{push_unknown, unknown_key};
 use config_file::errors::Error;
 use config_file::reader::Entries;
 use std::alloc::{AllocError, Global};
-use std::fmt;
-use std::io::{self, ErrorKind, Write};
+use std::{fmt, io};
 
 /// Why a check failed.
 #[derive(Drop)]
 pub enum CheckError {
-    /// A write or the flush at the end failed, or a write took no byte.
+    /// What receives the findings could not write one.
     Write(io::Error),
-    /// There was no memory to look up a row or a suggestion, for a setting, or for the line of a finding.
+    /// There was no memory to look up a row or a suggestion, for a setting, or for a finding.
     Memory(AllocError),
+}
+
+/// What receives the findings of a check, one after the other.
+pub trait Receiver {
+    /// The findings that it has received, if they are known.
+    ghost received: { Self → Option (List Finding) };
+
+    /// Receives one more finding. An error ends the check, and the finding does not count as received.
+    fn receive(&mut self, finding: &Finding<'_>) -> Result<(), CheckError>
+        ensures ok { OnOk result
+            (Receives (received self.old) (received self.new) (finding_of finding.now ∷ [])) }
+        ensures err { OnErr result (Receives (received self.old) (received self.new) []) };
 }
 
 /// The counts of a check.
@@ -96,156 +108,187 @@ impl fmt::Display for Counts {
     }
 }
 
-/// Writes bytes, with as many writes as are needed. A write that takes no byte is an error.
-// The contract of `write_all` does not say that what it wrote before an error is a prefix of the bytes.
-fn write_out<W: Write>(writer: &mut W, bytes: &[u8]) -> io::Result<()>
-    ensures ok { OnOk result (Appends (W.contents writer.old) (W.contents writer.new) bytes.now) }
-    ensures err { OnErr result
-        (AppendsPart (W.contents writer.old) (W.contents writer.new) bytes.now) }
+/// Hands on that a setting is wrong, or should be spelled in another way, for this reason of its row.
+fn give_reason<R: Receiver>(
+    alloc: Global,
+    setting: &Setting<'_>,
+    row: &Row<'_>,
+    reason: &Reason<'_, '_>,
+    receiver: &mut R,
+) -> Result<(), CheckError>
+    ensures ok { OnOk result (Receives (R.received receiver.old) (R.received receiver.new)
+        (reason_finding setting.now row.now reason.now ∷ [])) }
+    ensures err { OnErr result (Receives (R.received receiver.old) (R.received receiver.new) []) }
 {
-    let mut rest = bytes;
-    while !rest.is_empty() {
-        match writer.write(rest)? {
-            0 => return Err(io::Error::from(ErrorKind::WriteZero)),
-            count => rest = &rest[count..],
-        }
-    }
-    Ok(())
+    let mut text = Vec::new(alloc);
+    push_reason(&mut text, reason).map_err(CheckError::Memory)?;
+    receiver.receive(&Finding {
+        file: setting.file,
+        line: setting.line,
+        severity: reason.severity(row.goes_on),
+        key: Some(&setting.key),
+        row: Some(row.key),
+        value: value_of(setting),
+        reason: &text,
+        fault: fault_of(reason),
+        suggestion: suggestion_of(reason),
+    })
 }
 
-/// The state of a check between two entries: its counts, and the memory for a line.
+/// What is said of a key that no row covers. The last one is kept, since many settings may have one key.
+#[derive(Drop)]
+struct Said {
+    key: Vec<u8>,
+    /// The text of the reason, if the key is reported.
+    reason: Option<Vec<u8>>,
+    /// The key that is suggested, if there is one.
+    meant: Option<Vec<u8>>,
+}
+
+/// What is said of a key that no row covers.
+fn said_of(alloc: Global, runs: &[Run<'_, '_>], key: &[u8]) -> Result<Said, AllocError>
+    requires { IsUnknown (rows_of runs.now) key.now }
+    ensures { IfOk result (λ said. (said.key.items ≡ key.now) × IsSaid (rows_of runs.now) said) }
+{
+    let copy = key.to_vec(alloc)?;
+    match unknown_key(alloc, runs, key)? {
+        Some(unknown) => {
+            let mut text = Vec::new(alloc);
+            push_unknown(&mut text, &unknown)?;
+            let meant = key_meant(alloc, &unknown)?;
+            Ok(Said {
+                key: copy,
+                reason: Some(text),
+                meant,
+            })
+        }
+        None => Ok(Said {
+            key: copy,
+            reason: None,
+            meant: None,
+        }),
+    }
+}
+
+/// The same: what was said last, if it was said of this key.
+fn recalled(
+    alloc: Global,
+    runs: &[Run<'_, '_>],
+    key: &[u8],
+    last: Option<Said>,
+) -> Result<Said, AllocError>
+    requires unknown { IsUnknown (rows_of runs.now) key.now }
+    requires last { IfSome last (IsSaid (rows_of runs.now)) }
+    ensures { IfOk result (λ said. (said.key.items ≡ key.now) × IsSaid (rows_of runs.now) said) }
+{
+    match last {
+        Some(said) if said.key.as_slice() == key => Ok(said),
+        _ => said_of(alloc, runs, key),
+    }
+}
+
+/// Hands on what is said of the unknown key of a setting, and returns whether there is anything.
+fn give_said<'f, R: Receiver>(
+    setting: &'f Setting<'_>,
+    said: &'f Said,
+    receiver: &mut R,
+) -> Result<bool, CheckError>
+    ensures ok { OnOk result (Receives (R.received receiver.old) (R.received receiver.new)
+        (said_findings setting.now said.now)) }
+    ensures reported { IfOk result (λ told. told ≡ is_reported said.now) }
+    ensures err { OnErr result (Receives (R.received receiver.old) (R.received receiver.new) []) }
+{
+    let Some(reason) = &said.reason else {
+        return Ok(false);
+    };
+    let suggestion = bytes_of(&said.meant);
+    receiver.receive(&Finding {
+        file: setting.file,
+        line: setting.line,
+        severity: Severity::Warning,
+        key: Some(&setting.key),
+        row: None,
+        value: None,
+        reason,
+        fault: None,
+        suggestion,
+    })?;
+    Ok(true)
+}
+
+/// How far a check has come: its counts, and what it said last of an unknown key.
 #[derive(Drop)]
 struct Progress {
     counts: Counts,
-    line: Vec<u8>,
+    last: Option<Said>,
 }
 
-impl Progress {
-    /// Counts a finding, and writes the line that reports a setting with an unknown key.
-    fn write_misspelled<W: Write>(
-        &mut self,
-        options: &Options,
-        setting: &Setting<'_>,
-        unknown: &UnknownKey<'_>,
-        writer: &mut W,
-    ) -> Result<(), CheckError>
-        requires { HasRoomForFinding self.old.counts }
-        ensures counts { self.new.counts ≡ counted Warning self.old.counts }
-        ensures ok { OnOk result (Appends (W.contents writer.old) (W.contents writer.new)
-            (unknown_line options.now setting.now unknown.now)) }
-        ensures err { IfErr result (WritesPart (W.contents writer.old) (W.contents writer.new)
-            (λ line. line ≡ unknown_line options.now setting.now unknown.now)) }
-    {
-        self.counts = self.counts.with(Severity::Warning);
-        self.line.clear();
-        push_misspelled(&mut self.line, options, setting, unknown).map_err(CheckError::Memory)?;
-        write_out(writer, &self.line).map_err(CheckError::Write)
-    }
-
-    /// Counts a finding, and writes the line that reports a setting for a reason.
-    fn write_finding<W: Write>(
-        &mut self,
-        options: &Options,
-        setting: &Setting<'_>,
-        severity: Severity,
-        reason: &Reason<'_, '_>,
-        writer: &mut W,
-    ) -> Result<(), CheckError>
-        requires { HasRoomForFinding self.old.counts }
-        ensures counts { self.new.counts ≡ counted severity self.old.counts }
-        ensures ok { OnOk result (Appends (W.contents writer.old) (W.contents writer.new)
-            (finding_line options.now setting.now severity reason.now)) }
-        ensures err { IfErr result (WritesPart (W.contents writer.old) (W.contents writer.new)
-            (λ line. line ≡ finding_line options.now setting.now severity reason.now)) }
-    {
-        self.counts = self.counts.with(severity);
-        self.line.clear();
-        push_finding(&mut self.line, options, setting, severity, reason).map_err(
-            CheckError::Memory,
-        )?;
-        write_out(writer, &self.line).map_err(CheckError::Write)
-    }
-
-    /// Counts a setting that no row covers, and writes its line if its unknown key has to be reported.
-    fn report_unknown<W: Write>(
-        &mut self,
-        alloc: Global,
-        runs: &[Run<'_, '_>],
-        options: &Options,
-        setting: &Setting<'_>,
-        writer: &mut W,
-    ) -> Result<(), CheckError>
-        requires room { HasRoom self.old.counts }
-        requires unknown { IsUnknown (rows_of runs.now) setting.now.key.items }
-        ensures ok { OnOk result (Reports (rows_of runs.now) options.now setting.now
-            self.old.counts self.new.counts (W.contents writer.old) (W.contents writer.new)) }
-        ensures err { IfErr result (ReportsPart (rows_of runs.now) options.now setting.now
-            self.old.counts (W.contents writer.old) (W.contents writer.new)) }
-    {
-        self.counts.entries += 1;
-        self.counts.unknown += 1;
-        match unknown_key(alloc, runs, &setting.key) {
-            Ok(Some(unknown)) => self.write_misspelled(options, setting, &unknown, writer),
-            Ok(None) => Ok(()),
-            Err(error) => Err(CheckError::Memory(error)),
-        }
-    }
-
-    /// Counts a setting, and writes its line if it has a finding.
-    fn report<W: Write>(
-        &mut self,
-        alloc: Global,
-        runs: &[Run<'_, '_>],
-        options: &Options,
-        setting: &Setting<'_>,
-        writer: &mut W,
-    ) -> Result<(), CheckError>
-        requires { HasRoom self.old.counts }
-        ensures ok { OnOk result (Reports (rows_of runs.now) options.now setting.now
-            self.old.counts self.new.counts (W.contents writer.old) (W.contents writer.new)) }
-        ensures err { IfErr result (ReportsPart (rows_of runs.now) options.now setting.now
-            self.old.counts (W.contents writer.old) (W.contents writer.new)) }
-    {
-        let Some(row) = row_for(runs, &setting.key) else {
-            return self.report_unknown(alloc, runs, options, setting, writer);
+/// Counts a setting, and hands on its finding if it has one.
+fn report<R: Receiver>(
+    alloc: Global,
+    runs: &[Run<'_, '_>],
+    options: &Options,
+    setting: &Setting<'_>,
+    progress: Progress,
+    receiver: &mut R,
+) -> Result<Progress, CheckError>
+    requires room { HasRoom progress.counts }
+    requires last { IfSome progress.last (IsSaid (rows_of runs.now)) }
+    ensures ok { IfOk result (λ after. Reports (rows_of runs.now) options.now setting.now
+        progress.counts after.counts (R.received receiver.old) (R.received receiver.new)) }
+    ensures last { IfOk result (λ after. IfSome after.last (IsSaid (rows_of runs.now))) }
+    ensures err { OnErr result (Receives (R.received receiver.old) (R.received receiver.new) []) }
+{
+    let Progress { counts, last } = progress;
+    let mut counts = Counts {
+        entries: counts.entries + 1,
+        ..counts
+    };
+    let Some(row) = row_for(runs, &setting.key) else {
+        counts.unknown += 1;
+        let said = match recalled(alloc, runs, &setting.key, last) {
+            Ok(said) => said,
+            Err(error) => return Err(CheckError::Memory(error)),
         };
-        self.counts.entries += 1;
-        match find(
-            alloc,
-            options.git,
-            row,
-            value_of(setting),
-            options.canonical,
-        ) {
-            Ok(Some(reason)) => {
-                let severity = reason.severity(row.goes_on);
-                self.write_finding(options, setting, severity, &reason, writer)
-            }
-            Ok(None) => Ok(()),
-            Err(error) => Err(CheckError::Memory(error)),
+        if give_said(setting, &said, receiver)? {
+            counts = counts.with(Severity::Warning);
         }
+        return Ok(Progress {
+            counts,
+            last: Some(said),
+        });
+    };
+    let value = value_of(setting);
+    match find(alloc, options.git, row, value, options.canonical) {
+        Ok(Some(reason)) => {
+            give_reason(alloc, setting, row, &reason, receiver)?;
+            let counts = counts.with(reason.severity(row.goes_on));
+            Ok(Progress { counts, last })
+        }
+        Ok(None) => Ok(Progress { counts, last }),
+        Err(error) => Err(CheckError::Memory(error)),
     }
 }
 
-/// Writes the lines of the entries of a file, up to the line that Git cannot read, if there is one. Returns
-/// the counts, and the error of that line.
-fn report_entries<W: Write>(
+/// Hands on the findings of the entries of a file, up to the line that Git cannot read, if there is one.
+/// Returns the counts, and the error of that line.
+fn report_entries<R: Receiver>(
     alloc: Global,
     runs: &[Run<'_, '_>],
     options: &Options,
     file: &str,
     text: &[u8],
-    writer: &mut W,
+    receiver: &mut R,
 ) -> Result<(Counts, Option<Error>), CheckError>
     ensures ok { IfOk result (λ reported. ReportsEntries (rows_of runs.now) options.now file.now text.now
-        (W.contents writer.old) (W.contents writer.new) reported.0 reported.1) }
-    ensures err { IfErr result (Fails (rows_of runs.now) options.now file.now text.now
-        (W.contents writer.old) (W.contents writer.new)) }
+        (R.received receiver.old) (R.received receiver.new) reported.0 reported.1) }
+    ensures err { OnErr result (Fails (rows_of runs.now) options.now file.now text.now
+        (R.received receiver.old) (R.received receiver.new)) }
     ensures room { IfOk result (λ reported. HasRoomForFinding reported.0) }
 {
     let mut progress = Progress {
         counts: Counts::default(),
-        line: Vec::new(alloc),
+        last: None,
     };
     for entry in Entries::new(text) {
         let entry = match entry {
@@ -256,92 +299,97 @@ fn report_entries<W: Write>(
             Ok(setting) => setting,
             Err(error) => return Err(CheckError::Memory(error)),
         };
-        progress.report(alloc, runs, options, &setting, writer)?;
+        progress = report(alloc, runs, options, &setting, progress, receiver)?;
     }
     Ok((progress.counts, None))
 }
 
-/// If a file is refused, writes the line of its error, and counts it as a finding.
-fn tell<W: Write>(
-    alloc: Global,
-    options: &Options,
+/// If a file is refused, hands on the line of its error, and counts it as a finding.
+fn tell<R: Receiver>(
     file: &str,
     refused: Option<Error>,
     counts: Counts,
-    writer: &mut W,
+    receiver: &mut R,
 ) -> Result<Counts, CheckError>
     requires { HasRoomForFinding counts }
-    ensures ok { IfOk result (λ after. Tells options.now file.now refused counts after
-        (W.contents writer.old) (W.contents writer.new)) }
-    ensures err { IfErr result (TellsPart options.now file.now refused counts
-        (W.contents writer.old) (W.contents writer.new)) }
+    ensures ok { IfOk result (λ after. Tells file.now refused counts after
+        (R.received receiver.old) (R.received receiver.new)) }
+    ensures err { OnErr result (Receives (R.received receiver.old) (R.received receiver.new) []) }
 {
     let Some(error) = refused else {
         return Ok(counts);
     };
-    let mut line = Vec::new(alloc);
-    push_refusal(&mut line, options, file, error).map_err(CheckError::Memory)?;
-    match write_out(writer, &line) {
-        Ok(()) => Ok(counts.with(Severity::Error)),
-        Err(error) => Err(CheckError::Write(error)),
-    }
+    receiver.receive(&Finding {
+        file,
+        line: error.line,
+        severity: Severity::Error,
+        key: None,
+        row: None,
+        value: None,
+        reason: fault_text(error.fault).as_bytes(),
+        fault: None,
+        suggestion: None,
+    })?;
+    Ok(counts.with(Severity::Error))
 }
 
-/// Flushes a writer.
-fn flush<W: Write>(writer: &mut W) -> Result<(), CheckError>
-    ensures kept { Keeps (W.contents writer.old) (W.contents writer.new) }
-    ensures write { IfErr result IsWrite }
-{
-    writer.flush().map_err(CheckError::Write)
-}
-
-/// Checks a file with this name and this text. It writes a line for each finding, in the order of the
-/// entries, and returns the counts. A line that Git cannot read is also a finding, and the last one.
+/// Checks a file with this name and this text. It hands on each finding, in the order of the entries, and
+/// returns the counts. A line that Git cannot read is also a finding, and the last one.
 ///
 /// Errors:
-/// - `Write`: a write or the flush at the end failed, or a write took no byte. What was written is a prefix
-///   of the lines.
-/// - `Memory`: there was no memory to look up a row or a suggestion, for a setting, or for a line. Only whole
-///   lines were written, the first ones of the report.
+/// - `Write`: what receives the findings could not write one.
+/// - `Memory`: there was no memory to look up a row or a suggestion, for a setting, or for a finding.
 ///
-/// The clauses are about writers whose contents the prover knows. It does not know the contents of standard
-/// output, but `check_file` does the same with every writer.
+/// What was received before an error are the first findings of the file.
+///
+/// The clauses are about receivers whose findings the prover knows. It does not know what standard output
+/// shows, but `check_file` does the same with every receiver.
 ///
 /// ```rust
-/// use config_checks::check::check_file;
-/// use config_checks::options::{Format, Options};
+/// use config_checks::check::{CheckError, Receiver, check_file};
+/// use config_checks::finding::Finding;
+/// use config_checks::options::Options;
 /// use config_checks::table::read_rows;
 /// use config_checks::version::Version;
+///
+/// /// Holds the reasons.
+/// #[derive(Drop)]
+/// struct Reasons(Vec<u8>);
+///
+/// impl Receiver for Reasons {
+///     ghost received = { λ _. None };
+///
+///     fn receive(&mut self, finding: &Finding<'_>) -> Result<(), CheckError> {
+///         self.0.extend_from_slice(finding.reason).map_err(CheckError::Memory)
+///     }
+/// }
 ///
 /// let mut rows = Vec::new(alloc);
 /// assert!(rt; read_rows(alloc, b"push.default word nothing current", &mut rows).is_ok());
 /// let git = Version::read(b"2.55").expect(&rt, "a version");
-/// let options = Options { git, canonical: false, format: Format::Text, color: false };
-/// let mut out = Vec::new(alloc);
-/// let checked = check_file(alloc, &rows, &options, "f", b"[push]\ndefault = maybe", &mut out);
+/// let options = Options { git, canonical: false };
+/// let mut reasons = Reasons(Vec::new(alloc));
+/// let checked = check_file(alloc, &rows, &options, "f", b"[push]\ndefault = maybe", &mut reasons);
 /// assert!(rt; checked.is_ok_and(|counts| counts.findings == 1));
-/// let line = b"f:2: error: push.default: 'maybe': not one of: nothing, current\n";
-/// assert_eq!(rt; out.as_slice(), line.as_slice());
+/// assert_eq!(rt; reasons.0.as_slice(), b"not one of: nothing, current".as_slice());
 /// ```
-pub fn check_file<W: Write>(
+pub fn check_file<R: Receiver>(
     alloc: Global,
     rows: &[Row<'_>],
     options: &Options,
     file: &str,
     text: &[u8],
-    writer: &mut W,
+    receiver: &mut R,
 ) -> Result<Counts, CheckError>
     ensures completes { IfOk result (Completes rows.now options.now file.now text.now
-        (W.contents writer.old) (W.contents writer.new)) }
-    ensures fails { IfErr result (Fails rows.now options.now file.now text.now
-        (W.contents writer.old) (W.contents writer.new)) }
+        (R.received receiver.old) (R.received receiver.new)) }
+    ensures fails { OnErr result (Fails rows.now options.now file.now text.now
+        (R.received receiver.old) (R.received receiver.new)) }
 {
     let runs = match runs_of(alloc, rows) {
         Ok(runs) => runs,
         Err(error) => return Err(CheckError::Memory(error)),
     };
-    let (counts, refused) = report_entries(alloc, &runs, options, file, text, writer)?;
-    let counts = tell(alloc, options, file, refused, counts, writer)?;
-    flush(writer)?;
-    Ok(counts)
+    let (counts, refused) = report_entries(alloc, &runs, options, file, text, receiver)?;
+    tell(file, refused, counts, receiver)
 }

@@ -1,7 +1,7 @@
 //! The edits that lead from one text to another.
 ghost use Rattle.std.specs.Prelude.{◌≡◌, ◌≤◌, ◌↔◌, ◌==◌, length, IsTrue, IfOk};
 ghost use Rattle.std.specs.List.{prefix_len, zip};
-ghost use Rattle.config_checks.specs.Nearest.{Edits, IsSwap, FewEdits, most_edits, LeavesOut, LacksWord};
+ghost use Rattle.config_checks.specs.Nearest.{Edits, IsSwap, FewEdits, most_edits, LeavesOut, LacksRun};
 ghost use Rattle.config_checks.specs.Reading.Steps.{AreApart, AreRests, IsFew};
 
 use std::alloc::{AllocError, Global};
@@ -103,8 +103,8 @@ fn leaves_out(short: &[u8], long: &[u8]) -> bool
 }
 
 /// Whether the first text is long, and is the second one without one run of bytes, ignoring ASCII case.
-pub(crate) fn lacks_word(alloc: Global, short: &[u8], long: &[u8]) -> Result<bool, AllocError>
-    ensures { IfOk result (λ r. IsTrue r ↔ (LacksWord short.now long.now)) }
+pub(crate) fn lacks_run(alloc: Global, short: &[u8], long: &[u8]) -> Result<bool, AllocError>
+    ensures { IfOk result (λ r. IsTrue r ↔ (LacksRun short.now long.now)) }
 {
     if short.len() < LONG {
         return Ok(false);

@@ -1,30 +1,24 @@
-//! A finding, and the line that is written for it.
-ghost use Rattle.std.specs.Prelude.{◌≡◌, ◌<◌, ◌++◌, [], length, flat_map, option_copied, option_map};
+//! A finding, and the texts of its parts.
+ghost use Rattle.std.specs.Prelude.{◌≡◌, ◌<◌, ◌++◌, [], length, take, flat_map, option_copied, option_map};
 ghost use Rattle.std.specs.Prelude.{OnOk, IfOk, MatchOption, IfSome, Some, codes};
 ghost use Rattle.std.specs.Char.{digit_char};
 ghost use Rattle.std.specs.Fmt.{signed_decimal};
 ghost use Rattle.config_file.specs.Key.{written};
 ghost use Rattle.config_file.specs.KeyView.{key_of};
-ghost use Rattle.config_checks.specs.Findings.{hex, is_control, piece_shown, shown, value_shown};
-ghost use Rattle.config_checks.specs.Findings.{range_text, version_text, words_text, no_word_front, list_text};
-ghost use Rattle.config_checks.specs.Findings.{word_asked, meant_text, no_word_text};
-ghost use Rattle.config_checks.specs.Findings.{reason_text, severity_text, color_of, painted};
-ghost use Rattle.config_checks.specs.Findings.{place, key_part, setting_shown, text_line};
-ghost use Rattle.config_checks.specs.Findings.{finding_of};
-ghost use Rattle.config_checks.specs.Report.{line_of, suggestion_of, key_meant};
-ghost use Rattle.config_checks.specs.Report.{finding_line, include_line, unknown_line};
-ghost use Rattle.config_checks.specs.Report.{fault_text, refused_line};
+ghost use Rattle.config_checks.specs.Findings.{hex, is_control, piece_shown, shown};
+ghost use Rattle.config_checks.specs.Findings.{range_text, version_text, words_text, more_text, few_words_text};
+ghost use Rattle.config_checks.specs.Findings.{no_word_front, list_text, word_asked, meant_text, no_word_text};
+ghost use Rattle.config_checks.specs.Findings.{reason_text};
+ghost use Rattle.config_checks.specs.Report.{suggestion_of, fault_of_form, fault_of, key_meant, fault_text};
 ghost use Rattle.config_checks.specs.Settings.{value_of};
 
-use crate::json_line::push_json;
 use crate::kind::{Form, WordList};
-use crate::options::{Format, Options};
 use crate::reason::{Reason, Severity};
 use crate::setting::Setting;
-use crate::suggestion::{UnknownKey, push_unknown};
+use crate::suggestion::UnknownKey;
 use crate::version::Version;
 use bstr::decode_utf8;
-use config_file::errors::{Error, Fault};
+use config_file::errors::Fault;
 use config_file::key::Key;
 use gix_config_value::integer::Amount;
 use itoa::Buffer;
@@ -123,7 +117,7 @@ fn push_version(out: &mut Vec<u8>, front: &str, version: Version) -> Result<(), 
 }
 
 /// Appends words, with `, ` between them.
-fn push_words(out: &mut Vec<u8>, words: &[&[u8]]) -> Result<(), AllocError>
+fn push_listed(out: &mut Vec<u8>, words: &[&[u8]]) -> Result<(), AllocError>
     ensures { OnOk result (out.new.items ≡ out.old.items ++ words_text words.now) }
 {
     let [first, rest @ ..] = words else {
@@ -135,6 +129,40 @@ fn push_words(out: &mut Vec<u8>, words: &[&[u8]]) -> Result<(), AllocError>
         push_shown(out, word)?;
     }
     Ok(())
+}
+
+/// How many words of a list are shown.
+const MOST_WORDS: usize = 10;
+
+/// The first ten words, or all if there are fewer.
+fn first_words<'w, 't>(words: &'w [&'t [u8]]) -> &'w [&'t [u8]]
+    ensures { result.now ≡ take 10 words.now }
+{
+    if words.len() > MOST_WORDS {
+        &words[..MOST_WORDS]
+    } else {
+        words
+    }
+}
+
+/// Appends how many words are not shown, if some are not.
+fn push_more(out: &mut Vec<u8>, count: usize) -> Result<(), AllocError>
+    ensures { OnOk result (out.new.items ≡ out.old.items ++ more_text count) }
+{
+    if count == 0 {
+        return Ok(());
+    }
+    out.extend_from_slice(b" and ")?;
+    out.extend_from_slice(Buffer::new().format(count).as_bytes())?;
+    out.extend_from_slice(b" more")
+}
+
+/// Appends at most ten words, with `, ` between them, and how many more there are.
+fn push_words(out: &mut Vec<u8>, words: &[&[u8]]) -> Result<(), AllocError>
+    ensures { OnOk result (out.new.items ≡ out.old.items ++ few_words_text words.now) }
+{
+    push_listed(out, first_words(words))?;
+    push_more(out, words.len().saturating_sub(MOST_WORDS))
 }
 
 /// The text that precedes the words of a list in a reason.
@@ -226,125 +254,31 @@ pub fn push_reason(out: &mut Vec<u8>, reason: &Reason<'_, '_>) -> Result<(), All
     }
 }
 
-/// How a severity is shown in a line of text.
-fn severity_text(severity: Severity) -> &'static str
-    ensures { result.now ≡ severity_text severity }
-{
-    match severity {
-        Severity::Error => "error: ",
-        Severity::Warning => "warning: ",
-        Severity::Note => "note: ",
-    }
-}
-
-/// The escape sequence of a severity: red, yellow or cyan.
-fn color_of(severity: Severity) -> &'static str
-    ensures { result.now ≡ color_of severity }
-{
-    match severity {
-        Severity::Error => "\x1b[31m",
-        Severity::Warning => "\x1b[33m",
-        Severity::Note => "\x1b[36m",
-    }
-}
-
-/// Appends the severity of a finding, in its color if colors are wanted.
-fn push_severity(line: &mut Vec<u8>, color: bool, severity: Severity) -> Result<(), AllocError>
-    ensures { OnOk result (line.new.items ≡ line.old.items ++ painted color severity) }
-{
-    if !color {
-        return line.extend_from_slice(severity_text(severity).as_bytes());
-    }
-    line.extend_from_slice(color_of(severity).as_bytes())?;
-    line.extend_from_slice(severity_text(severity).as_bytes())?;
-    line.extend_from_slice(b"\x1b[m")
-}
-
-/// Appends the name of a file and the number of a line.
-fn push_place(line: &mut Vec<u8>, file: &str, number: usize) -> Result<(), AllocError>
-    ensures { OnOk result (line.new.items ≡ line.old.items ++ place file.now number) }
-{
-    push_shown(line, file.as_bytes())?;
-    line.extend_from_slice(b":")?;
-    line.extend_from_slice(Buffer::new().format(number).as_bytes())?;
-    line.extend_from_slice(b": ")
-}
-
-/// Appends a value in quotes, if there is one.
-fn push_value(line: &mut Vec<u8>, value: Option<&[u8]>) -> Result<(), AllocError>
-    ensures { OnOk result (line.new.items ≡ line.old.items ++ value_shown (option_copied value.entry)) }
-{
-    let Some(value) = value else {
-        return Ok(());
-    };
-    line.extend_from_slice(b"'")?;
-    push_shown(line, value)?;
-    line.extend_from_slice(b"': ")
-}
-
-/// Appends a key, if there is one.
-fn push_key(line: &mut Vec<u8>, key: Option<&[u8]>) -> Result<(), AllocError>
-    ensures { OnOk result (line.new.items ≡ line.old.items ++ key_part (option_copied key.entry)) }
-{
-    let Some(key) = key else {
-        return Ok(());
-    };
-    push_shown(line, key)?;
-    line.extend_from_slice(b": ")
-}
-
 /// What a check finds on a line of a file.
 #[derive(Clone, Copy)]
 pub struct Finding<'f> {
     /// The name of the file.
     pub file: &'f str,
-    /// The number of the line, from 1.
+    /// The number of the line, from 1: that of the key, or of the line that Git cannot read.
     pub line: usize,
     /// How bad it is.
     pub severity: Severity,
-    /// The key of the entry. `None` for a line that Git cannot read.
+    /// The key of the entry, as Git lists it. `None` for a line that Git cannot read.
     pub key: Option<&'f [u8]>,
+    /// The key of the row that decides about the entry. `None` if there is none.
+    pub row: Option<Key<'f>>,
     /// The value of the entry. `None` for a key alone, an unknown key, and a line that Git cannot read.
     pub value: Option<&'f [u8]>,
     /// The text of the reason.
     pub reason: &'f [u8],
+    /// The fault of the reader that refuses the value, if one does and no word is suggested.
+    pub fault: Option<gix_config_value::Fault>,
     /// The text that is suggested in place of the value or of an unknown key, if there is one.
     pub suggestion: Option<&'f [u8]>,
 }
 
-impl Finding<'_> {
-    /// Appends the key and the value, if there are any.
-    fn push_setting(&self, line: &mut Vec<u8>) -> Result<(), AllocError>
-        ensures { OnOk result (line.new.items ≡ line.old.items ++ setting_shown (finding_of self.now)) }
-    {
-        push_key(line, self.key)?;
-        push_value(line, self.value)
-    }
-
-    /// Appends the finding as a line of text.
-    fn push_text(&self, line: &mut Vec<u8>, color: bool) -> Result<(), AllocError>
-        ensures { OnOk result (line.new.items ≡ line.old.items ++ text_line color (finding_of self.now)) }
-    {
-        push_place(line, self.file, self.line)?;
-        push_severity(line, color, self.severity)?;
-        self.push_setting(line)?;
-        line.extend_from_slice(self.reason)?;
-        line.extend_from_slice(b"\n")
-    }
-
-    /// Appends the finding as a line in the format of the options.
-    fn push_to(&self, line: &mut Vec<u8>, options: &Options) -> Result<(), AllocError>
-        ensures { OnOk result (line.new.items ≡ line.old.items ++ line_of options.now (finding_of self.now)) }
-    {
-        match options.format {
-            Format::Text => self.push_text(line, options.color),
-            Format::Json => push_json(line, self),
-        }
-    }
-}
-
 /// The bytes of a text that may be missing.
-fn bytes_of(text: &Option<Vec<u8>>) -> Option<&[u8]>
+pub(crate) fn bytes_of(text: &Option<Vec<u8>>) -> Option<&[u8]>
     ensures { option_copied result ≡ option_map (λ t. t.items) text.now }
 {
     match text {
@@ -361,7 +295,7 @@ pub(crate) fn value_of<'s>(setting: &'s Setting<'_>) -> Option<&'s [u8]>
 }
 
 /// The text that is suggested in place of a value, if the reason has one.
-fn suggestion_of<'r>(reason: &'r Reason<'_, '_>) -> Option<&'r [u8]>
+pub(crate) fn suggestion_of<'r>(reason: &'r Reason<'_, '_>) -> Option<&'r [u8]>
     ensures { option_copied result ≡ suggestion_of reason.now }
 {
     match reason {
@@ -373,56 +307,26 @@ fn suggestion_of<'r>(reason: &'r Reason<'_, '_>) -> Option<&'r [u8]>
     }
 }
 
-/// Appends the line that reports a setting for a reason.
-pub(crate) fn push_finding(
-    line: &mut Vec<u8>,
-    options: &Options,
-    setting: &Setting<'_>,
-    severity: Severity,
-    reason: &Reason<'_, '_>,
-) -> Result<(), AllocError>
-    ensures { OnOk result (line.new.items ≡ line.old.items
-        ++ finding_line options.now setting.now severity reason.now) }
+/// The fault of the reader that also refuses a text which no word of a list of this form is near.
+fn fault_of_form(form: Form) -> Option<gix_config_value::Fault>
+    ensures { result ≡ fault_of_form form }
 {
-    let mut text = Vec::new(*line.allocator());
-    push_reason(&mut text, reason)?;
-    let finding = Finding {
-        file: setting.file,
-        line: setting.line,
-        severity,
-        key: Some(&setting.key),
-        value: value_of(setting),
-        reason: &text,
-        suggestion: suggestion_of(reason),
-    };
-    finding.push_to(line, options)
+    match form {
+        Form::BoolOrWord => Some(gix_config_value::Fault::Boolean),
+        Form::IntOrWord => Some(gix_config_value::Fault::Integer),
+        _ => None,
+    }
 }
 
-/// Appends the line that reports what a setting includes, for a reason in words.
-pub fn push_include(
-    line: &mut Vec<u8>,
-    options: &Options,
-    setting: &Setting<'_>,
-    severity: Severity,
-    reason: &str,
-) -> Result<(), AllocError>
-    ensures { OnOk result (line.new.items ≡ line.old.items
-        ++ include_line options.now setting.now severity reason.now) }
+/// The fault of the reader that refuses a value, if one does and no word is suggested.
+pub(crate) fn fault_of(reason: &Reason<'_, '_>) -> Option<gix_config_value::Fault>
+    ensures { result ≡ fault_of reason.now }
 {
-    let mut text = Vec::new(*line.allocator());
-    text.extend_from_slice(reason.as_bytes())?;
-    let meant = None;
-    let suggestion = bytes_of(&meant);
-    let finding = Finding {
-        file: setting.file,
-        line: setting.line,
-        severity,
-        key: Some(&setting.key),
-        value: value_of(setting),
-        reason: &text,
-        suggestion,
-    };
-    finding.push_to(line, options)
+    match reason {
+        Reason::Refused(fault) => Some(*fault),
+        Reason::NoWord { list, meant: None } => fault_of_form(list.form),
+        _ => None,
+    }
 }
 
 /// The text of a key.
@@ -441,7 +345,10 @@ fn key_text(alloc: Global, key: &Key<'_>) -> Result<Vec<u8>, AllocError>
 }
 
 /// The text of the key that is suggested, if a key is near.
-fn key_meant(alloc: Global, unknown: &UnknownKey<'_>) -> Result<Option<Vec<u8>>, AllocError>
+pub(crate) fn key_meant(
+    alloc: Global,
+    unknown: &UnknownKey<'_>,
+) -> Result<Option<Vec<u8>>, AllocError>
     ensures { IfOk result (λ t. option_map (λ t. t.items) t ≡ key_meant unknown.now) }
 {
     match &unknown.nearest {
@@ -450,60 +357,12 @@ fn key_meant(alloc: Global, unknown: &UnknownKey<'_>) -> Result<Option<Vec<u8>>,
     }
 }
 
-/// Appends the line that reports a setting with an unknown key.
-pub(crate) fn push_misspelled(
-    line: &mut Vec<u8>,
-    options: &Options,
-    setting: &Setting<'_>,
-    unknown: &UnknownKey<'_>,
-) -> Result<(), AllocError>
-    ensures { OnOk result (line.new.items ≡ line.old.items
-        ++ unknown_line options.now setting.now unknown.now) }
-{
-    let alloc = *line.allocator();
-    let mut text = Vec::new(alloc);
-    push_unknown(&mut text, unknown)?;
-    let meant = key_meant(alloc, unknown)?;
-    let suggestion = bytes_of(&meant);
-    let finding = Finding {
-        file: setting.file,
-        line: setting.line,
-        severity: Severity::Warning,
-        key: Some(&setting.key),
-        value: None,
-        reason: &text,
-        suggestion,
-    };
-    finding.push_to(line, options)
-}
-
 /// Why a file is refused at a line.
-fn fault_text(fault: Fault) -> &'static str
+pub(crate) fn fault_text(fault: Fault) -> &'static str
     ensures { result.now ≡ fault_text fault }
 {
     match fault {
         Fault::BadLine => "Git cannot read this line, and reads nothing of the file",
         Fault::Nul => "a NUL byte outside a comment",
     }
-}
-
-/// Appends the line that reports the error of a refused file.
-pub(crate) fn push_refusal(
-    line: &mut Vec<u8>,
-    options: &Options,
-    file: &str,
-    error: Error,
-) -> Result<(), AllocError>
-    ensures { OnOk result (line.new.items ≡ line.old.items ++ refused_line options.now file.now error) }
-{
-    let finding = Finding {
-        file,
-        line: error.line,
-        severity: Severity::Error,
-        key: None,
-        value: None,
-        reason: fault_text(error.fault).as_bytes(),
-        suggestion: None,
-    };
-    finding.push_to(line, options)
 }

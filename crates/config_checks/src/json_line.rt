@@ -1,10 +1,10 @@
 //! A finding as JSON.
-ghost use Rattle.std.specs.Prelude.{◌≡◌, ◌++◌, OnOk, IfOk, Some, option_copied};
+ghost use Rattle.std.specs.Prelude.{◌≡◌, IfOk, Some, option_copied};
 ghost use Rattle.serde_json.specs.Read.{read};
 ghost use Rattle.serde_json.specs.View.{view};
 ghost use Rattle.serde_json.specs.Written.{compact_text};
 ghost use Rattle.config_checks.specs.Findings.{finding_of};
-ghost use Rattle.config_checks.specs.Json.{severity_name, text_json, text_or_null, finding_json, json_line};
+ghost use Rattle.config_checks.specs.Json.{severity_name, text_json, text_or_null, finding_json};
 ghost use Rattle.config_checks.specs.Json.{IsOneLine};
 
 use crate::finding::Finding;
@@ -41,10 +41,11 @@ fn text_or_null(alloc: Global, text: Option<&[u8]>) -> Result<Value, AllocError>
 }
 
 /// A finding as a JSON object.
-fn finding_json(alloc: Global, finding: &Finding<'_>) -> Result<Value, AllocError>
-    ensures { IfOk result (λ v. view v ≡ finding_json (finding_of finding.now)) }
+fn finding_json(alloc: Global, column: usize, finding: &Finding<'_>) -> Result<Value, AllocError>
+    ensures { IfOk result (λ v. view v ≡ finding_json column (finding_of finding.now)) }
 {
     json!(in alloc; {
+        "column": column,
         "file": finding.file,
         "line": finding.line,
         "severity": severity_name(finding.severity),
@@ -55,20 +56,11 @@ fn finding_json(alloc: Global, finding: &Finding<'_>) -> Result<Value, AllocErro
     })
 }
 
-/// The JSON text of a finding, which has no line feed. It always reads back to the same JSON object.
-pub fn json_text(alloc: Global, finding: &Finding<'_>) -> Result<Vec<u8>, AllocError>
-    ensures text { IfOk result (λ t. t.items ≡ compact_text (finding_json (finding_of finding.now))) }
-    ensures reads_back { IfOk result (λ t. read t.items ≡ Some (finding_json (finding_of finding.now))) }
+/// The JSON text of a finding at this column, which has no line feed. It always reads back to the same JSON object.
+pub fn json_text(alloc: Global, column: usize, finding: &Finding<'_>) -> Result<Vec<u8>, AllocError>
+    ensures text { IfOk result (λ t. t.items ≡ compact_text (finding_json column (finding_of finding.now))) }
+    ensures reads_back { IfOk result (λ t. read t.items ≡ Some (finding_json column (finding_of finding.now))) }
     ensures one_line { IfOk result (λ t. IsOneLine t.items) }
 {
-    finding_json(alloc, finding)?.to_vec(alloc)
-}
-
-/// Appends a finding as a line of JSON.
-pub(crate) fn push_json(line: &mut Vec<u8>, finding: &Finding<'_>) -> Result<(), AllocError>
-    ensures { OnOk result (line.new.items ≡ line.old.items ++ json_line (finding_of finding.now)) }
-{
-    let text = json_text(*line.allocator(), finding)?;
-    line.extend_from_slice(&text)?;
-    line.extend_from_slice(b"\n")
+    finding_json(alloc, column, finding)?.to_vec(alloc)
 }

@@ -6,7 +6,7 @@ ghost use Rattle.config_checks.specs.declared.options.Options.{Options};
 ghost use Rattle.config_checks.specs.declared.row.Row.{Row};
 ghost use Rattle.config_checks.specs.declared.version.Version.{Version};
 ghost use Rattle.config_checks.specs.declared.check.Counts.{Counts};
-ghost use Rattle.config_checks.specs.declared.check.CheckError.{CheckError};
+ghost use Rattle.config_checks.specs.Findings.{Finding};
 ghost use Rattle.config_checks.specs.Reasons.{HasReason, HasFinding, IsSameFinding};
 ghost use Rattle.config_checks.specs.Report.{BeginsReport, IsReport};
 
@@ -26,13 +26,12 @@ pub fn one_finding()
         → IsSameFinding a b }
 {}
 
-/// A file has one report. Two checks of one file name and text, with the same rows and options, write the
-/// same and return the same counts unless they fail. What a failed check wrote is a prefix of that report.
+/// A file has one report. Two checks of one file name and text, with the same rows and options, find the same
+/// and return the same counts unless they fail. What a failed check found are the first findings of that report.
 pub fn one_report()
-    ensures one { (rows : List Row) (options : Options) (file text a b : List ℕ) (s t : Counts)
+    ensures one { (rows : List Row) (options : Options) (file text : List ℕ) (a b : List Finding) (s t : Counts)
         → IsReport rows options file text a s → IsReport rows options file text b t → (a ≡ b) × (s ≡ t) }
-    ensures begins { (rows : List Row) (options : Options) (file text a b : List ℕ) (e : CheckError)
-        (s : Counts)
-        → BeginsReport rows options file text a e → IsReport rows options file text b s
-        → (more : List ℕ) × (b ≡ a ++ more) }
+    ensures begins { (rows : List Row) (options : Options) (file text : List ℕ) (a b : List Finding) (s : Counts)
+        → BeginsReport rows options file text a → IsReport rows options file text b s
+        → (more : List Finding) × (b ≡ a ++ more) }
 {}

@@ -176,8 +176,9 @@ fn word_edits(alloc: Global, word: &[u8], text: &[u8]) -> Result<Option<usize>, 
     }
 }
 
-/// The first of the words that are nearest to a text, or `None` if no word is near.
-fn nearest_word<'t>(
+/// The first of the words that are nearest to a text, or `None` if no word is near. Words of one or two bytes,
+/// or with a `*` at the end, are never near. It fails only if memory is refused.
+pub fn nearest_word<'t>(
     alloc: Global,
     words: &[&'t [u8]],
     text: &[u8],

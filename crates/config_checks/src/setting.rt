@@ -1,7 +1,7 @@
 //! What a check judges: the entries of a file.
-ghost use Rattle.std.specs.Prelude.{IfOk};
+ghost use Rattle.std.specs.Prelude.{◌≡◌, IfOk};
 ghost use Rattle.config_file.specs.Views.{entry_of};
-ghost use Rattle.config_checks.specs.Settings.{IsSettingOf};
+ghost use Rattle.config_checks.specs.Settings.{first_line, IsSettingOf};
 
 use config_file::entry::Entry;
 use std::alloc::{AllocError, Global};
@@ -11,12 +11,26 @@ use std::alloc::{AllocError, Global};
 pub struct Setting<'a> {
     /// The name of the file.
     pub file: &'a str,
-    /// The line of the entry, from 1.
+    /// The line of the key, from 1.
     pub line: usize,
     /// The key as Git lists it.
     pub key: Vec<u8>,
     /// The text of the value, or `None` for a key alone.
     pub value: Option<Vec<u8>>,
+}
+
+/// The line of the key of an entry: the value may continue over further lines, on the last of which the entry
+/// ends.
+fn first_line(entry: &Entry<'_>) -> usize
+    ensures { result ≡ first_line (entry_of entry.now) }
+{
+    match &entry.value {
+        Some(value) => {
+            let feeds = value.raw.iter().filter(|byte| **byte == b'\n').count();
+            entry.line.saturating_sub(feeds)
+        }
+        None => entry.line,
+    }
 }
 
 impl<'a> Setting<'a> {
@@ -30,7 +44,7 @@ impl<'a> Setting<'a> {
         };
         Ok(Self {
             file,
-            line: entry.line,
+            line: first_line(entry),
             key: entry.key_text(alloc)?,
             value,
         })

@@ -3,16 +3,18 @@ ghost use Rattle.std.specs.Prelude.{◌≡◌, ◌⊎◌, ◌++◌, ◌↔◌, I
 ghost use Rattle.std.specs.Prelude.{option_copied};
 ghost use Rattle.config_text.specs.SameWord.{SameWord};
 ghost use Rattle.config_file.specs.KeyView.{key_of};
-ghost use Rattle.config_checks.specs.Nearest.{LacksWord, AreFar, IsNearest};
+ghost use Rattle.config_checks.specs.Nearest.{LacksRun, AreFar, IsNearest};
 ghost use Rattle.config_checks.specs.Suggestions.{SubsectionEdits, NameEdits, EditsAfter};
 ghost use Rattle.config_checks.specs.Suggestions.{OnePartEdits, RowEdits, Fills, FillsSubsection};
 ghost use Rattle.config_checks.specs.Suggestions.{FillsKey, IsShared, IsOwn};
+ghost use Rattle.config_checks.specs.Suggestions.{IsTopic, IsMoved, IsMovedRow, HasNone, IsFirstSuch};
+ghost use Rattle.config_checks.specs.Suggestions.{IsNowhere, IsElsewhere};
 ghost use Rattle.config_checks.specs.Rows.{IsUnknown, rows_of};
 ghost use Rattle.config_checks.specs.Reading.Steps.{IsFew};
 ghost use Rattle.config_checks.specs.Suggestions.{HasSection, IsPassed, IsUnknownKey, dotted};
 ghost use Rattle.config_checks.specs.Suggestions.{subsection_shown, after_shown, key_shown, asked, unknown_text};
 
-use crate::edits::{LONG, MOST_EDITS, few_edits, lacks_word, most_edits};
+use crate::edits::{LONG, MOST_EDITS, few_edits, lacks_run, most_edits};
 use crate::finding::push_shown;
 use crate::key::{ANY, covers_name, covers_subsection, is_same_word};
 use crate::row::{Row, Run};
@@ -52,11 +54,11 @@ fn subsection_edits(
 }
 
 /// Three edits if one name is long and only lacks a run of bytes of the other, and otherwise `None`.
-fn edits_of_word(alloc: Global, row: &[u8], name: &[u8]) -> Result<Option<usize>, AllocError>
-    ensures { IfOk result (λ r. MatchOption r (¬ (LacksWord row.now name.now ⊎ LacksWord name.now row.now))
-        (λ n. (LacksWord row.now name.now ⊎ LacksWord name.now row.now) × (n ≡ 3))) }
+fn edits_of_run(alloc: Global, row: &[u8], name: &[u8]) -> Result<Option<usize>, AllocError>
+    ensures { IfOk result (λ r. MatchOption r (¬ (LacksRun row.now name.now ⊎ LacksRun name.now row.now))
+        (λ n. (LacksRun row.now name.now ⊎ LacksRun name.now row.now) × (n ≡ 3))) }
 {
-    if lacks_word(alloc, row, name)? || lacks_word(alloc, name, row)? {
+    if lacks_run(alloc, row, name)? || lacks_run(alloc, name, row)? {
         return Ok(Some(MOST_EDITS));
     }
     Ok(None)
@@ -72,7 +74,7 @@ fn name_edits(alloc: Global, row: &Key<'_>, key: &Key<'_>) -> Result<Option<usiz
     }
     match key.subsection() {
         Some(_) => Ok(None),
-        None => edits_of_word(alloc, row.name(), key.name()),
+        None => edits_of_run(alloc, row.name(), key.name()),
     }
 }
 
@@ -139,6 +141,62 @@ fn nearest<'r, 't>(
     Ok(best)
 }
 
+/// Whether the names in a section are those of commands, as in `pager`, or of what helpers ask for.
+fn is_topic(section: &[u8]) -> bool
+    ensures { IsTrue result ↔ IsTopic section.now }
+{
+    is_same_word(b"advice", section)
+        || is_same_word(b"color", section)
+        || is_same_word(b"credential", section)
+        || is_same_word(b"pager", section)
+}
+
+/// Whether the key of a row has the name of a key in another section, and neither key has a subsection.
+fn is_moved(row: &Key<'_>, key: &Key<'_>) -> bool
+    ensures { IsTrue result ↔ IsMoved (key_of row.now) (key_of key.now) }
+{
+    match (row.subsection(), key.subsection()) {
+        (None, None) => {
+            is_same_word(row.name(), key.name())
+                && !is_same_word(row.section(), key.section())
+                && !is_topic(row.section())
+        }
+        _ => false,
+    }
+}
+
+/// The first of these rows that has the name of a key in another section, or `None` if there is none.
+fn first_moved<'r, 't>(rows: &'r [Row<'t>], key: &Key<'_>) -> Option<&'r Row<'t>>
+    ensures { MatchOption result (HasNone (IsMovedRow (key_of key.now)) rows.now)
+        (λ row. IsFirstSuch (IsMovedRow (key_of key.now)) rows.now row.now) }
+{
+    rows.iter().find(|row| is_moved(&row.key, key))
+}
+
+/// The same for the rows of runs.
+fn moved<'r, 't>(runs: &[Run<'r, 't>], key: &Key<'_>) -> Option<&'r Row<'t>>
+    ensures { MatchOption result (HasNone (IsMovedRow (key_of key.now)) (rows_of runs.now))
+        (λ row. IsFirstSuch (IsMovedRow (key_of key.now)) (rows_of runs.now) row.now) }
+{
+    for run in runs {
+        if let Some(row) = first_moved(run.rows, key) {
+            return Some(row);
+        }
+    }
+    None
+}
+
+/// The same if a row has the section of the key, and otherwise `None`.
+fn elsewhere<'r, 't>(runs: &[Run<'r, 't>], key: &Key<'_>) -> Option<&'r Row<'t>>
+    ensures { MatchOption result (IsNowhere (rows_of runs.now) (key_of key.now))
+        (λ row. IsElsewhere (rows_of runs.now) (key_of key.now) row.now) }
+{
+    if !has_section(runs, key.section()) {
+        return None;
+    }
+    moved(runs, key)
+}
+
 /// The part of the key if the part of the row's key is `*`, and otherwise the row's part.
 fn filled<'k>(row: &'k [u8], part: &'k [u8]) -> &'k [u8]
     ensures { Fills row.now part.now result.now }
@@ -161,8 +219,8 @@ fn filled_subsection<'k>(row: &Key<'k>, key: &Key<'k>) -> Option<&'k [u8]>
     }
 }
 
-/// The key of a row, in which the parts of a key replace `*`.
-fn filled_key<'k>(row: &Key<'k>, key: &Key<'k>) -> Key<'k>
+/// The key of a row, in which the parts of a key replace `*`, or `NAME` if the key has no subsection.
+pub fn filled_key<'k>(row: &Key<'k>, key: &Key<'k>) -> Key<'k>
     ensures { FillsKey (key_of row.now) (key_of key.now) (key_of result) }
 {
     let filled = row.with_subsection(filled_subsection(row, key));
@@ -214,8 +272,8 @@ pub struct UnknownKey<'k> {
     pub nearest: Option<Key<'k>>,
 }
 
-/// Returns the unknown key if a check should report it: it is near the key of a row, or it has no subsection,
-/// and only rows have settings in its section. Two keys are near if they differ in exactly one part: by one
+/// Returns the unknown key if a check should report it: it is near the key of a row, or a row has its name in
+/// another section, or it has no subsection, and only rows have settings in its section. Two keys are near if they differ in exactly one part: by one
 /// edit, by two if the part is long in both or, in the name of a key without a subsection, by a missing
 /// run of bytes. Returns `None` for any other text, and an error if there is no memory.
 pub(crate) fn unknown_key<'k>(
@@ -230,7 +288,12 @@ pub(crate) fn unknown_key<'k>(
     let Some(key) = Key::split(text) else {
         return Ok(None);
     };
-    match nearest(alloc, runs, &key)? {
+    if let Some(row) = nearest(alloc, runs, &key)? {
+        return Ok(Some(UnknownKey {
+            nearest: Some(filled_key(&row.key, &key)),
+        }));
+    }
+    match elsewhere(runs, &key) {
         Some(row) => Ok(Some(UnknownKey {
             nearest: Some(filled_key(&row.key, &key)),
         })),

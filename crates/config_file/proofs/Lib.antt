@@ -40,7 +40,7 @@ pub mod StandardFacts
 pub mod KeyFacts
 pub mod PatternsOnLiterals
 pub mod Steps
-pub mod Coming
+mod Coming
 pub mod Picked
 pub mod ShownTexts
 pub mod Last
@@ -61,3 +61,11 @@ pub mod UrlMatches
 pub mod UrlFits
 pub mod Pieces
 pub mod Edits
+pub mod Changed
+pub mod Replaced
+pub mod Closed
+pub mod Added
+pub mod EditedKeys
+pub mod Removed
+pub mod Cleared
+pub mod Decided

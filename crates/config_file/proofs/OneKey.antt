@@ -181,7 +181,7 @@ refused_same (spec.wrong cut is) (spec.no_dot none) = absurd (cut_has_dot cut no
 refused_same {e = e} {f = f} (spec.wrong cut is) (spec.wrong also so) =
     let same : Some e ≡ Some f = sym (wrong_answer is) ∙ answer_same cut also ∙ wrong_answer so in cc
 
-not_both : {text : List ℕ} {k : Key} {e : KeyError} → IsKey text k → RefusesKey text e → ⊥
+pub not_both : {text : List ℕ} {k : Key} {e : KeyError} → IsKey text k → RefusesKey text e → ⊥
 not_both is (spec.no_dot none) = cut_has_dot is.cut none
 not_both {k = k} {e = e} is (spec.wrong cut wrong) =
     let same : None ≡ Some e =

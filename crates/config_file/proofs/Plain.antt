@@ -1,13 +1,14 @@
 -- A value whose text is a slice of its bytes.
 use Rattle.std.proofs.Common.{◌≡◌, ◌≢◌, ℕ, ◌-◌, true, false, List, [], ◌∷◌, ◌++◌, length, refl, sym, ap, ◌∙◌, subst, arith, append_assoc, append-nil, length-append}
 use Rattle.std.proofs.lemmas.Bool.{true≢false, and_parts}
+use Rattle.std.proofs.lemmas.Bool.Decides.{nat_tests}
 use Rattle.std.proofs.lemmas.List.Folds.{list_all-append}
 use Rattle.std.specs.List.{list_all}
-use Rattle.config_file.proofs.Spelled.{after_held, after_blanks, after_plain}
+use Rattle.config_file.proofs.Spelled.{after_held, after_blanks, after_plain, word_no_quote, word_no_backslash}
 use Rattle.config_file.specs.Bytes.{is_blank}
 use Rattle.config_file.specs.Runs.{Run, StopsRun}
 use Rattle.config_file.specs.Value.{Spells, itself, kept}
-use Rattle.config_file.specs.Reading.Scans.{PassedPlain}
+use Rattle.config_file.specs.Reading.Scans.{PassedPlain, is_word_byte}
 
 pub passed_start : {raw blanks start : List ℕ} → Run is_blank raw blanks start → PassedPlain raw start start 0
 passed_start {raw = raw} {blanks = blanks} {start = start} run =
@@ -66,3 +67,15 @@ passed_text {start = start} {rest = rest} {b = b} at passed e is not_quote not_b
           let next = after_plain (subst (λ x. Spells itself false passed.front held x spelled o) e more) is not_quote not_backslash in
           (o, [], (λ some. refl), subst (λ x. Spells itself false (x ++ b ∷ []) [] rest spelled o) text next);
     }
+
+word_is_no_blank : (b : ℕ) → is_word_byte b ≡ true → is_blank b ≡ false
+word_is_no_blank b is = grind (arith, nat_tests)
+
+-- the scan passes a run of bytes that spell themselves as it passes each of them
+pub passed_word : {raw start after : List ℕ} (at word : List ℕ) → PassedPlain raw start at (length start - length at)
+    → at ≡ word ++ after → list_all is_word_byte word ≡ true
+    → PassedPlain raw start after (length start - length after)
+passed_word {raw = raw} {start = start} at [] passed e all = subst (λ x. PassedPlain raw start x (length start - length x)) e passed
+passed_word {after = after} at (b ∷ word) passed e all =
+    let (here, more) = and_parts (is_word_byte b) (list_all is_word_byte word) all in
+    passed_word (word ++ after) word (passed_text at passed e (word_is_no_blank b here) (word_no_quote b here) (word_no_backslash b here)) refl more

@@ -1,13 +1,14 @@
 -- The text that the bytes of a value or of a subsection spell, piece by piece.
-use Rattle.std.proofs.Common.{◌≡◌, ◌≢◌, ℕ, ◌⊎◌, inl, inr, Bool, true, false, not, List, [], ◌∷◌, ◌++◌, Option, sym, ap, ◌∙◌, subst, arith, append_assoc, append-nil}
+use Rattle.std.proofs.Common.{◌≡◌, ◌≢◌, ℕ, ◌⊎◌, inl, inr, Bool, true, false, not, List, [], ◌∷◌, ◌++◌, Option, sym, ap, refl, ◌∙◌, subst, arith, append_assoc, append-nil}
 use Rattle.std.specs.List.{list_all}
 use Rattle.std.proofs.lemmas.Bool.{true≢false, and_parts}
 use Rattle.std.proofs.lemmas.Bool.Decides.{nat_tests}
 use Rattle.config_file.specs.Bytes.{is_blank, is_plain}
 use Rattle.config_file.specs.Runs.{Run, StopsRun}
 use Rattle.config_file.specs.Subsection.{SpellsSubsection}
+use Rattle.config_file.specs.Subsection as subsections
 use Rattle.config_file.specs.Value.{Ending, outside, Spells, itself, ends_outside, ends_at_backslash, quote, escaped, continued, continued_after_return, blank, plain, kept}
-use Rattle.config_file.specs.Reading.Scans.{is_held_back, unescape, append_some}
+use Rattle.config_file.specs.Reading.Scans.{is_held_back, is_unescaped, is_word_byte, unescape, append_some}
 
 blank_is_no_quote : (b : ℕ) → is_blank b ≡ true → b ≡ 34 → ⊥
 blank_is_no_quote b is e = grind (arith, nat_tests)
@@ -102,6 +103,32 @@ blanks_next {q = false} {value = value} {held = held} {blanks = blanks} {after =
 blanks_next {q = false} {b = b} at e is (inr stops) run s =
     absurd (true≢false (sym is ∙ subst (λ x. StopsRun is_blank x) e stops))
 
+pub kept_none : (value : List ℕ) → kept value [] ≡ value
+kept_none [] = refl
+kept_none (b ∷ value) = append-nil (b ∷ value)
+
+word_not_held : (q : Bool) (b : ℕ) → is_word_byte b ≡ true → is_held_back q b ≡ false
+word_not_held true b is = refl
+word_not_held false b is = grind (arith, nat_tests)
+
+pub word_no_quote : (b : ℕ) → is_word_byte b ≡ true → b ≢ 34
+word_no_quote b is e = grind (arith, nat_tests)
+
+pub word_no_backslash : (b : ℕ) → is_word_byte b ≡ true → b ≢ 92
+word_no_backslash b is e = grind (arith, nat_tests)
+
+-- a run of bytes that spell themselves is appended
+after_word : {w : ℕ → ℕ} {q : Bool} {o : Ending} {spelled : List ℕ} (value word rest : List ℕ)
+    → list_all is_word_byte word ≡ true
+    → Spells w q value [] (word ++ rest) spelled o → Spells w q (value ++ word) [] rest spelled o
+after_word {w = w} {q = q} {o = o} {spelled = spelled} value [] rest all s =
+    subst (λ v. Spells w q v [] rest spelled o) (sym (append-nil value)) s
+after_word {w = w} {q = q} {o = o} {spelled = spelled} value (b ∷ word) rest all s =
+    let (here, more) = and_parts (is_word_byte b) (list_all is_word_byte word) all in
+    let next = after_plain s (word_not_held q b here) (word_no_quote b here) (word_no_backslash b here) in
+    subst (λ v. Spells w q v [] rest spelled o) (append_assoc value (b ∷ []) word)
+    (after_word (value ++ b ∷ []) word rest more (subst (λ v. Spells w q (v ++ b ∷ []) [] (word ++ rest) spelled o) (kept_none value) next))
+
 -- the same, in the form that the loop needs
 module _ {w : ℕ → ℕ} {q : Bool} {b : ℕ} {value held rest : List ℕ} (at : List ℕ) (e : at ≡ b ∷ rest) where
   pub quote_next : {spelled text : List ℕ} {o : Ending} → b ≡ 34 → text ≡ kept value held
@@ -114,6 +141,14 @@ module _ {w : ℕ → ℕ} {q : Bool} {b : ℕ} {value held rest : List ℕ} (at
       → Spells w q value held at spelled o → (ending : Ending) × Spells w q text [] rest spelled ending
   plain_next {spelled = spelled} {o = o} is not_quote not_backslash same same_text s =
       (o, rw (same_text, same) (after_plain (subst (λ x. Spells w q value held x spelled o) e s) is not_quote not_backslash))
+
+  pub word_next : {spelled kept_text text longer word after : List ℕ} {o : Ending} → is_held_back q b ≡ false → b ≢ 34
+      → b ≢ 92 → kept_text ≡ kept value held → text ≡ kept_text ++ b ∷ []
+      → Run is_word_byte rest word after → longer ≡ text ++ word
+      → Spells w q value held at spelled o → (ending : Ending) × Spells w q longer [] after spelled ending
+  word_next {spelled = spelled} {text = text} {word = word} {after = after} not_held not_quote not_backslash same same_text run appended s =
+      let (ending, more) = plain_next not_held not_quote not_backslash same same_text s in
+      (ending, rw appended (after_word text word after run.pass (subst (λ x. Spells w q text [] x spelled ending) run.joined more)))
 
   pub backslash_next : {spelled kept_text text after : List ℕ} {o : Ending} (escaped_byte : Option ℕ)
       → b ≡ 92 → kept_text ≡ kept value held
@@ -129,3 +164,27 @@ module _ {w : ℕ → ℕ} {q : Bool} {b : ℕ} {value held rest : List ℕ} (at
 abbrev pub Writes : List ℕ → List ℕ → List ℕ → List ℕ → Type 0
 Writes at spelled old new =
     (written : List ℕ) × (more : List ℕ) × SpellsSubsection at more × (spelled ≡ written ++ more) × (new ≡ old ++ written)
+
+escaped_is_not : (b : ℕ) → is_unescaped b ≡ true → b ≡ 92 → ⊥
+escaped_is_not b is e = grind (arith, nat_tests)
+
+unescaped_left : {raw spelled : List ℕ} (front rest : List ℕ) → SpellsSubsection raw spelled → raw ≡ front ++ rest
+    → list_all is_unescaped front ≡ true
+    → (more : List ℕ) × SpellsSubsection rest more × (spelled ≡ front ++ more)
+unescaped_left {spelled = spelled} [] rest s e all = (spelled, subst (λ x. SpellsSubsection x spelled) e s, refl)
+unescaped_left (b ∷ front) rest subsections.ends e all = cc
+unescaped_left (b ∷ front) rest (subsections.escaped {b = c} is text s) e all =
+    let same : c ≡ b = cc in
+    absurd (escaped_is_not b ((and_parts (is_unescaped b) (list_all is_unescaped front) all).0) (sym same ∙ is))
+unescaped_left (b ∷ front) rest (subsections.plain {b = c} {raw = raw} is s) e all =
+    let same : c ≡ b = cc in
+    let tails : raw ≡ front ++ rest = cc in
+    let (more, left, t) = unescaped_left front rest s tails ((and_parts (is_unescaped b) (list_all is_unescaped front) all).1) in
+    (more, left, rw same (ap (◌∷◌ b) t))
+
+-- the bytes before the first backslash spell themselves
+pub writes_unescaped : {raw front rest spelled new : List ℕ} (old : List ℕ) → Run is_unescaped raw front rest
+    → new ≡ old ++ front → SpellsSubsection raw spelled → Writes rest spelled old new
+writes_unescaped {front = front} {rest = rest} old run appended s =
+    let (more, left, e) = unescaped_left front rest s run.joined run.pass in
+    (front, more, left, e, appended)

@@ -1,14 +1,15 @@
 -- The scan of a value.
 use Rattle.std.proofs.Common.{◌≡◌, ◌≢◌, ℕ, ◌+◌, Bool, true, false, not, List, [], ◌∷◌, ◌++◌, Option, Some, None, is_some, refl, sym, ap, ◌∙◌, subst, append_assoc, append-nil, arith, inl, inr, ◌⊎◌, ◌==◌}
 use Rattle.std.proofs.lemmas.List.{append_cancel_right}
-use Rattle.std.proofs.lemmas.Bool.{cases_Bool}
+use Rattle.std.specs.List.{list_all}
+use Rattle.std.proofs.lemmas.Bool.{cases_Bool, and_parts}
 use Rattle.std.proofs.lemmas.Bool.Decides.{nat_tests}
 use Rattle.config_file.specs.declared.errors.Fault.TheVariants.{BadLine, Nul}
 use Rattle.config_file.specs.Bytes.{is_plain, is_blank, is_comment_sign, EndsText}
 use Rattle.config_file.specs.Header.{fault_at}
 use Rattle.config_file.specs.Value.{Ending, outside, inside, at_backslash, Spells, itself, ends_outside, ends_inside, ends_at_backslash, quote, escaped, continued, continued_after_return, blank, plain, SpellsValue, IsPart, EndsValue, IsNoEscape, line_feeds, kept, escape}
 use Rattle.config_file.specs.Value.{TakesValue, closed, open_end, ValueStops, nul, unclosed, unclosed_open_end, no_escape}
-use Rattle.config_file.specs.Reading.Scans.{PassedValue, EndsScan, Escapes, letter, line, line_after_return, goes_on}
+use Rattle.config_file.specs.Reading.Scans.{PassedValue, EndsScan, Escapes, letter, line, line_after_return, goes_on, is_plain_byte}
 
 pub passed_none : (text : List ℕ) → PassedValue text false text
 passed_none text = record { raw = []; value = []; held = []; joined = refl; extends = λ more spelled o h. h }
@@ -61,6 +62,24 @@ passed_byte {b = b} false at passed e on not_quote not_backslash =
       | inr other ↦ passed_more (b ∷ []) (kept passed.value passed.held ++ b ∷ []) [] passed e
           (λ more spelled o h. plain (plain_unquoted b on not_quote not_backslash other) h)
     ]
+
+plain_goes_on : (q : Bool) (b : ℕ) → is_plain_byte b ≡ true → goes_on q b ≡ true
+plain_goes_on true b is = grind (arith, nat_tests)
+plain_goes_on false b is = grind (arith, nat_tests)
+
+plain_no_quote : (b : ℕ) → is_plain_byte b ≡ true → b ≢ 34
+plain_no_quote b is e = grind (arith, nat_tests)
+
+plain_no_backslash : (b : ℕ) → is_plain_byte b ≡ true → b ≢ 92
+plain_no_backslash b is e = grind (arith, nat_tests)
+
+-- the scan passes a run of bytes as it passes each of them
+pub passed_run : {text after : List ℕ} (q : Bool) (at bytes : List ℕ) → PassedValue text q at
+    → at ≡ bytes ++ after → list_all is_plain_byte bytes ≡ true → PassedValue text q after
+passed_run {text = text} q at [] passed e all = subst (λ x. PassedValue text q x) e passed
+passed_run {after = after} q at (b ∷ bytes) passed e all =
+    let (here, more) = and_parts (is_plain_byte b) (list_all is_plain_byte bytes) all in
+    passed_run q (bytes ++ after) bytes (passed_byte q at passed e (plain_goes_on q b here) (plain_no_quote b here) (plain_no_backslash b here)) refl more
 
 passed_part : {text at : List ℕ} (q : Bool) → (passed : PassedValue text q at) → IsPart q passed.raw
 passed_part true passed = (passed.value, rw (append-nil passed.raw) at (passed.extends [] _ inside ends_inside))

@@ -1,6 +1,6 @@
 -- The bytes of a configuration file.
 use Rattle.std.specs.Prelude.{◌≡◌, ℕ, Bool, true, false, not, ◌&&◌, ◌||◌, ◌==◌, ◌⊎◌, List, [], ◌∷◌, ⊤}
-use Rattle.std.specs.Char.{is_ascii_alphanumeric}
+use Rattle.std.specs.Char.{is_ascii_alphabetic, is_ascii_alphanumeric}
 
 abbrev pub backspace : ℕ
 backspace = 8
@@ -91,3 +91,7 @@ abbrev pub IsAtLineEnd : List ℕ → Type 0
 IsAtLineEnd [] = ⊤
 IsAtLineEnd (a ∷ []) = a ≡ line_feed
 IsAtLineEnd (a ∷ b ∷ rest) = (a ≡ line_feed) ⊎ ((a ≡ carriage_return) × (b ≡ line_feed))
+
+-- the text begins with a letter
+abbrev pub BeginsWithLetter : List ℕ → Type 0
+BeginsWithLetter text = (b : ℕ) × (rest : List ℕ) × (text ≡ b ∷ rest) × (is_ascii_alphabetic b ≡ true)

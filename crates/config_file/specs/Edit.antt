@@ -1,11 +1,17 @@
 -- Edits of a text: what changes in its entries, and what in its bytes.
-use Rattle.std.specs.Prelude.{◌≡◌, ℕ, List, [], ◌∷◌, ◌++◌, Option, Some, None, map, ◌⊎◌, ⊤}
+use Rattle.std.specs.Prelude.{◌≡◌, ◌≢◌, ℕ, Bool, true, false, List, [], ◌∷◌, ◌++◌, Option, Some, None, map}
+use Rattle.std.specs.Prelude.{◌⊎◌, ⊤}
+use Rattle.std.specs.Char.{to_ascii_lowercase}
+use Rattle.std.specs.List.{list_all, AllZip}
 use Rattle.config_file.specs.declared.edit.EditError.{EditError}
 use Rattle.config_file.specs.declared.edit.EditError.TheVariants as error
-use Rattle.config_file.specs.Bytes.{dot, left_bracket}
+use Rattle.config_file.specs.Bytes.{tab, line_feed, carriage_return, dot, space, equals_sign, left_bracket}
+use Rattle.config_file.specs.Bytes.{is_blank, is_comment_sign, is_comment_byte}
 use Rattle.config_file.specs.Header.{Section, Header}
-use Rattle.config_file.specs.Spelling.{Names, IsHeader, HasNoHeader, LacksSpelling}
-use Rattle.config_file.specs.File.{Entry, IsFile}
+use Rattle.config_file.specs.Value.{Ending, SpellsValue}
+use Rattle.config_file.specs.Spelling.{Names, IsHeader, IsSpelling, HasNoHeader, LacksSpelling}
+use Rattle.config_file.specs.File.{Entry, TakesEntry, IsFile}
+use Rattle.config_file.specs.Bytes.{BeginsWithLetter}
 use Rattle.config_file.specs.Listing.{IsListedSection}
 use Rattle.config_file.specs.Key.{Key, IsKey, RefusesKey, stem}
 
@@ -18,7 +24,8 @@ content of = (of.section, of.key, of.value)
 
 -- the text is a configuration file, whose entries, in order, are these but for their lines
 abbrev pub HasContents : List ℕ → List Content → Type 0
-HasContents text contents = (entries : List Entry) × IsFile text entries None × (map content entries ≡ contents)
+HasContents text contents =
+    (entries : List Entry) × IsFile text entries None × (map content entries ≡ contents)
 
 -- the section is that of the key: Git lists it as the stem of the key and a dot
 abbrev pub IsIn : Key → Option Section → Type 0
@@ -58,18 +65,343 @@ NamesSection name key = IsKey (name ++ dot ∷ 120 ∷ []) key
 
 -- The new text is a file with the entries of the old one, but those of the sections of the old name are in the section of
 -- the new name, and only headers have changed. If the names are equal, it is the old text.
-abbrev pub RenamesSection : List ℕ → List ℕ → List ℕ → List Content → List ℕ → Type 0
-RenamesSection old_name new_name old contents new = ((old_name ≡ new_name) × (new ≡ old))
+abbrev pub RenamesSection : List ℕ → List ℕ → List ℕ → List ℕ → Type 0
+RenamesSection old_name new_name old new = (contents : List Content) × HasContents old contents
+    × (((old_name ≡ new_name) × (new ≡ old))
     ⊎ ((from : Key) × (to : Key) × NamesSection old_name from × NamesSection new_name to
-    × (now : List Content) × HasContents new now × Renames from to contents now × Changes (RenamesHeader from to) old new)
+    × (now : List Content) × HasContents new now × Renames from to contents now
+    × Changes (RenamesHeader from to) old new))
 
--- Why an edit is refused, in this order: by the key, by the value, if there is one, by the text, or by what the text has of
--- the key. Memory may be refused at any time.
-abbrev pub RefusesEdit : List ℕ → Option (List ℕ) → List ℕ → EditError → Type 0
-RefusesEdit key value text (error.Memory e) = ⊤
-RefusesEdit key value text (error.Key e) = RefusesKey key e
-RefusesEdit key value text error.Section = (k : Key) × IsKey key k × HasNoHeader k.section k.subsection
-RefusesEdit key value text error.Value = (k : Key) × IsKey key k × LacksSpelling value
-RefusesEdit key value text (error.File e) = (k : Key) × IsKey key k × (entries : List Entry) × IsFile text entries (Some e)
-RefusesEdit key value text error.Several = (k : Key) × IsKey key k × (entries : List Entry) × IsFile text entries None
-RefusesEdit key value text error.Absent = (k : Key) × IsKey key k × (entries : List Entry) × IsFile text entries None
+-- the content is that of an entry of the key
+abbrev pub IsOf : Key → Content → Type 0
+IsOf key x = IsIn key x.0 × (map to_ascii_lowercase x.1 ≡ map to_ascii_lowercase key.name)
+
+-- the contents without those of the key
+pub data Without (key : Key) : List Content → List Content → Type 0 where
+  none : Without key [] []
+  lost : (x : Content) {old new : List Content}
+      → Without key old new → IsOf key x
+      → Without key (old ++ x ∷ []) new
+  kept : (x : Content) {old new : List Content}
+      → Without key old new → ¬ (IsOf key x)
+      → Without key (old ++ x ∷ []) (new ++ x ∷ [])
+
+-- none of the contents is of the key
+abbrev pub HasNone : Key → List Content → Type 0
+HasNone key contents = Without key contents contents
+
+-- at least two of the contents are of the key
+abbrev pub HasSeveral : Key → List Content → Type 0
+HasSeveral key contents = (before between after : List Content) × (x y : Content)
+    × (contents ≡ before ++ x ∷ (between ++ y ∷ after)) × IsOf key x × IsOf key y
+
+-- one of the contents is of the key, and now it is gone
+pub record LosesOne (key : Key) (old new : List Content) : Type 0 where
+  pub before : List Content
+  pub x : Content
+  pub after : List Content
+  pub old_is : old ≡ before ++ x ∷ after
+  pub is_of : IsOf key x
+  pub none_before : HasNone key before
+  pub none_after : HasNone key after
+  pub new_is : new ≡ before ++ after
+
+-- the value is this one
+abbrev pub HasValue : Option (List ℕ) → List ℕ → Type 0
+HasValue None value = ⊥
+HasValue (Some raw) value = (ending : Ending) × SpellsValue raw value ending
+
+-- the last entry of the key has this value now, and the others of the key are gone
+pub record Replaces (key : Key) (value : List ℕ) (old new : List Content) : Type 0 where
+  pub before : List Content
+  pub left : List Content
+  pub after : List Content
+  pub x : Content
+  pub raw : List ℕ
+  pub old_is : old ≡ before ++ x ∷ after
+  pub is_of : IsOf key x
+  pub last : HasNone key after
+  pub others : Without key before left
+  pub has_value : HasValue (Some raw) value
+  pub new_is : new ≡ left ++ (x.0, x.1, Some raw) ∷ after
+
+-- LF, or CR LF
+abbrev pub IsLineEnd : List ℕ → Type 0
+IsLineEnd bytes = (bytes ≡ line_feed ∷ []) ⊎ (bytes ≡ carriage_return ∷ line_feed ∷ [])
+
+-- nothing, or a line end
+abbrev pub IsEnd : List ℕ → Type 0
+IsEnd bytes = (bytes ≡ []) ⊎ IsLineEnd bytes
+
+abbrev pub AreBlank : List ℕ → Type 0
+AreBlank bytes = list_all is_blank bytes ≡ true
+
+-- nothing, or a comment
+pub data IsComment : List ℕ → Type 0 where
+  absent : IsComment []
+  present : {sign : ℕ} {bytes : List ℕ}
+      → is_comment_sign sign ≡ true → list_all is_comment_byte bytes ≡ true
+      → IsComment (sign ∷ bytes)
+
+-- what is left of a line: blanks, a comment or none, and the line end, or the end of the text
+pub record IsTail (tail rest : List ℕ) (is_line : Bool) : Type 0 where
+  pub blanks : List ℕ
+  pub comment : List ℕ
+  pub are_blank : AreBlank blanks
+  pub is_comment : IsComment comment
+  pub ends : ((is_line ≡ true) × (tail ≡ blanks ++ (comment ++ line_feed ∷ [])))
+      ⊎ ((is_line ≡ false) × (rest ≡ []) × (tail ≡ blanks ++ comment))
+
+-- blanks, an entry of this key and this value before this text, and what is left of its line
+pub record IsEntry
+    (key : List ℕ) (value : Option (List ℕ)) (lines : ℕ) (at blanks bytes rest : List ℕ) (is_line : Bool)
+    : Type 0 where
+  pub front : List ℕ
+  pub tail : List ℕ
+  pub begins : BeginsWithLetter (front ++ at)
+  pub takes : TakesEntry (front ++ at) key value lines at
+  pub left : at ≡ tail ++ rest
+  pub is_tail : IsTail tail rest is_line
+  pub joined : bytes ≡ blanks ++ (front ++ tail)
+
+-- an entry of the key goes with its line, of which the line end may stay, if a header precedes the entry on it
+abbrev pub LosesEntry : Key → List ℕ → List ℕ → Type 0
+LosesEntry key gone put = (x : Content) × (lines : ℕ) × (at blanks rest : List ℕ) × (is_line : Bool)
+    × IsOf key x × AreBlank blanks × IsEntry x.1 x.2 lines at blanks gone rest is_line × IsEnd put
+
+-- nothing, blanks up to the end of a line, or an entry of the key
+abbrev pub IsLostTail : Key → List ℕ → Type 0
+IsLostTail key bytes =
+    (bytes ≡ []) ⊎ ((rest : List ℕ) × (is_line : Bool) × (t : IsTail bytes rest is_line) × (t.comment ≡ []))
+    ⊎ LosesEntry key bytes []
+
+-- a header of a section of the key goes, alone or with what its line has left: blanks, or an entry of the key
+pub record LosesHeader (key : Key) (gone put : List ℕ) : Type 0 where
+  pub blanks : List ℕ
+  pub header : List ℕ
+  pub tail : List ℕ
+  pub joined : gone ≡ blanks ++ (header ++ tail)
+  pub are_blank : AreBlank blanks
+  pub is_header : IsHeaderOf key header
+  pub is_tail : IsLostTail key tail
+  pub is_end : IsEnd put
+
+-- an entry of the key goes, or the header of a section that has none left
+abbrev pub MayUnset : Key → List ℕ → List ℕ → Type 0
+MayUnset key gone put = LosesEntry key gone put ⊎ LosesHeader key gone put
+
+-- nothing, or a space
+abbrev pub IsGap : List ℕ → Type 0
+IsGap bytes = (bytes ≡ []) ⊎ (bytes ≡ space ∷ [])
+
+-- there are bytes, of which neither the first nor the last is a blank
+abbrev pub IsCore : List ℕ → Type 0
+IsCore bytes = (bytes ≢ []) × ((b : ℕ) (more : List ℕ) → bytes ≡ b ∷ more → is_blank b ≡ false)
+    × ((more : List ℕ) (b : ℕ) → bytes ≡ more ++ b ∷ [] → is_blank b ≡ false)
+
+-- The bytes of a value without the blanks around them become a spelling of another; so does nothing, where the value was
+-- empty or only a key stood.
+pub data ChangesValue (value : List ℕ) : List ℕ → List ℕ → Type 0 where
+  another : {core spelling : List ℕ} → IsSpelling spelling value → IsCore core → ChangesValue value core spelling
+  first : {lead spelling trail : List ℕ}
+      → IsSpelling spelling value → IsGap lead → IsGap trail
+      → ChangesValue value [] (lead ++ (spelling ++ trail))
+  given : {lead spelling : List ℕ}
+      → IsSpelling spelling value → IsGap lead
+      → ChangesValue value [] (lead ++ equals_sign ∷ space ∷ spelling)
+
+-- the new text is the old one, of which one stretch has changed as this allows
+pub record ChangesOne (May : List ℕ → List ℕ → Type 0) (old new : List ℕ) : Type 0 where
+  pub front : List ℕ
+  pub gone : List ℕ
+  pub put : List ℕ
+  pub back : List ℕ
+  pub old_is : old ≡ front ++ (gone ++ back)
+  pub new_is : new ≡ front ++ (put ++ back)
+  pub may : May gone put
+
+-- In the text of these contents, an entry of the key has another value. If it had this value, the text stays, and otherwise
+-- only bytes of the value change.
+abbrev pub ChangesBytes : Option (List ℕ) → List ℕ → List ℕ → List ℕ → Type 0
+ChangesBytes was value old new =
+    (HasValue was value × (new ≡ old)) ⊎ (¬ (HasValue was value) × ChangesOne (ChangesValue value) old new)
+
+-- an entry of the key goes, or bytes of a value become a spelling of another
+abbrev pub MayReplace : Key → List ℕ → List ℕ → List ℕ → Type 0
+MayReplace key value gone put = LosesEntry key gone put ⊎ ChangesValue value gone put
+
+-- the values have the same bytes, or spell the same text
+abbrev pub SameValue : Option (List ℕ) → Option (List ℕ) → Type 0
+SameValue was now = (was ≡ now) ⊎ ((text : List ℕ) × HasValue was text × HasValue now text)
+
+-- the entries have the same section, the same key, and values of the same text
+abbrev pub SameEntry : Content → Content → Type 0
+SameEntry was now = (was.0 ≡ now.0) × (was.1 ≡ now.1) × SameValue was.2 now.2
+
+-- the contents without those in the section of the key
+pub data WithoutIn (key : Key) : List Content → List Content → Type 0 where
+  none : WithoutIn key [] []
+  lost : (x : Content) {old new : List Content}
+      → WithoutIn key old new → IsIn key x.0
+      → WithoutIn key (old ++ x ∷ []) new
+  kept : (x : Content) {old new : List Content}
+      → WithoutIn key old new → ¬ (IsIn key x.0)
+      → WithoutIn key (old ++ x ∷ []) (new ++ x ∷ [])
+
+-- none of the contents is in the section of the key
+abbrev pub NoneIn : Key → List Content → Type 0
+NoneIn key contents = WithoutIn key contents contents
+
+-- The contents have one more, of the key and with this value, behind all others in its section. A value before it may be
+-- written with more bytes now, if a backslash ended the text.
+pub record Adds (key : Key) (value : List ℕ) (old new : List Content) : Type 0 where
+  pub before : List Content
+  pub kept : List Content
+  pub after : List Content
+  pub section : Section
+  pub raw : List ℕ
+  pub old_is : old ≡ before ++ after
+  pub same : AllZip SameEntry before kept
+  pub in_section : IsIn key (Some section)
+  pub has_value : HasValue (Some raw) value
+  pub new_is : new ≡ kept ++ (Some section, key.name, Some raw) ∷ after
+  pub last : NoneIn key after
+
+-- a TAB, the key, ` = `, this spelling of its value, and a line end
+abbrev pub entry_line : List ℕ → List ℕ → List ℕ → List ℕ
+entry_line name spelling feed = tab ∷ (name ++ (space ∷ equals_sign ∷ space ∷ (spelling ++ feed)))
+
+-- a header of the key and a line end, at the end of a text without entries in that section; or nothing
+abbrev pub IsNewHeader : Key → List Content → List ℕ → List ℕ → List ℕ → Type 0
+IsNewHeader key contents back feed bytes =
+    (bytes ≡ []) ⊎ ((header : List ℕ) × IsHeader header key.section key.subsection
+    × (bytes ≡ header ++ feed) × (back ≡ []) × NoneIn key contents)
+
+-- The new text is the old one with one line more, which has the key and the value: a line end is put before it where
+-- one is missing, or two if a backslash ends the text, and a header if the key has no section.
+pub record PutsLine (key : Key) (value : List ℕ) (contents : List Content) (old new : List ℕ) : Type 0 where
+  pub front : List ℕ
+  pub back : List ℕ
+  pub feed : List ℕ
+  pub ends : List ℕ
+  pub header : List ℕ
+  pub spelling : List ℕ
+  pub old_is : old ≡ front ++ back
+  pub new_is : new ≡ front ++ (ends ++ (header ++ (entry_line key.name spelling feed ++ back)))
+  pub is_feed : IsLineEnd feed
+  pub are_ends : (ends ≡ []) ⊎ (ends ≡ feed) ⊎ (ends ≡ feed ++ feed)
+  pub is_header : IsNewHeader key contents back feed header
+  pub spells : IsSpelling spelling value
+
+-- a header of a section of the key goes, with what follows it
+pub record LosesSection (key : Key) (gone put : List ℕ) : Type 0 where
+  pub blanks : List ℕ
+  pub header : List ℕ
+  pub body : List ℕ
+  pub joined : gone ≡ blanks ++ (header ++ body)
+  pub are_blank : AreBlank blanks
+  pub is_header : IsHeaderOf key header
+  pub is_end : IsEnd put
+
+-- The new text is a file without the entries of the sections of this name, and those sections are gone.
+abbrev pub RemovesSection : List ℕ → List ℕ → List ℕ → Type 0
+RemovesSection name old new =
+    (key : Key) × NamesSection name key × (contents : List Content) × HasContents old contents
+    × (now : List Content) × HasContents new now × WithoutIn key contents now
+    × Changes (LosesSection key) old new
+
+-- The text has no entry in a section of this name, which may be the name of none.
+abbrev pub LacksSection : List ℕ → List ℕ → Type 0
+LacksSection name text =
+    (contents : List Content) × HasContents text contents
+    × ((key : Key) → NamesSection name key → NoneIn key contents)
+
+-- no header has the section of this name, which may be the name of none
+abbrev pub LacksHeader : List ℕ → Type 0
+LacksHeader name = (key : Key) → NamesSection name key → HasNoHeader key.section key.subsection
+
+-- why a section is not renamed, in this order: by the new name, by the text, or by what the text has
+abbrev pub RefusesRenaming : List ℕ → List ℕ → List ℕ → EditError → Type 0
+RefusesRenaming old new text (error.Memory e) = ⊤
+RefusesRenaming old new text error.Section = LacksHeader new
+RefusesRenaming old new text (error.File e) = (entries : List Entry) × IsFile text entries (Some e)
+RefusesRenaming old new text error.Absent = LacksSection old text
+RefusesRenaming old new text _ = ⊥
+
+-- why a section is not removed
+abbrev pub RefusesRemoval : List ℕ → List ℕ → EditError → Type 0
+RefusesRemoval name text (error.Memory e) = ⊤
+RefusesRemoval name text (error.File e) = (entries : List Entry) × IsFile text entries (Some e)
+RefusesRemoval name text error.Absent = LacksSection name text
+RefusesRemoval name text _ = ⊥
+
+-- a reason to refuse that an edit does not have
+abbrev pub Never : Key → List Content → Type 0
+Never key contents = ⊥
+
+-- Why an edit is refused, in this order: by the key, by the value, if there is one, by the text, or by what the text has
+-- of the key. Memory may be refused at any time.
+abbrev pub RefusesEdit : (Key → List Content → Type 0) → (Key → List Content → Type 0)
+    → List ℕ → Option (List ℕ) → List ℕ → EditError → Type 0
+RefusesEdit Several Absent key value text (error.Memory e) = ⊤
+RefusesEdit Several Absent key value text (error.Key e) = RefusesKey key e
+RefusesEdit Several Absent key value text error.Section =
+    (k : Key) × IsKey key k × HasNoHeader k.section k.subsection
+RefusesEdit Several Absent key value text error.Value = (k : Key) × IsKey key k × LacksSpelling value
+RefusesEdit Several Absent key value text (error.File e) =
+    (k : Key) × IsKey key k × (entries : List Entry) × IsFile text entries (Some e)
+RefusesEdit Several Absent key value text error.Several =
+    (k : Key) × IsKey key k × (contents : List Content) × HasContents text contents × Several k contents
+RefusesEdit Several Absent key value text error.Absent =
+    (k : Key) × IsKey key k × (contents : List Content) × HasContents text contents × Absent k contents
+
+-- the new text has one entry more
+abbrev pub AddsKey : Key → List ℕ → List ℕ → List Content → List ℕ → Type 0
+AddsKey key value old contents new = (now : List Content) × HasContents new now
+    × Adds key value contents now × PutsLine key value contents old new
+
+-- the key had one entry, which has the value now
+abbrev pub ChangesKey : Key → List ℕ → List ℕ → List Content → List ℕ → Type 0
+ChangesKey key value old contents new = (now : List Content) × HasContents new now
+    × (r : Replaces key value contents now) × HasNone key r.before × ChangesBytes r.x.2 value old new
+
+-- the key had entries, of which the last one has the value now, and the others are gone
+abbrev pub ReplacesKey : Key → List ℕ → List ℕ → List Content → List ℕ → Type 0
+ReplacesKey key value old contents new = (now : List Content) × HasContents new now
+    × Replaces key value contents now × Changes (MayReplace key value) old new
+
+-- what an edit makes of a key and a text that is a file
+abbrev pub Edits : (Key → List Content → List ℕ → Type 0) → List ℕ → List ℕ → List ℕ → Type 0
+Edits Makes name old new =
+    (key : Key) × IsKey name key × (contents : List Content) × HasContents old contents
+    × Makes key contents new
+
+-- what `set` makes: one entry has the value now, or is new
+abbrev pub Sets : List ℕ → List ℕ → List ℕ → List ℕ → Type 0
+Sets name value old new = Edits (λ key contents new. ChangesKey key value old contents new
+    ⊎ (HasNone key contents × AddsKey key value old contents new)) name old new
+
+-- what `replace_all` makes: of several entries, one with the value is left
+abbrev pub ReplacesAll : List ℕ → List ℕ → List ℕ → List ℕ → Type 0
+ReplacesAll name value old new = Edits (λ key contents new. ReplacesKey key value old contents new
+    ⊎ (HasNone key contents × AddsKey key value old contents new)) name old new
+
+-- what `add` makes: one entry more
+abbrev pub AddsOne : List ℕ → List ℕ → List ℕ → List ℕ → Type 0
+AddsOne name value old new = Edits (λ key contents new. AddsKey key value old contents new) name old new
+
+-- what `unset` makes: the one entry of the key is gone
+abbrev pub Unsets : List ℕ → List ℕ → List ℕ → Type 0
+Unsets name old new = Edits (λ key contents new. (now : List Content) × HasContents new now
+    × LosesOne key contents now × Changes (MayUnset key) old new) name old new
+
+-- what `unset_all` makes: all entries of the key are gone
+abbrev pub UnsetsAll : List ℕ → List ℕ → List ℕ → Type 0
+UnsetsAll name old new = Edits (λ key contents new. (now : List Content) × HasContents new now
+    × Without key contents now × Changes (MayUnset key) old new) name old new
+
+-- the last entry of the key in this file has the value
+abbrev pub Decides : List ℕ → List ℕ → List ℕ → Type 0
+Decides name value text =
+    (key : Key) × IsKey name key × (before : List Content) × (x : Content) × (after : List Content)
+    × HasContents text (before ++ x ∷ after) × IsOf key x × HasValue x.2 value × HasNone key after

@@ -8,6 +8,7 @@ ghost use Rattle.config_file.specs.Bytes.{IsAtLineEnd};
 ghost use Rattle.config_file.specs.Header.{BeginsWithout};
 ghost use Rattle.config_file.specs.Runs.{Run};
 ghost use Rattle.config_file.specs.Value.{line_feeds};
+ghost use Rattle.config_file.specs.Reading.Scans as scans;
 ghost use Rattle.config_file.specs.Reading.Scans.{passes};
 
 /// The first byte of a text and what follows it, or `None` if the text is empty.
@@ -66,6 +67,22 @@ pub(crate) fn is_text_byte(byte: u8) -> bool
     byte != 0 && byte != b'\n'
 }
 
+/// Whether this byte is no blank, no quote and no backslash.
+#[inline]
+fn is_word_byte(byte: u8) -> bool
+    ensures { result ≡ scans.is_word_byte byte }
+{
+    !is_blank(byte) && byte != b'"' && byte != b'\\'
+}
+
+/// Whether a value goes on after this byte in quotes and outside them, and the byte is no quote and no backslash.
+#[inline]
+fn is_plain_byte(byte: u8) -> bool
+    ensures { result ≡ scans.is_plain_byte byte }
+{
+    is_text_byte(byte) && !is_comment_sign(byte) && byte != b'"' && byte != b'\\'
+}
+
 /// Whether the text is empty, or begins with LF or with CR LF.
 pub(crate) fn is_at_line_end(text: &[u8]) -> bool
     ensures { IsTrue result ↔ (IsAtLineEnd text.now) }
@@ -85,6 +102,9 @@ pub(crate) enum Class {
     Blank,
     Space,
     Comment,
+    Unescaped,
+    Word,
+    Plain,
 }
 
 #[inline(always)]
@@ -97,6 +117,9 @@ fn is_in(class: Class, byte: u8) -> bool
         Class::Blank => is_blank(byte),
         Class::Space => byte == b' ' || byte == b'\t',
         Class::Comment => byte != b'\n',
+        Class::Unescaped => byte != b'\\',
+        Class::Word => is_word_byte(byte),
+        Class::Plain => is_plain_byte(byte),
     }
 }
 

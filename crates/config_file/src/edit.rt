@@ -2,10 +2,9 @@
 //! (docs/GRAMMAR.md).
 //!
 //! An edit has the places of its bytes from the reader of this crate, and never from a search for `[` or a line
-//! end. It is proved what [`rename_section`] writes, and for edits of a key why its text, a value or a file is
-//! refused. What else they write and refuse is tested.
+//! end. It is proved of each which entries and which bytes it changes, and when it is refused.
 ghost use Rattle.std.specs.Prelude.{◌≡◌, ◌++◌, ◌∷◌, [], List, ℕ, None, Some, true, map, ⊤, IfOk, MatchResult};
-ghost use Rattle.config_file.specs.Edit.{content, RefusesEdit, RenamesSection};
+ghost use Rattle.config_file.specs.Edit.{content, AddsOne, HasNone, HasSeveral, Never, RefusesEdit, RefusesRemoval, RefusesRenaming, RemovesSection, RenamesSection, ReplacesAll, Sets, Unsets, UnsetsAll};
 ghost use Rattle.config_file.specs.Spelling.{HasNoSpelling};
 ghost use Rattle.config_file.specs.File.{Entry, IsFile};
 ghost use Rattle.config_file.specs.Reading.Edits.{IsSplit, RefusesName, RefusesText};
@@ -138,7 +137,8 @@ fn marked(body: Vec<u8>, alloc: Global, mark: &[u8]) -> Result<Vec<u8>, AllocErr
 /// assert!(rt; new.as_slice() == b"[user]\n\tname = A # me\n\temail = a@b.c\n".as_slice());
 /// ```
 pub fn set(alloc: Global, text: &[u8], key: &[u8], value: &[u8]) -> Result<Vec<u8>, EditError>
-    ensures refused { MatchResult result (λ _. ⊤) (RefusesEdit key.now (Some value.now) text.now) }
+    ensures { MatchResult result (λ new. Sets key.now value.now text.now new.items)
+        (RefusesEdit HasSeveral Never key.now (Some value.now) text.now) }
 {
     let key = parse_key(key)?;
     check_value(value)?;
@@ -163,7 +163,8 @@ pub fn replace_all(
     key: &[u8],
     value: &[u8],
 ) -> Result<Vec<u8>, EditError>
-    ensures refused { MatchResult result (λ _. ⊤) (RefusesEdit key.now (Some value.now) text.now) }
+    ensures { MatchResult result (λ new. ReplacesAll key.now value.now text.now new.items)
+        (RefusesEdit Never Never key.now (Some value.now) text.now) }
 {
     let key = parse_key(key)?;
     check_value(value)?;
@@ -185,7 +186,8 @@ pub fn replace_all(
 /// assert!(rt; new.as_slice() == b"[a]\n\tk = 1\n\tk = 2\n[b]\n".as_slice());
 /// ```
 pub fn add(alloc: Global, text: &[u8], key: &[u8], value: &[u8]) -> Result<Vec<u8>, EditError>
-    ensures refused { MatchResult result (λ _. ⊤) (RefusesEdit key.now (Some value.now) text.now) }
+    ensures { MatchResult result (λ new. AddsOne key.now value.now text.now new.items)
+        (RefusesEdit Never Never key.now (Some value.now) text.now) }
 {
     let key = parse_key(key)?;
     check_value(value)?;
@@ -208,7 +210,8 @@ pub fn add(alloc: Global, text: &[u8], key: &[u8], value: &[u8]) -> Result<Vec<u
 /// assert!(rt; new.as_slice() == b"[a]\n\tj = 2\n".as_slice());
 /// ```
 pub fn unset(alloc: Global, text: &[u8], key: &[u8]) -> Result<Vec<u8>, EditError>
-    ensures refused { MatchResult result (λ _. ⊤) (RefusesEdit key.now None text.now) }
+    ensures { MatchResult result (λ new. Unsets key.now text.now new.items)
+        (RefusesEdit HasSeveral HasNone key.now None text.now) }
 {
     let key = parse_key(key)?;
     check_file(text)?;
@@ -223,16 +226,17 @@ pub fn unset(alloc: Global, text: &[u8], key: &[u8]) -> Result<Vec<u8>, EditErro
 
 /// What [`unset`] does, with all entries of a key. It fails if there is none.
 pub fn unset_all(alloc: Global, text: &[u8], key: &[u8]) -> Result<Vec<u8>, EditError>
-    ensures refused { MatchResult result (λ _. ⊤) (RefusesEdit key.now None text.now) }
+    ensures { MatchResult result (λ new. UnsetsAll key.now text.now new.items)
+        (RefusesEdit Never HasNone key.now None text.now) }
 {
     let key = parse_key(key)?;
     check_file(text)?;
     let (mark, body) = split_mark(text);
     let taken = without(alloc, body, &key)?;
-    if taken.count == Count::None {
-        return Err(EditError::Absent);
+    match taken.count {
+        Count::None => Err(EditError::Absent),
+        Count::One | Count::Several => Ok(marked(taken.text, alloc, mark)?),
     }
-    Ok(marked(taken.text, alloc, mark)?)
 }
 
 /// A key in this section.
@@ -262,8 +266,8 @@ pub fn rename_section(
     old: &[u8],
     new: &[u8],
 ) -> Result<Vec<u8>, EditError>
-    ensures { (entries : List Entry) → IsFile text.now entries None
-        → IfOk result (λ edited. RenamesSection old.now new.now text.now (map content entries) edited.items) }
+    ensures { MatchResult result (λ edited. RenamesSection old.now new.now text.now edited.items)
+        (RefusesRenaming old.now new.now text.now) }
 {
     let old_key = in_section(alloc, old)?;
     let new_key = in_section(alloc, new)?;
@@ -271,7 +275,7 @@ pub fn rename_section(
         return Err(EditError::Section);
     };
     check_file(text)?;
-    let Ok(from) = parse_key(old_key.as_slice()) else {
+    let Ok(from) = Key::parse(old_key.as_slice()) else {
         return Err(EditError::Absent);
     };
     let (mark, body) = split_mark(text);
@@ -293,10 +297,13 @@ fn copied(alloc: Global, text: &[u8]) -> Result<Vec<u8>, AllocError>
 /// The text without the sections of a name, with their headers. Comments directly above the next header stay
 /// with it. It fails if the text is no configuration file, if no section has the name, or if memory is
 /// refused.
-pub fn remove_section(alloc: Global, text: &[u8], name: &[u8]) -> Result<Vec<u8>, EditError> {
+pub fn remove_section(alloc: Global, text: &[u8], name: &[u8]) -> Result<Vec<u8>, EditError>
+    ensures { MatchResult result (λ new. RemovesSection name.now text.now new.items)
+        (RefusesRemoval name.now text.now) }
+{
     let key_text = in_section(alloc, name)?;
     check_file(text)?;
-    let Ok(key) = parse_key(key_text.as_slice()) else {
+    let Ok(key) = Key::parse(key_text.as_slice()) else {
         return Err(EditError::Absent);
     };
     let (mark, body) = split_mark(text);

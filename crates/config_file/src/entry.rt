@@ -13,6 +13,16 @@ use crate::value::{Taken, Value, read_value};
 use std::alloc::{AllocError, Global};
 
 /// An entry, whose parts are borrowed from the text that it was read from.
+///
+/// ```rust
+/// use config_file::Entries;
+///
+/// let entry = Entries::new(b"[Core]\n\tBare").next().expect(&rt, "an entry").expect(&rt, "no error");
+/// assert!(rt; entry.section.is_some_and(|section| section.has_name(b"core")));
+/// assert!(rt; entry.has_key(b"bare"));
+/// assert!(rt; entry.value.is_none()); // a key alone, which as a boolean is true
+/// assert_eq!(rt; entry.line, 2);
+/// ```
 #[derive(Clone, Copy, Debug)]
 pub struct Entry<'a> {
     /// The section of the last header before the entry, or `None` if no header precedes it.
@@ -38,6 +48,7 @@ pub(crate) struct Parts<'a> {
 }
 
 /// Reads the entry at the start of the text.
+#[inline(always)]
 pub(crate) fn read_entry(text: &[u8]) -> Result<Parts<'_>, Stop>
     ensures { MatchResult result
         (λ parts. TakesEntry text.now parts.key.now (value_of parts.value) parts.lines parts.rest.now)

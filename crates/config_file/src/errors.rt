@@ -6,6 +6,15 @@ ghost use Rattle.config_file.specs.Header.{fault_at};
 use std::{error, fmt};
 
 /// Why the reading stops.
+///
+/// ```rust
+/// use config_file::Entries;
+/// use config_file::errors::Fault;
+///
+/// let error = Entries::new(b"[core]\nbare = \0").next().expect(&rt, "an item").unwrap_err();
+/// assert!(rt; error.fault == Fault::Nul);
+/// assert_eq!(rt; error.fault.text(), "a NUL byte outside a comment");
+/// ```
 #[derive(Clone, Copy, PartialEq, Eq, Debug)]
 pub enum Fault {
     /// A byte that is not allowed there, or the end of the text. Git reports `bad config line`.
@@ -37,6 +46,14 @@ impl fmt::Display for Fault {
 impl error::Error for Fault {}
 
 /// Why a text is not a configuration file.
+///
+/// ```rust
+/// use config_file::{Entries, FileError};
+///
+/// let error: FileError = Entries::new(b"[core]\n\tbare = \"no").next().expect(&rt, "an item").unwrap_err();
+/// assert_eq!(rt; error.line, 2);
+/// assert_eq!(rt; error.to_string(alloc)?.as_str(), "2: bad config line");
+/// ```
 #[derive(Clone, Copy, PartialEq, Eq, Debug)]
 pub struct Error {
     /// The line that Git reports, counted from 1.

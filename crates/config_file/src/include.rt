@@ -13,6 +13,13 @@ use crate::pattern::matches;
 use std::alloc::{AllocError, Global};
 
 /// The condition on which an entry includes its file.
+///
+/// ```rust
+/// use config_file::Condition;
+///
+/// assert!(rt; Condition::parse(b"onbranch:main") == Condition::OnBranch(b"main"));
+/// assert!(rt; Condition::parse(b"OnBranch:main") == Condition::Unknown); // here case counts
+/// ```
 #[derive(Clone, Copy, PartialEq, Eq, Debug)]
 pub enum Condition<'c> {
     /// Always: `include.path`.
@@ -30,6 +37,20 @@ pub enum Condition<'c> {
 }
 
 /// The repository that conditions ask about.
+///
+/// ```rust
+/// use config_file::Repository;
+///
+/// let repository = Repository {
+///     real_git_dir: b"/home/ann/work/a/.git",
+///     git_dir: b"/home/ann/work/a/.git",
+///     branch: Some(b"fix/typo"),
+///     real_home: Some(b"/home/ann"),
+/// };
+/// assert!(rt; repository.is_git_dir(alloc, b"/home/ann", b"~/work/", false)?);
+/// assert!(rt; repository.is_on_branch(alloc, b"fix/*")?);
+/// assert!(rt; !repository.is_on_branch(alloc, b"fix")?);
+/// ```
 #[derive(Clone, Copy)]
 pub struct Repository<'r> {
     /// The absolute path of the git directory, with its links resolved.
@@ -248,6 +269,15 @@ impl Urls<'_> {
 }
 
 /// Which includes a walk follows.
+///
+/// ```rust
+/// use config_file::{Condition, Includes, Urls};
+///
+/// let outside = Includes::AsGit(None, Urls::Known(&[]));
+/// assert!(rt; outside.hold(alloc, b"/etc", Condition::Always)?);
+/// assert!(rt; !outside.hold(alloc, b"/etc", Condition::OnBranch(b"main"))?);
+/// assert!(rt; Includes::All.hold(alloc, b"/etc", Condition::OnBranch(b"main"))?);
+/// ```
 #[derive(Clone, Copy)]
 pub enum Includes<'r> {
     /// None of them.

@@ -37,6 +37,14 @@ pub struct Key<'k> {
 }
 
 /// Why Git refuses a key.
+///
+/// ```rust
+/// use config_file::{Key, KeyError};
+///
+/// let error = Key::parse(b"core.a_b").err().expect(&rt, "an error");
+/// assert!(rt; error == KeyError::BadByte);
+/// assert_eq!(rt; error.text(), "invalid key");
+/// ```
 #[derive(Clone, Copy, PartialEq, Eq, Debug)]
 pub enum KeyError {
     /// The key has no dot, or its only dot comes first.

@@ -9,6 +9,15 @@ use config_path::parts::{Form, form_of};
 use std::alloc::{AllocError, Global};
 
 /// The directories that a path may begin with.
+///
+/// ```rust
+/// use config_file::Directories;
+/// use config_file::path::expand;
+///
+/// let directories = Directories { home: Some(b"/home/ann"), install_dir: None };
+/// assert!(rt; expand(b"~/more", directories).is_some());
+/// assert!(rt; expand(b"%(prefix)/more", directories).is_none()); // this directory is not known
+/// ```
 #[derive(Clone, Copy)]
 pub struct Directories<'d> {
     /// The home directory of the current user, for `~`.
@@ -55,6 +64,16 @@ pub fn included_name(alloc: Global, file: &[u8], path: &[u8]) -> Result<Vec<u8>,
 }
 
 /// The directory that a path begins with, and what follows it.
+///
+/// ```rust
+/// use config_file::Directories;
+/// use config_file::path::expand;
+///
+/// let directories = Directories { home: Some(b"/home/ann"), install_dir: None };
+/// let parts = expand(b"~/more", directories).expect(&rt, "a known home");
+/// assert_eq!(rt; parts.directory, b"/home/ann".as_slice());
+/// assert_eq!(rt; parts.rest, b"/more".as_slice());
+/// ```
 #[derive(Clone, Copy)]
 pub struct Expanded<'e> {
     /// The directory, which is empty if the value names neither the home nor the install directory.

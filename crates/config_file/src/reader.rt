@@ -2,7 +2,7 @@
 ghost use Rattle.std.specs.Prelude.{◌≡◌, ◌+◌, ◌<◌, ◌≤◌, ◌^◌, ◌↔◌, IsTrue, None, Some, Option, List, [], length};
 ghost use Rattle.std.specs.Prelude.{option_map, MatchOption};
 ghost use Rattle.config_file.specs.File.{Begins, after_mark, IsPartOfMark};
-ghost use Rattle.config_file.specs.Reading.Scans.{BeginsWithLetter};
+ghost use Rattle.config_file.specs.Bytes.{BeginsWithLetter};
 
 use crate::bytes::{Class, is_at_line_end, is_blank, is_comment_sign, run, split};
 use crate::entry::{Entry, read_entry};
@@ -109,6 +109,7 @@ impl<'a> Entries<'a> {
     }
 
     /// The entry that begins with the next byte, or why it is refused.
+    #[inline(always)]
     fn entry_here(&mut self) -> Result<Entry<'a>, Error>
         requires { BeginsWithLetter self.old.rest.now }
         ensures gives { GivesEntry self.old (Some result) self.new }
@@ -157,6 +158,7 @@ impl<'a> Iterator for Entries<'a> {
 
     /// The next entry, or the error at which the text is refused. After the last entry and after an error it
     /// returns `None`.
+    #[inline(always)]
     fn next(&mut self) -> Option<Result<Entry<'a>, Error>> {
         'items: while let Some((byte, rest)) = split(self.rest) {
             if is_blank(byte) {

@@ -4,10 +4,20 @@ ghost use Rattle.std.specs.Prelude.{MatchOption};
 ghost use Rattle.std.specs.Char.{to_ascii_lowercase};
 ghost use Rattle.config_file.specs.Subsection.{SpellsSubsection};
 
-use crate::bytes::{after_byte, split};
+use crate::bytes::{Class, after_byte, run, split};
 use std::alloc::AllocError;
 
 /// A section: its name, and its subsection if the header has one.
+///
+/// ```rust
+/// use config_file::Entries;
+///
+/// let mut entries = Entries::new(b"[Remote \"Up\"]\n\turl = x");
+/// let entry = entries.next().expect(&rt, "an entry").expect(&rt, "no error");
+/// let section = entry.section.expect(&rt, "a section");
+/// assert!(rt; section.has_name(b"remote"));
+/// assert!(rt; section.subsection.is_some_and(|subsection| subsection.is(b"Up")));
+/// ```
 #[derive(Clone, Copy, Debug)]
 pub struct Section<'a> {
     /// Letters, digits, `-` and `.`, in the case of the text. The name can be empty only before a subsection.
@@ -27,6 +37,16 @@ impl<'a> Section<'a> {
 }
 
 /// A subsection: the bytes between its quotes.
+///
+/// ```rust
+/// use config_file::section::Subsection;
+///
+/// let subsection = Subsection { raw: b"a\\\"b" };
+/// let mut text = Vec::new(alloc);
+/// subsection.push_text(&mut text)?;
+/// assert_eq!(rt; text.as_slice(), b"a\"b".as_slice());
+/// assert!(rt; !subsection.is(b"A\"b")); // case counts
+/// ```
 #[derive(Clone, Copy, Debug)]
 pub struct Subsection<'a> {
     /// The bytes as they are in the text, with their backslashes.
@@ -40,7 +60,8 @@ impl<'a> Subsection<'a> {
         ensures { (spelled : List ℕ) → SpellsSubsection self.now.raw.now spelled
             → OnOk result (text.new.items ≡ text.old.items ++ spelled) }
     {
-        let mut at = self.raw;
+        let (unescaped, mut at) = run(self.raw, Class::Unescaped);
+        text.extend_from_slice(unescaped)?;
         'bytes: while let Some((byte, rest)) = spelled_byte(at) {
             text.push(byte)?;
             at = rest;

@@ -35,6 +35,18 @@ use std::{error, fmt};
 
 /// An entry of a file, and the text of its value. Both are borrowed from the text of the file, but for a
 /// value that is quoted, escaped or continued.
+///
+/// ```rust
+/// use config_file::{Key, Settings};
+///
+/// let mut settings = Settings::new(alloc);
+/// assert!(rt; settings.add_file(alloc, b".git/config", b"[core]\n\tabbrev = \"1\"2 # digits").is_ok());
+/// let key = Key::parse(b"core.abbrev")?;
+/// let setting = settings.last(&key).expect(&rt, "a setting");
+/// assert_eq!(rt; setting.text(), b"12".as_slice());
+/// assert_eq!(rt; setting.file, b".git/config".as_slice());
+/// assert_eq!(rt; setting.entry.line, 2);
+/// ```
 #[derive(Debug, Drop)]
 pub struct Setting<'t> {
     /// Where Git has the file from.
@@ -48,6 +60,18 @@ pub struct Setting<'t> {
 }
 
 /// The refusal of a setting: its text has no value of the wanted type.
+///
+/// ```rust
+/// use config_file::{Key, Settings};
+/// use gix_config_value::{Fault, Integer};
+///
+/// let mut settings = Settings::new(alloc);
+/// assert!(rt; settings.add_file(alloc, b"config", b"[pack]\n\tthreads = many").is_ok());
+/// let key = Key::parse(b"pack.threads")?;
+/// let refused = settings.last(&key).expect(&rt, "a setting").read::<Integer>().unwrap_err();
+/// assert!(rt; refused.fault == Fault::Integer);
+/// assert_eq!(rt; refused.setting.entry.line, 2);
+/// ```
 #[derive(Clone, Copy, Debug)]
 pub struct Refused<'s, 't, F> {
     /// The setting.
@@ -109,6 +133,13 @@ impl<F: fmt::Display> fmt::Display for Refused<'_, '_, F> {
 }
 
 /// Why Git does not go on after an entry that includes a file.
+///
+/// ```rust
+/// use config_file::IncludeFault;
+///
+/// let fault = IncludeFault::Unreadable("Permission denied");
+/// assert_eq!(rt; fault.text(), "Permission denied");
+/// ```
 #[derive(Clone, Copy, Debug)]
 pub enum IncludeFault<'t> {
     /// The entry has no value.
@@ -146,6 +177,15 @@ impl fmt::Display for IncludeFault<'_> {
 }
 
 /// Why not all entries of a file, or of the files that it includes, are added.
+///
+/// ```rust
+/// use config_file::Settings;
+///
+/// let mut settings = Settings::new(alloc);
+/// let error = settings.add_file(alloc, b"config", b"[core]\n\tbare\n[us er]").unwrap_err();
+/// assert_eq!(rt; error.to_string(alloc)?.as_str(), "config:3: bad config line");
+/// assert_eq!(rt; settings.entries.len(), 1); // the entry before that line
+/// ```
 #[derive(Clone, Copy, Debug)]
 pub enum AddError<'t> {
     /// A line of a file cannot be read. The entries before it are added.
@@ -181,6 +221,18 @@ impl fmt::Display for AddError<'_> {
 impl error::Error for AddError<'_> {}
 
 /// Why a key has no value of the wanted type.
+///
+/// ```rust
+/// use config_file::{GetError, KeyError, Settings};
+/// use gix_config_value::{Boolean, Fault};
+///
+/// let mut settings = Settings::new(alloc);
+/// assert!(rt; settings.add_file(alloc, b"config", b"[core]\n\tbare = x").is_ok());
+/// let error = settings.get::<Boolean>("core.bare").unwrap_err();
+/// assert!(rt; matches!(error, GetError::Refused(refused) if refused.fault == Fault::Boolean));
+/// let error = settings.get::<Boolean>("bare").unwrap_err();
+/// assert!(rt; matches!(error, GetError::Key(KeyError::NoSection)));
+/// ```
 #[derive(Clone, Copy, Debug)]
 pub enum GetError<'s, 't> {
     /// The text is no key.
@@ -381,6 +433,26 @@ pub struct Settings<'t> {
 }
 
 /// How a walk goes on after an entry.
+///
+/// ```rust
+/// use config_file::{Content, Files, Include, Next, next_of};
+/// use std::alloc::{AllocError, Global};
+///
+/// #[derive(Drop)]
+/// struct NoFiles;
+///
+/// impl<'t> Files<'t> for NoFiles {
+///     ghost contents = { λ _ _ _. ⊤ };
+///
+///     fn read(&self, _alloc: Global, _name: &[u8]) -> Result<Content<'t>, AllocError> {
+///         Ok(Content::Missing)
+///     }
+/// }
+///
+/// let name = Vec::from_slice(alloc, b"more")?;
+/// assert!(rt; matches!(next_of(alloc, &NoFiles, Include::Named(name))?, Next::Behind));
+/// assert!(rt; matches!(next_of(alloc, &NoFiles, Include::MissingValue)?, Next::Stops(_)));
+/// ```
 #[derive(Drop)]
 pub enum Next<'t> {
     /// Behind it: the entry includes no file, or there is no such file.

@@ -6,7 +6,7 @@ ghost use Rattle.config_file.specs.Bytes.{is_name_byte, is_text_byte, is_key_byt
 ghost use Rattle.config_file.specs.Spelling.{IsShortest, HasNoSpelling, LacksSpelling, IsShortestHeader};
 ghost use Rattle.config_file.specs.Spelling.{HasNoHeader, IsNoKey, AddsEntry, IsLine};
 ghost use Rattle.config_file.specs.Reading.Spellings as spec;
-ghost use Rattle.config_file.specs.Reading.Spellings.{spelled_byte, spelled_value, spelled_in_subsection};
+ghost use Rattle.config_file.specs.Reading.Spellings.{spelled_byte, spelled_value, git_spelled, spelled_in_subsection};
 ghost use Rattle.config_file.specs.Reading.Spellings.{spelled_subsection, spelled_section, spelled_line};
 
 use crate::bytes;
@@ -181,11 +181,7 @@ fn push_byte(spelling: &mut Vec<u8>, quoted: bool, byte: u8) -> Result<(), Alloc
     Ok(())
 }
 
-pub(crate) fn push_bytes(
-    spelling: &mut Vec<u8>,
-    quoted: bool,
-    value: &[u8],
-) -> Result<(), AllocError>
+fn push_bytes(spelling: &mut Vec<u8>, quoted: bool, value: &[u8]) -> Result<(), AllocError>
     ensures { OnOk result
         (spelling.new.items ≡ spelling.old.items ++ flat_map (spelled_byte quoted) value.now) }
 {
@@ -202,7 +198,7 @@ fn is_lost(byte: u8) -> bool
     byte == b'\r' || bytes::is_comment_sign(byte)
 }
 
-pub(crate) fn ends_with_space(value: &[u8]) -> bool
+fn ends_with_space(value: &[u8]) -> bool
     ensures { result ≡ spec.ends_with_space value.now }
 {
     match value {
@@ -211,7 +207,7 @@ pub(crate) fn ends_with_space(value: &[u8]) -> bool
     }
 }
 
-pub(crate) fn begins_with_space(value: &[u8]) -> bool
+fn begins_with_space(value: &[u8]) -> bool
     ensures { result ≡ spec.begins_with_space value.now }
 {
     match value {
@@ -220,7 +216,7 @@ pub(crate) fn begins_with_space(value: &[u8]) -> bool
     }
 }
 
-pub(crate) fn has_lost(value: &[u8]) -> bool
+fn has_lost(value: &[u8]) -> bool
     ensures { result ≡ list_any spec.is_lost value.now }
 {
     value.iter().any(|byte| is_lost(*byte))
@@ -232,11 +228,17 @@ fn tabs(value: &[u8]) -> usize
     value.iter().filter(|byte| **byte == b'\t').count()
 }
 
+fn needs_quotes(value: &[u8]) -> bool
+    ensures { result ≡ spec.needs_quotes value.now }
+{
+    begins_with_space(value) || ends_with_space(value) || has_lost(value)
+}
+
 /// Whether a value needs quotes, or they are shorter than the backslashes before its TABs.
 fn is_quoted(value: &[u8]) -> bool
     ensures { result ≡ spec.is_quoted value.now }
 {
-    begins_with_space(value) || ends_with_space(value) || has_lost(value) || 2 < tabs(value)
+    needs_quotes(value) || 2 < tabs(value)
 }
 
 fn push_value(spelling: &mut Vec<u8>, value: &[u8]) -> Result<(), AllocError>
@@ -246,6 +248,19 @@ fn push_value(spelling: &mut Vec<u8>, value: &[u8]) -> Result<(), AllocError>
     if quoted {
         spelling.push(b'"')?;
         push_bytes(spelling, true, value)?;
+        spelling.push(b'"')?;
+        return Ok(());
+    }
+    push_bytes(spelling, false, value)
+}
+
+/// Appends the spelling that Git writes, in which a TAB has its backslash in quotes too.
+pub(crate) fn push_as_git(spelling: &mut Vec<u8>, value: &[u8]) -> Result<(), AllocError>
+    ensures { OnOk result (spelling.new.items ≡ spelling.old.items ++ git_spelled value.now) }
+{
+    if needs_quotes(value) {
+        spelling.push(b'"')?;
+        push_bytes(spelling, false, value)?;
         spelling.push(b'"')?;
         return Ok(());
     }

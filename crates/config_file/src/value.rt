@@ -28,6 +28,13 @@ pub(crate) fn escape(letter: u8) -> Option<u8>
 }
 
 /// A value, as it is written in the text.
+///
+/// ```rust
+/// use config_file::value::Value;
+///
+/// let value = Value { raw: b" \"a  b\"\\tc \\\n d " };
+/// assert_eq!(rt; value.text(alloc)?.as_slice(), b"a  b\tc  d".as_slice());
+/// ```
 #[derive(Clone, Copy, Debug)]
 pub struct Value<'a> {
     /// The bytes from the `=` to the line end or to the comment, with quotes, backslashes and all blanks.
@@ -91,8 +98,10 @@ impl<'a> Value<'a> {
                 }
                 at = after;
             } else {
+                let (word, after) = run(rest, Class::Word);
                 text.push(byte)?;
-                at = rest;
+                text.extend_from_slice(word)?;
+                at = after;
             }
         }
         Ok(text)
@@ -115,6 +124,7 @@ fn plain_text(raw: &[u8]) -> Option<&[u8]>
         if byte == b'"' || byte == b'\\' {
             return None;
         }
+        at = run(rest, Class::Word).1;
         length = start.len() - at.len();
     }
     Some(&start[..length])
@@ -131,7 +141,7 @@ fn is_held_back(quoted: bool, byte: u8) -> bool
 fn push_held(text: &mut Vec<u8>, held: &[u8]) -> Result<(), AllocError>
     ensures { OnOk result (text.new.items ≡ kept text.old.items held.now) }
 {
-    if text.is_empty() {
+    if text.is_empty() || held.is_empty() {
         return Ok(());
     }
     text.extend_from_slice(held)?;
@@ -196,7 +206,7 @@ pub(crate) fn read_value(text: &[u8]) -> Result<Taken<'_>, Stop>
                 None => return end_after_backslash(text, at, rest, quoted),
             }
         } else if goes_on(quoted, byte) {
-            at = rest;
+            at = run(rest, Class::Plain).1;
         } else {
             return end(text, at, quoted);
         }

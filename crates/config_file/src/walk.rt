@@ -15,6 +15,15 @@ use arrayvec::ArrayVec;
 use std::alloc::{AllocError, Global};
 
 /// Where a file is.
+///
+/// ```rust
+/// use config_file::Place;
+/// use config_file::path::included_name;
+///
+/// let place = Place { name: b"/home/ann/.gitconfig", real_dir: b"/home/ann" };
+/// let name = included_name(alloc, place.name, b"more")?;
+/// assert_eq!(rt; name.as_slice(), b"/home/ann/more".as_slice());
+/// ```
 #[derive(Clone, Copy)]
 pub struct Place<'t> {
     /// The name of the file, as it is included.
@@ -25,6 +34,22 @@ pub struct Place<'t> {
 }
 
 /// What a walk over files knows.
+///
+/// ```rust
+/// use config_file::{Directories, Entries, Include, Includes, Known, Place, Urls};
+/// use config_file::walk::include_of;
+///
+/// let known = Known {
+///     directories: Directories { home: Some(b"/home/ann"), install_dir: None },
+///     includes: Includes::AsGit(None, Urls::Known(&[])), // outside of any repository
+/// };
+/// let place = Place { name: b"/etc/gitconfig", real_dir: b"/etc" };
+/// let entry = Entries::new(b"[include]path = ~/b").next().expect(&rt, "an entry").expect(&rt, "no error");
+/// let Include::Named(name) = include_of(alloc, &known, place, &entry)? else {
+///     panic!(rt; "the name of a file");
+/// };
+/// assert_eq!(rt; name.as_slice(), b"/home/ann/b".as_slice());
+/// ```
 #[derive(Clone, Copy)]
 pub struct Known<'k> {
     /// The directories that the path of an include may begin with.
@@ -34,6 +59,22 @@ pub struct Known<'k> {
 }
 
 /// What an entry includes.
+///
+/// ```rust
+/// use config_file::{Directories, Entries, Include, Includes, Known, Place};
+/// use config_file::walk::include_of;
+///
+/// let directories = Directories { home: None, install_dir: None };
+/// let known = Known { directories, includes: Includes::All };
+/// let place = Place { name: b".git/config", real_dir: b"/a/.git" };
+/// let mut entries = Entries::new(b"[include]\n\tpath\n\tpath = ~/b\n[core]\n\tbare");
+/// let first = entries.next().expect(&rt, "an entry").expect(&rt, "no error");
+/// assert!(rt; matches!(include_of(alloc, &known, place, &first)?, Include::MissingValue));
+/// let second = entries.next().expect(&rt, "an entry").expect(&rt, "no error");
+/// assert!(rt; matches!(include_of(alloc, &known, place, &second)?, Include::UnknownDirectory));
+/// let third = entries.next().expect(&rt, "an entry").expect(&rt, "no error");
+/// assert!(rt; matches!(include_of(alloc, &known, place, &third)?, Include::NotFollowed));
+/// ```
 #[derive(Drop)]
 pub enum Include {
     /// It includes no file, or it is not followed.
@@ -126,6 +167,17 @@ impl Default for Frame<'_> {
 }
 
 /// A step of a walk.
+///
+/// ```rust
+/// use config_file::{Directories, Includes, Known, Place, Step, Walk};
+///
+/// let directories = Directories { home: None, install_dir: None };
+/// let known = Known { directories, includes: Includes::All };
+/// let mut walk = Walk::new(Place { name: b"config", real_dir: b"/a" }, b"[core]\n\tbare\n[us er]");
+/// assert!(rt; matches!(walk.next(alloc, &known)?, Step::Entry(_, entry, _) if entry.line == 2));
+/// assert!(rt; matches!(walk.next(alloc, &known)?, Step::Line(_, error) if error.line == 3));
+/// assert!(rt; matches!(walk.next(alloc, &known)?, Step::Ends));
+/// ```
 #[derive(Drop)]
 pub enum Step<'t> {
     /// An entry of the file at this place, and what it includes.
@@ -232,6 +284,7 @@ impl<'t> Walk<'t> {
     }
 
     /// The next step of the walk. It fails only if memory is refused, and the walk is of no use after that.
+    #[inline(always)]
     pub fn next(&mut self, alloc: Global, known: &Known<'_>) -> Result<Step<'t>, AllocError>
         ensures takes { (answers : List (List ℕ × Content)) → IfOk result
             (λ step. Takes answers known.now self.old.frames.items step self.new.frames.items) }

@@ -22,6 +22,9 @@ pub const LONGEST: usize = 1 << 30;
 /// How many bytes are read at once.
 const PIECE: usize = 1 << 16;
 
+/// How many are read at once of a short file, which may be longer than the system says.
+const LEAST: usize = 1 << 10;
+
 /// Why a file is not read.
 #[derive(Debug, Drop, Error)]
 pub enum ReadError {
@@ -101,34 +104,33 @@ fn read_some<F: Read>(file: &mut F, room: &mut [u8]) -> io::Result<usize> {
     Ok(0)
 }
 
-/// Reads what there is room for, or up to [`PIECE`] bytes. Returns false at the end of the file.
-fn read_piece<'t, F: Read>(file: &mut F, text: &mut Vec<u8, &'t Bump>) -> io::Result<bool> {
-    let start = text.len();
-    let full = if start < text.capacity() {
-        text.capacity()
-    } else {
-        start.saturating_add(PIECE)
-    };
-    if text.resize(full, 0).is_err() {
-        return Err(io::Error::from(ErrorKind::OutOfMemory));
-    }
-    let Some((_, room)) = text.split_at_mut_checked(start) else {
+/// Reads bytes into this room, and appends them to the text. Returns false at the end of the file.
+fn read_piece<'t, F: Read>(
+    file: &mut F,
+    room: &mut [u8],
+    text: &mut Vec<u8, &'t Bump>,
+) -> io::Result<bool> {
+    let count = read_some(file, room)?;
+    let Some((read, _)) = room.split_at_checked(count) else {
         return Ok(false);
     };
-    let count = read_some(file, room)?;
-    text.truncate(start.saturating_add(count));
+    if text.extend_from_slice(read).is_err() {
+        return Err(io::Error::from(ErrorKind::OutOfMemory));
+    }
     Ok(count != 0)
 }
 
-/// Reads to the end, at most [`LONGEST`] bytes. If the length is not known, it reads until Git would stop.
+/// Reads to the end, at most [`LONGEST`] bytes, through this room. If the length is not known, it reads until Git
+/// would stop.
 fn read_all<'t, F: Read>(
     file: &mut F,
+    room: &mut [u8],
     text: &mut Vec<u8, &'t Bump>,
     is_known: bool,
 ) -> Result<(), ReadError> {
     let mut asked_at = PIECE;
     for _ in 0..u64::MAX {
-        if !read_piece(file, text)? {
+        if !read_piece(file, room, text)? {
             break;
         }
         if LONGEST < text.len() {
@@ -254,8 +256,11 @@ impl<'t, R: Host> Disk<'t, R> {
         mut file: F,
         length: Option<usize>,
     ) -> Result<&'t [u8], ReadError> {
-        let mut text = Vec::with_capacity(self.texts, length.unwrap_or(PIECE).saturating_add(1))?;
-        read_all(&mut file, &mut text, length.is_some())?;
+        let wanted = length.unwrap_or(PIECE).saturating_add(1);
+        let mut text = Vec::with_capacity(self.texts, wanted)?;
+        let mut room = Vec::new(self.host.alloc());
+        room.resize(wanted.max(LEAST).min(PIECE), 0)?;
+        read_all(&mut file, &mut room, &mut text, length.is_some())?;
         Ok(into_bump_slice(text))
     }
 

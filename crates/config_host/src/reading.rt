@@ -61,6 +61,7 @@ fn enter<'t, R: Host>(
 
 /// Takes the next entry of a walk, and goes on in the file that it includes. Returns `None` at the end, and
 /// an error at a line that cannot be read.
+#[inline(always)]
 pub fn next_entry<'t, R: Host>(
     disk: &Disk<'t, R>,
     known: &Known<'_>,
@@ -76,9 +77,12 @@ pub fn next_entry<'t, R: Host>(
     };
     let (file, line) = (place.name, entry.line);
     let depth = walk.frames().len();
-    let (entered, stop) = match enter(disk, walk, include)? {
-        Ok(entered) => (entered, None),
-        Err(fault) => (None, Some(AddError::Include { file, line, fault })),
+    let (entered, stop) = match include {
+        Include::NotFollowed => (None, None),
+        include => match enter(disk, walk, include)? {
+            Ok(entered) => (entered, None),
+            Err(fault) => (None, Some(AddError::Include { file, line, fault })),
+        },
     };
     Ok(Some(Taken {
         place,

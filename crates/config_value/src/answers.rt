@@ -139,7 +139,7 @@ impl<'t, W: Write + Drop> Reading<'_, '_, '_, '_, 't, W> {
 
     /// Appends a setting that decides for a URL, or reports that it has no value of its type.
     fn answer_for_url(&mut self, setting: &Setting<'_>, key: &[u8]) -> Result<Ending, HostError> {
-        let origin = origin_of(&self.sources, setting);
+        let origin = origin_of(&self.sources, setting.scope, setting.file);
         match self.show(origin, setting, Some(key))? {
             Outcome::Refused => {
                 tell_refusal(self.rt, setting, self.request.shown)?;

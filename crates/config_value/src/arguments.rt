@@ -124,7 +124,7 @@ Examples:
 /// The command line of the program.
 pub fn command<'a>(alloc: Global) -> Result<Command<'a>, AllocError> {
     Command::new(alloc, "config_value")
-        .version("0.1.0")
+        .version("0.2.0")
         .about(
             "Reads Git's configuration files: those named, or for a key or a list those that Git reads \
             here; without any, reads lines of standard input: a kind, a space and a text",

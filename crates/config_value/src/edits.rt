@@ -88,7 +88,7 @@ pub fn change_command<'a>(alloc: Global) -> Result<Command<'a>, AllocError> {
     let mut command = Command::new(alloc, "config_value")
         .about("Changes a setting in a file, as `git config set` and its like do")
         .override_usage("config_value set [OPTIONS] KEY VALUE")
-        .version("0.1.0")
+        .version("0.2.0")
         .args_override_self(true)
         .infer_long_args(true)
         .after_help(AFTER)

@@ -1,12 +1,12 @@
 //! Lists the entries of texts, or prints values of them.
 
-use crate::output::{Ending, Origin, push_as_git, push_entry, tell, tell_refusal};
+use crate::output::{Ending, Listed, Origin, push_as_git, push_entry, tell, tell_refusal};
 use crate::request::{Request, Style, Subject, Texts};
 use crate::shown::{Homes, Outcome, Shown, put_value};
 use crate::sources::{COMMAND, Opened, open_texts};
 use crate::wanted::{Patterns, Unclear, Wanted};
 use bumpalo::Bump;
-use config_file::{Entries, Entry, Scope, Setting, Url, Walk, push_setting};
+use config_file::{Entries, Entry, Known, Scope, Setting, Url, Walk, push_setting};
 use config_host::here::prepare;
 use config_host::reading::next_entry;
 use config_host::sources::Source;
@@ -24,7 +24,6 @@ pub struct Reading<'r, 'm, 'a, 'p, 't, W: Write + Drop> {
     /// The system.
     pub rt: &'t HostRuntime,
     disk: Disk<'t, HostRuntime>,
-    surroundings: Surroundings<'t>,
     /// The texts, in order.
     pub sources: Vec<Source<'t>>,
     homes: Homes<'t>,
@@ -37,20 +36,24 @@ pub struct Reading<'r, 'm, 'a, 'p, 't, W: Write + Drop> {
     found: Vec<Setting<'t>>,
     /// A value as it is shown.
     text: Vec<u8>,
+    /// The key of an entry as it is listed.
+    name: Vec<u8>,
     /// What is still to be written.
     pub output: Vec<u8>,
 }
 
-/// Where a setting is. A file has the name of no other text: those of a command include files by whole paths.
-pub fn origin_of(sources: &[Source<'_>], setting: &Setting<'_>) -> Origin {
-    if setting.scope != Scope::Command {
+/// Where an entry of a file of this scope and name is. A file has the name of no other text: those of a
+/// command include files by whole paths.
+pub fn origin_of(sources: &[Source<'_>], scope: Scope, file: &[u8]) -> Origin {
+    if scope != Scope::Command {
         return Origin::File;
     }
-    let is_in_file = !sources.iter().any(|source| !source.is_file
-        && source.place.name == setting.file);
+    let is_in_file = !sources
+        .iter()
+        .any(|source| !source.is_file && source.place.name == file);
     if is_in_file {
         Origin::File
-    } else if setting.file == COMMAND {
+    } else if file == COMMAND {
         Origin::Command
     } else {
         Origin::Input
@@ -100,29 +103,79 @@ impl<'t, W: Write + Drop> Reading<'_, '_, '_, '_, 't, W> {
             self.output.clear();
         }
         let value = shown_value(outcome, setting, &self.text);
-        push_as_git(&mut self.output, self.request, origin, setting, key, value)?;
+        if key.is_none() && self.request.shows_names {
+            self.name.clear();
+            setting.entry.push_key(&mut self.name)?;
+        }
+        let listed = Listed {
+            scope: setting.scope,
+            file: setting.file,
+            line: setting.entry.line,
+            key: key.unwrap_or(&self.name),
+        };
+        push_as_git(&mut self.output, self.request, origin, listed, value)?;
         Ok(outcome)
     }
 
-    /// Lists the setting of an entry, or keeps it if it is asked for. As in Git, a list leaves out what is
-    /// none of its type.
-    fn take(&mut self, scope: Scope, file: &'t [u8], entry: Entry<'t>) -> io::Result<()> {
-        if !self.wanted.has_key(&entry)? {
-            return Ok(());
+    /// Lists an entry with its value as it is written. Only what shows the origin asks for it.
+    fn list(
+        &mut self,
+        scope: Scope,
+        file: &'t [u8],
+        entry: &Entry<'t>,
+        value: Option<&[u8]>,
+    ) -> io::Result<()> {
+        self.name.clear();
+        entry.push_key(&mut self.name)?;
+        let listed = Listed {
+            scope,
+            file,
+            line: entry.line,
+            key: &self.name,
+        };
+        if matches!(self.request.style, Style::Places) {
+            return push_entry(&mut self.output, self.request, listed, value);
         }
-        let mut setting = Setting::of_entry(self.rt.alloc(), file, entry)?;
-        setting.scope = scope;
-        if !self.wanted.has_value(&setting) {
-            return Ok(());
-        }
-        if self.request.subject != Subject::Entries {
+        let origin = if self.request.shows_origin {
+            origin_of(&self.sources, scope, file)
+        } else {
+            Origin::File
+        };
+        push_as_git(&mut self.output, self.request, origin, listed, value)
+    }
+
+    /// Lists a setting with its value as one of its type, or keeps it if it is asked for. As in Git, a list
+    /// leaves out what is none of its type.
+    fn take_setting(&mut self, setting: Setting<'t>) -> io::Result<()> {
+        if !matches!(self.request.subject, Subject::Entries) {
             return self.keep(setting);
         }
-        if self.request.style == Style::Places {
-            push_entry(&mut self.output, self.request, &setting)?;
+        let origin = origin_of(&self.sources, setting.scope, setting.file);
+        self.show(origin, &setting, None)?;
+        Ok(())
+    }
+
+    /// Takes an entry, if it is wanted.
+    fn take(&mut self, scope: Scope, file: &'t [u8], entry: &Entry<'t>) -> io::Result<()> {
+        if !self.wanted.has_key(entry)? {
+            return Ok(());
+        }
+        let value = match &entry.value {
+            Some(value) => Some(value.text(self.rt.alloc())?),
+            None => None,
+        };
+        if !self.wanted.has_value(value.as_deref()) {
+            return Ok(());
+        }
+        if self.request.lists_as_written() {
+            self.list(scope, file, entry, value.as_deref())?;
         } else {
-            let origin = origin_of(&self.sources, &setting);
-            self.show(origin, &setting, None)?;
+            self.take_setting(Setting {
+                scope,
+                file,
+                entry: *entry,
+                value,
+            })?;
         }
         if self.output.len() >= ROOM {
             self.write()?;
@@ -137,58 +190,68 @@ impl<'t, W: Write + Drop> Reading<'_, '_, '_, '_, 't, W> {
         Ok(())
     }
 
-    /// Takes the next entry of a walk, and goes on in the file that it includes. Returns false at the end.
-    fn step(
+    /// Takes the next entries of a walk, up to one that includes a file. Returns the text of that file, in which
+    /// the walk goes on, or `None` at the end.
+    fn pull(
         &mut self,
         disk: &Disk<'t, HostRuntime>,
+        known: &Known<'_>,
         source: &Source<'t>,
         walk: &mut Walk<'t>,
-    ) -> Result<bool, HereError<'t>> {
-        let Some(taken) = next_entry(disk, &self.surroundings.known(), walk)? else {
-            return Ok(false);
-        };
-        self.take(source.scope, taken.place.name, taken.entry)?;
-        if let Some(stop) = taken.stop {
-            return Err(HereError::Stops(stop));
+    ) -> Result<Option<&'t [u8]>, HereError<'t>> {
+        for _ in 0..u64::MAX {
+            let Some(taken) = next_entry(disk, known, walk)? else {
+                break;
+            };
+            self.take(source.scope, taken.place.name, &taken.entry)?;
+            if let Some(stop) = taken.stop {
+                return Err(HereError::Stops(stop));
+            }
+            if taken.entered.is_some() {
+                return Ok(taken.entered);
+            }
         }
-        if let Some(text) = taken.entered {
-            self.prepare(text)?;
-        }
-        Ok(true)
+        Ok(None)
     }
 
-    /// Finds what the conditions of a text ask about.
-    fn prepare(&mut self, text: &[u8]) -> Result<(), HereError<'t>> {
-        prepare(&self.disk, &mut self.surroundings, &self.sources, text)
-    }
-
-    /// Takes the entries of a text, and of the files that it includes, up to where Git stops.
-    fn walk(&mut self, source: &Source<'t>) -> Result<(), HereError<'t>> {
-        self.prepare(source.text)?;
+    /// Takes the entries of a text, and of the files that it includes, up to where Git stops. Before each text is
+    /// read, it finds what its conditions ask about.
+    fn walk(
+        &mut self,
+        surroundings: &mut Surroundings<'t>,
+        source: &Source<'t>,
+    ) -> Result<(), HereError<'t>> {
         let disk = if source.is_file {
             self.disk.again()
         } else {
             self.disk.from_root()
         };
         let mut walk = Walk::new(source.place, source.text);
+        let mut entered = Some(source.text);
         for _ in 0..u64::MAX {
-            if !self.step(&disk, source, &mut walk)? {
+            let Some(text) = entered else {
                 break;
-            }
+            };
+            prepare(&self.disk, surroundings, &self.sources, text)?;
+            entered = self.pull(&disk, &surroundings.known(), source, &mut walk)?;
         }
         Ok(())
     }
 
     /// Takes the entries of all texts. Reports where Git stops in each file that is named; in what Git reads
     /// here nothing follows such a place.
-    fn walk_all(&mut self, opened: Ending) -> Result<Ending, HostError> {
+    fn walk_all(
+        &mut self,
+        surroundings: &mut Surroundings<'t>,
+        opened: Ending,
+    ) -> Result<Ending, HostError> {
         let mut ending = opened;
         for index in 0..self.sources.len() {
             let Some(source) = self.sources.get(index) else {
                 break;
             };
             let source = *source;
-            match self.walk(&source) {
+            match self.walk(surroundings, &source) {
                 Ok(()) => {}
                 Err(HereError::Host(error)) => return Err(error),
                 Err(stop) => {
@@ -251,7 +314,7 @@ impl<'t, W: Write + Drop> Reading<'_, '_, '_, '_, 't, W> {
         let mut ending = Ending::Absent;
         let found = self.taken();
         for setting in &found {
-            let origin = origin_of(&self.sources, setting);
+            let origin = origin_of(&self.sources, setting.scope, setting.file);
             match self.answer_one(origin, setting, None)? {
                 Ending::Done => ending = Ending::Done,
                 Ending::Refused => {
@@ -316,7 +379,7 @@ fn answer_in<'t, 'a>(
 ) -> Result<Ending, HereError<'t>> {
     let Opened {
         disk,
-        surroundings,
+        mut surroundings,
         sources,
         ending,
     } = open_texts(rt, texts, request)?;
@@ -324,16 +387,16 @@ fn answer_in<'t, 'a>(
         rt,
         homes: Homes::new(rt, &disk, request.shown)?,
         disk,
-        surroundings,
         sources,
         writer: rt.stdout(),
         request,
         wanted,
         found: Vec::new(rt.alloc()),
         text: Vec::new(rt.alloc()),
+        name: Vec::new(rt.alloc()),
         output: Vec::new(rt.alloc()),
     };
-    let mut ending = reading.walk_all(ending)?;
+    let mut ending = reading.walk_all(&mut surroundings, ending)?;
     if ending == Ending::Done {
         ending = reading.answer()?;
     }

@@ -143,7 +143,7 @@ pub fn type_argument<'a>(alloc: Global) -> Arg<'a> {
 /// The options of all words.
 fn with_options<'a>(alloc: Global, command: Command<'a>) -> Result<Command<'a>, AllocError> {
     let mut command = command
-        .version("0.1.0")
+        .version("0.2.0")
         .args_override_self(true)
         .infer_long_args(true)
         .after_help(AFTER)

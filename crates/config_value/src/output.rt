@@ -41,24 +41,34 @@ fn push_scope(line: &mut Vec<u8>, request: &Request<'_, '_>, scope: Scope) -> io
     Ok(())
 }
 
+/// What is listed of an entry besides its value: the scope and the name of its file, its line, and its key.
+#[derive(Clone, Copy)]
+pub struct Listed<'s> {
+    pub scope: Scope,
+    pub file: &'s [u8],
+    pub line: usize,
+    pub key: &'s [u8],
+}
+
 /// Appends an entry after its file and its line.
 pub fn push_entry(
     line: &mut Vec<u8>,
     request: &Request<'_, '_>,
-    setting: &Setting<'_>,
+    listed: Listed<'_>,
+    value: Option<&[u8]>,
 ) -> io::Result<()> {
     let (place, equals, end) = if request.null {
         (b"\0".as_slice(), b'\n', 0)
     } else {
         (b": ".as_slice(), b'=', b'\n')
     };
-    push_scope(line, request, setting.scope)?;
-    line.extend_from_slice(setting.file)?;
+    push_scope(line, request, listed.scope)?;
+    line.extend_from_slice(listed.file)?;
     line.push(b':')?;
-    line.extend_from_slice(Buffer::new().format(setting.entry.line).as_bytes())?;
+    line.extend_from_slice(Buffer::new().format(listed.line).as_bytes())?;
     line.extend_from_slice(place)?;
-    setting.entry.push_key(line)?;
-    if let Some(value) = &setting.value {
+    line.extend_from_slice(listed.key)?;
+    if let Some(value) = value {
         line.push(equals)?;
         line.extend_from_slice(value)?;
     }
@@ -145,25 +155,21 @@ fn push_origin(line: &mut Vec<u8>, null: bool, origin: Origin, file: &[u8]) -> i
 }
 
 /// Appends an entry as Git writes it: its scope, its origin, its key and its value, as far as they are shown.
-/// The key is that of the entry if none is given, and without a value the key stands alone.
+/// Without a value the key stands alone.
 pub fn push_as_git(
     line: &mut Vec<u8>,
     request: &Request<'_, '_>,
     origin: Origin,
-    setting: &Setting<'_>,
-    key: Option<&[u8]>,
+    listed: Listed<'_>,
     value: Option<&[u8]>,
 ) -> io::Result<()> {
     let null = request.null;
-    push_scope(line, request, setting.scope)?;
+    push_scope(line, request, listed.scope)?;
     if request.shows_origin {
-        push_origin(line, null, origin, setting.file)?;
+        push_origin(line, null, origin, listed.file)?;
     }
     if request.shows_names {
-        match key {
-            Some(key) => line.extend_from_slice(key)?,
-            None => setting.entry.push_key(line)?,
-        }
+        line.extend_from_slice(listed.key)?;
     }
     if let Some(value) = value {
         if request.shows_values {

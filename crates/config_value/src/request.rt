@@ -87,6 +87,13 @@ pub struct Request<'m, 'a> {
 }
 
 impl<'m, 'a> Request<'m, 'a> {
+    /// Whether entries are listed whose values are not read, but shown as they are written.
+    pub fn lists_as_written(&self) -> bool {
+        let is_typed = self.shows_values && !matches!(self.shown, Shown::Text);
+        matches!(self.subject, Subject::Entries)
+            && (matches!(self.style, Style::Places) || !is_typed)
+    }
+
     /// A list of the entries of these texts, whose values are shown as they are written.
     pub fn new(
         style: Style,

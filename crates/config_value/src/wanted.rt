@@ -1,7 +1,7 @@
 //! The entries that are asked for: of a key, or of a pattern of keys, and with a value that fits.
 
 use crate::request::{Request, Subject};
-use config_file::{Entry, Key, KeyError, Setting};
+use config_file::{Entry, Key, KeyError};
 use regex::bytes::{Matcher, Regex};
 use regex::{Error, RegexBuilder};
 use std::alloc::{AllocError, Global};
@@ -218,12 +218,9 @@ impl<'k, 'p> Wanted<'k, 'p> {
         Ok(self.keys.has(entry, &self.listed))
     }
 
-    /// Whether a setting has a wanted value. That of a key alone is the empty text.
-    pub fn has_value(&mut self, setting: &Setting<'_>) -> bool {
-        let value = match &setting.value {
-            Some(value) => value,
-            None => b"".as_slice(),
-        };
+    /// Whether an entry with this value is wanted. That of a key alone is the empty text.
+    pub fn has_value(&mut self, value: Option<&[u8]>) -> bool {
+        let value = value.unwrap_or(b"");
         if let Some(fixed) = self.fixed {
             return value == fixed;
         }

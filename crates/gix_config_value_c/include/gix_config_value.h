@@ -6,8 +6,8 @@
  * same time, if no memory that one call writes is used by another.
  *
  * What a call writes must not overlap what it reads, or what else it writes. Pointers to what it writes, and to the
- * structs that it reads, must not be null, except for `fault`, which may always be null, and a buffer of capacity 0. A
- * length, a capacity, and the size of an array of lengths must be at most PTRDIFF_MAX bytes.
+ * structs that it reads, must not be null, except for `fault` and `line`, which may always be null, and a buffer of
+ * capacity 0. A length, a capacity, and the size of an array of lengths must be at most PTRDIFF_MAX bytes.
  *
  * A call returns GCV_OK, or another gcv_status that says why it failed. Unless its comment says otherwise, a call that
  * failed has written nothing.
@@ -29,9 +29,9 @@
 /* The version of this header; gcv_version returns that of the library. Below 1.0 a new minor number may change any
  * call, so the name of the shared library has both numbers. From 1.0 on only a new major number may change a call, and
  * the name has only that number. */
-#define GCV_VERSION "0.1.0"
+#define GCV_VERSION "0.2.0"
 #define GCV_VERSION_MAJOR 0
-#define GCV_VERSION_MINOR 1
+#define GCV_VERSION_MINOR 2
 #define GCV_VERSION_PATCH 0
 
 #ifdef __cplusplus
@@ -73,14 +73,14 @@ typedef GCV_ENUM(gcv_status) {
     GCV_OVERFLOW = 2,          /* the product of an integer does not fit int64_t */
     GCV_NO_TEXT = 3,           /* one of the colors has no text */
     GCV_TOO_MANY_NAMES = 4,    /* the two colors have more than two names together */
-    GCV_ABSENT = 5,            /* no entry has the name, or none is left */
+    GCV_ABSENT = 5,            /* no entry has the name or the key, no section has the name, or no entry is left */
     GCV_UNKNOWN_KIND = 6,      /* the number is not that of a kind */
     GCV_UNKNOWN_FAULT = 7,     /* the number is not that of a fault */
     GCV_BAD_SUFFIX = 8,        /* the number is not that of a suffix */
     GCV_BAD_NAME = 9,          /* the struct is not that of a name */
     GCV_BAD_FLAG = 10,         /* a flag is neither 0 nor 1 */
     /* 11 is no status */
-    GCV_BAD_LENGTHS = 12,      /* the lengths are not those of texts that fill the bytes, or the walk is invalid */
+    GCV_BAD_LENGTHS = 12,      /* lengths are not those of texts that fill the bytes, or a walk or settings are invalid */
     GCV_SHORT_BUFFER = 13,     /* the buffer is shorter than the text */
     GCV_NO_MEMORY = 14,        /* malloc failed, or a path would be longer than memory can be */
     GCV_BAD_LINE = 15,         /* a line of a file is invalid */
@@ -97,10 +97,13 @@ typedef GCV_ENUM(gcv_status) {
     GCV_BAD_PARAMETERS = 26,   /* GIT_CONFIG_PARAMETERS has something else than quoted texts, = and white space */
     GCV_NO_KEY = 27,           /* a text of GIT_CONFIG_PARAMETERS is empty, or begins with = */
     GCV_EMPTY_KEY = 28,        /* the key of a setting of a command is empty */
-    GCV_NO_SECTION = 29,       /* the key of a setting of a command has no section */
-    GCV_NO_KEY_NAME = 30,      /* the key of a setting of a command ends with a dot */
-    GCV_BAD_KEY = 31,          /* the key of a setting of a command has a byte that is not allowed there */
-    GCV_KEY_LINE_FEED = 32     /* the key of a setting of a command has a line feed */
+    GCV_NO_SECTION = 29,       /* the key has no section */
+    GCV_NO_KEY_NAME = 30,      /* the key ends with a dot */
+    GCV_BAD_KEY = 31,          /* the key has a byte that is not allowed there */
+    GCV_KEY_LINE_FEED = 32,    /* the key has a line feed */
+    GCV_BAD_VALUE = 33,        /* the value has a NUL, which no file can hold */
+    GCV_BAD_SECTION = 34,      /* no header can have the section */
+    GCV_SEVERAL = 35           /* several entries have the key */
 } gcv_status;
 
 /* The kinds of values. */
@@ -504,6 +507,59 @@ typedef const char *gcv_get_variable(void *state, const char *name);
 GCV_CHECKED gcv_status gcv_command_text(gcv_get_variable *get, void *state, char *GCV_RESTRICT buffer, size_t capacity,
                                         size_t *size) GCV_NONNULL((1, 5));
 
+/* Edits of the text of a configuration file: one setting changes, and each other byte stays. A key and a name of a
+ * section are as Git takes them: "user.name", "branch.Main.rebase", "branch.Main". Each call writes the new text to the
+ * buffer.
+ *
+ * Returns GCV_BAD_LINE and GCV_NUL as gcv_add_file does, and writes the line to `*line`, which otherwise is unchanged.
+ * For a key that Git refuses, a call with a key returns GCV_NO_SECTION, GCV_NO_KEY_NAME, GCV_BAD_KEY or
+ * GCV_KEY_LINE_FEED, and GCV_BAD_SECTION if its subsection has a NUL. The calls allocate and free memory, and return
+ * GCV_NO_MEMORY if malloc fails. */
+
+/* Sets the one value of a key, as `git config KEY VALUE` does. If an entry has the key, only bytes of its value change:
+ * its indentation, the comment after it and its line end stay. Otherwise a new entry comes after the last one of its
+ * section, or in a new section at the end. If the key has the value already, the new text is the old one.
+ *
+ * Returns GCV_SEVERAL if several entries have the key, and GCV_BAD_VALUE if the value has a NUL. */
+GCV_CHECKED gcv_status gcv_set(const char *text, size_t length, const char *key, size_t key_length, const char *value,
+                               size_t value_length, char *GCV_RESTRICT buffer, size_t capacity, size_t *size,
+                               size_t *line) GCV_NONNULL((9));
+
+/* Does what gcv_set does, also if several entries have the key: the last one gets the value, and the others go with
+ * their lines. Returns GCV_BAD_VALUE as gcv_set does. */
+GCV_CHECKED gcv_status gcv_replace_all(const char *text, size_t length, const char *key, size_t key_length,
+                                       const char *value, size_t value_length, char *GCV_RESTRICT buffer,
+                                       size_t capacity, size_t *size, size_t *line) GCV_NONNULL((9));
+
+/* Adds an entry, where gcv_set puts a new one, whatever entries the key has. Returns GCV_BAD_VALUE as gcv_set does. */
+GCV_CHECKED gcv_status gcv_add(const char *text, size_t length, const char *key, size_t key_length, const char *value,
+                               size_t value_length, char *GCV_RESTRICT buffer, size_t capacity, size_t *size,
+                               size_t *line) GCV_NONNULL((9));
+
+/* Takes away the entry of a key, with its line and the comment on it. A header before it on the line stays. But the
+ * header goes too if its section has neither an entry nor a comment left, and no comment comes before the header.
+ * Returns GCV_ABSENT if no entry has the key, and GCV_SEVERAL if several have it. */
+GCV_CHECKED gcv_status gcv_unset(const char *text, size_t length, const char *key, size_t key_length,
+                                 char *GCV_RESTRICT buffer, size_t capacity, size_t *size, size_t *line)
+    GCV_NONNULL((7));
+
+/* Does what gcv_unset does, with all entries of a key. Returns GCV_ABSENT if there is none. */
+GCV_CHECKED gcv_status gcv_unset_all(const char *text, size_t length, const char *key, size_t key_length,
+                                     char *GCV_RESTRICT buffer, size_t capacity, size_t *size, size_t *line)
+    GCV_NONNULL((7));
+
+/* Gives the sections of the old name the new one. Returns GCV_BAD_SECTION if no header can have the new name, and
+ * GCV_ABSENT if no section has the old one. */
+GCV_CHECKED gcv_status gcv_rename_section(const char *text, size_t length, const char *old_name, size_t old_name_length,
+                                          const char *new_name, size_t new_name_length, char *GCV_RESTRICT buffer,
+                                          size_t capacity, size_t *size, size_t *line) GCV_NONNULL((9));
+
+/* Takes away the sections of a name, with their headers and all that is in them. Comments directly above the next
+ * header stay. Returns GCV_ABSENT if no section has the name. */
+GCV_CHECKED gcv_status gcv_remove_section(const char *text, size_t length, const char *name, size_t name_length,
+                                          char *GCV_RESTRICT buffer, size_t capacity, size_t *size, size_t *line)
+    GCV_NONNULL((7));
+
 /* The calls that are proved. No pointer may be null. */
 gcv_status gcv_raw_read_suffix(const char *text, size_t length, gcv_suffix *out, gcv_fault *fault);
 gcv_status gcv_raw_read_integer(const char *text, size_t length, gcv_integer *out, gcv_fault *fault);
@@ -550,6 +606,21 @@ gcv_status gcv_raw_command_setting(const char *key, size_t key_length, const cha
 gcv_status gcv_raw_command_parameters(const char *parameters, size_t parameters_length, char *buffer, size_t capacity,
                                       size_t *size);
 gcv_status gcv_raw_command_count(const char *text, size_t length, size_t *count);
+gcv_status gcv_raw_set(const char *text, size_t length, const char *key, size_t key_length, const char *value,
+                       size_t value_length, char *buffer, size_t capacity, size_t *size, size_t *line);
+gcv_status gcv_raw_replace_all(const char *text, size_t length, const char *key, size_t key_length, const char *value,
+                               size_t value_length, char *buffer, size_t capacity, size_t *size, size_t *line);
+gcv_status gcv_raw_add(const char *text, size_t length, const char *key, size_t key_length, const char *value,
+                       size_t value_length, char *buffer, size_t capacity, size_t *size, size_t *line);
+gcv_status gcv_raw_unset(const char *text, size_t length, const char *key, size_t key_length, char *buffer,
+                         size_t capacity, size_t *size, size_t *line);
+gcv_status gcv_raw_unset_all(const char *text, size_t length, const char *key, size_t key_length, char *buffer,
+                             size_t capacity, size_t *size, size_t *line);
+gcv_status gcv_raw_rename_section(const char *text, size_t length, const char *old_name, size_t old_name_length,
+                                  const char *new_name, size_t new_name_length, char *buffer, size_t capacity,
+                                  size_t *size, size_t *line);
+gcv_status gcv_raw_remove_section(const char *text, size_t length, const char *name, size_t name_length, char *buffer,
+                                  size_t capacity, size_t *size, size_t *line);
 void gcv_raw_cut_mark(const char *text, size_t length, uint32_t *optional, size_t *start);
 gcv_status gcv_raw_interpolate(const char *text, size_t length, uint32_t has_install_dir, const char *install_dir,
                                size_t install_dir_length, uint32_t has_home, const char *home, size_t home_length,
@@ -790,7 +861,8 @@ GCV_RETURNS((8)) gcv_lookup(gcv_kind kind, const char *bytes, size_t bytes_lengt
  * out->size`, and `room` at least `count + out->count`, and call again. It returns GCV_BAD_LINE if Git would refuse the
  * file, and GCV_NUL at a NUL outside a comment, where Git would cut the text; then `*out` has the line, and 0 for the
  * rest. Unless it returns GCV_OK, the settings are unchanged. It allocates and frees memory. If malloc fails, it returns
- * GCV_NO_MEMORY, and `*out` is unchanged. */
+ * GCV_NO_MEMORY, and if `size` is more than `capacity` or `count` more than `room`, GCV_BAD_LENGTHS; then `*out` is
+ * unchanged. */
 GCV_RETURNS((1, 4)) gcv_add_file(gcv_settings *GCV_RESTRICT settings, const char *text, size_t length,
                                  gcv_file *GCV_RESTRICT out)
 {
@@ -798,9 +870,12 @@ GCV_RETURNS((1, 4)) gcv_add_file(gcv_settings *GCV_RESTRICT settings, const char
     gcv_place no_places[1] = {{0, 0, 0, 0}};
     size_t capacity = settings->capacity - settings->size;
     size_t room = settings->room - settings->count;
-    gcv_status status = gcv_raw_read_file(gcv_bytes(text, length), length,
-                                          capacity == 0 ? no_bytes : settings->bytes + settings->size, capacity,
-                                          room == 0 ? no_places : settings->places + settings->count, room, out);
+    gcv_status status = GCV_BAD_LENGTHS;
+    if (settings->size <= settings->capacity && settings->count <= settings->room) {
+        status = gcv_raw_read_file(gcv_bytes(text, length), length,
+                                   capacity == 0 ? no_bytes : settings->bytes + settings->size, capacity,
+                                   room == 0 ? no_places : settings->places + settings->count, room, out);
+    }
     if (status == GCV_OK) {
         size_t end = settings->count + out->count;
         for (; settings->count < end; settings->count++) {
@@ -831,15 +906,17 @@ GCV_RETURNS((1, 2, 3)) gcv_next_setting(const gcv_settings *settings, size_t *GC
 GCV_INLINE int gcv_is_key(const char *listed, const char *key)
 {
     size_t first = 0, last = 0, at;
+    int has_dot = 0;
     for (at = 0; key[at] != '\0'; at++) {
         if (key[at] == '.') {
-            first = first == 0 ? at : first;
+            first = has_dot ? first : at;
             last = at;
+            has_dot = 1;
         }
     }
     for (at = 0; listed[at] != '\0'; at++) {
         char byte = key[at];
-        if ((at <= first || at >= last) && byte >= 'A' && byte <= 'Z') {
+        if ((!has_dot || at <= first || at >= last) && byte >= 'A' && byte <= 'Z') {
             byte = "abcdefghijklmnopqrstuvwxyz"[byte - 'A'];
         }
         if (byte != listed[at]) {

@@ -1,4 +1,5 @@
 pub mod AddedLines
+pub mod Edited
 pub mod Entries
 pub mod Frames
 pub mod GivenKnown

@@ -7,6 +7,7 @@ pub mod Faults
 pub mod Texts
 pub mod Colors
 pub mod Commands
+pub mod Edits
 pub mod Json
 pub mod Settings
 pub mod Files

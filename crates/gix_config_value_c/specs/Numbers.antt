@@ -50,6 +50,9 @@ status_number statuses.NoSection = 29
 status_number statuses.NoKeyName = 30
 status_number statuses.BadKey = 31
 status_number statuses.KeyLineFeed = 32
+status_number statuses.BadValue = 33
+status_number statuses.BadSection = 34
+status_number statuses.Several = 35
 
 -- the number of a kind
 abbrev pub kind_number : Kind → ℕ

@@ -12,7 +12,7 @@ use config_file::key::KeyError;
 use std::alloc::Global;
 
 /// Returns the number of the status that says why Git refuses a key.
-fn key_status(error: KeyError) -> u32
+pub(crate) fn key_status(error: KeyError) -> u32
     ensures { result ≡ status_number (key_status_of error) }
 {
     match error {

@@ -7,6 +7,7 @@
 mod buffer;
 mod colors;
 mod commands;
+mod edits;
 mod faults;
 mod files;
 mod json;

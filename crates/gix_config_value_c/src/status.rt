@@ -13,7 +13,7 @@ pub enum Status {
     NoText = 3,
     /// The colors have more than two names together.
     TooManyNames = 4,
-    /// No entry has the name.
+    /// No entry has the name or the key, or no section has the name.
     Absent = 5,
     /// No kind has this number.
     UnknownKind = 6,
@@ -59,12 +59,18 @@ pub enum Status {
     NoKey = 27,
     /// The key of a setting of a command is empty.
     EmptyKey = 28,
-    /// The key of a setting of a command has no section.
+    /// The key has no section.
     NoSection = 29,
-    /// The key of a setting of a command ends with a dot.
+    /// The key ends with a dot.
     NoKeyName = 30,
-    /// The key of a setting of a command has a byte that is not allowed there.
+    /// The key has a byte that is not allowed there.
     BadKey = 31,
-    /// The key of a setting of a command has a line feed.
+    /// The key has a line feed.
     KeyLineFeed = 32,
+    /// The value has a NUL.
+    BadValue = 33,
+    /// No header can have the section.
+    BadSection = 34,
+    /// Several entries have the key.
+    Several = 35,
 }

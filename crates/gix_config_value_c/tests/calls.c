@@ -1,4 +1,4 @@
-/* Tests each status of each call on bad input, and what it leaves alone; lookups, compositions, files, fault texts. */
+/* Tests each status of each call on bad input, and what it leaves alone; lookups, compositions, files, edits, fault texts. */
 #include "guarded.h"
 #include <pthread.h>
 #include <time.h>
@@ -439,10 +439,10 @@ static void status_texts(void)
 {
     const char *unknown = gcv_status_text((gcv_status)11);
     count(strcmp(unknown, "unknown status") == 0 && gcv_status_text((gcv_status)UINT32_MAX) == unknown, unknown);
-    for (uint32_t status = GCV_OK; status <= GCV_TOO_DEEP; status++) {
+    for (uint32_t status = GCV_OK; status <= GCV_SEVERAL; status++) {
         const char *text = gcv_status_text((gcv_status)status);
         int differs = strlen(text) > 0;
-        for (uint32_t other = status + 1; other <= GCV_TOO_DEEP + 1; other++) {
+        for (uint32_t other = status + 1; other <= GCV_SEVERAL + 1; other++) {
             differs = differs && (status == 11 || other == 11 || strcmp(text, gcv_status_text((gcv_status)other)) != 0);
         }
         count(differs, text);
@@ -609,6 +609,16 @@ static void files(void)
     count(gcv_lookup_setting(&settings, "color.a\"b.ui", &setting) == GCV_OK && gcv_parse_color(setting.value, &color, NULL) == GCV_OK &&
               color.foreground.tag == GCV_RED && color.attributes == GCV_BOLD,
           "a color of a subsection");
+    static const char *const keys[][2] = {{".X.a", ".X.A"}, {"a.b", "A.B"}, {"a.B.c", "A.B.C"}, {"ab", "AB"}};
+    static const char *const others[][2] = {{".X.a", ".x.a"}, {".foo.Bar.b", ".Foo.Bar.b"}, {"a.B.c", "a.b.c"}, {"a", "a.b"}};
+    for (size_t at = 0; at < 4; at++) {
+        count(gcv_is_key(keys[at][0], keys[at][1]) && !gcv_is_key(others[at][0], others[at][1]), keys[at][1]);
+    }
+    gcv_settings wrong[] = {{NULL, 0, 1, places, 8, 0}, {NULL, 8, 9, places, 8, 0}, {NULL, 0, 0, places, 0, 1}};
+    for (size_t at = 0; at < 3; at++) {
+        gcv_file file = {UNTOUCHED, UNTOUCHED, UNTOUCHED};
+        count(gcv_add_file(&wrong[at], "[a]\nb", 5, &file) == GCV_BAD_LENGTHS && file.size == UNTOUCHED, "beyond the arrays");
+    }
 }
 
 /* A walk, what includes may refer to, and where its next step goes, and the walk after that step. */
@@ -940,6 +950,102 @@ static void commands(void)
     }
 }
 
+typedef gcv_status edit_by_two(const char *, size_t, const char *, size_t, const char *, size_t, char *, size_t, size_t *, size_t *);
+typedef gcv_status edit_by_one(const char *, size_t, const char *, size_t, char *, size_t, size_t *, size_t *);
+
+/* An edit of a text by one of two calls, what it returns, and the text or the line that it writes. */
+typedef struct edit {
+    edit_by_two *by_two;
+    edit_by_one *by_one;
+    gcv_text old, first, second;
+    gcv_status status;
+    gcv_text edited;
+    size_t line;
+} edit;
+
+static gcv_status edited(const void *state, char *buffer, size_t capacity, size_t *size)
+{
+    const edit *of = (const edit *)state;
+    const char *old = lent(text_area, of->old.bytes, of->old.length);
+    const char *first = lent(name_area, of->first.bytes, of->first.length);
+    const char *second = lent(dir_area, of->second.bytes, of->second.length);
+    size_t line = UNTOUCHED, again = UNTOUCHED;
+    gcv_status status, without_line;
+    if (of->by_two) {
+        status = of->by_two(old, of->old.length, first, of->first.length, second, of->second.length, buffer, capacity, size, &line);
+        without_line =
+            of->by_two(old, of->old.length, first, of->first.length, second, of->second.length, buffer, capacity, &again, NULL);
+    } else {
+        status = of->by_one(old, of->old.length, first, of->first.length, buffer, capacity, size, &line);
+        without_line = of->by_one(old, of->old.length, first, of->first.length, buffer, capacity, &again, NULL);
+    }
+    return line == of->line && without_line == status && again == *size ? status : UNTOUCHED;
+}
+
+#define TEXT(text) {text, sizeof text - 1}
+#define EDITS(call, old, first, second, edited) {call, NULL, TEXT(old), TEXT(first), TEXT(second), GCV_OK, TEXT(edited), UNTOUCHED}
+#define REMOVES(call, old, first, edited) {NULL, call, TEXT(old), TEXT(first), TEXT(""), GCV_OK, TEXT(edited), UNTOUCHED}
+#define REFUSES(by_two, by_one, old, first, second, status) \
+    {by_two, by_one, TEXT(old), TEXT(first), TEXT(second), status, TEXT(""), UNTOUCHED}
+
+/* Edits, as Git 2.39.5 and 2.55.0 write or refuse them. But Git drops the comment and the CR behind a value, cuts a text at a
+ * NUL, takes no NUL, and changes sections in a file that it refuses to read. */
+static void edits(void)
+{
+    static const edit rows[] = {
+        EDITS(gcv_set, "[user]\n\tname = A\n\temail = a@b\n", "user.name", "B", "[user]\n\tname = B\n\temail = a@b\n"),
+        EDITS(gcv_set, "[user]\n\tname = A\n", "user.name", "A", "[user]\n\tname = A\n"),
+        EDITS(gcv_set, "[user]\n\tname = A\n[core]\n\tbare\n", "user.email", "a b #c",
+              "[user]\n\tname = A\n\temail = \"a b #c\"\n[core]\n\tbare\n"),
+        EDITS(gcv_set, "[core]\n\tbare\n", "Branch.Main.Merge", "x", "[core]\n\tbare\n[Branch \"Main\"]\n\tMerge = x\n"),
+        EDITS(gcv_set, "", "a.b", "", "[a]\n\tb = \n"),
+        EDITS(gcv_set, "[user] name=A\t# me\r\n", "user.name", "B", "[user] name=B\t# me\r\n"),
+        REFUSES(gcv_set, NULL, "[a]\n\tb = 1\n\tb = 2\n", "a.b", "3", GCV_SEVERAL),
+        REFUSES(gcv_set, NULL, "", "", "", GCV_NO_SECTION),
+        REFUSES(gcv_set, NULL, "]", "ab", "3", GCV_NO_SECTION),
+        REFUSES(gcv_set, NULL, "]", "a.", "3", GCV_NO_KEY_NAME),
+        REFUSES(gcv_set, NULL, "]", "a.b_c", "3", GCV_BAD_KEY),
+        REFUSES(gcv_set, NULL, "]", "a.\n.b", "3", GCV_KEY_LINE_FEED),
+        REFUSES(gcv_set, NULL, "]", "a.\0.b", "3", GCV_BAD_SECTION),
+        REFUSES(gcv_set, NULL, "]", "a.b", "3\0", GCV_BAD_VALUE),
+        {gcv_set, NULL, TEXT("[a]\n\tb = 1\n]\n"), TEXT("a.b"), TEXT("3"), GCV_BAD_LINE, TEXT(""), 3},
+        {gcv_set, NULL, TEXT("[a]\n\tb = 1\0\n"), TEXT("a.b"), TEXT("3"), GCV_NUL, TEXT(""), 2},
+        EDITS(gcv_replace_all, "[a]\n\tb = 1\n\tc = 1\n\tb = 2\n", "a.b", "3", "[a]\n\tc = 1\n\tb = 3\n"),
+        REFUSES(gcv_replace_all, NULL, "", "a.b", "\0", GCV_BAD_VALUE),
+        {gcv_replace_all, NULL, TEXT("="), TEXT("a.b"), TEXT("3"), GCV_BAD_LINE, TEXT(""), 1},
+        EDITS(gcv_add, "[a]\n\tb = 1\n[c]\n\td = 2\n", "a.b", "x;y", "[a]\n\tb = 1\n\tb = \"x;y\"\n[c]\n\td = 2\n"),
+        REFUSES(gcv_add, NULL, "", "a", "1", GCV_NO_SECTION),
+        {gcv_add, NULL, TEXT("="), TEXT("a.b"), TEXT("3"), GCV_BAD_LINE, TEXT(""), 1},
+        REMOVES(gcv_unset, "[a]\n\tb = 1\n\tc = 2\n", "a.b", "[a]\n\tc = 2\n"),
+        REMOVES(gcv_unset, "[a]\n\tb = 1\n[c]\n\td = 2\n", "a.b", "[c]\n\td = 2\n"),
+        REMOVES(gcv_unset, "[a]\n\tb = 1\n", "a.b", ""),
+        REFUSES(NULL, gcv_unset, "[a]\n\tb = 1\n", "a.c", "", GCV_ABSENT),
+        REFUSES(NULL, gcv_unset, "[a]\n\tb = 1\n\tb = 2\n", "a.b", "", GCV_SEVERAL),
+        REFUSES(NULL, gcv_unset, "", "a.", "", GCV_NO_KEY_NAME),
+        {NULL, gcv_unset, TEXT("\n="), TEXT("a.b"), TEXT(""), GCV_BAD_LINE, TEXT(""), 2},
+        REMOVES(gcv_unset_all, "[a]\n\tb = 1\n\tc = 3\n\tb = 2\n", "a.b", "[a]\n\tc = 3\n"),
+        REFUSES(NULL, gcv_unset_all, "[a]\n\tb = 1\n", "a.c", "", GCV_ABSENT),
+        REFUSES(NULL, gcv_unset_all, "", "a.b_", "", GCV_BAD_KEY),
+        {NULL, gcv_unset_all, TEXT("\n="), TEXT("a.b"), TEXT(""), GCV_BAD_LINE, TEXT(""), 2},
+        EDITS(gcv_rename_section, "[a]\n\tb = 1\n[a \"B\"]\n\tc\n", "a.B", "x.Y\"z", "[a]\n\tb = 1\n[x \"Y\\\"z\"]\n\tc\n"),
+        REFUSES(gcv_rename_section, NULL, "]", "a", "b_", GCV_BAD_SECTION),
+        REFUSES(gcv_rename_section, NULL, "[a]\n\tb = 1\n", "c", "b", GCV_ABSENT),
+        REFUSES(gcv_rename_section, NULL, "", "", "b", GCV_ABSENT),
+        {gcv_rename_section, NULL, TEXT("[a]\0"), TEXT("a"), TEXT("b"), GCV_NUL, TEXT(""), 1},
+        REMOVES(gcv_remove_section, "[a]\n\tb = 1\n[c]\n\td\n[a]\n\te\n", "a", "[c]\n\td\n"),
+        REFUSES(NULL, gcv_remove_section, "[a]\n\tb = 1\n", "b", "", GCV_ABSENT),
+        REFUSES(NULL, gcv_remove_section, "[a]\n\tb = 1\n", "a_", "", GCV_ABSENT),
+        REFUSES(NULL, gcv_remove_section, "", "", "", GCV_ABSENT),
+        {NULL, gcv_remove_section, TEXT("[a]\n="), TEXT("a"), TEXT(""), GCV_BAD_LINE, TEXT(""), 2},
+    };
+    for (size_t at = 0; at < sizeof rows / sizeof rows[0]; at++) {
+        const edit *of = &rows[at];
+        count(of->status == GCV_OK ? writes(buffer_area, edited, of, of->edited.bytes, of->edited.length)
+                                   : writes_nothing(buffer_area, edited, of, of->status),
+              of->old.bytes);
+    }
+}
+
 /* The text of a file, what conditions are about, and what a thread finds out. */
 typedef struct asked {
     const char *text;
@@ -1038,6 +1144,7 @@ int main(void)
     depth();
     overwritten();
     commands();
+    edits();
     patterns();
     return finish();
 }

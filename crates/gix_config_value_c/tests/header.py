@@ -6,7 +6,7 @@ the names, order, types and offsets of the fields of each struct, the parameters
 of each constant. The Python module includes the header, and has its own names for the faults and the attributes.
 
 crates/gix_config_value_c/VERSION has the version. The header has to have the same, and so have CHANGELOG.md, the
-program config_check, the Python package, and the library that was built into PREFIX. The name of the shared library has
+programs, and the library that was built into PREFIX. The name of the shared library has
 the first number of the version, and below 1.0 the second one too. The length of the longest canonical text, and the
 number of files that a walk is in at most, are compared with the sources of config_text and config_file."""
 import pathlib
@@ -24,8 +24,9 @@ MODULE = ROOT / "python/_core.c"
 PLACES = [
     (HEADER, r'^#define GCV_VERSION "(.*)"$'),
     (ROOT / "CHANGELOG.md", r"^## \[?([0-9][^\s\]]*)"),
-    (ROOT / "crates/config_check/src/main.rt", r'^        \.version\("(.*)"\)$'),
-    (ROOT / "python/pyproject.toml", r'^version = "(.*)"$'),
+    *((ROOT / "crates" / name, r'^        \.version\("(.*)"\)$') for name in (
+        "config_check/src/main.rt", "config_value/src/arguments.rt", "config_value/src/edits.rt",
+        "config_value/src/options.rt")),
 ]
 PARTS = [(HEADER, rf"^#define GCV_VERSION_{part} (\d+)$") for part in ("MAJOR", "MINOR", "PATCH")]
 # constants of the header, and where the sources have the same number

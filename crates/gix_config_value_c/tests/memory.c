@@ -155,6 +155,24 @@ static gcv_status command(const void *state, char *buffer, size_t capacity, size
     return gcv_command_text(variable, NULL, buffer, capacity, size);
 }
 
+#define TEXT(text) text, sizeof text - 1
+#define EDIT(name, ...)                                                                                                           \
+    static gcv_status name(const void *state, char *buffer, size_t capacity, size_t *size)                                        \
+    {                                                                                                                             \
+        size_t line = UNTOUCHED;                                                                                                  \
+        (void)state;                                                                                                              \
+        gcv_status status = gcv_##name(__VA_ARGS__, buffer, capacity, size, &line);                                               \
+        return line == UNTOUCHED ? status : UNTOUCHED;                                                                            \
+    }
+
+EDIT(set, TEXT("[a]\n\tb = 1\n"), TEXT("a.b"), TEXT("2"))
+EDIT(replace_all, TEXT("[a]\n\tb = 1\n\tb = 2\n"), TEXT("a.b"), TEXT("3"))
+EDIT(add, TEXT("[a]\n\tb = 1\n"), TEXT("c.D.e"), TEXT("2"))
+EDIT(unset, TEXT("[a]\n\tb = 1\n\tc = 2\n"), TEXT("a.b"))
+EDIT(unset_all, TEXT("[a]\n\tb = 1\n\tc = 2\n\tb = 3\n"), TEXT("a.b"))
+EDIT(rename_section, TEXT("[a]\n\tb = 1\n"), TEXT("a"), TEXT("c.D"))
+EDIT(remove_section, TEXT("[a]\n\tb = 1\n[c]\n\td\n"), TEXT("a"))
+
 /* The call asks for memory this many times. If one of these requests is refused, the call writes nothing, and frees
  * what it took. */
 static int asks(writer call, const char *text, size_t length, unsigned long wanted)
@@ -192,6 +210,13 @@ int main(void)
     ASKS(normalize, "16k", 0);
     ASKS(add_file, "a.b", 3);
     ASKS(command, "[a]b=c\n", 10);
-    ASKS(next, "includeif.onbranch:ma*.path\0~/x\t\0/home/u/x\t\0", 10);
+    ASKS(set, "[a]\n\tb = 2\n", 1);
+    ASKS(replace_all, "[a]\n\tb = 3\n", 1);
+    ASKS(add, "[a]\n\tb = 1\n[c \"D\"]\n\te = 2\n", 3);
+    ASKS(unset, "[a]\n\tc = 2\n", 3);
+    ASKS(unset_all, "[a]\n\tc = 2\n", 3);
+    ASKS(rename_section, "[c \"D\"]\n\tb = 1\n", 7);
+    ASKS(remove_section, "[c]\n\td\n", 3);
+    ASKS(next, "includeif.onbranch:ma*.path\0~/x\t\0/home/u/x\t\0", 9);
     return finish();
 }

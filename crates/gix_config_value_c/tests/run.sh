@@ -120,9 +120,16 @@ else
     holds "the flags of pkg-config" sh -c \
         'eval "${CC:-cc} \"\$1\" $(pkg-config --cflags --libs gix_config_value) -o \"\$2\"" && "$2" red' \
         - "$root/examples/c/theme.c" "$work/by_pkg_config"
+    if pkg-config --define-prefix --version > /dev/null 2>&1; then
+        cp -R "$prefix" "$work/moved"
+        # shellcheck disable=SC2016
+        holds "a moved prefix" sh -c '[ "$(PKG_CONFIG_PATH=$1/lib/pkgconfig pkg-config --define-prefix --cflags --libs \
+            gix_config_value | tr -d " ")" = "-I$1/include-L$1/lib-lgix_config_value" ]' - "$work/moved"
+    fi
 fi
 
-# the examples, by each compiler as C99 and as C++, over the shared library and over the archive
+# the examples, with that of docs/C.md, by each compiler as C99 and as C++, over the shared library and over the archive
+sed -n '/^```c$/,/^```$/{/^```/!p;}' "$root/docs/C.md" > "$work/edit.c"
 warnings="-Wall -Wextra -Wconversion -Wsign-conversion -Wcast-qual -Wpedantic -Werror"
 # a program ends with this status, and its output begins with this text: answers STATUS TEXT PROGRAM ARGUMENT..
 # shellcheck disable=SC2317
@@ -154,7 +161,14 @@ if command -v gcc > /dev/null; then
     refuses "a status that is no status" 'gcv_read_boolean(t, 1, &b, NULL) == GCV_FAULT_BOOLEAN'
     refuses "a path over itself" 'gcv_interpolate(t, 1, &c, t, sizeof t, &n, NULL) == GCV_OK'
     refuses "a color over itself" 'gcv_compose(&both, &both, &both) == GCV_OK'
+    refuses "an edit over its own text" 'gcv_set(t, 1, "a.b", 3, "c", 1, t, sizeof t, &n, NULL) == GCV_OK'
 fi
+{
+    printf '#include <gix_config_value.h>\n#include <stdio.h>\nint main(void)\n{\n'
+    # shellcheck disable=SC2016
+    sed -n '/^```c$/,/^```$/{/^```/d;p}' "$root/README.md"
+    printf 'return 0;\n}\n'
+} > "$work/readme.c"
 for compiler in gcc clang g++ clang++; do
     if ! command -v "$compiler" > /dev/null; then
         echo "skipped: the examples by $compiler, which is not there"
@@ -170,6 +184,9 @@ for compiler in gcc clang g++ clang++; do
         *++) also="-x c++ -std=c++98 -Wold-style-cast" ;;
         *) also="-std=c89" ;;
     esac
+    # shellcheck disable=SC2086
+    holds "the example of the README by $compiler" "$compiler" $language $warnings -I"$prefix/include" \
+        -c -o "$work/right.o" "$work/readme.c"
     for dialect in "$language" "$also"; do
         # shellcheck disable=SC2086
         holds "no warning by $compiler $dialect" "$compiler" $dialect -O2 $warnings -I"$prefix/include" \
@@ -186,6 +203,10 @@ for compiler in gcc clang g++ clang++; do
             holds "$example $by" "$compiler" $language $warnings -I"$prefix/include" -o "$work/$example" \
                 "$root/examples/c/$example.c" -x none "$@"
         done
+        # shellcheck disable=SC2086
+        holds "the page's example $by" "$compiler" $language $warnings -I"$prefix/include" -o "$work/edit" "$work/edit.c" \
+            -x none "$@"
+        holds "the page's example $by, edits" answers 0 '.name = B C # me$' "$work/edit"
         holds "theme $by, runs" answers 0 '#ffffff bold ul$' "$work/theme" 'bold red' 'ul #fff'
         holds "theme $by, refuses" answers 1 '' "$work/theme" red 'green yellow blue'
         holds "check $by, runs" answers 0 '16k$' "$work/check" integer 0x10k
@@ -226,6 +247,8 @@ for builder in $pythons; do
     by=$("$builder" -V)
     rm -rf "$work/wheel" "$work/site"
     holds "the wheel by $by" wheel "$work/wheel" "$builder"
+    # it needs no newer C library than that of 2014; so no call of fstat, which has a newer version
+    holds "the wheel by $by is for every Linux of its time" sh -c "ls '$work'/wheel/*.manylinux2014_x86_64.whl"
     holds "the wheel by $by, taken apart" "$builder" -m zipfile -e "$work"/wheel/*.whl "$work/site"
     for python in $pythons; do
         holds "the package by $by on $("$python" -V)" env -C "$root/python/tests" PYTHONDONTWRITEBYTECODE=1 \
@@ -240,13 +263,50 @@ for python in $pythons; do
     holds "$("$python" -V) takes the wheel" "$python" -m pip install --quiet --disable-pip-version-check --no-index \
         --target "$work/$("$python" -V)" "$work"/wheel/*.whl
 done
+# shellcheck disable=SC2317
+sources() {
+    mkdir "$1"
+    (cd "$root/python" && python3 -B -W error -c 'import sys, wheel_of_package as it; it.build_sdist(sys.argv[1])' "$1")
+}
+# shellcheck disable=SC2317
+by_pip() {
+    python3 -m pip wheel --quiet --disable-pip-version-check --no-index --no-deps --wheel-dir "$work/by_pip" \
+        "$work"/sources/*.tar.gz
+}
 if [ -n "$pythons" ]; then
     holds "the wheel, again" wheel "$work/again" "$builder"
     holds "the wheel is reproducible" diff -r "$work/wheel" "$work/again"
-    holds "an archive of the sources" env -C "$root/python" \
-        python3 -B -W error -c 'import sys, wheel_of_package as it; it.build_sdist(sys.argv[1])' "$work"
-    holds "pip builds the package of its sources" python3 -m pip wheel --quiet --disable-pip-version-check --no-index \
-        --no-deps --wheel-dir "$work/by_pip" "$work"/gix_config_value-*.tar.gz
+    holds "an archive of the sources" sources "$work/sources"
+    sleep 1
+    holds "an archive of the sources, again" sources "$work/sources_again"
+    holds "the archive of the sources is reproducible" diff -r "$work/sources" "$work/sources_again"
+    holds "pip builds the package of its sources" by_pip
+    export PKG_CONFIG_PATH="$work/none"
+    by_pip > "$work/told" 2>&1
+    holds "the sources say that the library is missing" grep -q "the C library gix_config_value is missing" "$work/told"
+    mkdir "$work/a space" && cp -R "$prefix/." "$work/a space/prefix"
+    sed -i "s|^prefix=.*|prefix=$work/a\\\\ space/prefix|" "$work/a space/prefix/lib/pkgconfig/gix_config_value.pc"
+    export PKG_CONFIG_PATH="$work/a space/prefix/lib/pkgconfig"
+    holds "a prefix with a space" wheel "$work/of_space" python3
+    export PKG_CONFIG_PATH="$prefix/lib/pkgconfig"
+fi
+if [ -z "$pythons" ] || ! python3 -m venv "$work/venv" > "$work/output" 2>&1; then
+    echo "skipped: the package as pip installs it, without Python's venv"
+else
+    holds "pip installs the package" "$work/venv/bin/pip" install --quiet --disable-pip-version-check --no-index \
+        "$work"/wheel/*.whl
+    holds "the package as pip installs it" env -C "$root/python/tests" PYTHONDONTWRITEBYTECODE=1 \
+        "$work/venv/bin/python" -W error -bb -m unittest test_package test_files
+fi
+# the types, as type checkers see them; stubtest looks at what has no stub, too
+if [ -z "$pythons" ] || ! command -v mypy > /dev/null || ! command -v stubtest > /dev/null; then
+    echo "skipped: the types of the package, without mypy and stubtest"
+else
+    printf '[mypy]\nignore_missing_imports = True\n' > "$work/mypy.ini"
+    echo 'gix_config_value\._[a-z]+(\..*)?' > "$work/private"
+    holds "mypy" env -C "$work" MYPYPATH="$work/site" mypy --strict --no-incremental "$root/python/tests/typed.py"
+    holds "stubtest" env -C "$work" MYPYPATH="$work/site" PYTHONPATH="$work/site" stubtest --concise \
+        --mypy-config-file "$work/mypy.ini" --allowlist "$work/private" gix_config_value
 fi
 
 # the calls, under sanitizers if clang has them

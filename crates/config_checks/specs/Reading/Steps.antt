@@ -1,14 +1,17 @@
--- What the steps of a check count and write.
-use Rattle.std.specs.Prelude.{◌≡◌, ◌≢◌, ⊤, ℕ, ◌+◌, ◌^◌, ◌<◌, ◌≤◌, List, ◌∷◌, ◌++◌, Option, None, Some}
-use Rattle.std.specs.Io.KnownBytes.{Appends}
+-- What the steps of a check count, and what is received.
+use Rattle.std.specs.Prelude.{◌≡◌, ◌≢◌, ⊤, ℕ, ◌+◌, ◌^◌, ◌<◌, ◌≤◌, List, [], ◌∷◌, ◌++◌, Option, None, Some, option_map}
+use Rattle.std.specs.Prelude.{Bool, true, false}
 use Rattle.config_file.specs.declared.errors.Error as errors
 use Rattle.config_checks.specs.declared.options.Options.{Options}
 use Rattle.config_checks.specs.declared.row.Row.{Row}
 use Rattle.config_checks.specs.declared.setting.Setting.{Setting}
 use Rattle.config_checks.specs.declared.check.Counts.{Counts}
-use Rattle.config_checks.specs.declared.check.CheckError.{CheckError}
-use Rattle.config_checks.specs.declared.check.CheckError.TheVariants.{Write, Memory}
-use Rattle.config_checks.specs.Report.{ReportsSetting, Report, EndsReport, HasSettings}
+use Rattle.config_checks.specs.Findings.{Finding}
+use Rattle.config_checks.specs.declared.check.Said.{Said}
+use Rattle.config_checks.specs.declared.reason.Severity.TheVariants.{Warning}
+use Rattle.config_checks.specs.declared.suggestion.UnknownKey.{UnknownKey}
+use Rattle.config_checks.specs.Suggestions.{IsPassed, IsUnknownKey, unknown_text}
+use Rattle.config_checks.specs.Report.{ReportsSetting, Report, EndsReport, HasSettings, Receives, key_meant}
 
 -- the texts do not begin with the same byte
 abbrev pub AreApart : List ℕ → List ℕ → Type 0
@@ -39,54 +42,63 @@ pub record HasRoomForFinding (s : Counts) : Type 0 where
   pub errors : s.errors + 1 < 2 ^ 64
   pub warnings : s.warnings + 1 < 2 ^ 64
 
--- the setting is counted, and its line is written
-abbrev pub Reports : List Row → Options → Setting → Counts → Counts → Option (List ℕ) → Option (List ℕ) → Type 0
-Reports rows options setting s s' contents contents' =
-    (line : List ℕ) × ReportsSetting rows options setting s line s' × Appends contents contents' line
+-- the setting is counted, and its finding is received
+abbrev pub Reports : List Row → Options → Setting → Counts → Counts → Option (List Finding) → Option (List Finding) → Type 0
+Reports rows options setting s s' known known' =
+    (said : List Finding) × ReportsSetting rows options setting s said s' × Receives known known' said
 
--- what was held is kept, and a prefix of the text is appended, which may be empty or the whole text
-pub record AppendsPart (held holds : Option (List ℕ)) (text : List ℕ) : Type 0 where
-  pub written : List ℕ
-  pub missing : List ℕ
-  pub appended : Appends held holds written
-  pub parts : text ≡ written ++ missing
+-- the key is passed, or it is unknown and reported with these texts
+abbrev pub IsSaidAs : List Row → List ℕ → Option (List ℕ) → Option (List ℕ) → Type 0
+IsSaidAs rows key None meant = IsPassed rows key
+IsSaidAs rows key (Some text) meant =
+    (unknown : UnknownKey) × IsUnknownKey rows key unknown × (text ≡ unknown_text unknown) × (meant ≡ key_meant unknown)
 
--- a prefix of such a line is written if a write failed, and nothing is written if memory ran out
-abbrev pub WritesPart : Option (List ℕ) → Option (List ℕ) → (List ℕ → Type 0) → CheckError → Type 0
-WritesPart contents contents' IsLine (Write e) = (line : List ℕ) × IsLine line × AppendsPart contents contents' line
-WritesPart contents contents' IsLine (Memory e) = contents' ≡ contents
+abbrev pub IsSaid : List Row → Said → Type 0
+IsSaid rows said = IsSaidAs rows said.key.items (option_map (λ t. t.items) said.reason) (option_map (λ t. t.items) said.meant)
 
-abbrev pub ReportsPart : List Row → Options → Setting → Counts → Option (List ℕ) → Option (List ℕ) → CheckError → Type 0
-ReportsPart rows options setting s contents contents' e =
-    WritesPart contents contents' (λ line. (s' : Counts) × ReportsSetting rows options setting s line s') e
+-- the finding about a setting whose key is reported with these texts
+abbrev pub findings_as : Setting → Option (List ℕ) → Option (List ℕ) → List Finding
+findings_as setting None meant = []
+findings_as setting (Some text) meant = record {
+  file = setting.file.now;
+  line = setting.line;
+  severity = Warning;
+  key = Some setting.key.items;
+  row = None;
+  value = None;
+  reason = text;
+  fault = None;
+  suggestion = meant;
+} ∷ []
 
--- if the file is refused, the line of its error is written and counted
-abbrev pub Tells : Options → List ℕ → Option errors.Error → Counts → Counts → Option (List ℕ) → Option (List ℕ) → Type 0
-Tells options file error s s' contents contents' =
-    (line : List ℕ) × EndsReport options file error s line s' × Appends contents contents' line
+abbrev pub said_findings : Setting → Said → List Finding
+said_findings setting said = findings_as setting (option_map (λ t. t.items) said.reason) (option_map (λ t. t.items) said.meant)
 
-abbrev pub TellsPart : Options → List ℕ → Option errors.Error → Counts → Option (List ℕ) → Option (List ℕ) → CheckError → Type 0
-TellsPart options file error s contents contents' e =
-    WritesPart contents contents' (λ line. (s' : Counts) × EndsReport options file error s line s') e
+abbrev pub is_some : Option (List ℕ) → Bool
+is_some None = false
+is_some (Some t) = true
 
--- the lines of these settings are written
-abbrev pub ReportsAll : List Row → Options → List Setting → Option (List ℕ) → Option (List ℕ) → Counts → Type 0
-ReportsAll rows options settings contents contents' s =
-    (lines : List ℕ) × Appends contents contents' lines × Report rows options settings lines s
+abbrev pub is_reported : Said → Bool
+is_reported said = is_some (option_map (λ t. t.items) said.reason)
 
--- the lines of the settings of a file are written, up to its end or to this error
-pub record ReportsEntries (rows : List Row) (options : Options) (file text : List ℕ) (contents contents' : Option (List ℕ))
+-- if the file is refused, its error is received and counted
+abbrev pub Tells : List ℕ → Option errors.Error → Counts → Counts → Option (List Finding) → Option (List Finding) → Type 0
+Tells file error s s' known known' =
+    (last : List Finding) × EndsReport file error s last s' × Receives known known' last
+
+-- the findings of these settings are received
+abbrev pub ReportsAll : List Row → Options → List Setting → Option (List Finding) → Option (List Finding) → Counts → Type 0
+ReportsAll rows options settings known known' s =
+    (found : List Finding) × Receives known known' found × Report rows options settings found s
+
+-- the findings of the settings of a file are received, up to its end or to this error
+pub record ReportsEntries (rows : List Row) (options : Options) (file text : List ℕ) (known known' : Option (List Finding))
     (s : Counts) (error : Option errors.Error) : Type 0 where
   pub settings : List Setting
   pub of_file : HasSettings file text settings error
-  pub all : ReportsAll rows options settings contents contents' s
+  pub all : ReportsAll rows options settings known known' s
 
 -- the number of edits, or `None` if there is no such number of at most three
 abbrev pub IsFew : (ℕ → Type 0) → Option ℕ → Type 0
 IsFew AreEdits None = (n : ℕ) → AreEdits n → 3 < n
 IsFew AreEdits (Some n) = AreEdits n × (n ≤ 3)
-
--- the error is a failed write
-abbrev pub IsWrite : CheckError → Type 0
-IsWrite (Write e) = ⊤
-IsWrite (Memory e) = ⊥

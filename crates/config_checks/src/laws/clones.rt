@@ -4,7 +4,7 @@ ghost use Rattle.config_text.specs.Orders.{IsCopied};
 use crate::check::Counts;
 use crate::finding::Finding;
 use crate::kind::Form;
-use crate::options::{Format, Options};
+use crate::options::Options;
 use crate::outcome::Outcome;
 use crate::reason::{Reason, Severity};
 use crate::row::Run;
@@ -35,7 +35,6 @@ pub fn findings()
 
 /// A clone of the options or the counts of a check is the same, and never fails.
 pub fn checks()
-    ensures formats { IsCopied ⟦<Format as Clone>⟧.is_clone ⟦<Format as Clone>⟧.is_infallible }
     ensures options { IsCopied ⟦<Options as Clone>⟧.is_clone ⟦<Options as Clone>⟧.is_infallible }
     ensures counts { IsCopied ⟦<Counts as Clone>⟧.is_clone ⟦<Counts as Clone>⟧.is_infallible }
     ensures outcomes { IsCopied ⟦<Outcome as Clone>⟧.is_clone ⟦<Outcome as Clone>⟧.is_infallible }

@@ -1,8 +1,19 @@
 -- Pieces of a text, each of which holds the same wherever it stands.
-use Rattle.std.specs.Prelude.{◌≡◌, ◌≢◌, ℕ, ◌+◌, Bool, true, false, List, [], ◌∷◌, ◌++◌, Option, Some, None, map, ◌⊎◌, ⊤}
-use Rattle.std.specs.List.{list_all}
+use Rattle.std.specs.Prelude.{◌≡◌, ◌≢◌, ℕ, ◌+◌, Bool, true, false, List, [], ◌∷◌, ◌++◌, Option, Some, None}
+use Rattle.std.specs.Prelude.{map, ◌⊎◌, ◌↔◌, ⊤, IsTrue, MatchOption}
+use Rattle.std.specs.List.{AllZip}
 use Rattle.std.specs.Char.{is_ascii_alphabetic}
 use Rattle.config_file.specs.declared.entry.Parts.{Parts}
+use Rattle.config_file.specs.declared.edit.change.Found.{Found}
+use Rattle.config_file.specs.declared.edit.change.Place.{Place}
+use Rattle.config_file.specs.declared.edit.change.Places.{Places}
+use Rattle.config_file.specs.declared.edit.removal.Count.{Count}
+use Rattle.config_file.specs.declared.edit.removal.Count.TheVariants as count
+use Rattle.config_file.specs.declared.edit.removal.Group.{Group}
+use Rattle.config_file.specs.declared.edit.removal.Taken.{Taken}
+use Rattle.config_file.specs.declared.edit.sections.Lost.{Lost}
+use Rattle.config_file.specs.declared.edit.write.End.{End}
+use Rattle.config_file.specs.declared.edit.write.End.TheVariants as end
 use Rattle.config_file.specs.declared.edit.piece.Held.{Held}
 use Rattle.config_file.specs.declared.edit.piece.Held.TheVariants as held
 use Rattle.config_file.specs.declared.edit.piece.Piece.{Piece}
@@ -14,8 +25,14 @@ use Rattle.config_file.specs.declared.edit.EditError.{EditError}
 use Rattle.config_file.specs.declared.edit.EditError.TheVariants as error
 use Rattle.config_file.specs.Key.{Key, IsKey, RefusesKey}
 use Rattle.config_file.specs.Spelling.{Names, HasNoHeader}
-use Rattle.config_file.specs.Edit.{Content, content, IsIn, Renames, Changes, RenamesHeader}
-use Rattle.config_file.specs.Reading.Scans.{BeginsWithLetter}
+use Rattle.config_file.specs.Value.{outside, SpellsValue, line_feeds}
+use Rattle.config_file.specs.Edit.{Content, content, WithoutIn, LosesSection, LosesOne, IsHeaderOf}
+use Rattle.config_file.specs.Edit.{IsLostTail, MayUnset, AreBlank, IsTail, IsEntry, IsEnd}
+use Rattle.config_file.specs.Edit.{LosesEntry, MayReplace, IsIn, IsOf, HasValue, Renames, Without, HasNone}
+use Rattle.config_file.specs.Edit.{HasSeveral, Replaces, Changes, ChangesOne, ChangesValue, ChangesBytes}
+use Rattle.config_file.specs.Edit.{RenamesHeader, SameEntry, NoneIn, IsLineEnd, Adds, PutsLine, entry_line}
+use Rattle.config_file.specs.Listing.{IsListedSection}
+use Rattle.config_file.specs.Reading.Spellings.{git_spelled}
 use Rattle.config_file.specs.Views.{section_of, value_of}
 
 -- read in this section and from this line on, the text has these entries, and then the reading is in this next
@@ -62,17 +79,8 @@ pub data Passed (section : Option Section) (text : List ℕ) (contents : List Co
 
 -- the text can be read to its end
 abbrev pub IsRead : List ℕ → Type 0
-IsRead text = (section : Option Section) × (line : ℕ) × (entries : List Entry) × Reads section line text entries None
-
-abbrev pub AreBlank : List ℕ → Type 0
-AreBlank bytes = list_all is_blank bytes ≡ true
-
--- nothing, or a comment
-pub data IsComment : List ℕ → Type 0 where
-  absent : IsComment []
-  present : {sign : ℕ} {bytes : List ℕ}
-      → is_comment_sign sign ≡ true → list_all is_comment_byte bytes ≡ true
-      → IsComment (sign ∷ bytes)
+IsRead text =
+    (section : Option Section) × (line : ℕ) × (entries : List Entry) × Reads section line text entries None
 
 -- the text does not begin with a comment
 abbrev pub StartsNoComment : List ℕ → Type 0
@@ -89,15 +97,6 @@ abbrev pub EndsComment : List ℕ → Type 0
 EndsComment [] = ⊤
 EndsComment (b ∷ rest) = b ≡ line_feed
 
--- what is left of a line: blanks, a comment or none, and the line end, or the end of the text
-pub record IsTail (tail rest : List ℕ) (is_line : Bool) : Type 0 where
-  pub blanks : List ℕ
-  pub comment : List ℕ
-  pub are_blank : AreBlank blanks
-  pub is_comment : IsComment comment
-  pub ends : ((is_line ≡ true) × (tail ≡ blanks ++ (comment ++ line_feed ∷ [])))
-      ⊎ ((is_line ≡ false) × (rest ≡ []) × (tail ≡ blanks ++ comment))
-
 -- the contents of what a piece holds, and the section after it
 abbrev pub contents_in : Held → Option Section → List Content
 contents_in (held.Entry parts) section = (section, parts.key.now, value_of parts.value) ∷ []
@@ -112,16 +111,6 @@ abbrev pub GoesOn : List ℕ → Type 0
 GoesOn text = (blanks : List ℕ) × (b : ℕ) × (more : List ℕ) × (text ≡ blanks ++ b ∷ more) × AreBlank blanks
     × (is_blank b ≡ false) × (is_comment_sign b ≡ false) × (b ≢ line_feed)
 
--- blanks, an entry of these parts, and what is left of its line
-pub record IsEntry (parts : Parts) (blanks bytes rest : List ℕ) (is_line : Bool) : Type 0 where
-  pub front : List ℕ
-  pub tail : List ℕ
-  pub begins : BeginsWithLetter (front ++ parts.rest.now)
-  pub takes : TakesEntry (front ++ parts.rest.now) parts.key.now (value_of parts.value) parts.lines parts.rest.now
-  pub left : parts.rest.now ≡ tail ++ rest
-  pub is_tail : IsTail tail rest is_line
-  pub joined : bytes ≡ blanks ++ (front ++ tail)
-
 -- blanks, and a header of this section
 pub record IsHeaderAt (section : Section) (blanks bytes : List ℕ) : Type 0 where
   pub inner : List ℕ
@@ -132,11 +121,17 @@ pub record IsHeaderAt (section : Section) (blanks bytes : List ℕ) : Type 0 whe
 abbrev pub IsLineAt : List ℕ → List ℕ → List ℕ → Bool → Type 0
 IsLineAt blanks bytes rest is_line = (tail : List ℕ) × (bytes ≡ blanks ++ tail) × IsTail tail rest is_line
 
+-- blanks, and what is left of a line without a comment
+abbrev pub IsBlankLine : List ℕ → List ℕ → List ℕ → Bool → Type 0
+IsBlankLine blanks bytes rest is_line =
+    (tail : List ℕ) × (bytes ≡ blanks ++ tail) × (t : IsTail tail rest is_line) × (t.comment ≡ [])
+
 -- what a piece that holds this is made of: its first blanks, all its bytes, and what follows it
 abbrev pub IsMade : Held → List ℕ → List ℕ → List ℕ → Bool → Type 0
-IsMade (held.Entry parts) blanks bytes rest is_line = IsEntry parts blanks bytes rest is_line
+IsMade (held.Entry parts) blanks bytes rest is_line =
+    IsEntry parts.key.now (value_of parts.value) parts.lines parts.rest.now blanks bytes rest is_line
 IsMade (held.Header section) blanks bytes rest is_line = IsHeaderAt (section_of section) blanks bytes
-IsMade held.Nothing blanks bytes rest is_line = IsLineAt blanks bytes rest is_line
+IsMade held.Nothing blanks bytes rest is_line = IsBlankLine blanks bytes rest is_line
 IsMade held.Comment blanks bytes rest is_line = IsLineAt blanks bytes rest is_line
 
 -- the text begins with this piece
@@ -158,7 +153,7 @@ pub data Corresponds (from to : Key) : Option Section → Option Section → Typ
   same : {section : Option Section} → ¬ (IsIn from section) → Corresponds from to section section
 
 -- of a text, what precedes this rest has become this new text
-pub record Renaming (from to : Key) (text rest new : List ℕ) : Type 0 where
+pub record Renaming (from to : Key) (text rest new : List ℕ) (is_found : Bool) : Type 0 where
   pub front : List ℕ
   pub old_contents : List Content
   pub new_contents : List Content
@@ -170,6 +165,7 @@ pub record Renaming (from to : Key) (text rest new : List ℕ) : Type 0 where
   pub renames : Renames from to old_contents new_contents
   pub corresponds : Corresponds from to section next
   pub changes : Changes (RenamesHeader from to) front new
+  pub unfound : is_found ≡ false → NoneIn from old_contents × ¬ (IsIn from section)
 
 -- the text is its byte order mark, or nothing, and this body
 pub data IsSplit : List ℕ → List ℕ → List ℕ → Type 0 where
@@ -186,3 +182,300 @@ RefusesName text _ = ⊥
 abbrev pub RefusesText : List ℕ → EditError → Type 0
 RefusesText text (error.File e) = (entries : List Entry) × IsFile text entries (Some e)
 RefusesText text _ = ⊥
+
+-- the line of an entry, as Git writes it
+abbrev pub new_line : List ℕ → List ℕ → List ℕ → List ℕ
+new_line key value feed = entry_line key (git_spelled value) feed
+
+-- these bytes spell the value, and are those of the other value but for one stretch between its blanks
+pub record IsPutIn (raw value put : List ℕ) : Type 0 where
+  pub changes : ChangesOne (ChangesValue value) raw put
+  pub spells : SpellsValue put value outside
+
+-- In the place of the piece of an entry, these bytes are an entry of the same key with this value. They are those of the
+-- piece if the entry has the value already.
+pub record IsSet (parts : Parts) (piece : Piece) (value put : List ℕ) : Type 0 where
+  pub raw : List ℕ
+  pub lines : ℕ
+  pub at : List ℕ
+  pub has_value : HasValue (Some raw) value
+  pub entry : IsEntry parts.key.now (Some raw) lines at piece.blanks.now put piece.rest.now piece.is_line
+  pub bytes : (HasValue (value_of parts.value) value × (put ≡ piece.bytes.now))
+      ⊎ (¬ (HasValue (value_of parts.value) value) × ChangesOne (ChangesValue value) piece.bytes.now put)
+
+-- Git can list the section
+abbrev pub IsListable : Option Section → Type 0
+IsListable None = ⊤
+IsListable (Some section) = (listed : List ℕ) × IsListedSection section listed
+
+-- before this rest, the text has this front with these contents, and the reading is in this section
+pub record IsPast (text rest front : List ℕ) (contents : List Content) (section : Option Section) : Type 0 where
+  pub joined : text ≡ front ++ rest
+  pub passed : Passed None front contents section rest
+  pub listable : IsListable section
+
+-- the content of an entry of these parts
+abbrev pub content_of : Option Section → Parts → Content
+content_of section parts = (section, parts.key.now, value_of parts.value)
+
+-- the piece is an entry of the key
+abbrev pub IsEntryHeld : Key → Option Section → Held → Type 0
+IsEntryHeld key section (held.Entry parts) = IsOf key (content_of section parts)
+IsEntryHeld key section _ = ⊥
+
+-- an entry of the key was the last so far: what precedes it has become this new text, and this start follows it
+pub record IsFound (key : Key) (text rest start new : List ℕ) (section : Option Section) (f : Found) (several : Bool) : Type 0 where
+  pub front : List ℕ
+  pub between : List ℕ
+  pub before : List Content
+  pub left : List Content
+  pub after : List Content
+  pub at : Option Section
+  pub joined : text ≡ front ++ (f.piece.bytes.now ++ start)
+  pub start_is : start ≡ f.piece.rest.now
+  pub cut : start ≡ between ++ rest
+  pub before_is : Holds None front before at
+  pub now_is : Holds None new left at
+  pub blank : AreBlank f.piece.blanks.now
+  pub is_entry : IsEntry f.parts.key.now (value_of f.parts.value) f.parts.lines f.parts.rest.now
+      f.piece.blanks.now f.piece.bytes.now f.piece.rest.now f.piece.is_line
+  pub is_of : IsOf key (content_of at f.parts)
+  pub others : Without key before left
+  pub changes : Changes (LosesEntry key) front new
+  pub between_is : Passed at between after section rest
+  pub last : HasNone key after
+  pub listable : IsListable section
+  pub single : several ≡ false → (new ≡ front) × (left ≡ before)
+  pub many : several ≡ true → HasSeveral key (before ++ content_of at f.parts ∷ [])
+
+-- what precedes this rest of a text, in which entries of the key are looked for
+abbrev pub Replacing : Key → List ℕ → List ℕ → List ℕ → List ℕ → Option Section → Option Found → Bool → Type 0
+Replacing key text rest start new section None several = (front : List ℕ) × (contents : List Content)
+    × IsPast text rest front contents section × HasNone key contents
+    × (start ≡ text) × (new ≡ []) × (several ≡ false)
+Replacing key text rest start new section (Some f) several = IsFound key text rest start new section f several
+
+-- the last entry of the key has this value in the new text, and its others are gone
+pub record IsReplaced (key : Key) (value text : List ℕ) (contents : List Content) (new : List ℕ) (several : Bool) : Type 0 where
+  pub now : List Content
+  pub ends : Ends None new now
+  pub replaces : Replaces key value contents now
+  pub changes : Changes (MayReplace key value) text new
+  pub single : several ≡ false → HasNone key replaces.before × ChangesBytes replaces.x.2 value text new
+  pub many : several ≡ true → HasSeveral key contents
+
+-- what is left of an entry that is taken out, if one is
+abbrev pub IsLeft : Option Found → List ℕ → Type 0
+IsLeft None left = left ≡ []
+IsLeft (Some f) left = IsEnd left
+
+-- the value of these parts ends in a backslash that ends the text
+abbrev pub IsOpen : Parts → Type 0
+IsOpen parts = (raw : List ℕ) × (value_of parts.value ≡ Some raw) × (line_feeds raw ≢ parts.lines)
+
+abbrev pub IsOpenHeld : Held → Type 0
+IsOpenHeld (held.Entry parts) = IsOpen parts
+IsOpenHeld _ = ⊥
+
+-- what ends the last line of a text, of which this is the last piece
+pub data IsEndOf (piece : Piece) : End → Type 0 where
+  line : piece.is_line ≡ true → IsEndOf piece end.Line
+  unended : piece.is_line ≡ false → ¬ (IsOpenHeld piece.held) → IsEndOf piece end.Open
+  backslashed : piece.is_line ≡ false → IsOpenHeld piece.held → IsEndOf piece end.Backslash
+
+-- the line ends that are put behind such a text
+abbrev pub line_ends : End → List ℕ → List ℕ
+line_ends end.Line feed = []
+line_ends end.Open feed = feed
+line_ends end.Backslash feed = feed ++ feed
+
+-- with line ends behind it, the text holds its contents, and any line can follow
+abbrev pub Closes : Option Section → List ℕ → List Content → Option Section → End → Type 0
+Closes section text contents next end = (feed : List ℕ) → IsLineEnd feed
+    → (now : List Content) × Holds section (text ++ line_ends end feed) now next × AllZip SameEntry contents now
+
+-- whether a piece holds a header or an entry
+abbrev pub is_item : Held → Bool
+is_item (held.Header section) = true
+is_item (held.Entry parts) = true
+is_item _ = false
+
+-- before this place the text has these contents in a section of the key, and then this text, in which none is in it
+pub record IsPlace (key : Key) (text rest : List ℕ) (contents : List Content) (section : Option Section) (place : Place) : Type 0 where
+  pub front : List ℕ
+  pub between : List ℕ
+  pub before : List Content
+  pub after : List Content
+  pub there : Option Section
+  pub joined : text ≡ front ++ place.rest.now
+  pub cut : place.rest.now ≡ between ++ rest
+  pub closes : Closes None front before there place.end
+  pub in_section : IsIn key there
+  pub passed : Passed there between after section rest
+  pub last : NoneIn key after
+  pub contents_are : contents ≡ before ++ after
+
+-- the last place so far, if an entry or a header was in a section of the key
+abbrev pub IsPlaceSoFar : Key → List ℕ → List ℕ → List Content → Option Section → Bool → Option Place → Type 0
+IsPlaceSoFar key text rest contents section is_inside None = NoneIn key contents × (is_inside ≡ false)
+IsPlaceSoFar key text rest contents section is_inside (Some place) =
+    IsPlace key text rest contents section place
+
+-- what precedes this rest of a text, in which a place for an entry of the key is looked for
+pub record Placing (key : Key) (text rest : List ℕ) (is_inside : Bool) (inside : Option Place) (end : End) : Type 0 where
+  pub front : List ℕ
+  pub contents : List Content
+  pub section : Option Section
+  pub past : IsPast text rest front contents section
+  pub inside_is : IsTrue is_inside ↔ IsIn key section
+  pub closes : Closes None front contents section end
+  pub place : IsPlaceSoFar key text rest contents section is_inside inside
+
+-- the places of a whole text
+pub record ArePlaces (key : Key) (text : List ℕ) (contents : List Content) (places : Places) : Type 0 where
+  pub section : Option Section
+  pub closes : Closes None text contents section places.end
+  pub inside : MatchOption places.inside (NoneIn key contents)
+      (λ place. IsPlace key text [] contents section place)
+
+-- the text has one entry more, in its section
+pub record IsAdded (key : Key) (value text : List ℕ) (contents : List Content) (new : List ℕ) : Type 0 where
+  pub now : List Content
+  pub ends : Ends None new now
+  pub adds : Adds key value contents now
+  pub bytes : PutsLine key value contents text new
+
+-- whether a piece has only blanks
+abbrev pub is_blank_held : Held → Bool
+is_blank_held held.Nothing = true
+is_blank_held _ = false
+
+abbrev pub one_more : Count → Count
+one_more count.None = count.One
+one_more _ = count.Several
+
+-- how many entries of the key the old contents have, and what is left of them
+abbrev pub Counted : Key → List Content → List Content → Count → Type 0
+Counted key old new count.None = HasNone key old × (new ≡ old)
+Counted key old new count.One = LosesOne key old new
+Counted key old new count.Several = HasSeveral key old
+
+-- a header that may go with what its line has left, of which nothing is read if the line goes on
+pub record IsHead (key : Key) (bytes : List ℕ) (goes_on : Bool) : Type 0 where
+  pub blanks : List ℕ
+  pub header : List ℕ
+  pub tail : List ℕ
+  pub joined : bytes ≡ blanks ++ (header ++ tail)
+  pub are_blank : AreBlank blanks
+  pub is_header : IsHeaderOf key header
+  pub is_tail : IsLostTail key tail
+  pub alone : goes_on ≡ true → tail ≡ []
+
+-- A section on its way: its head and its body are what these bytes became. The head may go if nothing is left in the
+-- section, so its body holds the same in any.
+pub record IsGroup (key : Key) (g : Group) (head_was body_was : List ℕ) (now : List Content) (base section : Option Section) (rest : List ℕ) : Type 0 where
+  pub passed : Passed base (g.head.items ++ g.body.items) now section rest
+  pub in_head : g.in_head ≡ true → (g.body.items ≡ []) × (body_was ≡ [])
+  pub head_changes : Changes (MayUnset key) head_was g.head.items
+  pub body_changes : Changes (MayUnset key) body_was g.body.items
+  pub in_section : g.has_lost ≡ true → IsIn key section
+  pub empty : g.is_kept ≡ false → (now ≡ []) × ((any : Option Section) → Passed any g.body.items [] any rest)
+  pub can_go : g.is_kept ≡ false → IsIn key section → IsHead key head_was g.in_head
+
+-- what precedes this rest of a text, in which entries of the key are left out
+pub record Losing (key : Key) (text rest new : List ℕ) (section : Option Section) (g : Group) (count : Count) : Type 0 where
+  pub front : List ℕ
+  pub head_was : List ℕ
+  pub body_was : List ℕ
+  pub old : List Content
+  pub now : List Content
+  pub now_group : List Content
+  pub base : Option Section
+  pub past : IsPast text rest (front ++ (head_was ++ body_was)) old section
+  pub new_is : Holds None new now base
+  pub changes : Changes (MayUnset key) front new
+  pub group : IsGroup key g head_was body_was now_group base section rest
+  pub without : Without key old (now ++ now_group)
+  pub counted : Counted key old (now ++ now_group) count
+
+-- these bytes are the section, with its head or with a line end in its place
+pub data IsFinished (g : Group) : List ℕ → Type 0 where
+  whole : IsFinished g (g.head.items ++ g.body.items)
+  without_head : {end : List ℕ}
+      → g.is_kept ≡ false → g.has_lost ≡ true → IsEnd end
+      → IsFinished g (end ++ g.body.items)
+
+-- a piece is appended to the head while its line goes on, and otherwise to the body
+pub data IsPushed (g now : Group) (bytes : List ℕ) : Type 0 where
+  to_head : g.in_head ≡ true → now.head.items ≡ g.head.items ++ bytes → now.body.items ≡ g.body.items → IsPushed g now bytes
+  to_body : g.in_head ≡ false → now.head.items ≡ g.head.items → now.body.items ≡ g.body.items ++ bytes → IsPushed g now bytes
+
+-- the text is left without the entries of the key
+pub record IsTaken (key : Key) (text : List ℕ) (contents : List Content) (taken : Taken) : Type 0 where
+  pub now : List Content
+  pub ends : Ends None taken.text.items now
+  pub without : Without key contents now
+  pub counted : Counted key contents now taken.count
+  pub changes : Changes (MayUnset key) text taken.text.items
+
+-- the text is left without the sections of the key
+pub record IsCleared (key : Key) (text : List ℕ) (contents : List Content) (new : List ℕ) : Type 0 where
+  pub now : List Content
+  pub ends : Ends None new now
+  pub without : WithoutIn key contents now
+  pub changes : Changes (LosesSection key) text new
+
+-- before this rest of a text, what is in no section of the key has become this new text; all of it if none is found
+pub record IsKept (key : Key) (text rest new : List ℕ) (is_found : Bool) : Type 0 where
+  pub front : List ℕ
+  pub old : List Content
+  pub now : List Content
+  pub section : Option Section
+  pub past : IsPast text rest front old section
+  pub outside : ¬ (IsIn key section)
+  pub passed : Passed None new now section rest
+  pub without : WithoutIn key old now
+  pub changes : Changes (LosesSection key) front new
+  pub untouched : is_found ≡ false → now ≡ old
+
+-- before this rest is a section of the key, of which only these comments may stay
+pub record IsLost (key : Key) (text rest new : List ℕ) (lost : Lost) : Type 0 where
+  pub front : List ℕ
+  pub gone : List ℕ
+  pub comments : List ℕ
+  pub old : List Content
+  pub now : List Content
+  pub base : Option Section
+  pub section : Option Section
+  pub past : IsPast text rest (front ++ (gone ++ comments)) old section
+  pub inside : IsIn key section
+  pub new_is : Holds None new now base
+  pub cut : lost.comments.now ≡ comments ++ rest
+  pub are_comments : (any : Option Section) → Passed any comments [] any rest
+  pub is_end : IsEnd lost.line_end.now
+  pub loses : LosesSection key gone []
+  pub without : WithoutIn key old now
+  pub changes : Changes (LosesSection key) front new
+
+abbrev pub Clearing : Key → List ℕ → List ℕ → List ℕ → Bool → Option Lost → Type 0
+Clearing key text rest new is_found None = IsKept key text rest new is_found
+Clearing key text rest new is_found (Some lost) = IsLost key text rest new lost × (is_found ≡ true)
+
+-- a piece follows, which is kept if nothing is lost
+abbrev pub ClearsPiece : Key → List ℕ → Piece → List ℕ → Bool → Option Lost → Type 0
+ClearsPiece key text piece new is_found None =
+    IsKept key text piece.rest.now (new ++ piece.bytes.now) is_found
+ClearsPiece key text piece new is_found (Some lost) = IsLost key text piece.rest.now new lost
+
+-- before this rest, at a header, all that stays has become this new text
+pub record IsBefore (key : Key) (text rest new : List ℕ) (is_found : Bool) : Type 0 where
+  pub front : List ℕ
+  pub old : List Content
+  pub now : List Content
+  pub base : Option Section
+  pub section : Option Section
+  pub past : IsPast text rest front old section
+  pub new_is : Holds None new now base
+  pub without : WithoutIn key old now
+  pub changes : Changes (LosesSection key) front new
+  pub untouched : is_found ≡ false → now ≡ old

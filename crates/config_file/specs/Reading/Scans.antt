@@ -1,21 +1,12 @@
 -- What the scans of the reader have passed, and where they go on.
 use Rattle.std.specs.Prelude.{◌≡◌, ◌≢◌, ℕ, Bool, true, false, not, List, [], ◌∷◌, ◌++◌, Option, Some, None, ⊤, ◌&&◌, ◌==◌, if◌then◌else◌, is_some, drop, length}
-use Rattle.std.specs.Char.{is_ascii_alphabetic}
 use Rattle.std.specs.List.{list_all}
 use Rattle.config_file.specs.declared.bytes.Class.{Class}
-use Rattle.config_file.specs.declared.bytes.Class.TheVariants.{Name, Key, Blank, Space, Comment}
-use Rattle.config_file.specs.Bytes.{line_feed, carriage_return, is_name_byte, is_key_byte, is_blank, is_space, is_comment_byte, is_comment_sign, is_text_byte}
+use Rattle.config_file.specs.declared.bytes.Class.TheVariants.{Name, Key, Blank, Space, Comment, Unescaped, Word, Plain}
+use Rattle.config_file.specs.Bytes.{line_feed, carriage_return, double_quote, backslash, is_name_byte, is_key_byte, is_blank, is_space, is_comment_byte, is_comment_sign, is_text_byte}
 use Rattle.config_file.specs.Runs.{StopsRun}
 use Rattle.config_file.specs.Subsection.{SpellsSubsection, IsSubsection}
 use Rattle.config_file.specs.Value.{Ending, Spells, SpellsValue, itself, escape}
-
--- the test of a class of bytes
-abbrev pub passes : Class → ℕ → Bool
-passes Name = is_name_byte
-passes Key = is_key_byte
-passes Blank = is_blank
-passes Space = is_space
-passes Comment = is_comment_byte
 
 -- the scan of a subsection has come to this rest of the text
 pub record PassedSubsection (text at : List ℕ) : Type 0 where
@@ -37,6 +28,29 @@ abbrev pub goes_on : Bool → ℕ → Bool
 goes_on true b = is_text_byte b
 goes_on false b = is_text_byte b && not (is_comment_sign b)
 
+-- a byte of a subsection that no backslash precedes, and that is none
+abbrev pub is_unescaped : ℕ → Bool
+is_unescaped b = not (b == backslash)
+
+-- no blank, no quote and no backslash
+abbrev pub is_word_byte : ℕ → Bool
+is_word_byte b = (not (is_blank b) && not (b == double_quote)) && not (b == backslash)
+
+-- the scan of a value goes on after this byte, in quotes and outside them, and it is no quote and no backslash
+abbrev pub is_plain_byte : ℕ → Bool
+is_plain_byte b = (goes_on false b && not (b == double_quote)) && not (b == backslash)
+
+-- the test of a class of bytes
+abbrev pub passes : Class → ℕ → Bool
+passes Name = is_name_byte
+passes Key = is_key_byte
+passes Blank = is_blank
+passes Space = is_space
+passes Comment = is_comment_byte
+passes Unescaped = is_unescaped
+passes Word = is_word_byte
+passes Plain = is_plain_byte
+
 -- the rest is empty, or begins with a byte at which the scan of a value ends
 abbrev pub EndsScan : Bool → List ℕ → Type 0
 EndsScan quoted [] = ⊤
@@ -49,10 +63,6 @@ pub data Escapes : List ℕ → List ℕ → Type 0 where
   line_after_return : {e f : ℕ} {text rest : List ℕ}
       → text ≡ e ∷ f ∷ rest → e ≡ carriage_return → f ≡ line_feed
       → Escapes text rest
-
--- the text begins with a letter
-abbrev pub BeginsWithLetter : List ℕ → Type 0
-BeginsWithLetter text = (b : ℕ) × (rest : List ℕ) × (text ≡ b ∷ rest) × (is_ascii_alphabetic b ≡ true)
 
 -- the byte that a backslash before this text spells, unless it continues the line, and what follows
 abbrev pub unescape : List ℕ → Option ℕ × List ℕ

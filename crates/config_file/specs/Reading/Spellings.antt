@@ -33,15 +33,23 @@ ends_with_space [] = false
 ends_with_space (b ∷ []) = b == space
 ends_with_space (b ∷ c ∷ rest) = ends_with_space (c ∷ rest)
 
+-- whether a value needs quotes
+abbrev pub needs_quotes : List ℕ → Bool
+needs_quotes value = begins_with_space value || ends_with_space value || list_any is_lost value
+
 -- whether a value needs quotes, or they are shorter than the backslashes before its TABs
 abbrev pub is_quoted : List ℕ → Bool
-is_quoted value =
-    begins_with_space value || ends_with_space value || list_any is_lost value
-    || nat_lt 2 (count_by (λ b. b == tab) value)
+is_quoted value = needs_quotes value || nat_lt 2 (count_by (λ b. b == tab) value)
 
 abbrev pub spelled_value : List ℕ → List ℕ
 spelled_value value =
     if is_quoted value then double_quote ∷ (flat_map (spelled_byte true) value ++ double_quote ∷ [])
+    else flat_map (spelled_byte false) value
+
+-- the spelling that Git writes: a TAB has its backslash in quotes too
+abbrev pub git_spelled : List ℕ → List ℕ
+git_spelled value =
+    if needs_quotes value then double_quote ∷ (flat_map (spelled_byte false) value ++ double_quote ∷ [])
     else flat_map (spelled_byte false) value
 
 -- whether a value has a spelling: it has no NUL

@@ -1,6 +1,14 @@
 //! A value that is set, and an entry that is added.
+ghost use Rattle.std.specs.Prelude.{◌≡◌, ◌++◌, ◌∷◌, ◌↔◌, List, ℕ, None, true, IfOk, IfSome, IsTrue, MatchOption, OnOk, option_map};
+ghost use Rattle.config_file.specs.Edit.{Content, HasNone, IsLineEnd, IsOf};
+ghost use Rattle.config_file.specs.Key.{is_name};
+ghost use Rattle.config_file.specs.KeyView.{key_of};
+ghost use Rattle.config_file.specs.Views.{section_of};
+ghost use Rattle.config_file.specs.Reading.Edits.{ArePlaces, Ends, IsAdded, IsLeft, IsListable, IsReplaced, content_of, is_item, line_ends, new_line};
+ghost use Rattle.config_file.specs.Reading.Spellings.{is_section, is_spellable, spelled_section};
 
-use crate::edit::piece::{Held, Piece, front_of, last_line_end, next_piece};
+use crate::bytes::before;
+use crate::edit::piece::{Held, Piece, last_line_end, next_piece};
 use crate::edit::write::{End, push_changed, push_line};
 use crate::entry::{Entry, Parts};
 use crate::key::Key;
@@ -9,7 +17,10 @@ use crate::spelling::push_header;
 use std::alloc::{AllocError, Global};
 
 /// Whether an entry of these parts, in this section, has the key.
-pub(crate) fn is_of(key: &Key<'_>, section: &Option<Section<'_>>, parts: &Parts<'_>) -> bool {
+pub(crate) fn is_of(key: &Key<'_>, section: &Option<Section<'_>>, parts: &Parts<'_>) -> bool
+    ensures { IsListable (option_map section_of section.now)
+        → (IsTrue result ↔ IsOf (key_of key.now) (content_of (option_map section_of section.now) parts.now)) }
+{
     key.is_of(&Entry {
         section: *section,
         key: parts.key,
@@ -20,10 +31,10 @@ pub(crate) fn is_of(key: &Key<'_>, section: &Option<Section<'_>>, parts: &Parts<
 
 /// An entry that has the key: its piece, its parts, and whether a header precedes it on its line.
 #[derive(Clone, Copy)]
-struct Found<'a> {
-    piece: Piece<'a>,
-    parts: Parts<'a>,
-    in_line: bool,
+pub(crate) struct Found<'a> {
+    pub piece: Piece<'a>,
+    pub parts: Parts<'a>,
+    pub in_line: bool,
 }
 
 /// A new text, and whether its key had several entries.
@@ -40,7 +51,12 @@ pub(crate) fn replace(
     text: &[u8],
     key: &Key<'_>,
     value: &[u8],
-) -> Result<Option<Replaced>, AllocError> {
+) -> Result<Option<Replaced>, AllocError>
+    requires { is_spellable value.now ≡ true }
+    ensures { (contents : List Content) → Ends None text.now contents
+        → IfOk result (λ found. MatchOption found (HasNone (key_of key.now) contents)
+        (λ r. IsReplaced (key_of key.now) value.now text.now contents r.text.items r.several)) }
+{
     let mut new = Vec::with_capacity(alloc, text.len())?;
     let mut rest = text;
     let mut start = text;
@@ -51,20 +67,19 @@ pub(crate) fn replace(
     'pieces: while let Some(piece) = next_piece(rest) {
         match piece.held {
             Held::Header(header) => section = Some(header),
-            Held::Entry(parts) if is_of(key, &section, &parts) => {
-                if let Some(last) = &found {
-                    several = true;
-                    push_left(&mut new, last)?;
+            Held::Entry(parts) => {
+                if is_of(key, &section, &parts) {
+                    several = found.is_some();
+                    push_before(&mut new, &found, before(start, rest))?;
+                    found = Some(Found {
+                        piece,
+                        parts,
+                        in_line,
+                    });
+                    start = piece.rest;
                 }
-                new.extend_from_slice(front_of(start, rest))?;
-                found = Some(Found {
-                    piece,
-                    parts,
-                    in_line,
-                });
-                start = piece.rest;
             }
-            _ => {}
+            Held::Nothing | Held::Comment => {}
         }
         in_line = !piece.is_line;
         rest = piece.rest;
@@ -77,30 +92,54 @@ pub(crate) fn replace(
     Ok(Some(Replaced { text: new, several }))
 }
 
-/// Appends what is left of an entry that is taken out: the end of its line, if a header precedes it there.
-fn push_left(new: &mut Vec<u8>, found: &Found<'_>) -> Result<(), AllocError> {
-    if found.in_line {
-        new.extend_from_slice(found.piece.line_end())?;
+/// Appends what precedes an entry of the key: what is left of the one before it, if there is one, and what is
+/// between them. The line end stays of an entry that a header precedes on its line.
+fn push_before(
+    new: &mut Vec<u8>,
+    found: &Option<Found<'_>>,
+    between: &[u8],
+) -> Result<(), AllocError>
+    ensures { OnOk result ((left : List ℕ) × IsLeft found.now left × (new.new.items ≡ new.old.items ++ (left ++ between.now))) }
+{
+    if let Some(last) = found {
+        if last.in_line {
+            new.extend_from_slice(last.piece.line_end())?;
+        }
     }
+    new.extend_from_slice(between)?;
     Ok(())
 }
 
 /// Where a new entry comes: what follows it, and what ends the line before it.
 #[derive(Clone, Copy)]
-struct Place<'a> {
-    rest: &'a [u8],
-    end: End,
+pub(crate) struct Place<'a> {
+    pub rest: &'a [u8],
+    pub end: End,
 }
 
 /// After the last entry of the last section of the key, or after its header; and the end of the text.
 #[derive(Clone, Copy)]
-struct Places<'a> {
-    inside: Option<Place<'a>>,
-    end: End,
+pub(crate) struct Places<'a> {
+    pub inside: Option<Place<'a>>,
+    pub end: End,
+}
+
+/// Whether this is a header or an entry.
+fn is_item(held: &Held<'_>) -> bool
+    ensures { result ≡ is_item held.now }
+{
+    match held {
+        Held::Header(_) | Held::Entry(_) => true,
+        Held::Nothing | Held::Comment => false,
+    }
 }
 
 /// Looks for the place of a new entry of the key.
-fn find_places<'a>(text: &'a [u8], key: &Key<'_>) -> Places<'a> {
+fn find_places<'a>(text: &'a [u8], key: &Key<'_>) -> Places<'a>
+    ensures places { (contents : List Content) → Ends None text.now contents
+        → ArePlaces (key_of key.now) text.now contents result }
+    ensures within { IfSome result.inside (λ place. (front : List ℕ) × (text.now ≡ front ++ place.rest.now)) }
+{
     let mut rest = text;
     let mut is_inside = false;
     let mut after_header = false;
@@ -109,29 +148,59 @@ fn find_places<'a>(text: &'a [u8], key: &Key<'_>) -> Places<'a> {
     'pieces: while let Some(piece) = next_piece(rest) {
         end = End::of(&piece);
         rest = piece.rest;
-        match &piece.held {
-            Held::Header(section) => {
-                is_inside = key.is_in(section);
-                after_header = is_inside;
-                if is_inside {
-                    inside = Some(Place { rest, end });
-                }
-            }
-            Held::Entry(_) => {
-                after_header = false;
-                if is_inside {
-                    inside = Some(Place { rest, end });
-                }
-            }
-            _ => {
-                if after_header {
-                    inside = Some(Place { rest, end });
-                }
-                after_header = false;
-            }
+        let mut is_header = false;
+        if let Held::Header(section) = &piece.held {
+            is_inside = key.is_in(section);
+            is_header = true;
         }
+        if is_inside && (after_header || is_item(&piece.held)) {
+            inside = Some(Place { rest, end });
+        }
+        after_header = is_header;
     }
     Places { inside, end }
+}
+
+/// Appends a text with a new entry at this place in its section.
+fn push_inside(
+    new: &mut Vec<u8>,
+    text: &[u8],
+    place: &Place<'_>,
+    key: &Key<'_>,
+    value: &[u8],
+) -> Result<(), AllocError>
+    requires { (front : List ℕ) × (text.now ≡ front ++ place.now.rest.now) }
+    ensures { OnOk result ((front feed : List ℕ) × IsLineEnd feed × (text.now ≡ front ++ place.now.rest.now)
+        × (new.new.items ≡ new.old.items ++ (front ++ (line_ends place.now.end feed
+        ++ (new_line (key_of key.now).name value.now feed ++ place.now.rest.now))))) }
+{
+    let front = before(text, place.rest);
+    let line_end = line_end_at(front, text);
+    new.extend_from_slice(front)?;
+    place.end.push(new, line_end)?;
+    push_line(new, key.name(), value, line_end)?;
+    new.extend_from_slice(place.rest)?;
+    Ok(())
+}
+
+/// Appends a text with a new section at its end.
+fn push_behind(
+    new: &mut Vec<u8>,
+    text: &[u8],
+    end: End,
+    key: &Key<'_>,
+    value: &[u8],
+) -> Result<(), AllocError>
+    ensures { let k = key_of key.now in OnOk result ((feed : List ℕ) × IsLineEnd feed
+        × (new.new.items ≡ new.old.items ++ (text.now ++ (line_ends end feed
+        ++ ((91 ∷ spelled_section k.section k.subsection) ++ (feed ++ new_line k.name value.now feed)))))) }
+{
+    let line_end = line_end_at(text, text);
+    new.extend_from_slice(text)?;
+    end.push(new, line_end)?;
+    push_header(new, key.section(), key.subsection())?;
+    new.extend_from_slice(line_end)?;
+    push_line(new, key.name(), value, line_end)
 }
 
 /// A text with a new entry after the last one of its section, or in a new section at the end.
@@ -140,32 +209,26 @@ pub(crate) fn added(
     text: &[u8],
     key: &Key<'_>,
     value: &[u8],
-) -> Result<Vec<u8>, AllocError> {
+) -> Result<Vec<u8>, AllocError>
+    requires spellable { is_spellable value.now ≡ true }
+    requires section { is_section (key_of key.now).section (key_of key.now).subsection ≡ true }
+    requires name { is_name (key_of key.now).name ≡ true }
+    ensures { (contents : List Content) → Ends None text.now contents
+        → IfOk result (λ new. IsAdded (key_of key.now) value.now text.now contents new.items) }
+{
     let places = find_places(text, key);
     let mut new = Vec::with_capacity(alloc, text.len())?;
-    match places.inside {
-        Some(place) => {
-            let front = front_of(text, place.rest);
-            let line_end = line_end_at(front, text);
-            new.extend_from_slice(front)?;
-            place.end.push(&mut new, line_end)?;
-            push_line(&mut new, key.name(), value, line_end)?;
-            new.extend_from_slice(place.rest)?;
-        }
-        None => {
-            let line_end = line_end_at(text, text);
-            new.extend_from_slice(text)?;
-            places.end.push(&mut new, line_end)?;
-            push_header(&mut new, key.section(), key.subsection())?;
-            new.extend_from_slice(line_end)?;
-            push_line(&mut new, key.name(), value, line_end)?;
-        }
+    match &places.inside {
+        Some(place) => push_inside(&mut new, text, place, key, value)?,
+        None => push_behind(&mut new, text, places.end, key, value)?,
     }
     Ok(new)
 }
 
 /// The line end to use behind this front of a text: its last one, otherwise that of the text, otherwise LF.
-fn line_end_at(front: &[u8], text: &[u8]) -> &'static [u8] {
+fn line_end_at(front: &[u8], text: &[u8]) -> &'static [u8]
+    ensures { IsLineEnd result.now }
+{
     match last_line_end(front) {
         Some(line_end) => line_end,
         None => match last_line_end(text) {

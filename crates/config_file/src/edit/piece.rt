@@ -1,7 +1,9 @@
 //! The pieces of a text: each holds the same wherever it stands.
 ghost use Rattle.std.specs.Prelude.{◌≡◌, ◌≢◌, ◌<◌, ◌≤◌, ◌++◌, ◌⊎◌, ◌∷◌, List, ℕ, [], true, false, length, IfSome, MatchOption};
-ghost use Rattle.config_file.specs.Reading.Edits.{AreBlank, EndsComment, GoesOn, IsComment, IsPiece, IsRead, IsTail, StartsLine, StartsNoComment};
-ghost use Rattle.config_file.specs.Reading.Scans.{BeginsWithLetter};
+ghost use Rattle.config_file.specs.Reading.Edits.{EndsComment, GoesOn, IsPiece, IsRead, StartsLine, StartsNoComment};
+ghost use Rattle.config_file.specs.Edit.{AreBlank, IsEnd, IsComment, IsTail};
+ghost use Rattle.config_file.specs.Edit.{IsLineEnd};
+ghost use Rattle.config_file.specs.Bytes.{BeginsWithLetter};
 
 use crate::bytes::{Class, before, is_comment_sign, run, split};
 use crate::entry::{Parts, read_entry};
@@ -35,11 +37,6 @@ pub(crate) struct Piece<'a> {
     pub is_line: bool,
 }
 
-/// What precedes this rest of a text.
-pub(crate) fn front_of<'a>(text: &'a [u8], rest: &[u8]) -> &'a [u8] {
-    &text[..text.len().saturating_sub(rest.len())]
-}
-
 /// What is left of a line behind its entry: blanks, a comment, and the line end.
 #[derive(Clone, Copy)]
 struct Tail<'a> {
@@ -64,7 +61,8 @@ fn after_comment(text: &[u8]) -> (bool, &[u8])
 /// Reads what is left of a line, or `None` if something else comes before its end.
 fn read_tail(text: &[u8]) -> Option<Tail<'_>>
     ensures tail { MatchOption result (GoesOn text.now)
-        (λ left. (tail : List ℕ) × (text.now ≡ tail ++ left.rest.now) × IsTail tail left.rest.now left.is_line) }
+        (λ left. (tail : List ℕ) × (text.now ≡ tail ++ left.rest.now) × (t : IsTail tail left.rest.now left.is_line)
+        × (left.has_comment ≡ false → t.comment ≡ [])) }
     ensures within { IfSome result (λ left. length left.rest.now ≤ length text.now) }
     ensures shorter { text.now ≢ [] → IfSome result (λ left. length left.rest.now < length text.now) }
 {
@@ -170,7 +168,9 @@ fn line_piece<'a>(text: &'a [u8], blanks: &'a [u8], at: &'a [u8]) -> Option<Piec
 
 impl<'a> Piece<'a> {
     /// The line end of the piece, or nothing if none ends it.
-    pub(crate) fn line_end(&self) -> &'static [u8] {
+    pub(crate) fn line_end(&self) -> &'static [u8]
+        ensures { IsEnd result.now }
+    {
         if !self.is_line {
             return &[];
         }
@@ -194,7 +194,9 @@ impl<'a> Piece<'a> {
 }
 
 /// The line end of a text that LF ends.
-fn line_end(line: &[u8]) -> &'static [u8] {
+fn line_end(line: &[u8]) -> &'static [u8]
+    ensures { IsLineEnd result.now }
+{
     if line.ends_with(b"\r\n") {
         b"\r\n"
     } else {
@@ -203,7 +205,9 @@ fn line_end(line: &[u8]) -> &'static [u8] {
 }
 
 /// The line end that a text uses: its last one, or `None` if it has none.
-pub(crate) fn last_line_end(text: &[u8]) -> Option<&'static [u8]> {
+pub(crate) fn last_line_end(text: &[u8]) -> Option<&'static [u8]>
+    ensures { IfSome result (λ line_end. IsLineEnd line_end.now) }
+{
     let last = text.iter().rposition(|byte| *byte == b'\n')?;
     Some(line_end(&text[..last + 1]))
 }

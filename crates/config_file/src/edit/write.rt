@@ -1,22 +1,19 @@
 //! What an edit writes: values, entries, and the ends of lines.
-use crate::bytes::{Class, is_blank, is_comment_sign, run, split};
-use crate::edit::piece::{Held, Piece, front_of};
+ghost use Rattle.std.specs.Prelude.{◌≡◌, ◌++◌, ◌∷◌, ◌↔◌, [], true, false, List, ℕ, IfOk, IsTrue, OnOk};
+ghost use Rattle.config_file.specs.Bytes.{is_blank as spec_blank};
+ghost use Rattle.config_file.specs.Edit.{IsGap};
+ghost use Rattle.config_file.specs.Value.{Ending, SpellsValue};
+ghost use Rattle.config_file.specs.Views.{value_of};
+ghost use Rattle.config_file.specs.Reading.Edits.{IsEndOf, IsOpen, IsSet, IsPutIn, line_ends, new_line};
+ghost use Rattle.config_file.specs.Edit.{AreBlank, IsEntry};
+ghost use Rattle.config_file.specs.Reading.Spellings.{is_spellable, git_spelled};
+
+use crate::bytes::{Class, before, is_blank, is_comment_sign, run, split};
+use crate::edit::piece::{Held, Piece};
 use crate::entry::Parts;
-use crate::key::Key;
-use crate::spelling::{begins_with_space, ends_with_space, has_lost, push_bytes};
+use crate::spelling::push_as_git;
 use crate::value::Value;
 use std::alloc::{AllocError, Global};
-
-/// Appends the spelling of a value that Git writes.
-pub(crate) fn push_spelling(text: &mut Vec<u8>, value: &[u8]) -> Result<(), AllocError> {
-    if begins_with_space(value) || ends_with_space(value) || has_lost(value) {
-        text.push(b'"')?;
-        push_bytes(text, false, value)?;
-        text.push(b'"')?;
-        return Ok(());
-    }
-    push_bytes(text, false, value)
-}
 
 /// Appends the line of an entry, as Git writes it.
 pub(crate) fn push_line(
@@ -24,11 +21,13 @@ pub(crate) fn push_line(
     key: &[u8],
     value: &[u8],
     line_end: &[u8],
-) -> Result<(), AllocError> {
+) -> Result<(), AllocError>
+    ensures { OnOk result (text.new.items ≡ text.old.items ++ new_line key.now value.now line_end.now) }
+{
     text.push(b'\t')?;
     text.extend_from_slice(key)?;
     text.extend_from_slice(b" = ")?;
-    push_spelling(text, value)?;
+    push_as_git(text, value)?;
     text.extend_from_slice(line_end)?;
     Ok(())
 }
@@ -46,18 +45,28 @@ pub(crate) enum End {
 
 impl End {
     /// What ends a text whose last piece this is.
-    pub(crate) fn of(piece: &Piece<'_>) -> End {
+    pub(crate) fn of(piece: &Piece<'_>) -> End
+        ensures { IsEndOf piece.now result }
+    {
         if piece.is_line {
             return End::Line;
         }
         match &piece.held {
-            Held::Entry(parts) if is_open(parts) => End::Backslash,
-            _ => End::Open,
+            Held::Entry(parts) => {
+                if is_open(parts) {
+                    End::Backslash
+                } else {
+                    End::Open
+                }
+            }
+            Held::Nothing | Held::Comment | Held::Header(_) => End::Open,
         }
     }
 
     /// Appends what is missing of the line end.
-    pub(crate) fn push(self, text: &mut Vec<u8>, line_end: &[u8]) -> Result<(), AllocError> {
+    pub(crate) fn push(self, text: &mut Vec<u8>, line_end: &[u8]) -> Result<(), AllocError>
+        ensures { OnOk result (text.new.items ≡ text.old.items ++ line_ends self line_end.now) }
+    {
         match self {
             End::Line => Ok(()),
             End::Open => {
@@ -74,7 +83,9 @@ impl End {
 }
 
 /// Whether a backslash ends the text of an entry.
-fn is_open(parts: &Parts<'_>) -> bool {
+fn is_open(parts: &Parts<'_>) -> bool
+    ensures { IsTrue result ↔ IsOpen parts.now }
+{
     match &parts.value {
         Some(value) => crate::bytes::line_feeds(value.raw) != parts.lines,
         None => false,
@@ -82,54 +93,63 @@ fn is_open(parts: &Parts<'_>) -> bool {
 }
 
 /// The text before its last blanks, and these.
-fn trimmed(text: &[u8]) -> (&[u8], &[u8]) {
-    match text.iter().rposition(|byte| !is_blank(*byte)) {
-        Some(last) => text.split_at(last + 1),
-        None => text.split_at(0),
+fn trimmed(text: &[u8]) -> (&[u8], &[u8])
+    ensures joined { text.now ≡ result.0.now ++ result.1.now }
+    ensures blank { AreBlank result.1.now }
+    ensures last { (more : List ℕ) (b : ℕ) → result.0.now ≡ more ++ b ∷ [] → spec_blank b ≡ false }
+{
+    let mut front = text;
+    'blanks: while let [more @ .., last] = front {
+        if !is_blank(*last) {
+            break;
+        }
+        front = more;
     }
+    text.split_at(front.len())
 }
 
 /// Appends a piece with another value for its entry: only bytes of the old value change, and no blank around
-/// them.
+/// them. If the entry has the value already, the piece stays as it is.
 pub(crate) fn push_changed(
     text: &mut Vec<u8>,
     alloc: Global,
     piece: &Piece<'_>,
     parts: &Parts<'_>,
     value: &[u8],
-) -> Result<(), AllocError> {
+) -> Result<(), AllocError>
+    requires spellable { is_spellable value.now ≡ true }
+    requires entry { IsEntry parts.now.key.now (value_of parts.now.value) parts.now.lines parts.now.rest.now
+        piece.now.blanks.now piece.now.bytes.now piece.now.rest.now piece.now.is_line }
+    ensures { OnOk result ((put : List ℕ) × (text.new.items ≡ text.old.items ++ put)
+        × IsSet parts.now piece.now value.now put) }
+{
     if has_value(alloc, parts, value)? {
         text.extend_from_slice(piece.bytes)?;
         return Ok(());
     }
-    let tail = front_of(parts.rest, piece.rest);
-    let front = front_of(piece.bytes, tail);
-    let Some(old) = &parts.value else {
-        text.extend_from_slice(front)?;
-        if trimmed(front).1.is_empty() {
-            text.push(b' ')?;
+    let tail = before(parts.rest, piece.rest);
+    let front = before(piece.bytes, tail);
+    match &parts.value {
+        Some(old) => {
+            let start = before(front, old.raw);
+            text.extend_from_slice(start)?;
+            push_in_place(text, old.raw, ends_spaced(start), value, tail)?;
         }
-        text.extend_from_slice(b"= ")?;
-        push_spelling(text, value)?;
-        text.extend_from_slice(tail)?;
-        return Ok(());
-    };
-    text.extend_from_slice(front_of(front, old.raw))?;
-    let (lead, rest) = run(old.raw, Class::Blank);
-    if rest.is_empty() {
-        let is_spaced = ends_spaced(front_of(front, old.raw));
-        push_in_blanks(text, lead, is_spaced, value, tail)?;
-    } else {
-        text.extend_from_slice(lead)?;
-        push_spelling(text, value)?;
-        text.extend_from_slice(trimmed(rest).1)?;
+        None => {
+            text.extend_from_slice(front)?;
+            push_given(text, trimmed(front).1.is_empty(), value)?;
+        }
     }
     text.extend_from_slice(tail)?;
     Ok(())
 }
 
 /// Whether an entry of these parts has this value already.
-fn has_value(alloc: Global, parts: &Parts<'_>, value: &[u8]) -> Result<bool, AllocError> {
+fn has_value(alloc: Global, parts: &Parts<'_>, value: &[u8]) -> Result<bool, AllocError>
+    ensures spelled { (raw spelled : List ℕ) (ending : Ending) → value_of parts.now.value ≡ Some raw → SpellsValue raw spelled ending
+        → IfOk result (λ same. IsTrue same ↔ (spelled ≡ value.now)) }
+    ensures alone { value_of parts.now.value ≡ None → IfOk result (λ same. same ≡ false) }
+{
     match &parts.value {
         Some(old) => Ok(old.text(alloc)?.as_slice() == value),
         None => Ok(false),
@@ -144,6 +164,47 @@ fn ends_spaced(front: &[u8]) -> bool {
     }
 }
 
+/// Appends a gap if there has to be one.
+fn push_gap(text: &mut Vec<u8>, is_wanted: bool) -> Result<(), AllocError>
+    ensures { OnOk result ((gap : List ℕ) × IsGap gap × (text.new.items ≡ text.old.items ++ gap)) }
+{
+    if is_wanted {
+        text.push(b' ')?;
+    }
+    Ok(())
+}
+
+/// Appends `=` and a value behind a key alone, with a gap before it if no blank is there.
+fn push_given(text: &mut Vec<u8>, is_close: bool, value: &[u8]) -> Result<(), AllocError>
+    ensures { OnOk result ((gap : List ℕ) × IsGap gap
+        × (text.new.items ≡ text.old.items ++ (gap ++ 61 ∷ 32 ∷ git_spelled value.now))) }
+{
+    push_gap(text, is_close)?;
+    text.extend_from_slice(b"= ")?;
+    push_as_git(text, value)
+}
+
+/// Appends another value in the place of these bytes of one.
+fn push_in_place(
+    text: &mut Vec<u8>,
+    raw: &[u8],
+    is_spaced: bool,
+    value: &[u8],
+    tail: &[u8],
+) -> Result<(), AllocError>
+    requires { is_spellable value.now ≡ true }
+    ensures { OnOk result ((put : List ℕ) × (text.new.items ≡ text.old.items ++ put) × IsPutIn raw.now value.now put) }
+{
+    let (lead, rest) = run(raw, Class::Blank);
+    if rest.is_empty() {
+        return push_in_blanks(text, raw, is_spaced, value, tail);
+    }
+    text.extend_from_slice(lead)?;
+    push_as_git(text, value)?;
+    text.extend_from_slice(trimmed(rest).1)?;
+    Ok(())
+}
+
 /// Appends a value where only blanks were: after the first of them, and a space before a comment sign.
 fn push_in_blanks(
     text: &mut Vec<u8>,
@@ -151,22 +212,28 @@ fn push_in_blanks(
     is_spaced: bool,
     value: &[u8],
     tail: &[u8],
-) -> Result<(), AllocError> {
-    let (lead, trail) = match blanks {
-        [b'\r'] => blanks.split_at(0),
-        [_, ..] => blanks.split_at(1),
-        [] => (blanks, blanks),
-    };
+) -> Result<(), AllocError>
+    requires spellable { is_spellable value.now ≡ true }
+    requires blank { AreBlank blanks.now }
+    ensures { OnOk result ((put : List ℕ) × (text.new.items ≡ text.old.items ++ put) × IsPutIn blanks.now value.now put) }
+{
+    let (lead, trail) = first_blank(blanks);
     text.extend_from_slice(lead)?;
-    if lead.is_empty() && is_spaced {
-        text.push(b' ')?;
-    }
-    push_spelling(text, value)?;
-    if trail.is_empty() && begins_with_sign(tail) {
-        text.push(b' ')?;
-    }
+    push_gap(text, lead.is_empty() && is_spaced)?;
+    push_as_git(text, value)?;
+    push_gap(text, trail.is_empty() && begins_with_sign(tail))?;
     text.extend_from_slice(trail)?;
     Ok(())
+}
+
+/// The first of these blanks, if it is no CR before the line end, and the others.
+fn first_blank(blanks: &[u8]) -> (&[u8], &[u8])
+    ensures { blanks.now ≡ result.0.now ++ result.1.now }
+{
+    match blanks {
+        [b'\r'] | [] => blanks.split_at(0),
+        _ => blanks.split_at(1),
+    }
 }
 
 fn begins_with_sign(text: &[u8]) -> bool {

@@ -1,57 +1,62 @@
 use Rattle.std.proofs.Common.{arith, sym, subst, Some, None}
 use Rattle.config_file.specs.declared.reader.Entries.{Entries}
-use Rattle.config_checks.specs.Report.{Fails}
 use Rattle.config_checks.specs.Rows.{rows_of}
-use Rattle.config_checks.proofs.CheckLemmas.{IsReported, are_none, reported_start, one_more, reported, fails_reading, fails_within}
-use Rattle.config_checks.proofs.CheckLemmas.{leaves_room, passed_on}
+use Rattle.config_checks.proofs.CheckLemmas.{IsReported, are_none, reported_start, one_more, reported, fails_reading}
+use Rattle.config_checks.proofs.CheckLemmas.{leaves_room, on_err, receives-nil}
 use Rattle.config_checks.proofs.check.report_entries.Goals as goal
 
 pub loop-entry-init : goal.loop-entry-init
 loop-entry-init g c =
-    let none = c.default.ensures in
-    subst (λ (reader : Entries). IsReported (rows_of c.args.runs.now) c.args.options.now c.args.file.now c.args.text.now reader
-    (g.W.Write.contents c.args.writer.now) (g.W.Write.contents c.args.writer.now) c.default.result) (sym c.into_iter-entry-iterator.ensures.into_iter_gives)
-    (reported_start _ _ _ _ c.new-entry-items.result _ c.default.result c.new-entry-items.ensures.section c.new-entry-items.ensures.begins
-    (are_none c.default.result none.0 none.1.0 none.1.1.0 none.1.1.1.0 none.1.1.1.1))
+    let none = c.default.ensures in (
+      tt,
+      subst (λ (reader : Entries). IsReported (rows_of c.args.runs.now) c.args.options.now c.args.file.now c.args.text.now reader
+          (g.R.Receiver.received c.args.receiver.now) (g.R.Receiver.received c.args.receiver.now) c.default.result) (sym c.into_iter-entry-iterator.ensures.into_iter_gives)
+          (reported_start _ _ _ _ c.new-entry-items.result _ c.default.result c.new-entry-items.ensures.section c.new-entry-items.ensures.begins
+          (are_none c.default.result none.0 none.1.0 none.1.1.0 none.1.1.1.0 none.1.1.1.1)),
+    )
 
 pub returns-in-Err-clause-ok : goal.returns-in-Err-clause-ok
 returns-in-Err-clause-ok g c =
     let gives = rw c.in-Err.is at c.in-Some.ensures.steps in
-    reported _ _ _ _ _ _ _ _ c.loop-entry.invariant (Some c.in-Err.error) gives.0
+    reported _ _ _ _ _ _ _ _ c.loop-entry.invariant.1 (Some c.in-Err.error) gives.0
 
 pub returns-in-Err-clause-room : goal.returns-in-Err-clause-room
-returns-in-Err-clause-room g c = leaves_room _ c.loop-entry.invariant.within (omega (arith, c.loop-entry.invariant.fits))
+returns-in-Err-clause-room g c =
+    let so_far = c.loop-entry.invariant.1 in leaves_room _ so_far.within (omega (arith, so_far.fits))
 
 pub returns-in-Err-of_entry-clause-err : goal.returns-in-Err-of_entry-clause-err
-returns-in-Err-of_entry-clause-err g c = fails_reading _ _ _ _ _ _ _ _ c.loop-entry.invariant _
+returns-in-Err-of_entry-clause-err g c = fails_reading _ _ _ _ _ _ _ _ c.loop-entry.invariant.1 _ (receives-nil _)
 
 pub report-requires : goal.report-requires
-report-requires g c = record {
-  entries = omega (arith, c.loop-entry.invariant.fits);
-  others = c.loop-entry.invariant.within;
-}
+report-requires g c =
+    let so_far = c.loop-entry.invariant.1 in record {
+      room = record { entries = omega (arith, so_far.fits); others = so_far.within };
+      last = c.loop-entry.invariant.0;
+    }
 
-pub returns-in_err-report-clause-err : goal.returns-in_err-report-clause-err
-returns-in_err-report-clause-err g c =
-    let gives = rw c.in-Ok.is at c.in-Some.ensures.steps in
-    passed_on (Fails _ _ _ _ _ _) _ _ c.from_residual.ensures.1
-    (fails_within _ _ _ _ _ _ _ c.loop-entry.entry-iterator c.loop-entry.invariant c.next.new.self c.in-Ok.entry c.in-Ok-of_entry.setting gives c.in-Ok-of_entry.ensures _
-    c.in_err-report.field-0.0 c.in_err-report.ensures.err)
+pub returns-in_err-progress-clause-err : goal.returns-in_err-progress-clause-err
+returns-in_err-progress-clause-err g c =
+    on_err _ _ (fails_reading _ _ _ _ _ _ _ _ c.loop-entry.invariant.1 _ c.in_err-progress.ensures.err)
 
 pub loop-entry-preserved : goal.loop-entry-preserved
 loop-entry-preserved g c =
-    let gives = rw c.in-Ok.is at c.in-Some.ensures.steps in
-    one_more _ _ _ _ _ _ _ _ c.loop-entry.invariant _ c.in-Ok.entry c.in-Ok-of_entry.setting gives c.in-Ok-of_entry.ensures _ _
-    (c.in-Some.ensures.goes.on tt).2 c.in_ok-report.ensures.ok
+    let gives = rw c.in-Ok.is at c.in-Some.ensures.steps in (
+      c.in_ok-progress.ensures.last,
+      one_more _ _ _ _ _ _ _ _ c.loop-entry.invariant.1 _ c.in-Ok.entry c.in-Ok-of_entry.setting gives c.in-Ok-of_entry.ensures _ _
+          (c.in-Some.ensures.goes.on tt).2 c.in_ok-progress.ensures.ok,
+    )
 
-pub loop-entry-preserved-in_ok-report : goal.loop-entry-preserved-in_ok-report
-loop-entry-preserved-in_ok-report g c =
-    let gives = rw c.in-Ok.is at c.in-Some.ensures.steps in
-    one_more _ _ _ _ _ _ _ _ c.loop-entry.invariant _ c.in-Ok.entry c.in-Ok-of_entry.setting gives c.in-Ok-of_entry.ensures _ _
-    (c.in-Some.ensures.goes.on tt).2 c.in_ok-report.ensures.ok
+pub loop-entry-preserved-in_ok-progress : goal.loop-entry-preserved-in_ok-progress
+loop-entry-preserved-in_ok-progress g c =
+    let gives = rw c.in-Ok.is at c.in-Some.ensures.steps in (
+      c.in_ok-progress.ensures.last,
+      one_more _ _ _ _ _ _ _ _ c.loop-entry.invariant.1 _ c.in-Ok.entry c.in-Ok-of_entry.setting gives c.in-Ok-of_entry.ensures _ _
+          (c.in-Some.ensures.goes.on tt).2 c.in_ok-progress.ensures.ok,
+    )
 
 pub returns-clause-ok : goal.returns-clause-ok
-returns-clause-ok g c = reported _ _ _ _ _ _ _ _ c.loop-entry.invariant None c.in-None.ensures.steps.0
+returns-clause-ok g c = reported _ _ _ _ _ _ _ _ c.loop-entry.invariant.1 None c.in-None.ensures.steps.0
 
 pub returns-clause-room : goal.returns-clause-room
-returns-clause-room g c = leaves_room _ c.loop-entry.invariant.within (omega (arith, c.loop-entry.invariant.fits))
+returns-clause-room g c =
+    let so_far = c.loop-entry.invariant.1 in leaves_room _ so_far.within (omega (arith, so_far.fits))

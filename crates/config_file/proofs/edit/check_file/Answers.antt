@@ -9,5 +9,6 @@ loop-entry-preserved c =
     let gives = rw c.in_default.is at c.in-Some.ensures.steps in
     let entry = entry_of c.in_default.field-0 in (
       entries ++ entry ∷ [],
-      λ left error h. file_more c.args.text.now entries left entry error (reads (entry ∷ left) error (gives left error h)),
+      λ left error h. file_more c.args.text.now entries left entry error
+          (reads (entry ∷ left) error (gives left error h)),
     )

@@ -7,4 +7,5 @@ use Rattle.config_file.proofs.edit.check_file.Given as goal
 abbrev pub invariant-loop-entry : goal.invariant-loop-entry
 invariant-loop-entry l =
     (entries : List Entry)
-    × ((left : List Entry) (error : Option Error) → HasLeft l.entry-iterator left error → IsFile l.text (entries ++ left) error)
+    × ((left : List Entry) (error : Option Error) → HasLeft l.entry-iterator left error → IsFile l.text
+    (entries ++ left) error)

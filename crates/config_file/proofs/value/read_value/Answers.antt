@@ -1,5 +1,5 @@
 use Rattle.std.proofs.Common.{rules}
-use Rattle.config_file.proofs.Values.{passed_none, passed_quote, passed_escape, passed_byte}
+use Rattle.config_file.proofs.Values.{passed_none, passed_quote, passed_escape, passed_byte, passed_run}
 use Rattle.config_file.proofs.value.read_value.Goals as goal
 
 pub pieces-init : goal.pieces-init
@@ -12,4 +12,6 @@ pub pieces-preserved-in-Some-after_escape : goal.pieces-preserved-in-Some-after_
 pieces-preserved-in-Some-after_escape c = passed_escape _ c.pieces.invariant c.in-Some.ensures c.if-byte-eq92.true c.in-Some-after_escape.ensures
 
 pub pieces-preserved : goal.pieces-preserved
-pieces-preserved c = passed_byte c.pieces.quoted _ c.pieces.invariant c.in-Some.ensures (search rules) c.if-byte-eq34.false c.if-byte-eq92.false
+pieces-preserved c =
+    let passed = passed_byte c.pieces.quoted _ c.pieces.invariant c.in-Some.ensures (search rules) c.if-byte-eq34.false c.if-byte-eq92.false in
+    passed_run c.pieces.quoted _ _ passed c.run.ensures.joined c.run.ensures.pass

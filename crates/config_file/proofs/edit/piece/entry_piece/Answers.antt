@@ -5,12 +5,12 @@ use Rattle.config_file.proofs.edit.piece.entry_piece.Goals as goal
 
 pub before-requires : goal.before-requires
 before-requires c =
-    let (tail, cut, is) = c.in-Some.ensures.tail in
+    let (tail, cut, is, plain) = c.in-Some.ensures.tail in
     entry_text_front c.args.blanks.now tail c.requires.joined c.in-Ok.ensures cut
 
 pub returns-in-Some-clause-piece : goal.returns-in-Some-clause-piece
 returns-in-Some-clause-piece c =
-    let (tail, cut, is) = c.in-Some.ensures.tail in
+    let (tail, cut, is, plain) = c.in-Some.ensures.tail in
     record {
       joined = c.before-in-Some.ensures;
       blank = c.requires.blank;
@@ -29,4 +29,6 @@ pub returns-in-None-clause-piece : goal.returns-in-None-clause-piece
 returns-in-None-clause-piece c = λ reads. no_entry_goes_on c.in-Ok.ensures c.in-None.ensures.tail
 
 pub returns-in-Err-clause-piece : goal.returns-in-Err-clause-piece
-returns-in-Err-clause-piece c = refused c.args.blanks.now c.requires.joined c.requires.blank (entry_stops c.requires.letter c.in-Err.ensures)
+returns-in-Err-clause-piece c =
+    refused c.args.blanks.now c.requires.joined c.requires.blank
+    (entry_stops c.requires.letter c.in-Err.ensures)

@@ -21,4 +21,5 @@ returns-in-Ok-clause-shorter c =
     omega arith
 
 pub returns-in-Err-clause-piece : goal.returns-in-Err-clause-piece
-returns-in-Err-clause-piece c = refused c.args.blanks.now c.requires.joined c.requires.blank (header_stops refl c.in-Err.ensures)
+returns-in-Err-clause-piece c =
+    refused c.args.blanks.now c.requires.joined c.requires.blank (header_stops refl c.in-Err.ensures)

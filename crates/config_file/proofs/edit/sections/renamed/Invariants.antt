@@ -6,7 +6,7 @@ use Rattle.config_file.proofs.edit.sections.renamed.Given as goal
 
 abbrev pub invariant-pieces : goal.invariant-pieces
 invariant-pieces l =
-    Renaming (key_of l.fn.from) (key_of l.fn.to) l.fn.text l.rest l.new.items
+    Renaming (key_of l.fn.from) (key_of l.fn.to) l.fn.text l.rest l.new.items l.is_found
     × (l.header.items ≡ 91 ∷ spelled_section (key_of l.fn.to).section (key_of l.fn.to).subsection)
 
 abbrev pub decreases-pieces : goal.decreases-pieces

@@ -1,0 +1,207 @@
+//! What to write in place of a value that the reader of a boolean, an integer or a color refuses.
+
+use config_checks::finding::Finding;
+use config_checks::reason::nearest_word;
+use gix_config_value::canonical::TryRead;
+use gix_config_value::integer::Amount;
+use gix_config_value::{Color, Fault};
+use std::alloc::{AllocError, Global};
+
+/// What is known of a value that is refused.
+#[derive(Drop)]
+pub(crate) struct Hint<'v> {
+    /// The word of the value that is wrong, if the value has several.
+    pub(crate) wrong: Option<&'v [u8]>,
+    /// What to write instead, if anything is near.
+    pub(crate) meant: Option<Vec<u8>>,
+}
+
+/// Words that people write for booleans.
+const BOOLEANS: &[&[u8]] = &[b"true", b"false", b"yes", b"off"];
+
+/// Other words that people write for true, and for false.
+const FOR_TRUE: &[&[u8]] = &[b"enable", b"enabled", b"y", b"t"];
+
+const FOR_FALSE: &[&[u8]] = &[b"disable", b"disabled", b"n", b"f"];
+
+/// The words of colors.
+const COLORS: &[&[u8]] = &[
+    b"normal",
+    b"default",
+    b"black",
+    b"red",
+    b"green",
+    b"yellow",
+    b"blue",
+    b"magenta",
+    b"cyan",
+    b"white",
+    b"brightblack",
+    b"brightred",
+    b"brightgreen",
+    b"brightyellow",
+    b"brightblue",
+    b"brightmagenta",
+    b"brightcyan",
+    b"brightwhite",
+    b"bold",
+    b"dim",
+    b"italic",
+    b"ul",
+    b"blink",
+    b"reverse",
+    b"strike",
+    b"reset",
+    b"nobold",
+    b"nodim",
+    b"noitalic",
+    b"noul",
+    b"noblink",
+    b"noreverse",
+    b"nostrike",
+];
+
+/// A text as a new vector.
+fn copied(alloc: Global, text: &[u8]) -> Result<Option<Vec<u8>>, AllocError> {
+    Ok(Some(text.to_vec(alloc)?))
+}
+
+/// Whether one of the words is this text, ignoring ASCII case.
+fn has(words: &[&[u8]], text: &[u8]) -> bool {
+    words.iter().any(|word| word.eq_ignore_ascii_case(text))
+}
+
+/// The boolean that is meant by a text.
+fn boolean(alloc: Global, text: &[u8]) -> Result<Option<Vec<u8>>, AllocError> {
+    let text = text.trim_ascii();
+    if has(FOR_TRUE, text) {
+        return copied(alloc, b"true");
+    }
+    if has(FOR_FALSE, text) {
+        return copied(alloc, b"false");
+    }
+    match nearest_word(alloc, BOOLEANS, text)? {
+        Some(word) => copied(alloc, word),
+        None => Ok(None),
+    }
+}
+
+/// The number without what Git does not read in it: blanks, `_` and `,`, and the bytes of a unit, as in `500MB`.
+fn number(alloc: Global, text: &[u8]) -> Result<Option<Vec<u8>>, AllocError> {
+    let mut plain = Vec::new(alloc);
+    for byte in text {
+        if !matches!(*byte, b' ' | b'\t' | b'_' | b',') {
+            plain.push(byte.to_ascii_lowercase())?;
+        }
+    }
+    for unit in [b"ib".as_slice(), b"b".as_slice()] {
+        if let Some(front) = plain.strip_suffix(unit) {
+            let end = front.len();
+            if matches!(front.last(), Some(b'k' | b'm' | b'g')) {
+                plain.truncate(end);
+            }
+        }
+    }
+    if plain.as_slice() == text || Amount::try_read(&plain).is_err() {
+        return Ok(None);
+    }
+    Ok(Some(plain))
+}
+
+/// The first word of a color that is none.
+fn wrong_word(text: &[u8]) -> Option<&[u8]> {
+    text.split(|byte| byte.is_ascii_whitespace())
+        .find(|word| Color::try_read(word).is_err())
+}
+
+/// A color in which `-`, `_`, `,`, `+` and `/` separate words, if that makes it right.
+fn separated(alloc: Global, text: &[u8]) -> Result<Option<Vec<u8>>, AllocError> {
+    let mut words = Vec::new(alloc);
+    for byte in text {
+        match *byte {
+            b'-' | b'_' | b',' | b'+' | b'/' => words.push(b' ')?,
+            byte => words.push(byte.to_ascii_lowercase())?,
+        }
+    }
+    let words = words.trim_ascii();
+    if Color::try_read(words).is_err() {
+        return Ok(None);
+    }
+    let mut single: Vec<u8> = Vec::new(alloc);
+    for word in words.split(|byte| byte.is_ascii_whitespace()) {
+        if word.is_empty() {
+            continue;
+        }
+        if !single.is_empty() {
+            single.push(b' ')?;
+        }
+        single.extend_from_slice(word)?;
+    }
+    Ok(Some(single))
+}
+
+/// The color with another word in place of the first one that is none.
+fn replaced(
+    alloc: Global,
+    text: &[u8],
+    wrong: &[u8],
+    word: &[u8],
+) -> Result<Option<Vec<u8>>, AllocError> {
+    let mut color: Vec<u8> = Vec::new(alloc);
+    let mut is_done = false;
+    for part in text.split(|byte| byte.is_ascii_whitespace()) {
+        if part.is_empty() {
+            continue;
+        }
+        if !color.is_empty() {
+            color.push(b' ')?;
+        }
+        if !is_done && part == wrong {
+            color.extend_from_slice(word)?;
+            is_done = true;
+        } else {
+            color.extend_from_slice(part)?;
+        }
+    }
+    if Color::try_read(&color).is_err() {
+        return copied(alloc, word);
+    }
+    Ok(Some(color))
+}
+
+/// What is known of a color that is refused.
+fn color<'v>(alloc: Global, text: &'v [u8]) -> Result<Hint<'v>, AllocError> {
+    let Some(wrong) = wrong_word(text) else {
+        return Ok(Hint {
+            wrong: None,
+            meant: None,
+        });
+    };
+    let named = if wrong == text.trim_ascii() {
+        None
+    } else {
+        Some(wrong)
+    };
+    let meant = match separated(alloc, text)? {
+        Some(color) => Some(color),
+        None => match nearest_word(alloc, COLORS, wrong)? {
+            Some(word) => replaced(alloc, text, wrong, word)?,
+            None => None,
+        },
+    };
+    Ok(Hint {
+        wrong: named,
+        meant,
+    })
+}
+
+/// What is known of a value beyond the reason of its finding.
+pub(crate) fn hint_for<'v>(alloc: Global, finding: &Finding<'v>) -> Result<Hint<'v>, AllocError> {
+    let meant = match (finding.fault, finding.value) {
+        (Some(Fault::Color), Some(value)) => return color(alloc, value),
+        (Some(Fault::Boolean), Some(value)) => boolean(alloc, value)?,
+        (Some(Fault::Integer), Some(value)) => number(alloc, value)?,
+        _ => None,
+    };
+    Ok(Hint { wrong: None, meant })
+}

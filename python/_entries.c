@@ -1,0 +1,829 @@
+/* The entries of files, and what is read of files and names. */
+#define _DEFAULT_SOURCE
+#include "_core.h"
+
+#include <errno.h>
+#include <fcntl.h>
+#include <limits.h>
+#include <stdlib.h>
+#include <unistd.h>
+
+/* so many bytes a file may have, as in the programs: 1 GiB */
+enum { LONGEST_FILE = 1 << 30 };
+/* so many steps a walk takes before it looks for a signal */
+enum { MOST_STEPS = 10000 };
+
+static const size_t NO_TEXT = SIZE_MAX;
+
+/* An entry: where its key and its text begin in the texts, its line, its source, and 1 more than the index of the entry
+ * before with the same key, or 0. */
+typedef struct {
+    size_t key, text;
+    uint32_t line, source, previous, hash;
+} Row;
+
+/* The entries of files, in order. `texts` has keys and texts, each with a NUL; equal keys are there once. `slots` is a
+ * table over the hashes of keys, which finds the last entry with a key: 1 more than its index, or 0. `sources` has a
+ * tuple for each file, each time that it is read: its name, its scope, and how many files the walk was in. */
+typedef struct {
+    PyObject_HEAD
+    State *state;
+    PyObject *sources;
+    char *texts;
+    size_t size, capacity;
+    Row *rows;
+    size_t count, room;
+    uint32_t *slots;
+    size_t slot_count, keys;
+    int is_read; /* in a call that may let other threads run */
+} Entries;
+
+/* Keys */
+
+static uint64_t mixed(uint64_t word, uint64_t seed)
+{
+    unsigned __int128 product = (unsigned __int128)word * (seed | 1);
+    return (uint64_t)product ^ (uint64_t)(product >> 64);
+}
+
+static uint32_t hash_of(const State *state, const char *key, size_t length)
+{
+    uint64_t hash = state->seed[0] ^ length, word = 0;
+    for (; length > 8; key += 8, length -= 8) {
+        memcpy(&word, key, 8);
+        hash = mixed(hash ^ word, state->seed[1]);
+    }
+    word = 0;
+    memcpy(&word, key, length);
+    return (uint32_t)mixed(hash ^ word, state->seed[1]);
+}
+
+/* The slot of a key, or the free one in which it belongs. */
+static uint32_t *slot_of(const Entries *self, const char *key, uint32_t hash)
+{
+    size_t mask = self->slot_count - 1, at = hash & mask;
+    for (; self->slots[at] != 0; at = (at + 1) & mask) {
+        const Row *row = &self->rows[self->slots[at] - 1];
+        if (row->hash == hash && strcmp(self->texts + row->key, key) == 0)
+            break;
+    }
+    return &self->slots[at];
+}
+
+/* Returns 1 more than the index of the last entry with this key, or 0. */
+static size_t last_with(const Entries *self, const char *key, size_t length)
+{
+    return self->keys == 0 ? 0 : *slot_of(self, key, hash_of(self->state, key, length));
+}
+
+/* Returns 1 more than the index of the last entry with a key, or 0. The case of its section and of its last part does
+ * not count. What is no str is no key. */
+static size_t found(const Entries *self, PyObject *given)
+{
+    PyObject *bytes = PyUnicode_Check(given) ? bytes_of(given) : NULL;
+    char *key = bytes ? PyBytes_AsString(bytes) : NULL;
+    size_t length = bytes ? (size_t)PyBytes_Size(bytes) : 0, at = 0;
+    if (bytes && strlen(key) == length && (at = last_with(self, key, length)) == 0) {
+        PyObject *listed = PyBytes_FromStringAndSize(key, (Py_ssize_t)length);
+        char *text = listed ? PyBytes_AsString(listed) : NULL, *dot = strrchr(key, '.');
+        size_t first = strcspn(key, "."), last = dot ? (size_t)(dot - key) : 0;
+        for (size_t place = 0; listed && place < length; place++)
+            if ((place < first || place > last) && text[place] >= 'A' && text[place] <= 'Z')
+                text[place] = (char)(text[place] + 'a' - 'A');
+        at = listed ? last_with(self, text, length) : 0;
+        Py_XDECREF(listed);
+    }
+    Py_XDECREF(bytes);
+    return at;
+}
+
+/* Room */
+
+static int has_room(const Entries *self)
+{
+    return self->count < self->room && 4 * (self->keys + 1) <= 3 * self->slot_count;
+}
+
+static int widen_table(Entries *self)
+{
+    size_t count = self->slot_count ? 2 * self->slot_count : 16;
+    uint32_t *slots = PyMem_Malloc(count * sizeof *slots);
+    if (!slots)
+        return 0;
+    memset(slots, 0, count * sizeof *slots);
+    for (size_t at = 0; at < self->slot_count; at++) {
+        size_t place = self->slots[at] ? self->rows[self->slots[at] - 1].hash & (count - 1) : 0;
+        while (self->slots[at] && slots[place])
+            place = (place + 1) & (count - 1);
+        if (self->slots[at])
+            slots[place] = self->slots[at];
+    }
+    PyMem_Free(self->slots);
+    self->slots = slots;
+    self->slot_count = count;
+    return 1;
+}
+
+/* Gives the texts this capacity, and the entries this room, and returns whether there is memory. */
+static int resize(Entries *self, size_t capacity, size_t room)
+{
+    char *texts = PyMem_Realloc(self->texts, capacity);
+    self->texts = texts ? texts : self->texts;
+    self->capacity = texts ? capacity : self->capacity;
+    Row *rows = texts && room < UINT32_MAX ? PyMem_Realloc(self->rows, room * sizeof *rows) : NULL;
+    self->rows = rows ? rows : self->rows;
+    self->room = rows ? room : self->room;
+    return rows != NULL;
+}
+
+/* Makes room for a further entry of so many bytes. Without memory it raises an exception. */
+static int make_room(Entries *self, size_t needed)
+{
+    size_t capacity = self->capacity, room = self->room;
+    if (capacity - self->size < needed)
+        capacity = self->size + needed + capacity / 2;
+    if (self->count == room)
+        room = room + room / 2 + 16;
+    int is_there = (capacity == self->capacity && room == self->room) || resize(self, capacity, room);
+    if (is_there && !has_room(self))
+        is_there = widen_table(self);
+    if (!is_there)
+        PyErr_NoMemory();
+    return is_there;
+}
+
+/* Keeps an entry, for which there is room. Its key is at the end of the texts, and after it its text, or null. */
+static void keep(Entries *self, const char *text, size_t line, size_t source)
+{
+    const char *key = self->texts + self->size;
+    size_t length = strlen(key);
+    uint32_t hash = hash_of(self->state, key, length), *slot = slot_of(self, key, hash);
+    Row row = {self->size, NO_TEXT, (uint32_t)line, (uint32_t)source, *slot, hash};
+    if (*slot) {
+        row.key = self->rows[*slot - 1].key;
+    } else {
+        self->size += length + 1;
+        self->keys++;
+    }
+    if (text) {
+        length = strlen(text) + 1;
+        row.text = self->size;
+        memmove(self->texts + self->size, text, length);
+        self->size += length;
+    }
+    self->rows[self->count++] = row;
+    *slot = (uint32_t)self->count;
+}
+
+/* Returns the index of a new source, or -1 with an exception. */
+static Py_ssize_t add_source(Entries *self, PyObject *file, PyObject *scope, Py_ssize_t depth)
+{
+    PyObject *source = Py_BuildValue("OOn", file, scope, depth);
+    int status = source ? PyList_Append(self->sources, source) : -1;
+    Py_XDECREF(source);
+    return status == 0 ? PyList_Size(self->sources) - 1 : -1;
+}
+
+/* Objects of entries */
+
+/* Returns a text of a file, which may have any bytes except NUL, as a str; None for no text. */
+static PyObject *text_at(const Entries *self, size_t place)
+{
+    const char *bytes = self->texts + place;
+    if (place == NO_TEXT)
+        return counted(Py_None);
+    return PyUnicode_DecodeUTF8(bytes, (Py_ssize_t)strlen(bytes), "surrogateescape");
+}
+
+static PyObject *entry_at(const Entries *self, size_t at)
+{
+    const Row *row = &self->rows[at];
+    PyObject *source = PyList_GetItem(self->sources, row->source);
+    PyObject *parts = Py_BuildValue("OnNNO", PyTuple_GetItem(source, 0), (Py_ssize_t)row->line,
+                                    text_at(self, row->key), text_at(self, row->text), PyTuple_GetItem(source, 1));
+    PyObject *entry = NULL;
+    if (parts)
+        entry = PyObject_CallFunctionObjArgs(self->state->tuple_new, self->state->entry, parts, NULL);
+    Py_XDECREF(parts);
+    return entry;
+}
+
+/* Walks */
+
+/* A walk, and for each file that it is in its source, and the tuple from which the walk borrows. */
+typedef struct {
+    gcv_walk walk;
+    PyObject *files[GCV_MOST_FRAMES];
+    size_t sources[GCV_MOST_FRAMES];
+    PyObject *scope;
+    int is_long;
+} Walk;
+
+/* Whether an object is a tuple. If not, an exception is raised. */
+static int is_tuple(PyObject *object)
+{
+    if (!PyTuple_Check(object))
+        PyErr_Format(PyExc_TypeError, "a tuple is wanted, and not %R", Py_TYPE(object));
+    return PyTuple_Check(object);
+}
+
+/* Goes on in a file: a tuple of its name as a str, and its name, its real directory and its text as `bytes`. If it is
+ * none, returns GCV_REFUSED and raises an exception. */
+static gcv_status enter(Entries *self, Walk *walk, PyObject *file)
+{
+    PyObject *shown, *name, *directory, *text;
+    size_t depth = walk->walk.count;
+    if (!is_tuple(file) || !PyArg_ParseTuple(file, "USSS", &shown, &name, &directory, &text))
+        return GCV_REFUSED;
+    size_t length = (size_t)PyBytes_Size(text);
+    gcv_status status = gcv_enter(&walk->walk, PyBytes_AsString(name), (size_t)PyBytes_Size(name),
+                                  PyBytes_AsString(directory), (size_t)PyBytes_Size(directory),
+                                  PyBytes_AsString(text), length);
+    if (status != GCV_OK)
+        return status;
+    Py_ssize_t source = add_source(self, shown, walk->scope, (Py_ssize_t)walk->walk.count);
+    if (source < 0)
+        return GCV_REFUSED;
+    Py_XDECREF(walk->files[depth]);
+    walk->files[depth] = counted(file);
+    walk->sources[depth] = (size_t)source;
+    walk->is_long |= length > SHORT_TEXT;
+    /* most texts take no more bytes than they have in the file */
+    return make_room(self, length + 1) ? GCV_OK : GCV_REFUSED;
+}
+
+/* Takes steps while there is room, until one includes a file. */
+static gcv_status take(Entries *self, Walk *walk, const gcv_known *known, gcv_step *step)
+{
+    step->include = GCV_NO_INCLUDE;
+    for (int left = MOST_STEPS; left > 0 && step->include == GCV_NO_INCLUDE && has_room(self); left--) {
+        gcv_status status = gcv_next(&walk->walk, known, self->texts + self->size, self->capacity - self->size, step);
+        if (status != GCV_OK)
+            return status;
+        keep(self, step->value, step->line, walk->sources[walk->walk.count - 1]);
+    }
+    return GCV_OK;
+}
+
+/* Goes on in the file that the last entry includes. `open` takes the entry and the name of the file, or None if the
+ * library does not know a directory. It returns a file as `enter` takes it, or None if it is not there. */
+static gcv_status follow(Entries *self, Walk *walk, const gcv_step *step, PyObject *open)
+{
+    if (step->include == GCV_NO_INCLUDE)
+        return GCV_OK;
+    if (step->include == GCV_NO_VALUE)
+        return GCV_NO_VALUE;
+    PyObject *name = step->included ? PyBytes_FromString(step->included) : counted(Py_None);
+    PyObject *entry = name ? entry_at(self, self->count - 1) : NULL;
+    PyObject *file = entry ? PyObject_CallFunctionObjArgs(open, entry, name, NULL) : NULL;
+    gcv_status status = !file ? GCV_REFUSED : file == Py_None ? GCV_OK : enter(self, walk, file);
+    Py_XDECREF(name);
+    Py_XDECREF(entry);
+    Py_XDECREF(file);
+    return status;
+}
+
+/* Raises an exception for the status with which a walk ended, unless there is one: InvalidFile, at the last step. */
+static void raise_for(const State *state, gcv_status status, const gcv_step *step)
+{
+    const char *code = status == GCV_BAD_LINE   ? "bad_line"
+                       : status == GCV_NUL      ? "nul"
+                       : status == GCV_NO_VALUE ? "no_value"
+                                                : "too_deep";
+    if (status == GCV_NO_MEMORY)
+        PyErr_NoMemory();
+    else if (!PyErr_Occurred())
+        (void)refuse_file(state, code, status,
+                          PyUnicode_DecodeFSDefaultAndSize(step->file, (Py_ssize_t)step->file_length), step->line);
+}
+
+/* Reads the URLs of remotes: a list of `bytes`, or None while they are sought. Returns the array, or null. */
+static gcv_text *urls_of(PyObject *list, gcv_known *known)
+{
+    known->seeks_urls = list == Py_None;
+    if (!known->seeks_urls && !PyList_Check(list))
+        PyErr_Format(PyExc_TypeError, "URLs are a list, and not %R", Py_TYPE(list));
+    Py_ssize_t count = known->seeks_urls ? 0 : PyErr_Occurred() ? -1 : PyList_Size(list);
+    gcv_text *urls = count < 0 ? NULL : PyMem_Malloc((size_t)(count + 1) * sizeof *urls);
+    for (Py_ssize_t at = 0; urls && at < count; at++) {
+        urls[at].bytes = PyBytes_AsString(PyList_GetItem(list, at));
+        urls[at].length = urls[at].bytes ? (size_t)PyBytes_Size(PyList_GetItem(list, at)) : 0;
+    }
+    known->urls = urls;
+    known->urls_length = (size_t)(count < 0 ? 0 : count);
+    if (!urls && !PyErr_Occurred())
+        PyErr_NoMemory();
+    return urls;
+}
+
+/* Reads the members of a gcv_known, each of them `bytes` or None, and the URLs. `*urls` has to be freed. */
+static int is_known(PyObject *parts, gcv_known *known, gcv_text **urls)
+{
+    PyObject *all[7];
+    if (!is_tuple(parts) ||
+        !PyArg_ParseTuple(parts, "OOOOOOO", &all[0], &all[1], &all[2], &all[3], &all[4], &all[5], &all[6]))
+        return 0;
+    *urls = urls_of(all[6], known);
+    known->install_dir = part_of(all[0], &known->install_dir_length);
+    known->home = part_of(all[1], &known->home_length);
+    known->real_home = part_of(all[2], &known->real_home_length);
+    known->git_dir = part_of(all[3], &known->git_dir_length);
+    known->real_git_dir = part_of(all[4], &known->real_git_dir_length);
+    known->branch = part_of(all[5], &known->branch_length);
+    return !PyErr_Occurred();
+}
+
+/* Walks over a file, and returns the status with which the walk ends. */
+static gcv_status walk_over(Entries *self, Walk *walk, const gcv_known *known, PyObject *open, gcv_step *step)
+{
+    gcv_status status = GCV_OK;
+    while (status == GCV_OK) {
+        PyThreadState *waiting = walk->is_long ? PyEval_SaveThread() : NULL;
+        status = take(self, walk, known, step);
+        end(waiting);
+        if (status == GCV_OK)
+            status = follow(self, walk, step, open);
+        if (status == GCV_OK || status == GCV_SHORT_BUFFER) {
+            size_t needed = status == GCV_OK ? 1 : step->size;
+            status = make_room(self, needed) && PyErr_CheckSignals() == 0 ? GCV_OK : GCV_REFUSED;
+        }
+    }
+    return status;
+}
+
+/* Appends the entries of a file, and of the files that they include. Takes the scope, the file as `enter` does, what
+ * includes may refer to, or None if none is followed, and what opens files for `follow`. */
+static PyObject *entries_read(PyObject *object, PyObject *args)
+{
+    Entries *self = (Entries *)object;
+    PyObject *file, *parts, *open;
+    gcv_text *urls = NULL;
+    Walk walk = {0};
+    gcv_known known = {0};
+    gcv_step step = {0};
+    gcv_status status = GCV_REFUSED;
+    if (self->is_read)
+        return PyErr_Format(PyExc_RuntimeError, "these entries are being read");
+    self->is_read = 1;
+    if (PyArg_ParseTuple(args, "OOOO", &walk.scope, &file, &parts, &open) &&
+        (parts == Py_None || is_known(parts, &known, &urls)))
+        status = enter(self, &walk, file);
+    if (status == GCV_OK)
+        status = walk_over(self, &walk, parts == Py_None ? NULL : &known, open, &step);
+    if (status != GCV_ABSENT)
+        raise_for(self->state, status, &step);
+    for (int depth = 0; depth < GCV_MOST_FRAMES; depth++)
+        Py_XDECREF(walk.files[depth]);
+    PyMem_Free(urls);
+    self->is_read = 0;
+    return status == GCV_ABSENT ? counted(Py_None) : NULL;
+}
+
+/* Gives memory back that is not used. */
+static PyObject *entries_trim(PyObject *object, PyObject *Py_UNUSED(unused))
+{
+    Entries *self = (Entries *)object;
+    if (!self->is_read && !resize(self, self->size + 1, self->count + 1))
+        return PyErr_NoMemory();
+    return counted(Py_None);
+}
+
+/* Entries that Python gives */
+
+/* Appends a text as C has it, and returns whether it is one. */
+static int add_text(Entries *self, size_t *size, PyObject *text)
+{
+    PyObject *bytes = bytes_of(text);
+    size_t length = bytes ? (size_t)PyBytes_Size(bytes) : 0;
+    const char *given = bytes ? PyBytes_AsString(bytes) : NULL;
+    int is_text = bytes && strlen(given) == length;
+    if (bytes && !is_text)
+        PyErr_SetString(PyExc_ValueError, "an entry has no NUL");
+    if (is_text && (is_text = make_room(self, *size + length + 1)))
+        memcpy(self->texts + self->size + *size, given, length + 1);
+    *size += length + 1;
+    Py_XDECREF(bytes);
+    return is_text;
+}
+
+/* The index of the source of a file and a scope: the last one, or a new one. */
+static Py_ssize_t source_of(Entries *self, PyObject *file, PyObject *scope)
+{
+    Py_ssize_t last = PyList_Size(self->sources) - 1;
+    PyObject *source = last < 0 ? NULL : PyList_GetItem(self->sources, last);
+    int is_file = source ? PyObject_RichCompareBool(PyTuple_GetItem(source, 0), file, Py_EQ) : 0;
+    int is_scope = is_file == 1 ? PyObject_RichCompareBool(PyTuple_GetItem(source, 1), scope, Py_EQ) : is_file;
+    return is_scope < 0 ? -1 : is_scope ? last : add_source(self, file, scope, 1);
+}
+
+static int add_entry(Entries *self, PyObject *given)
+{
+    PyObject *row = PySequence_Tuple(given), *file, *key, *text, *scope = Py_None;
+    Py_ssize_t line, source;
+    size_t size = 0, start = 0;
+    int is_added = 0;
+    int is_row = row && PyArg_ParseTuple(row, "UnUO|O:Entry", &file, &line, &key, &text, &scope);
+    if (is_row && (line < 0 || line > (Py_ssize_t)UINT32_MAX)) {
+        PyErr_Format(PyExc_ValueError, "no file has the line %zd", line);
+    } else if (is_row && add_text(self, &size, key)) {
+        start = size;
+        is_added = (text == Py_None || add_text(self, &size, text)) && (source = source_of(self, file, scope)) >= 0;
+    }
+    if (is_added)
+        keep(self, text == Py_None ? NULL : self->texts + self->size + start, (size_t)line, (size_t)source);
+    Py_XDECREF(row);
+    return is_added;
+}
+
+static PyObject *entries_new(PyTypeObject *type, PyObject *args, PyObject *Py_UNUSED(keywords))
+{
+    PyObject *given = NULL, *iterator = NULL, *row;
+    if (!PyArg_ParseTuple(args, "|O:Entries", &given))
+        return NULL;
+    State *state = state_of((PyObject *)type);
+    Entries *self = state ? (Entries *)PyType_GenericAlloc(type, 0) : NULL;
+    if (!self)
+        return NULL;
+    self->state = state;
+    self->sources = PyList_New(0);
+    if (self->sources && given)
+        iterator = PyObject_GetIter(given);
+    while (iterator && (row = PyIter_Next(iterator))) {
+        int is_added = add_entry(self, row);
+        Py_DECREF(row);
+        if (!is_added)
+            break;
+    }
+    Py_XDECREF(iterator);
+    if (PyErr_Occurred())
+        Py_CLEAR(self);
+    return (PyObject *)self;
+}
+
+static void entries_free(PyObject *object)
+{
+    Entries *self = (Entries *)object;
+    PyTypeObject *type = Py_TYPE(object);
+    freefunc release = (freefunc)PyType_GetSlot(type, Py_tp_free);
+    Py_XDECREF(self->sources);
+    PyMem_Free(self->texts);
+    PyMem_Free(self->rows);
+    PyMem_Free(self->slots);
+    release(object);
+    Py_DECREF(type);
+}
+
+/* What Python asks */
+
+static Py_ssize_t entries_length(PyObject *self)
+{
+    return (Py_ssize_t)((Entries *)self)->count;
+}
+
+static PyObject *entries_item(PyObject *self, Py_ssize_t at)
+{
+    if (at < 0 || at >= entries_length(self))
+        return PyErr_Format(PyExc_IndexError, "there is no such entry");
+    return entry_at((Entries *)self, (size_t)at);
+}
+
+/* An entry, or a tuple of the entries of a slice. */
+static PyObject *entries_subscript(PyObject *self, PyObject *index)
+{
+    Py_ssize_t start, stop, step, at = 0;
+    if (PyIndex_Check(index)) {
+        at = PyNumber_AsSsize_t(index, PyExc_IndexError);
+        if (at == -1 && PyErr_Occurred())
+            return NULL;
+        return entries_item(self, at < 0 ? at + entries_length(self) : at);
+    }
+    if (!PySlice_Check(index))
+        return PyErr_Format(PyExc_TypeError, "an index is an int or a slice, and not %R", Py_TYPE(index));
+    if (PySlice_Unpack(index, &start, &stop, &step) < 0)
+        return NULL;
+    Py_ssize_t count = PySlice_AdjustIndices(entries_length(self), &start, &stop, step);
+    PyObject *slice = PyTuple_New(count);
+    for (; slice && at < count; at++) {
+        PyObject *entry = entry_at((Entries *)self, (size_t)(start + at * step));
+        if (!entry)
+            Py_CLEAR(slice);
+        else
+            PyTuple_SetItem(slice, at, entry);
+    }
+    return slice;
+}
+
+/* The text of the last entry with a key, or the second argument. */
+static PyObject *entries_text(PyObject *object, PyObject *args)
+{
+    Entries *self = (Entries *)object;
+    PyObject *key, *absent;
+    if (!PyArg_ParseTuple(args, "OO", &key, &absent))
+        return NULL;
+    size_t at = found(self, key);
+    if (PyErr_Occurred())
+        return NULL;
+    return at == 0 ? counted(absent) : text_at(self, self->rows[at - 1].text);
+}
+
+/* A tuple of the entries with a key. */
+static PyObject *entries_all(PyObject *object, PyObject *key)
+{
+    Entries *self = (Entries *)object;
+    size_t last = found(self, key);
+    Py_ssize_t count = 0;
+    for (size_t at = last; at != 0; at = self->rows[at - 1].previous)
+        count++;
+    PyObject *all = PyErr_Occurred() ? NULL : PyTuple_New(count);
+    for (size_t at = last; all && at != 0; at = self->rows[at - 1].previous) {
+        PyObject *entry = entry_at(self, at - 1);
+        if (!entry)
+            Py_CLEAR(all);
+        else
+            PyTuple_SetItem(all, --count, entry);
+    }
+    return all;
+}
+
+/* A list of the keys, each once, in the order in which they come first. */
+static PyObject *entries_keys(PyObject *object, PyObject *Py_UNUSED(unused))
+{
+    Entries *self = (Entries *)object;
+    PyObject *keys = PyList_New((Py_ssize_t)self->keys);
+    Py_ssize_t place = 0;
+    for (size_t at = 0; keys && at < self->count; at++) {
+        PyObject *key = self->rows[at].previous ? NULL : text_at(self, self->rows[at].key);
+        if (key)
+            PyList_SetItem(keys, place++, key);
+        else if (!self->rows[at].previous)
+            Py_CLEAR(keys);
+    }
+    return keys;
+}
+
+static PyObject *entries_key_count(PyObject *self, PyObject *Py_UNUSED(unused))
+{
+    return PyLong_FromSize_t(((Entries *)self)->keys);
+}
+
+/* Whether any key begins with a text, given as `bytes`. */
+static PyObject *entries_have(PyObject *object, PyObject *prefix)
+{
+    Entries *self = (Entries *)object;
+    char *text = PyBytes_AsString(prefix);
+    size_t at = 0;
+    while (text && at < self->count && strncmp(self->texts + self->rows[at].key, text, strlen(text)) != 0)
+        at++;
+    return text ? PyBool_FromLong(at < self->count) : NULL;
+}
+
+/* How many files the walk was in at the entry with this index. */
+static PyObject *entries_depth(PyObject *object, PyObject *index)
+{
+    Entries *self = (Entries *)object;
+    size_t at = PyLong_AsSize_t(index);
+    if (PyErr_Occurred() || at >= self->count)
+        return PyErr_Format(PyExc_IndexError, "there is no such entry");
+    return counted(PyTuple_GetItem(PyList_GetItem(self->sources, self->rows[at].source), 2));
+}
+
+static int is_same_row(const Entries *self, const Entries *other, size_t at)
+{
+    const Row *one = &self->rows[at], *two = &other->rows[at];
+    const char *texts[2] = {one->text == NO_TEXT ? NULL : self->texts + one->text,
+                            two->text == NO_TEXT ? NULL : other->texts + two->text};
+    if (one->line != two->line || strcmp(self->texts + one->key, other->texts + two->key) != 0 ||
+        !texts[0] != !texts[1] || (texts[0] && strcmp(texts[0], texts[1]) != 0))
+        return 0;
+    PyObject *sources[2] = {PyList_GetItem(self->sources, one->source), PyList_GetItem(other->sources, two->source)};
+    int is_same = sources[0] == sources[1];
+    for (int part = 0; !is_same && part < 2; part++) {
+        PyObject *first = PyTuple_GetItem(sources[0], part), *second = PyTuple_GetItem(sources[1], part);
+        int is_part = PyObject_RichCompareBool(first, second, Py_EQ);
+        if (is_part != 1)
+            return is_part;
+    }
+    return 1;
+}
+
+static PyObject *entries_compared(PyObject *self, PyObject *other, int operation)
+{
+    if (Py_TYPE(self) != Py_TYPE(other) || (operation != Py_EQ && operation != Py_NE))
+        return counted(Py_NotImplemented);
+    const Entries *one = (Entries *)self, *two = (Entries *)other;
+    int is_same = one->count == two->count;
+    for (size_t at = 0; is_same == 1 && at < one->count; at++)
+        is_same = is_same_row(one, two, at);
+    return is_same < 0 ? NULL : PyBool_FromLong(is_same == (operation == Py_EQ));
+}
+
+static PyObject *entries_repr(PyObject *self)
+{
+    PyObject *list = PySequence_List(self), *text = list ? PyObject_Repr(list) : NULL;
+    Py_XDECREF(list);
+    return text;
+}
+
+static PyObject *entries_index(PyObject *self, PyObject *entry)
+{
+    Py_ssize_t index = PySequence_Index(self, entry);
+    return index < 0 ? NULL : PyLong_FromSsize_t(index);
+}
+
+static PyObject *entries_count(PyObject *self, PyObject *entry)
+{
+    Py_ssize_t count = PySequence_Count(self, entry);
+    return count < 0 ? NULL : PyLong_FromSsize_t(count);
+}
+
+static PyObject *entries_reduced(PyObject *self, PyObject *Py_UNUSED(unused))
+{
+    return Py_BuildValue("O(N)", Py_TYPE(self), PySequence_Tuple(self));
+}
+
+static PyObject *entries_bytes(PyObject *object, PyObject *Py_UNUSED(unused))
+{
+    Entries *self = (Entries *)object;
+    return PyLong_FromSize_t(sizeof *self + self->capacity + self->room * sizeof(Row) +
+                             self->slot_count * sizeof *self->slots);
+}
+
+static PyMethodDef entries_methods[] = {
+    {"index", entries_index, METH_O, "index($self, entry, /)\n--\n\nThe index of the first equal entry."},
+    {"count", entries_count, METH_O, "count($self, entry, /)\n--\n\nHow many entries are equal to this one."},
+    {"__reduce__", entries_reduced, METH_NOARGS, NULL},
+    {"__sizeof__", entries_bytes, METH_NOARGS, NULL},
+    {"_read", entries_read, METH_VARARGS, NULL},
+    {"_trim", entries_trim, METH_NOARGS, NULL},
+    {"_text", entries_text, METH_VARARGS, NULL},
+    {"_all", entries_all, METH_O, NULL},
+    {"_keys", entries_keys, METH_NOARGS, NULL},
+    {"_key_count", entries_key_count, METH_NOARGS, NULL},
+    {"_have", entries_have, METH_O, NULL},
+    {"_depth", entries_depth, METH_O, NULL},
+    {NULL, NULL, 0, NULL},
+};
+
+static PyType_Slot entries_slots[] = {
+    {Py_tp_doc, "Entries in order: a sequence that makes each Entry when it is asked for."},
+    {Py_tp_new, entries_new},
+    {Py_tp_dealloc, entries_free},
+    {Py_tp_repr, entries_repr},
+    {Py_tp_richcompare, entries_compared},
+    {Py_tp_hash, PyObject_HashNotImplemented},
+    {Py_tp_methods, entries_methods},
+    {Py_sq_length, entries_length},
+    {Py_sq_item, entries_item},
+    {Py_mp_length, entries_length},
+    {Py_mp_subscript, entries_subscript},
+    {0, NULL},
+};
+
+PyType_Spec entries_spec = {"gix_config_value.Entries", (int)sizeof(Entries), 0, Py_TPFLAGS_DEFAULT | IMMUTABLE,
+                            entries_slots};
+
+/* Files and names */
+
+/* Reads a file that is open into memory that is to be freed. Returns its length, or -1 with an exception, with an error
+ * of the system, or with a reason. A file without places, such as a pipe, may have no end, so no include opens one. */
+static ssize_t read_all(int file, int is_included, char **to, const char **why)
+{
+    off_t known = lseek(file, 0, SEEK_END);
+    size_t size = 0, capacity = known >= 0 && known < LONGEST_FILE ? (size_t)known + 1 : 65536;
+    if (known < 0 && errno == ESPIPE && is_included) {
+        *why = "it is no regular file";
+        return -1;
+    }
+    (void)lseek(file, 0, SEEK_SET);
+    for (;;) {
+        char *text = realloc(*to, capacity);
+        if (!text) {
+            PyErr_NoMemory();
+            return -1;
+        }
+        *to = text;
+        ssize_t more;
+        Py_BEGIN_ALLOW_THREADS
+        more = read(file, text + size, capacity - size);
+        Py_END_ALLOW_THREADS
+        if (more < 0 && !(errno == EINTR && PyErr_CheckSignals() == 0))
+            return -1;
+        size += more > 0 ? (size_t)more : 0;
+        if (more == 0 || (more > 0 && size < capacity && size == (size_t)known))
+            return (ssize_t)size;
+        if (size > LONGEST_FILE) {
+            *why = "it is longer than 1 GiB";
+            return -1;
+        }
+        if (size == capacity)
+            capacity = 2 * capacity > LONGEST_FILE ? (size_t)LONGEST_FILE + 1 : 2 * capacity;
+    }
+}
+
+/* Reads the file of this name. Returns null with an exception, or with an error of the system, or with a reason. */
+static PyObject *read_named(const char *name, int is_included, const char **why)
+{
+    int file, error;
+    char *text = NULL;
+    Py_BEGIN_ALLOW_THREADS
+    /* a pipe would wait for its other end */
+    file = open(name, O_RDONLY | O_CLOEXEC | (is_included ? O_NONBLOCK : 0));
+    Py_END_ALLOW_THREADS
+    if (file < 0)
+        return NULL;
+    ssize_t length = read_all(file, is_included, &text, why);
+    PyObject *bytes = length < 0 ? NULL : PyBytes_FromStringAndSize(text, length);
+    error = errno;
+    free(text);
+    close(file);
+    errno = error;
+    return bytes;
+}
+
+PyObject *file_read(PyObject *Py_UNUSED(module), PyObject *args)
+{
+    PyObject *shown, *name;
+    const char *why = NULL;
+    char *text;
+    int is_included;
+    if (!PyArg_ParseTuple(args, "USp", &shown, &name, &is_included) || PyBytes_AsStringAndSize(name, &text, NULL) != 0)
+        return NULL;
+    PyObject *bytes = read_named(text, is_included, &why);
+    if (!bytes && why)
+        raised(PyExc_OSError, PyObject_CallFunction(PyExc_OSError, "isO", EFBIG, why, shown));
+    else if (!bytes && !PyErr_Occurred())
+        PyErr_SetFromErrnoWithFilenameObject(PyExc_OSError, shown);
+    return bytes;
+}
+
+/* Returns a name as the system takes it, as `bytes`; null without an exception if it has a NUL, as no file has. */
+static PyObject *name_of_file(PyObject *name, char **text)
+{
+    PyObject *bytes = PyUnicode_Check(name) ? PyUnicode_EncodeFSDefault(name) : counted(name);
+    if (bytes && PyBytes_AsStringAndSize(bytes, text, NULL) != 0) {
+        Py_CLEAR(bytes);
+        if (PyErr_ExceptionMatches(PyExc_ValueError))
+            PyErr_Clear();
+    }
+    return bytes;
+}
+
+/* The text of a file up to a NUL, without the line ends at its end, or None if it cannot be read, or is a pipe. */
+PyObject *line_read(PyObject *Py_UNUSED(module), PyObject *name)
+{
+    const char *why = NULL;
+    char *text = NULL;
+    PyObject *file = name_of_file(name, &text);
+    PyObject *bytes = file ? read_named(text, 1, &why) : NULL, *line = NULL;
+    if (bytes) {
+        Py_ssize_t length = PyBytes_Size(bytes);
+        text = PyBytes_AsString(bytes);
+        while (length > 0 && (text[length - 1] == '\n' || text[length - 1] == '\r'))
+            length--;
+        const char *nul = memchr(text, '\0', (size_t)length);
+        line = PyUnicode_DecodeFSDefaultAndSize(text, nul ? nul - text : length);
+    } else if (!PyErr_Occurred()) {
+        line = counted(Py_None);
+    }
+    Py_XDECREF(file);
+    Py_XDECREF(bytes);
+    return line;
+}
+
+/* What a link names, or None if there is no link of this name. */
+PyObject *link_read(PyObject *Py_UNUSED(module), PyObject *name)
+{
+    char target[PATH_MAX], *text = NULL;
+    PyObject *file = name_of_file(name, &text);
+    ssize_t length = file ? readlink(text, target, sizeof target) : -1;
+    Py_XDECREF(file);
+    if (PyErr_Occurred())
+        return NULL;
+    return length < 0 ? counted(Py_None) : PyUnicode_DecodeFSDefaultAndSize(target, length);
+}
+
+/* A name from the root without links, of the type of the name, or None if there is no such file. */
+PyObject *real_name(PyObject *Py_UNUSED(module), PyObject *name)
+{
+    char real[PATH_MAX], *text = NULL;
+    PyObject *file = name_of_file(name, &text);
+    int is_there = file && realpath(text, real) != NULL;
+    Py_XDECREF(file);
+    if (PyErr_Occurred())
+        return NULL;
+    if (!is_there)
+        return counted(Py_None);
+    return PyUnicode_Check(name) ? PyUnicode_DecodeFSDefault(real) : PyBytes_FromString(real);
+}
+
+/* A variable of the environment, or None. */
+PyObject *variable(PyObject *Py_UNUSED(module), PyObject *name)
+{
+    char *text = NULL;
+    PyObject *bytes = name_of_file(name, &text);
+    const char *value = bytes ? getenv(text) : NULL;
+    Py_XDECREF(bytes);
+    if (PyErr_Occurred())
+        return NULL;
+    return value ? PyUnicode_DecodeFSDefault(value) : counted(Py_None);
+}
