@@ -15,7 +15,7 @@
 #include <string.h>
 #include <time.h>
 
-enum { RUST, OURS, LIMIT, LIBRARIES, MOST_ROUNDS = 1000, ENTRIES = 100, LONGEST_ANSWER = 400, LONGEST_SHOWN = 60 };
+enum { RUST, OURS, LIMIT, LIBRARIES, MOST_ROUNDS = 1000, LONGEST_ANSWER = 400, LONGEST_SHOWN = 60 };
 static const char *const LIBRARY[] = {"the Rust crate", "this library", "plain C"};
 
 /* The arguments of the calls of a row. */
@@ -39,16 +39,11 @@ struct room {
         up_name up_name;
         gcv_color color;
         up_color up_color;
-        gcv_entry entry;
         char text[LIMIT_ROOM];
         uint8_t up_text[LIMIT_ROOM];
     };
     size_t size;
 };
-
-/* The entries for lookups: names and texts, one after the other. */
-static char entries[64 * ENTRIES];
-static size_t lengths[2 * ENTRIES], entries_length;
 
 static const gcv_context CONTEXT = {
     .install_dir = "/usr/lib/git", .install_dir_length = 12, .home = "/home/bob", .home_length = 9,
@@ -110,7 +105,6 @@ CALLS(up_paths, (room->size = up_interpolate(UP_TEXT, room->up_text)) != SIZE_MA
 CALLS(gcv_paths, gcv_interpolate(TEXT, &CONTEXT, BUFFER, NULL) == GCV_OK)
 CALLS(gcv_sameness, gcv_same(row->kind, TEXT, SECOND, &room->number) == GCV_OK)
 CALLS(gcv_composed, gcv_compose(&row->color, &row->second_color, &room->color) == GCV_OK)
-CALLS(gcv_lookups, gcv_lookup(row->kind, entries, entries_length, lengths, 2 * ENTRIES, TEXT, &room->entry) == GCV_OK)
 
 static int write_name(char *to, gcv_name name)
 {
@@ -174,12 +168,6 @@ static void write_text(char *to, int library, const struct room *room)
     sprintf(to, "`%.*s`", (int)room->size, room->text);
 }
 
-static void write_entry(char *to, int library, const struct room *room)
-{
-    (void)library;
-    sprintf(to, "entry %zu at %zu of %zu", room->entry.index, room->entry.start, room->entry.length);
-}
-
 static const struct call {
     const char *name;
     void (*write)(char *to, int library, const struct room *room);
@@ -196,7 +184,6 @@ static const struct call {
     {"path", write_text, {up_paths, gcv_paths, NULL}},
     {"same", write_bits, {NULL, gcv_sameness, NULL}},
     {"compose", write_color, {NULL, gcv_composed, NULL}},
-    {"lookup", write_entry, {NULL, gcv_lookups, NULL}},
 };
 
 static const struct call *call_of(const char *name)
@@ -223,16 +210,6 @@ static char *bytes_of(const char *digits, size_t *length)
     for (size_t i = 0; i < *length; i++)
         bytes[i] = (char)(value_of(digits[2 * i]) << 4 | value_of(digits[2 * i + 1]));
     return bytes;
-}
-
-static void make_entries(void)
-{
-    for (size_t i = 0; i < ENTRIES; i++) {
-        lengths[2 * i] = (size_t)sprintf(entries + entries_length, "branch.topic%02zu.rebase", i);
-        entries_length += lengths[2 * i];
-        lengths[2 * i + 1] = (size_t)sprintf(entries + entries_length, "true");
-        entries_length += lengths[2 * i + 1];
-    }
 }
 
 /* Asks each library once, and ends the process if two of them give different answers. */
@@ -351,7 +328,6 @@ int main(int count, char **arguments)
         return 2;
     }
     limit_prepare();
-    make_entries();
     char *line = NULL;
     size_t room = 0;
     while (getline(&line, &room, stdin) > 0)

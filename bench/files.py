@@ -2,9 +2,9 @@
 
 The programs are compared with `git config --list -z`, of the file alone and as the user's file, plain C that makes no
 entries (entries.c), libgit2 if it is installed, and for the small file dulwich, if Python has it. PREFIX has the
-library for C, whose walk is measured too (walk.c). The processor time is the least of the runs, made in turn; it
-includes a program's start and its output. The last column has it as a part of that of Git with the file alone. If a
-list of config_value is not Git's, the status is 1.
+library for C, which is measured too (walk.c), and a lookup in it. The processor time is the least of the runs, made in
+turn; it includes a program's start and its output. The last column has it as a part of that of Git with the file
+alone. If a list of config_value is not Git's, the status is 1.
 """
 import argparse
 import importlib.util
@@ -80,6 +80,15 @@ def rows(measuring, asked, file, arguments):
             yield what, name, f"{seconds * 1000:.0f}", f"{size / seconds / 1e6:.2f}", f"{seconds / least[0]:.2f}"
 
 
+def lookups(folder, prefix, file, runs):
+    """How long a lookup takes in the large file, in each library, and what it finds."""
+    key = f"branch.topic-{SIZES[0] // ENTRIES // 2:06}.description"
+    for name, program in walks(folder, prefix):
+        said = [subprocess.run([program, file, key], stdout=subprocess.PIPE, check=True).stdout for _ in range(runs)]
+        told = [it.decode().split(maxsplit=1) for it in said]
+        yield name, min(float(nanoseconds) for nanoseconds, _ in told), told[0][1].strip()
+
+
 def main():
     arguments = argparse.ArgumentParser()
     arguments.add_argument("config_value", type=os.path.abspath)
@@ -93,11 +102,14 @@ def main():
             run(*shlex.split(os.environ.get("CC", "cc")), "-O2", HERE / f"{name}.c", "-o", f"{folder}/{name}")
         asked = list(commands(arguments, folder, f"{folder}/config"))
         table = list(rows(f"{folder}/usage", asked, f"{folder}/config", arguments))
+        found = list(lookups(folder, arguments.prefix, f"{folder}/config", arguments.runs))
     print(head(before))
     print("| File | Program | Processor time, ms | Million entries in a second | Of Git's time |")
     print("|---|---|---|---|---|")
     for row in table:
         print("| " + " | ".join(row) + " |")
+    for name, nanoseconds, value in found:
+        print(f"\nA lookup among {SIZES[-1]:,} entries by {name}: {nanoseconds:.0f} ns, {value}")
 
 
 if __name__ == "__main__":

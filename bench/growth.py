@@ -69,12 +69,12 @@ class Section(Given):
 
 
 class Edit(Given):
-    """A file with this many keys, of which a word of the program edits one, or the section of all."""
+    """A file with this many entries, of which a word of the program edits one, those of a key, or the section of all."""
 
-    def __init__(self, size, *words):
+    def __init__(self, size, *words, key="k{}"):
         self.made, self.file = tempfile.TemporaryDirectory(), tempfile.TemporaryFile()
         self.words, self.folder = [words[0], "--file", "config", *words[1:]], self.made.name
-        self.text = "[s]\n" + "".join(f"\tk{number} = v # c\n" for number in range(size))
+        self.text = "[s]\n" + "".join(f"\t{key.format(number)} = v # c\n" for number in range(size))
 
     def begin(self):
         pathlib.Path(self.folder, "config").write_text(self.text, "ascii")
@@ -123,6 +123,8 @@ INPUTS = [
     ("keys, one of them set", 100_000, lambda size: Edit(size, "set", "s.k9", "new")),
     ("keys, one put behind them", 100_000, lambda size: Edit(size, "set", "s.new", "v")),
     ("keys, one of them unset", 100_000, lambda size: Edit(size, "unset", "s.k9")),
+    ("entries of a key, unset by their value", 100_000,
+     lambda size: Edit(size, "unset", "--all", "--value=v", "s.k", key="k")),
     ("keys, their section renamed", 100_000, lambda size: Edit(size, "rename-section", "s", "t")),
     ("keys, their section removed", 100_000, lambda size: Edit(size, "remove-section", "s")),
     ("`*a` for each letter", 50_000, lambda size: Condition("*a" * size, "a" * size)),

@@ -1,19 +1,21 @@
 """Compares what config_value's edits leave in files with what they ask, and with Git: edits.py PROGRAM [--edits N]
 [--seed S] [--git GIT].
 
-Draws files and edits. Git lists the file before and after: the entries have to be the old ones with exactly that
+Draws files and edits, and sequences of 50 edits. Git lists the file before and after: the entries have to be the old ones with exactly that
 change. Each line without the key has to be kept, byte for byte. Prints how often the bytes are Git's own.
 """
 import argparse
 import collections
 import pathlib
 import random
+import re
 import subprocess
 import tempfile
 
 KEYS = ("a.k", "a.j", "A.K", "a.B.k", "a.b.k", "b.k", "b.x y.k", "c.d", "a", ".k", "a.k_", "a.-k", "é.k", "a.x\ny.k")
 NAMES = ("a", "b", "a.B", "a.b", "b.x y", "c", "", "a_b", "A", "d.e\\f")
 VALUES = ("", "v", "true", " v", "v ", "a#b", "a;b", "a\tb", "a\\", 'q"q', "a\nb", "\rx", "x\r", "é", "a  b", "~/x", "\b")
+PATTERNS = ("v", "^$", "!v", "1|true", "!", "^v?$", ".")
 HEADERS = (b"[a]", b"[A]", b'[a "B"]', b"[a.B]", b'[a "b"]', b"[b]", b'[b "x y"]', b'[ b]', b"[c]", b'[a\t"B"]', b'[b "x\\y"]')
 ENTRIES = (b"k = v", b"k=v", b"k", b"K =", b"k = ", b"k\t=\t v ", b"j = 1", b"j", b"k = \"a b\"", b"k = a \\\n  b", b"j = x#k",
            b"k = 'v'", b"d = 2", b"k = \"a;b\" # k", b"j = \"[a]\"", b"k = v\\", b"k =\\\n", b"k = v ; c")
@@ -33,17 +35,22 @@ def draw(rng):
 
 def drawn_edit(rng):
     """The word, and its arguments."""
-    word = rng.choice(("set", "set", "set", "append", "all", "unset", "unset-all", "rename-section", "remove-section"))
+    word = rng.choice(("set", "set", "set", "append", "all", "all where", "unset", "unset-all", "unset-all where",
+                       "rename-section", "remove-section"))
     if word == "rename-section":
         return word, (rng.choice(NAMES), rng.choice(NAMES))
     if word == "remove-section":
         return word, (rng.choice(NAMES),)
     key = rng.choice(KEYS[:8] if rng.random() < 0.9 else KEYS)
-    return word, (key,) if word.startswith("unset") else (key, rng.choice(VALUES))
+    arguments = (key,) if word.startswith("unset") else (key, rng.choice(VALUES))
+    return word, (*arguments, rng.choice(PATTERNS)) if word.endswith(" where") else arguments
 
 
 def words(word, arguments):
     """The arguments of the program, and those of Git's older flags, which all versions have."""
+    if word.endswith(" where"):
+        ours, gits = words(word.removesuffix(" where"), arguments[:-1])
+        return [ours[0], f"--value={arguments[-1]}", *ours[1:]], [*gits, arguments[-1]]
     ours = {"append": ("set", "--append"), "all": ("set", "--all"), "unset-all": ("unset", "--all")}.get(word, (word,))
     gits = {"set": (), "append": ("--add",), "all": ("--replace-all",)}.get(word, (f"--{word}",))
     return [*ours, "--file", "f", *arguments], ["config", "--file", "f", *gits, *arguments]
@@ -80,6 +87,12 @@ def stem(name):
     return (section.lower() + dot + subsection + ".").encode()
 
 
+def fits(value, pattern):
+    """Whether an entry with this value, or with None, changes if this is the pattern of values."""
+    found = value is not None and re.search(pattern.removeprefix("!").encode(), value) is not None
+    return found != pattern.startswith("!")
+
+
 def is_in(key, front):
     """Whether a listed key is in the section of this stem."""
     return key.startswith(front) and b"." not in key[len(front):]
@@ -93,10 +106,12 @@ def is_right(word, arguments, before, after):
     if word == "remove-section":
         return after == [entry for entry in before if not is_in(entry[0], stem(arguments[0]))]
     key = lowered(arguments[0])
-    others = [entry for entry in before if entry[0] != key]
+    has = [at for at, entry in enumerate(before)
+           if entry[0] == key and (not word.endswith(" where") or fits(entry[1], arguments[-1]))]
+    others = [entry for at, entry in enumerate(before) if at not in has]
     if word.startswith("unset"):
         return after == others
-    value, has = arguments[1].encode(), [at for at, entry in enumerate(before) if entry[0] == key]
+    value = arguments[1].encode()
     if word == "append" or not has:
         places = [at for at, entry in enumerate(after) if entry == (key, value)]
         return any(after[:at] + after[at + 1:] == before for at in places[-1:])
@@ -135,8 +150,9 @@ def wanted(word, arguments, before):
     if not all(byte.isascii() and (byte.isalnum() or byte == "-") for byte in section + name) \
             or not name[:1].isalpha() or "\n" in rest:
         return (1,)
-    count = sum(entry[0] == lowered(arguments[0]) for entry in before)
-    if word == "unset-all":
+    count = sum(entry[0] == lowered(arguments[0]) and (not word.endswith(" where") or fits(entry[1], arguments[-1]))
+                for entry in before)
+    if word.startswith("unset-all"):
         return (0,) if count else (5,)
     if word == "unset":
         return (0,) if count == 1 else (5,)
@@ -155,8 +171,11 @@ def main():
     program = str(options.program.resolve())
     with tempfile.TemporaryDirectory() as folder:
         folder = pathlib.Path(folder)
-        for _ in range(options.edits):
-            text, (word, arguments) = draw(rng), drawn_edit(rng)
+        text = b""
+        for number in range(options.edits):
+            # of each hundred edits the second half is a sequence over one text
+            text = draw(rng) if number % 100 <= 50 else text
+            word, arguments = drawn_edit(rng)
             before = listed(folder, options.git, text)
             ours, gits = words(word, arguments)
             status, new = run(folder, [program, *ours], text)
@@ -172,6 +191,7 @@ def main():
             if not is_good:
                 failed += 1
                 print(f"{word} {arguments}: status {status} (Git {git_status})\n  {text}\n  {new}\n  {git_new} by Git")
+            text = new
     print(", ".join(f"{name}: {count}" for name, count in sorted(counts.items())))
     print(f"{options.edits - failed} passed, {failed} failed")
     return int(failed > 0)

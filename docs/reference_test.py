@@ -3,7 +3,7 @@
 
 No link may be dead, and no anchor stand twice on a page. In Debian's chromium search has to find types, a word of a
 headline and then a word in its definition to unfold and fold again, rows to be filtered, what no user calls to be
-marked, and no page to be wider than its window. Without the script a word leads to its definition. Without chromium
+hidden, and no page to be wider than its window. Without the script a word leads to its definition. Without chromium
 these are skipped.
 """
 import collections
@@ -43,19 +43,18 @@ DONE = {
         box.dispatchEvent(new Event("input"));
         document.title = [...document.querySelectorAll(".rows tbody tr:not([hidden])")].map(row => row.id).join()"""),
     "rows have versions and marks": ("settings.html",
-        "index.skipHash|bool||2.40|| merge.stat|bool|||2.51| core.fsyncObjectFiles|bool||||use core.fsync", """
+        "index.skipHash|bool||2.40| merge.stat|bool|||until=2.51 core.fsyncObjectFiles|bool|||instead=core.fsync", """
         document.title = ["index.skipHash", "merge.stat", "core.fsyncObjectFiles"].map(key =>
             [...document.getElementById(key).cells].map(cell => cell.textContent).join("|")).join(" ")"""),
-    "what no user calls is marked": ("config_text.digits.html",
-        "digit_of fn, source, for the crates here; For the crates here.", """
-        document.title = document.getElementById("digit_of").textContent.replace("fn", " fn") + ";"
-            + document.querySelector("dd").textContent.split(".")[1] + "." """),
-    "what users call is not marked": ("config_text.settings.html", "lookup fn, source", """
+    "what no user calls is hidden": ("config_text.digits.html", "nothing has this name", """
+        const box = document.getElementById("search"); box.value = "digit_of"; box.dispatchEvent(new Event("input"));
+        document.title = document.getElementById("found").textContent"""),
+    "what users call is shown": ("config_text.settings.html", "lookup fn, source", """
         document.title = document.getElementById("lookup").textContent.replace("fn", " fn")"""),
 }
 # pages that are looked at in windows of 400 and 1,400 pixels, with and without the script
-LOOKED_AT = ("index", "statements", "headline", "setting", "settings", "config_file.settings", "words.config_file",
-             "source.config_file.settings.rt")
+LOOKED_AT = ("index", "headline", "setting", "settings", "config_file.settings", "words.config_file",
+             "source.config_file.src.settings.rt")
 FRAMES = """addEventListener("load", () => { document.title = [...document.querySelectorAll("iframe")].map(frame => {
     const page = frame.contentDocument, root = page.documentElement, has = page.getElementById("search") !== null;
     const word = page.querySelector("a.w[href^='#']");
@@ -102,6 +101,8 @@ def main():
         reference.Reference(folder).write()
         faults, count = links(folder)
         results.append((f"{count} links: {faults[:20]}", not faults))
+        public = {it.name for file in reference.SOURCES for it in reference.opened(file).items if it.is_public}
+        results.append((f"hidden, but not there: {set(reference.INNER) - public}", public.issuperset(reference.INNER)))
         if not shutil.which("chromium"):
             print("skipped: the browser, since there is no chromium")
         else:

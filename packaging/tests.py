@@ -19,7 +19,7 @@ VERSION = (ROOT / "crates/gix_config_value_c/VERSION").read_text(encoding="utf-8
 # what a shell completes: the words of a line, and all that is offered for the last one
 COMPLETED = [
     (["config_check", "--fail-on", ""], "note warning error"),
-    (["config_check", "--format", "="], "json text"),
+    (["config_check", "--format", "="], "github json sarif text"),
     (["config_check", "--format", "=", "j"], "json"),
     (["git-config-check", "--col"], "--color"),
     (["config_check", "--settings", "set"], "settings"),
@@ -41,7 +41,7 @@ DESCRIBED = [
     (["config_check", "-"], "--canonical[Report", "canonically]"),
     (["config_check", "-"], "--fail-on=[The least severity", "]:SEVERITY:(note warning error)"),
     (["config_check", "-"], "*--settings=[", "]:file:_files"),
-    (["config-check", "-"], "--format=[", "]:FORMAT:(text json)"),
+    (["config-check", "-"], "--format=[", "]:FORMAT:(text json github sarif)"),
     (["config_check", ""], "*:file:_files", ""),
     (["config_value", "get", "-"], "--type=[", "]:TYPE:(suffix integer amount boolean name attribute color bool int "
      "bool-or-int bool-or-str path expiry-date)"),

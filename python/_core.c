@@ -1100,12 +1100,16 @@ static int take_classes(State *state)
 static int fill(PyObject *module)
 {
     State *state = PyModule_GetState(module);
+    PyTypeObject *texts = NULL;
     if (take_classes(state) != 0 || !(state->name = add_value_type(module, "gix_config_value.Name", name_slots)) ||
         !(state->attribute = add_value_type(module, "gix_config_value.Attribute", attribute_slots)) ||
         !(state->color = add_value_type(module, "gix_config_value.Color", color_slots)) ||
-        !(state->entries = add_type(module, &entries_spec)) ||
-        PyModule_AddStringConstant(module, "version", gcv_version()) != 0)
+        !(state->entries = add_type(module, &entries_spec)) || !(texts = add_type(module, &texts_spec)) ||
+        PyModule_AddStringConstant(module, "version", gcv_version()) != 0) {
+        Py_XDECREF(texts);
         return -1;
+    }
+    Py_DECREF(texts);
     for (int word = 0; word < WORDS; word++) {
         PyObject *one = attributes_of(state, words[word].bit);
         int status = set(state->attribute, words[word].name, one);

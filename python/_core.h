@@ -45,8 +45,8 @@ State *state_of(PyObject *type);
 /* The flag of a type that cannot be changed, which older versions do not look at. */
 enum { IMMUTABLE = 1 << 8 };
 
-/* The type of the entries of files. */
-extern PyType_Spec entries_spec;
+/* The type of the entries of files, and that of their texts by their keys. */
+extern PyType_Spec entries_spec, texts_spec;
 
 /* Lets other threads run during a call that takes so many bytes, and returns what `end` takes. */
 static inline PyThreadState *begin(size_t length)

@@ -513,19 +513,6 @@ static PyObject *entries_subscript(PyObject *self, PyObject *index)
     return slice;
 }
 
-/* The text of the last entry with a key, or the second argument. */
-static PyObject *entries_text(PyObject *object, PyObject *args)
-{
-    Entries *self = (Entries *)object;
-    PyObject *key, *absent;
-    if (!PyArg_ParseTuple(args, "OO", &key, &absent))
-        return NULL;
-    size_t at = found(self, key);
-    if (PyErr_Occurred())
-        return NULL;
-    return at == 0 ? counted(absent) : text_at(self, self->rows[at - 1].text);
-}
-
 /* A tuple of the entries with a key. */
 static PyObject *entries_all(PyObject *object, PyObject *key)
 {
@@ -655,7 +642,6 @@ static PyMethodDef entries_methods[] = {
     {"__sizeof__", entries_bytes, METH_NOARGS, NULL},
     {"_read", entries_read, METH_VARARGS, NULL},
     {"_trim", entries_trim, METH_NOARGS, NULL},
-    {"_text", entries_text, METH_VARARGS, NULL},
     {"_all", entries_all, METH_O, NULL},
     {"_keys", entries_keys, METH_NOARGS, NULL},
     {"_key_count", entries_key_count, METH_NOARGS, NULL},
@@ -681,6 +667,120 @@ static PyType_Slot entries_slots[] = {
 
 PyType_Spec entries_spec = {"gix_config_value.Entries", (int)sizeof(Entries), 0, Py_TPFLAGS_DEFAULT | IMMUTABLE,
                             entries_slots};
+
+/* The texts of entries by their keys, which Configuration is made of. `texts` keeps those that were asked for, by their
+ * keys as they were spelled, since making a text takes longer than finding it. */
+typedef struct {
+    PyObject_HEAD
+    PyObject *entries, *texts;
+} Texts;
+
+static PyObject *texts_new(PyTypeObject *type, PyObject *args, PyObject *keywords)
+{
+    PyObject *given = PyTuple_Size(args) > 0 ? PyTuple_GetItem(args, 0) : NULL;
+    State *state = state_of((PyObject *)type);
+    Texts *self = state ? (Texts *)PyType_GenericAlloc(type, 0) : NULL;
+    if (!self)
+        return NULL;
+    if (!given && keywords)
+        given = PyDict_GetItemString(keywords, "entries");
+    self->texts = PyDict_New();
+    if (self->texts && given && Py_TYPE(given) == state->entries)
+        self->entries = counted(given);
+    else if (self->texts)
+        self->entries = PyObject_CallFunctionObjArgs((PyObject *)state->entries, given, NULL);
+    if (!self->entries)
+        Py_CLEAR(self);
+    return (PyObject *)self;
+}
+
+static void texts_free(PyObject *object)
+{
+    PyTypeObject *type = Py_TYPE(object);
+    freefunc release = (freefunc)PyType_GetSlot(type, Py_tp_free);
+    Py_XDECREF(((Texts *)object)->entries);
+    Py_XDECREF(((Texts *)object)->texts);
+    release(object);
+    Py_DECREF(type);
+}
+
+/* The text of the last entry with a key; null without an exception if there is none. */
+static PyObject *text_of_key(PyObject *object, PyObject *key)
+{
+    Texts *self = (Texts *)object;
+    const Entries *entries = (const Entries *)self->entries;
+    int is_kept = PyUnicode_CheckExact(key);
+    PyObject *text = is_kept ? PyDict_GetItemWithError(self->texts, key) : NULL;
+    if (text)
+        return counted(text);
+    size_t at = PyErr_Occurred() ? 0 : found(entries, key);
+    if (at == 0)
+        return NULL;
+    text = text_at(entries, entries->rows[at - 1].text);
+    if (text && is_kept && PyDict_SetItem(self->texts, key, text) != 0)
+        Py_CLEAR(text);
+    return text;
+}
+
+static PyObject *texts_subscript(PyObject *self, PyObject *key)
+{
+    PyObject *text = text_of_key(self, key);
+    if (!text && !PyErr_Occurred())
+        PyErr_SetObject(PyExc_KeyError, key);
+    return text;
+}
+
+static int texts_contain(PyObject *self, PyObject *key)
+{
+    PyObject *text = text_of_key(self, key);
+    Py_XDECREF(text);
+    return text ? 1 : PyErr_Occurred() ? -1 : 0;
+}
+
+static PyObject *texts_get(PyObject *self, PyObject *args, PyObject *keywords)
+{
+    static char *names[] = {"key", "default", NULL};
+    PyObject *key, *absent = Py_None;
+    Py_ssize_t count = keywords ? 0 : PyTuple_Size(args);
+    if (count == 1 || count == 2) {
+        key = PyTuple_GetItem(args, 0);
+        absent = count == 2 ? PyTuple_GetItem(args, 1) : absent;
+    } else if (!PyArg_ParseTupleAndKeywords(args, keywords, "O|O:get", names, &key, &absent)) {
+        return NULL;
+    }
+    PyObject *text = text_of_key(self, key);
+    return text || PyErr_Occurred() ? text : counted(absent);
+}
+
+static PyObject *texts_entries(PyObject *self, void *Py_UNUSED(unused))
+{
+    return counted(((Texts *)self)->entries);
+}
+
+static PyGetSetDef texts_parts[] = {
+    {"entries", texts_entries, NULL, "All entries, in order: a sequence that makes each Entry when it is asked for.",
+     NULL},
+    {NULL, NULL, NULL, NULL, NULL},
+};
+
+static PyMethodDef texts_methods[] = {
+    {"get", (PyCFunction)(void (*)(void))texts_get, METH_VARARGS | METH_KEYWORDS,
+     "get($self, key, default=None)\n--\n\nThe text of the last entry with a key, or the default if there is none."},
+    {NULL, NULL, 0, NULL},
+};
+
+static PyType_Slot texts_slots[] = {
+    {Py_tp_new, texts_new},
+    {Py_tp_dealloc, texts_free},
+    {Py_tp_getset, texts_parts},
+    {Py_tp_methods, texts_methods},
+    {Py_mp_subscript, texts_subscript},
+    {Py_sq_contains, texts_contain},
+    {0, NULL},
+};
+
+PyType_Spec texts_spec = {"gix_config_value.Texts", (int)sizeof(Texts), 0,
+                          Py_TPFLAGS_DEFAULT | Py_TPFLAGS_BASETYPE | IMMUTABLE, texts_slots};
 
 /* Files and names */
 

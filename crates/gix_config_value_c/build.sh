@@ -66,11 +66,14 @@ fi
 # one object, which exports only what the header declares; CC and the flags may be several words
 cc=${CC:-cc}
 # shellcheck disable=SC2086
-$cc -std=c99 -O2 -fPIC ${CFLAGS:-} -I"$here/include" -c -o "$work/calls.o" "$here/calls.c"
+for part in calls settings; do
+    # shellcheck disable=SC2086
+    $cc -std=c99 -O2 -fPIC ${CFLAGS:-} -I"$here/include" -c -o "$work/$part.o" "$here/$part.c"
+done
 # shellcheck disable=SC2086
 $cc -r -nostdlib -o "$work/gix_config_value.o" \
-    -Wl,--whole-archive "$archive" "$heap" -Wl,--no-whole-archive "$work/calls.o"
-objcopy --wildcard --keep-global-symbol='gcv_*' "$work/gix_config_value.o"
+    -Wl,--whole-archive "$archive" "$heap" -Wl,--no-whole-archive "$work/calls.o" "$work/settings.o"
+objcopy --wildcard --keep-global-symbol='gcv_*' --localize-symbol='gcv_raw_*' "$work/gix_config_value.o"
 ar rcsD "$work/libgix_config_value.a" "$work/gix_config_value.o"
 # shellcheck disable=SC2086
 $cc -shared -o "$work/libgix_config_value.so.$version" -Wl,-soname,"$soname" -Wl,-z,defs -Wl,-z,noexecstack \

@@ -1,9 +1,24 @@
-/* The calls of the header as the library exports them, and those that are not inline. */
-#define GCV_CALL extern
-#include "gix_config_value.h"
+/* The calls of the header. Most of them call one that is proved, which takes no null pointer. */
+#define _DEFAULT_SOURCE
+#include "raw.h"
 
+#include <errno.h>
+#include <stdio.h>
 #include <stdlib.h>
 #include <string.h>
+
+/* Where a text begins that may be null if its length is 0. */
+static const char *bytes_of(const char *text, size_t length)
+{
+    return length == 0 ? "" : text;
+}
+
+/* Where a buffer begins that may be null if its capacity is 0. Nothing is written to the other one. */
+static char *room_of(char *buffer, size_t capacity)
+{
+    static char none[1];
+    return capacity == 0 ? none : buffer;
+}
 
 const char *gcv_version(void)
 {
@@ -16,7 +31,7 @@ const char *gcv_status_text(gcv_status status)
     case GCV_OK:
         return "no error";
     case GCV_REFUSED:
-        return "the text has no value of its kind, or means no path";
+        return "the text has no value of its kind, or means no path, or a file is not read";
     case GCV_OVERFLOW:
         return "the product does not fit 64 bits";
     case GCV_NO_TEXT:
@@ -24,7 +39,7 @@ const char *gcv_status_text(gcv_status status)
     case GCV_TOO_MANY_NAMES:
         return "the colors have more than two names together";
     case GCV_ABSENT:
-        return "no entry or section has the name, or no entry is left";
+        return "no entry has the key, no section the name, no entry is left, or no file is there";
     case GCV_UNKNOWN_KIND:
         return "no kind has the number";
     case GCV_UNKNOWN_FAULT:
@@ -36,7 +51,7 @@ const char *gcv_status_text(gcv_status status)
     case GCV_BAD_FLAG:
         return "a flag is neither 0 nor 1";
     case GCV_BAD_LENGTHS:
-        return "the lengths are not those of texts that fill the bytes, or the walk or the settings are invalid";
+        return "the numbers in the walk are not those of one";
     case GCV_SHORT_BUFFER:
         return "the buffer is too short";
     case GCV_NO_MEMORY:
@@ -104,11 +119,101 @@ gcv_status gcv_fault_text(gcv_fault fault, char *GCV_RESTRICT buffer, size_t cap
 {
     /* the text for a refused suffix, whose fault has no text in the proved library */
     static const char suffix[] = "Suffixes need to be 'k', 'm' or 'g'";
-    char none[1] = {0};
     if (fault == GCV_FAULT_NONE) {
         return write_text(suffix, sizeof suffix - 1, buffer, capacity, size);
     }
-    return gcv_raw_fault_text(fault, capacity == 0 ? none : buffer, capacity, size);
+    return gcv_raw_fault_text(fault, room_of(buffer, capacity), capacity, size);
+}
+
+/* Readers, whose fault may be null. */
+#define READER(name, type)                                                                                             \
+    gcv_status gcv_read_##name(const char *text, size_t length, type *GCV_RESTRICT out, gcv_fault *fault)              \
+    {                                                                                                                  \
+        gcv_fault unused = GCV_FAULT_NONE;                                                                             \
+        return gcv_raw_read_##name(bytes_of(text, length), length, out, fault ? fault : &unused);                      \
+    }
+READER(suffix, gcv_suffix)
+READER(integer, gcv_integer)
+READER(amount, int64_t)
+READER(boolean, uint32_t)
+READER(name, gcv_name)
+READER(attribute, uint32_t)
+READER(color, gcv_color)
+
+/* Values as texts. */
+#define WRITER(name, type)                                                                                             \
+    gcv_status gcv_##name(type value, char *GCV_RESTRICT buffer, size_t capacity, size_t *size)                        \
+    {                                                                                                                  \
+        return gcv_raw_##name(value, room_of(buffer, capacity), capacity, size);                                       \
+    }
+WRITER(show_suffix, gcv_suffix)
+WRITER(show_integer, const gcv_integer *)
+WRITER(show_amount, int64_t)
+WRITER(show_boolean, uint32_t)
+WRITER(show_name, const gcv_name *)
+WRITER(show_attribute, uint32_t)
+WRITER(show_color, const gcv_color *)
+WRITER(escape_color, const gcv_color *)
+
+gcv_status gcv_product(const gcv_integer *value, int64_t *GCV_RESTRICT out)
+{
+    return gcv_raw_product(value, out);
+}
+
+gcv_status gcv_normalize(gcv_kind kind, const char *text, size_t length, char *GCV_RESTRICT buffer, size_t capacity,
+                         size_t *size)
+{
+    return gcv_raw_normalize(kind, bytes_of(text, length), length, room_of(buffer, capacity), capacity, size);
+}
+
+gcv_status gcv_same(gcv_kind kind, const char *first, size_t first_length, const char *second, size_t second_length,
+                    uint32_t *GCV_RESTRICT out)
+{
+    return gcv_raw_same(kind, bytes_of(first, first_length), first_length, bytes_of(second, second_length),
+                        second_length, out);
+}
+
+gcv_status gcv_compose(const gcv_color *first, const gcv_color *second, gcv_color *GCV_RESTRICT out)
+{
+    return gcv_raw_compose(first, second, out);
+}
+
+gcv_status gcv_over(const gcv_color *base, const gcv_color *top, gcv_color *GCV_RESTRICT out)
+{
+    return gcv_raw_over(base, top, out);
+}
+
+gcv_status gcv_reduce_color(const gcv_color *value, gcv_depth depth, gcv_color *GCV_RESTRICT out)
+{
+    return gcv_raw_reduce_color(value, depth, out);
+}
+
+void gcv_cut_mark(const char *text, size_t length, uint32_t *optional, size_t *start)
+{
+    gcv_raw_cut_mark(bytes_of(text, length), length, optional, start);
+}
+
+/* Writes a text that may be null, and returns whether it is given. */
+static uint32_t give(const char *text, size_t length, const char **to, size_t *to_length)
+{
+    *to_length = text ? length : 0;
+    *to = bytes_of(text, *to_length);
+    return text ? 1 : 0;
+}
+
+gcv_status gcv_interpolate(const char *text, size_t length, const gcv_context *context, char *GCV_RESTRICT buffer,
+                           size_t capacity, size_t *size, gcv_fault *fault)
+{
+    gcv_fault unused = GCV_FAULT_NONE;
+    const char *install_dir, *home, *passwd;
+    size_t install_dir_length, home_length, passwd_length;
+    uint32_t has_install_dir = give(context->install_dir, context->install_dir_length, &install_dir,
+                                    &install_dir_length);
+    uint32_t has_home = give(context->home, context->home_length, &home, &home_length);
+    uint32_t has_passwd = give(context->passwd, context->passwd_length, &passwd, &passwd_length);
+    return gcv_raw_interpolate(bytes_of(text, length), length, has_install_dir, install_dir, install_dir_length,
+                               has_home, home, home_length, has_passwd, passwd, passwd_length,
+                               room_of(buffer, capacity), capacity, size, fault ? fault : &unused);
 }
 
 /* Returns the text, or that of a true boolean for a key without `=`, which has no text. */
@@ -229,11 +334,10 @@ typedef struct {
 } command;
 
 /* Returns the room for the next piece, which is not null, and its capacity. */
-static char *room_of(command *to, size_t *capacity)
+static char *room_left(command *to, size_t *capacity)
 {
-    static char none[1];
     *capacity = to->buffer ? to->capacity - to->size : 0;
-    return *capacity == 0 ? none : to->buffer + to->size;
+    return room_of(to->buffer ? to->buffer + to->size : NULL, *capacity);
 }
 
 /* Counts a piece. One that is only counted needs no room. */
@@ -268,7 +372,7 @@ static gcv_status write_numbered(command *to, size_t number)
     const char *key = numbered(to, "GIT_CONFIG_KEY_", number);
     const char *value = key ? numbered(to, "GIT_CONFIG_VALUE_", number) : NULL;
     size_t capacity, size = 0;
-    char *room = room_of(to, &capacity);
+    char *room = room_left(to, &capacity);
     if (!value) {
         return key ? GCV_MISSING_VALUE : GCV_MISSING_KEY;
     }
@@ -287,7 +391,7 @@ static gcv_status write_command(command *to)
     }
     const char *parameters = status == GCV_OK ? to->get(to->state, "GIT_CONFIG_PARAMETERS") : NULL;
     if (parameters) {
-        char *room = room_of(to, &capacity);
+        char *room = room_left(to, &capacity);
         status = gcv_raw_command_parameters(parameters, strlen(parameters), room, capacity, &size);
         status = count_piece(to, status, size);
     }
@@ -329,10 +433,9 @@ static gcv_status call_with_two(edit_by_two *edit, const char *text, size_t leng
                                 size_t first_length, const char *second, size_t second_length, char *buffer,
                                 size_t capacity, size_t *size, size_t *line)
 {
-    char none[1] = {0};
     size_t unused = 0;
-    return edit(gcv_bytes(text, length), length, gcv_bytes(first, first_length), first_length,
-                gcv_bytes(second, second_length), second_length, capacity == 0 ? none : buffer, capacity, size,
+    return edit(bytes_of(text, length), length, bytes_of(first, first_length), first_length,
+                bytes_of(second, second_length), second_length, room_of(buffer, capacity), capacity, size,
                 line ? line : &unused);
 }
 
@@ -340,10 +443,9 @@ static gcv_status call_with_two(edit_by_two *edit, const char *text, size_t leng
 static gcv_status call_with_one(edit_by_one *edit, const char *text, size_t length, const char *name,
                                 size_t name_length, char *buffer, size_t capacity, size_t *size, size_t *line)
 {
-    char none[1] = {0};
     size_t unused = 0;
-    return edit(gcv_bytes(text, length), length, gcv_bytes(name, name_length), name_length,
-                capacity == 0 ? none : buffer, capacity, size, line ? line : &unused);
+    return edit(bytes_of(text, length), length, bytes_of(name, name_length), name_length,
+                room_of(buffer, capacity), capacity, size, line ? line : &unused);
 }
 
 gcv_status gcv_set(const char *text, size_t length, const char *key, size_t key_length, const char *value,
@@ -389,4 +491,67 @@ gcv_status gcv_remove_section(const char *text, size_t length, const char *name,
                               char *GCV_RESTRICT buffer, size_t capacity, size_t *size, size_t *line)
 {
     return call_with_one(gcv_raw_remove_section, text, length, name, name_length, buffer, capacity, size, line);
+}
+
+gcv_status gcv_enter(gcv_walk *GCV_RESTRICT walk, const char *file, size_t file_length, const char *real_dir,
+        size_t real_dir_length, const char *text, size_t length)
+{
+    gcv_frame frame = {"", 0, "", 0, "", 0, "", 0, "", 0, 0, 0};
+    gcv_status status = gcv_raw_enter(&walk->count, &frame, bytes_of(file, file_length), file_length,
+        bytes_of(real_dir, real_dir_length), real_dir_length, bytes_of(text, length),
+        length);
+    if (status == GCV_OK) {
+        walk->frames[walk->count - 1] = frame;
+    }
+    return status;
+}
+
+/* Returns what a walk knows for gcv_raw_next, which takes no null pointer. */
+static gcv_raw_known given_of(const gcv_known *known)
+{
+    static const gcv_known nothing = {NULL, 0, NULL, 0, NULL, 0, NULL, 0, NULL, 0, NULL, 0, NULL, 0, 0};
+    static const gcv_text no_urls[1] = {{"", 0}};
+    const gcv_known *of = known ? known : &nothing;
+    int is_home = !of->real_home, is_git_dir = !of->real_git_dir;
+    gcv_raw_known raw;
+    raw.has_install_dir = give(of->install_dir, of->install_dir_length, &raw.install_dir, &raw.install_dir_length);
+    raw.has_home = give(of->home, of->home_length, &raw.home, &raw.home_length);
+    raw.has_real_home = give(is_home ? of->home : of->real_home, is_home ? of->home_length : of->real_home_length,
+        &raw.real_home, &raw.real_home_length);
+    raw.has_repository = give(of->git_dir, of->git_dir_length, &raw.git_dir, &raw.git_dir_length);
+    give(is_git_dir ? of->git_dir : of->real_git_dir, is_git_dir ? of->git_dir_length : of->real_git_dir_length,
+             &raw.real_git_dir, &raw.real_git_dir_length);
+    raw.has_branch = give(of->branch, of->branch_length, &raw.branch, &raw.branch_length);
+    raw.urls = of->urls ? of->urls : no_urls;
+    raw.urls_length = of->urls ? of->urls_length : 0;
+    raw.seeks_urls = of->seeks_urls ? 1 : 0;
+    raw.follows = known ? 1 : 0;
+    return raw;
+}
+
+gcv_status gcv_next(gcv_walk *GCV_RESTRICT walk, const gcv_known *known, char *GCV_RESTRICT buffer,
+        size_t capacity, gcv_step *GCV_RESTRICT out)
+{
+    gcv_raw_known given = given_of(known);
+    gcv_raw_step step = {"", 0, 0, 0, 0, 0, 0, GCV_OK};
+    gcv_status status = GCV_BAD_LENGTHS;
+    if (walk->count <= GCV_MOST_FRAMES) {
+        status = gcv_raw_next(walk->frames, walk->count, &walk->count, &given, room_of(buffer, capacity), capacity,
+        &step);
+    }
+    if (status == GCV_OK || status == GCV_SHORT_BUFFER) {
+        out->size = step.size;
+    }
+    if (status == GCV_OK || status == GCV_BAD_LINE || status == GCV_NUL) {
+        out->file = step.name;
+        out->file_length = step.name_length;
+        out->line = step.line;
+    }
+    if (status == GCV_OK) {
+        out->key = buffer;
+        out->value = step.has_value == 1 ? buffer + step.value : NULL;
+        out->included = step.include == GCV_OK ? buffer + step.included : NULL;
+        out->include = step.include;
+    }
+    return status;
 }

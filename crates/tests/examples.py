@@ -1,7 +1,7 @@
 """Runs each example in the libraries' comments, and the first one in README.md, as a test on a copy of the library.
 
 An example is a fenced block of Rust. If a line of it begins with `# `, these two bytes are removed. Each public type or
-trait in the crates of CALLS, and each item that CALLS or MORE names, has to have an example. If a comment cites a
+trait in the crates of CALLS and MORE, and each item that they name, has to have an example. If a comment cites a
 section of docs/GRAMMAR.md, it has to exist. `rt try` runs the examples and proves nothing. pages.py calls this module.
 """
 import pathlib
@@ -10,7 +10,7 @@ import shutil
 import subprocess
 import tempfile
 
-import words
+import reference
 
 ROOT = pathlib.Path(__file__).resolve().parent.parent.parent
 # each library, with the calls and types that a user needs first
@@ -23,21 +23,13 @@ CALLS = {
     "config_path": ("interpolate", "home_for_user"),
     "gix_config_value": ("from_str", "normalize", "same", "refusal", "run"),
     "config_file": ("text", "get", "spell_value", "is_remote_url"),
+    "config_host": ("settings_here", "Locked"),
 }
-# the type of the library that no example shows
-WITHOUT = ("EditError",)
-# the crates that use the library, whose other types need no example
-MORE = {"config_host": ("settings_here", "Locked"), "config_checks": ("check_file",)}
+# the crates that use the library
+MORE = {"config_checks": ("check_file", "Options", "Setting", "Version")}
 FENCED = re.compile(r"^```(\w*)\n(.*?)^```$", re.MULTILINE | re.DOTALL)
 CITED = re.compile(r"docs/GRAMMAR\.md, ([A-Z][^.]*)")
 AT_THE_ROOT = ("Boolean", "Color", "Error", "Fault", "Integer", "Path", "Returned")
-
-
-def commented(items):
-    """The comment, the name and the item of each item, and of those in it."""
-    for item in items:
-        yield item.doc, item.name, item
-        yield from commented(item.inside)
 
 
 def blocks(text):
@@ -81,15 +73,15 @@ def results():
     checked = []
     sections = re.findall(r"^## ([^(\n]*\w)", (ROOT / "docs/GRAMMAR.md").read_text(encoding="utf-8"), re.MULTILINE)
     tests = {"readme": blocks((ROOT / "README.md").read_text(encoding="utf-8"))[0]}
+    public = {item for _, listed in reference.Reference(None).modules.values() for item in listed}
     for crate, calls in (CALLS | MORE).items():
         missing = set(calls)
         for file in sorted((ROOT / "crates" / crate / "src").rglob("*.rt")):
-            lines, items = re.findall(r"(?m)^ *//([/!]) ?(.*)$", file.read_text("utf-8")), words.items_of(file)
+            lines, items = re.findall(r"(?m)^ *//([/!]) ?(.*)$", file.read_text("utf-8")), reference.opened(file).items
             page = "\n".join(line for sign, line in lines if sign == "!")
-            for comment, name, item in [(page, "page", None), *commented(items)]:
+            for comment, name, item in [(page, "page", None), *((item.doc, item.name, item) for item in items)]:
                 found = blocks(comment)
-                is_type = item in items and item.is_public and item.kind in ("struct", "enum", "trait")
-                if is_type and crate in CALLS and name not in WITHOUT:
+                if item in public and item.kind in ("struct", "enum", "trait"):
                     checked.append((f"{file}: {name} has no example", bool(found)))
                 missing -= {name} if found else set()
                 for block in found:

@@ -2,7 +2,7 @@
 """Compares the pages with the definitions, and runs the examples in comments (examples.py).
 
 A word, a bit, a number or a row fails if it is in a table of docs/GRAMMAR.md and not in `specs/`, or the other way
-round. So does a row of counts of docs/reference.py that docs/READING.md lacks, and a sign or a word of the toolchain
+round. So does a claim with other counts than docs/READING.md tells, and a sign or a word of the toolchain
 that a definition uses, if neither docs/SIGNS.md nor a comment explains it. The last line is 'N passed, M failed'.
 """
 import pathlib
@@ -13,7 +13,6 @@ ROOT = pathlib.Path(__file__).resolve().parent.parent.parent
 sys.path.insert(0, str(ROOT / "docs"))
 import examples  # noqa: E402
 import reference  # noqa: E402
-import words  # noqa: E402
 
 LIBRARY = tuple(examples.CALLS)
 KEYWORDS = "abbrev|data|mutual|pub|record|unfoldable|unfolding|Unit|use|where"
@@ -25,7 +24,8 @@ NUMBERS |= dict(zip("one two three four five six seven".split(), range(1, 8)))
 
 def spec(crate, file, name):
     """The text of a definition, without its comments."""
-    return words.without_comments(words.opened(words.CRATES / crate / f"specs/{file}.antt").words[name].text)
+    defined = reference.opened(reference.CRATES / crate / f"specs/{file}.antt").words
+    return reference.without_comments(defined[name].text)
 
 
 def literals(text):
@@ -100,7 +100,7 @@ def attributes():
     table = [[*spans(name), bit, *spans(texts)] for name, bit, texts in rows("Attributes")]
     yield "attributes", known, table
     yield "canonical attributes", literals(spec("config_word", "Attribute", "rising_words")), [row[2] for row in table]
-    facts = (words.CRATES / "config_word/proofs/StandardFacts.antt").read_text("utf-8")
+    facts = (reference.CRATES / "config_word/proofs/StandardFacts.antt").read_text("utf-8")
     examples_of = [[name, word] for name, word in re.findall(r'\((\w+), 0x\w+, codes "(\w+)"\)', facts)]
     yield "attributes in examples", examples_of, [[name, *texts[:1]] for name, _, *texts in table]
 
@@ -129,19 +129,19 @@ def spaces():
 
 def reached(text, file, seen):
     """The text of an equation, and of all definitions of its file that it cites, directly or through others."""
-    for word in words.cited(text, file):
+    for word in reference.opened(file).cited(text):
         if word and word.file == file and word.name not in seen and not word.text.startswith("pub data"):
             seen.add(word.name)
-            text += "\n" + reached(words.without_comments(word.text), file, seen)
+            text += "\n" + reached(reference.without_comments(word.text), file, seen)
     return text
 
 
 def paths():
-    file = words.CRATES / "config_path/specs/Interpolation.antt"
+    file = reference.CRATES / "config_path/specs/Interpolation.antt"
     yield "the mark", set(literals(spec("config_path", "Path", "Marked"))), {sentence("Paths", "one leading `([^`]*)`")}
     begins = set(literals(spec("config_path", "Interpolation", "HasForm")))
     yield "how values begin", begins, {span for cells in rows("Paths") for span in spans(cells[0])}
-    declared = (words.CRATES / "config_path/src/interpolate.rt").read_text("utf-8")
+    declared = (reference.CRATES / "config_path/src/interpolate.rt").read_text("utf-8")
     variants = [name for kind in ("Error", "Place") for name in re.findall(
         r"^    ([A-Z]\w+)", re.search(rf"enum {kind}\b.*?^\}}", declared, re.DOTALL | re.MULTILINE)[0], re.MULTILINE)]
     table, form = {}, ""
@@ -173,13 +173,14 @@ def places():
     for page in ("docs/GRAMMAR.md", "docs/READING.md"):
         text = " ".join((ROOT / page).read_text("utf-8").split())
         found = re.findall(r"`(\w+)`((?:,? `[A-Z]\w+`)+)", text)
-        named = [(crate, file) for crate, files in found if (words.CRATES / crate).is_dir() for file in spans(files)]
-        yield page, [it for it in named if not (words.CRATES / it[0] / f"specs/{it[1]}.antt").exists()], []
+        named = [(crate, file) for crate, files in found for file in spans(files)
+                 if (reference.CRATES / crate).is_dir()]
+        yield page, [of for of in named if not (reference.CRATES / of[0] / f"specs/{of[1]}.antt").exists()], []
 
 
 def bodies():
     said = re.findall(r"lays (\d+) wrong bodies", (ROOT / "docs/EVIDENCE.md").read_text("utf-8"))
-    yield "wrong bodies", [str(len(list(words.CRATES.glob("*/wrong_bodies/*.edit"))))], said
+    yield "wrong bodies", [str(len(list(reference.CRATES.glob("*/wrong_bodies/*.edit"))))], said
 
 
 def lengths():
@@ -189,14 +190,19 @@ def lengths():
 
 
 def reading():
-    """The line counts in docs/READING.md."""
+    """The line counts in docs/READING.md: of each sentence, and of the grammar and the canonical texts of each kind."""
     page = (ROOT / "docs/READING.md").read_text("utf-8")
-    rows = reference.table()
-    yield "docs/READING.md, the lines of claims", rows, [row for row in rows if row in page]
+    claims = {name: reference.claims_of(name) for name in reference.SENTENCE}
+    for item in (it for file in reference.SOURCES for it in reference.opened(file).items if it.crate in LIBRARY):
+        if item.name in ("grammar", "canonical") and item.owner and item.owner.trait == "Value":
+            claims.setdefault(item.owner.name, []).append(item)
+    known = {name: [str(round(count, -1)) for count in reference.counts(of)] for name, of in claims.items()}
+    told = {name: counts for name, *counts in re.findall(r"(?m)^\| `(\w+)` \| (\d+) \| (\d+) \|$", page)}
+    yield "docs/READING.md, the lines of claims", known, told
 
 
 def has_comment(module, name):
-    word = words.looked_up(module, name)
+    word = reference.looked_up(module, name)
     return word is not None and word.text.startswith("--")
 
 
@@ -205,10 +211,10 @@ def signs():
     explained = " ".join(re.findall("`+([^`]+)`+", (ROOT / "docs/SIGNS.md").read_text("utf-8")))
     own = tuple(f"Rattle.{crate}." for crate in LIBRARY)
     for crate in LIBRARY:
-        for file in sorted((words.CRATES / crate / "specs").glob("*.antt")):
-            brought = words.opened(file).names.items()
+        for file in sorted((reference.CRATES / crate / "specs").glob("*.antt")):
+            brought = reference.opened(file).names.items()
             used = [name for name, known in brought if not known[0].startswith(own) and not has_comment(*known)]
-            text = re.sub(r'"(?:[^"\\]|\\.)*"|◌', " ", words.without_comments(file.read_text("utf-8")))
+            text = re.sub(r'"(?:[^"\\]|\\.)*"|◌', " ", reference.without_comments(file.read_text("utf-8")))
             used += sorted(set(re.findall(r"[^\s\w(){};,.\[\]]+|Type \d|\[\]|\b(?:%s)\b" % KEYWORDS, text)))
             missing = [name for name in used if not all(
                 re.search(rf"(?<!\w){re.escape(part)}(?!\w)", explained) for part in name.split("◌"))]

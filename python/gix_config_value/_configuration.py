@@ -26,7 +26,7 @@ def _refuse(error, entry):
     raise Refused("value", str(error), _core.encode(entry.text), entry) from error
 
 
-class Configuration(Mapping):
+class Configuration(_core.Texts, Mapping):
     """The texts of settings by their keys, and the entries that they come from.
 
     A key is as Git lists it, `branch.Main.rebase`, and its section and its last part may be in any case. The last entry
@@ -40,47 +40,28 @@ class Configuration(Mapping):
     """
 
     __module__ = "gix_config_value"
-    __slots__ = ("_entries", "_refusal")
+    __slots__ = ("_refusal",)
 
     def __init__(self, entries=(), refusal=None):
-        self._entries = entries if isinstance(entries, Entries) else Entries(entries)
         self._refusal = refusal
-
-    @property
-    def entries(self):
-        """All entries, in order: a sequence, which makes each `Entry` when it is asked for."""
-        return self._entries
 
     @property
     def refusal(self):
         """Why Git uses no repository although one is there, in Git's words; `None` if it uses one, or none is there."""
         return self._refusal
 
-    def __getitem__(self, key):
-        text = self._entries._text(key, _ABSENT)
-        if text is _ABSENT:
-            raise KeyError(key)
-        return text
-
-    def __contains__(self, key):
-        return self._entries._text(key, _ABSENT) is not _ABSENT
-
     def __iter__(self):
-        return iter(self._entries._keys())
+        return iter(self.entries._keys())
 
     def __len__(self):
-        return self._entries._key_count()
+        return self.entries._key_count()
 
     def __repr__(self):
         more = "" if self._refusal is None else f", {self._refusal!r}"
-        return f"Configuration({self._entries!r}{more})"
+        return f"Configuration({self.entries!r}{more})"
 
     def __reduce__(self):
-        return Configuration, (self._entries, self._refusal)
-
-    def get(self, key, default=None):
-        """The text of the last entry with a key, or the default if there is no such entry."""
-        return self._entries._text(key, default)
+        return Configuration, (self.entries, self._refusal)
 
     def value(self, key, read, default=None):
         """What a reader makes of the text of the last entry with a key, or the default if there is no such entry.
@@ -89,7 +70,7 @@ class Configuration(Mapping):
         `path`, `int`, or one of yours. If it refuses the text, `Refused` names the entry. A key without `=` is true
         for `boolean`, and refused for any other reader.
         """
-        text = self._entries._text(key, _ABSENT)
+        text = self.get(key, _ABSENT)
         if text is _ABSENT:
             return default
         try:
@@ -109,7 +90,7 @@ class Configuration(Mapping):
 
     def entries_of(self, key):
         """The entries with a key, in order: the last one decides."""
-        return self._entries._all(key)
+        return self.entries._all(key)
 
     def subsections(self, section):
         """The subsections of a section, each once, in the order in which they come first: the names of all remotes for
@@ -120,7 +101,7 @@ class Configuration(Mapping):
 
     def in_scope(self, *scopes):
         """The configuration of the entries that have one of these scopes."""
-        return Configuration((entry for entry in self._entries if entry.scope in scopes), self._refusal)
+        return Configuration((entry for entry in self.entries if entry.scope in scopes), self._refusal)
 
 
 def read(*paths, includes=False, repository=None):

@@ -422,6 +422,9 @@ class Configurations(Files):
         self.assertEqual(dict(config), {key: config[key] for key in config.keys()})
         self.assertEqual((len(config), config["core.editor"], config["BRANCH.Main.Rebase"]), (6, "vi", None))
         self.assertTrue("core.EDITOR" in config and "branch.Main.REBASE" in config)
+        self.assertIs(config["core.EDITOR"], config["core.EDITOR"])
+        self.assertEqual((config.get(key="core.editor", default=5), config.get("core.editor", default=5)), ("vi", "vi"))
+        self.assertRaises(TypeError, config.get)
         self.assertIsInstance(config, Mapping)
         # \u212a is the sign of Kelvin, whose lower case is k
         for key in ("branch.main.rebase", "core", "", "core.bare.", "core.hoo\u212aspath", "core.bare\0", 5, None, b"core.bare"):
@@ -431,7 +434,8 @@ class Configurations(Files):
         for again in (copy.copy(config), copy.deepcopy(config), pickle.loads(pickle.dumps(config)), eval(repr(config))):
             self.assertEqual((again, again.entries, type(again)), (config, config.entries, Configuration))
         self.assertEqual(json.loads(json.dumps(dict(config))), dict(config))
-        for call in (lambda: config.__setitem__("a", 1), lambda: config.__delitem__("core.bare"), lambda: config.clear()):
+        for call in (lambda: config.__setitem__("a", 1), lambda: config.__delitem__("core.bare"), lambda: config.clear(),
+                     lambda: setattr(config, "entries", ())):
             self.assertRaises(AttributeError, call)
         self.assertEqual((len(config), len(Configuration())), (6, 0))
 

@@ -14,6 +14,15 @@ pub(crate) struct Hint<'v> {
     pub(crate) wrong: Option<&'v [u8]>,
     /// What to write instead, if anything is near.
     pub(crate) meant: Option<Vec<u8>>,
+    /// Whether nothing else is as near.
+    pub(crate) is_sure: bool,
+}
+
+/// A text that is meant, and whether it alone is.
+#[derive(Drop)]
+struct Meant {
+    text: Vec<u8>,
+    is_sure: bool,
 }
 
 /// Words that people write for booleans.
@@ -61,9 +70,27 @@ const COLORS: &[&[u8]] = &[
     b"nostrike",
 ];
 
-/// A text as a new vector.
-fn copied(alloc: Global, text: &[u8]) -> Result<Option<Vec<u8>>, AllocError> {
-    Ok(Some(text.to_vec(alloc)?))
+/// This text, which alone is meant.
+fn surely(alloc: Global, text: &[u8]) -> Result<Option<Meant>, AllocError> {
+    Ok(Some(Meant {
+        text: text.to_vec(alloc)?,
+        is_sure: true,
+    }))
+}
+
+/// The first of the nearest words, and whether it is the last one too.
+fn nearest<'w>(
+    alloc: Global,
+    words: &[&'w [u8]],
+    text: &[u8],
+) -> Result<Option<(&'w [u8], bool)>, AllocError> {
+    let Some(first) = nearest_word(alloc, words, text)? else {
+        return Ok(None);
+    };
+    let mut others = Vec::from_slice(alloc, words)?;
+    others.reverse();
+    let last = nearest_word(alloc, &others, text)?;
+    Ok(Some((first, last.is_some_and(|last| last == first))))
 }
 
 /// Whether one of the words is this text, ignoring ASCII case.
@@ -72,22 +99,25 @@ fn has(words: &[&[u8]], text: &[u8]) -> bool {
 }
 
 /// The boolean that is meant by a text.
-fn boolean(alloc: Global, text: &[u8]) -> Result<Option<Vec<u8>>, AllocError> {
+fn boolean(alloc: Global, text: &[u8]) -> Result<Option<Meant>, AllocError> {
     let text = text.trim_ascii();
     if has(FOR_TRUE, text) {
-        return copied(alloc, b"true");
+        return surely(alloc, b"true");
     }
     if has(FOR_FALSE, text) {
-        return copied(alloc, b"false");
+        return surely(alloc, b"false");
     }
-    match nearest_word(alloc, BOOLEANS, text)? {
-        Some(word) => copied(alloc, word),
+    match nearest(alloc, BOOLEANS, text)? {
+        Some((word, is_sure)) => Ok(Some(Meant {
+            text: word.to_vec(alloc)?,
+            is_sure,
+        })),
         None => Ok(None),
     }
 }
 
 /// The number without what Git does not read in it: blanks, `_` and `,`, and the bytes of a unit, as in `500MB`.
-fn number(alloc: Global, text: &[u8]) -> Result<Option<Vec<u8>>, AllocError> {
+fn number(alloc: Global, text: &[u8]) -> Result<Option<Meant>, AllocError> {
     let mut plain = Vec::new(alloc);
     for byte in text {
         if !matches!(*byte, b' ' | b'\t' | b'_' | b',') {
@@ -105,7 +135,12 @@ fn number(alloc: Global, text: &[u8]) -> Result<Option<Vec<u8>>, AllocError> {
     if plain.as_slice() == text || Amount::try_read(&plain).is_err() {
         return Ok(None);
     }
-    Ok(Some(plain))
+    // a comma may also be that of a fraction
+    let is_sure = !text.contains(&b',');
+    Ok(Some(Meant {
+        text: plain,
+        is_sure,
+    }))
 }
 
 /// The first word of a color that is none.
@@ -141,12 +176,7 @@ fn separated(alloc: Global, text: &[u8]) -> Result<Option<Vec<u8>>, AllocError> 
 }
 
 /// The color with another word in place of the first one that is none.
-fn replaced(
-    alloc: Global,
-    text: &[u8],
-    wrong: &[u8],
-    word: &[u8],
-) -> Result<Option<Vec<u8>>, AllocError> {
+fn replaced(alloc: Global, text: &[u8], wrong: &[u8], word: &[u8]) -> Result<Vec<u8>, AllocError> {
     let mut color: Vec<u8> = Vec::new(alloc);
     let mut is_done = false;
     for part in text.split(|byte| byte.is_ascii_whitespace()) {
@@ -163,45 +193,69 @@ fn replaced(
             color.extend_from_slice(part)?;
         }
     }
-    if Color::try_read(&color).is_err() {
-        return copied(alloc, word);
+    Ok(color)
+}
+
+/// The color that is meant by a text in which this word is none.
+fn color_meant(alloc: Global, text: &[u8], wrong: &[u8]) -> Result<Option<Meant>, AllocError> {
+    if let Some(color) = separated(alloc, text)? {
+        return Ok(Some(Meant {
+            text: color,
+            is_sure: true,
+        }));
     }
-    Ok(Some(color))
+    let Some((word, is_sure)) = nearest(alloc, COLORS, wrong)? else {
+        return Ok(None);
+    };
+    let color = replaced(alloc, text, wrong, word)?;
+    if Color::try_read(&color).is_err() {
+        // another word is wrong too, and only this one is told
+        return Ok(Some(Meant {
+            text: word.to_vec(alloc)?,
+            is_sure: false,
+        }));
+    }
+    Ok(Some(Meant {
+        text: color,
+        is_sure,
+    }))
+}
+
+/// What is known, if this is meant.
+fn hint_of<'v>(wrong: Option<&'v [u8]>, meant: Option<Meant>) -> Hint<'v> {
+    match meant {
+        Some(Meant { text, is_sure }) => Hint {
+            wrong,
+            meant: Some(text),
+            is_sure,
+        },
+        None => Hint {
+            wrong,
+            meant: None,
+            is_sure: true,
+        },
+    }
 }
 
 /// What is known of a color that is refused.
 fn color<'v>(alloc: Global, text: &'v [u8]) -> Result<Hint<'v>, AllocError> {
     let Some(wrong) = wrong_word(text) else {
-        return Ok(Hint {
-            wrong: None,
-            meant: None,
-        });
+        return Ok(hint_of(None, None));
     };
     let named = if wrong == text.trim_ascii() {
         None
     } else {
         Some(wrong)
     };
-    let meant = match separated(alloc, text)? {
-        Some(color) => Some(color),
-        None => match nearest_word(alloc, COLORS, wrong)? {
-            Some(word) => replaced(alloc, text, wrong, word)?,
-            None => None,
-        },
-    };
-    Ok(Hint {
-        wrong: named,
-        meant,
-    })
+    Ok(hint_of(named, color_meant(alloc, text, wrong)?))
 }
 
 /// What is known of a value beyond the reason of its finding.
 pub(crate) fn hint_for<'v>(alloc: Global, finding: &Finding<'v>) -> Result<Hint<'v>, AllocError> {
-    let meant = match (finding.fault, finding.value) {
-        (Some(Fault::Color), Some(value)) => return color(alloc, value),
-        (Some(Fault::Boolean), Some(value)) => boolean(alloc, value)?,
-        (Some(Fault::Integer), Some(value)) => number(alloc, value)?,
-        _ => None,
-    };
-    Ok(Hint { wrong: None, meant })
+    match (finding.fault, finding.value) {
+        (Some(Fault::Color), Some(value)) => color(alloc, value),
+        (Some(Fault::Boolean), Some(value)) => Ok(hint_of(None, boolean(alloc, value)?)),
+        (Some(Fault::Integer), Some(value)) => Ok(hint_of(None, number(alloc, value)?)),
+        _ => Ok(hint_of(None, None)),
+    }
 }

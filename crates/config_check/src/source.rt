@@ -1,6 +1,7 @@
 //! Where in the text of a file a finding is.
 
 use crate::causes::Cause;
+use crate::text::width;
 use config_checks::finding::Finding;
 use config_file::key::Key;
 
@@ -49,6 +50,11 @@ pub(crate) fn behind(text: &[u8], count: usize) -> &[u8] {
 }
 
 impl Spot<'_> {
+    /// The column in characters, from 1.
+    pub(crate) fn character(&self) -> usize {
+        width(front(self.line, self.column.saturating_sub(1))).saturating_add(1)
+    }
+
     /// What precedes that which is wrong in its line, and that which is wrong.
     pub(crate) fn marked(&self) -> (&[u8], &[u8]) {
         (

@@ -7,13 +7,16 @@ import made
 import plain_reader
 import rows
 from checking import CANNOT, Ended, arguments, ended, expect_json, summary, with_errors_cut, without_cause
-from plain_reader import cut, finding, key_of, named, shown
+from plain_reader import beginning, cut, finding, key_of, named, shown
 
 ROWS = 10_000
 # the built-in rows
 TABLE = pathlib.Path(__file__).resolve().parents[2] / "config_checks/src/git.rt"
 BUILT_IN = plain_reader.rows_of(re.sub(rb"\\\n *", b"", TABLE.read_bytes().split(b'"\\\n', 1)[1].split(b'";')[0]))
-WRONG_USE = re.compile(rb"[Uu]sage|error")
+# the members of rows.JSON, and what stands there for the byte \xff
+MEMBERS = ("line", "severity", "key", "value", "reason", "code", "suggested_key", "suggested_value")
+REPLACED = "\ufffd".encode()
+WRONG_USE = re.compile(rb"[Uu]sage|error|--fix|no such code|neither a code")
 
 
 def listed(key):
@@ -141,9 +144,11 @@ def as_json(group, program):
     data, output = rows.JSON_LINE
     group.expect(data, ended(output, (1, 1, 0, 1)), program.run(["--format", "json", *how], data))
     for data, members in rows.JSON:
-        members = [dict(zip(("line", "severity", "key", "value", "reason", "suggestion"), one)) for one in members]
-        objects = [{"file": "-", "column": 1, **one} for one in members]
-        expect_json(group, program, how, data, objects)
+        members = [dict(zip(MEMBERS, one)) for one in members]
+        objects = [{"file": "-", "column": 1, "value_base64": None, **one} for one in members]
+        texts = [[text and text.encode().replace(REPLACED, b"\xff") for text in (one["key"], one["value"])] for one in objects]
+        found = [({"key_base64": plain_reader.encoded(key), **one}, key, value) for one, (key, value) in zip(objects, texts)]
+        expect_json(group, program, how, data, plain_reader.with_fingerprints(found))
 
 
 def fail_on(group, program):
@@ -164,10 +169,11 @@ def built_in(group, program):
     """Built-in rows, and other rows that come before them."""
     for key, value, reason in rows.BUILT_IN:
         entry = made.line_of(key, value)
-        wanted = b"" if reason is None else finding(
-            plain_reader.entries(entry)[0][0][0], cut(named(BUILT_IN, listed(key))), None if value is None else cut(value), reason)[:-1]
+        wanted = b"" if reason is None else beginning(
+            plain_reader.entries(entry)[0][0][0], cut(named(BUILT_IN, listed(key))), None if value is None else cut(value), reason)
+        code = b"" if reason is None else b" [%s]\n" % plain_reader.code_of(reason).encode()
         came = program.run(["-"], entry)
-        is_line = came.output.count(b"\n") == 1
+        is_line = came.output.count(b"\n") == 1 and came.output.endswith(code)
         group.expect(entry, ended(wanted, (1, 1, 0, 1 if wanted else 0)),
                      came._replace(output=came.output[:len(wanted)]) if is_line else came)
     how = arguments(program.settings(rows.OWN_SETTINGS))

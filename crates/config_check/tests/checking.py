@@ -61,11 +61,11 @@ def summary(counts):
 
 
 UNREAD_LINE = re.compile(rb"^(.*:[0-9]+):[0-9]+(: error: (?:Git cannot read this line, and reads nothing of the file|a NUL byte"
-                         rb" outside a comment))(?:: .*)?$", re.MULTILINE)
+                         rb" outside a comment))(?:: .*)? \[invalid-line\]$", re.MULTILINE)
 
 
 def without_cause(came):
-    """The run, without the column and the cause of a line that Git cannot read."""
+    """The run, without the column, the cause and the code of a line that Git cannot read."""
     return came._replace(output=UNREAD_LINE.sub(rb"\1\2", came.output))
 
 

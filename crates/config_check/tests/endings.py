@@ -115,7 +115,7 @@ def terminal(group, program, how):
     environment.pop("NO_COLOR", None)
     data = FINDING + b'[test] bool = "\x1b[31m"\nx\0'
     lines = [finding((1, 8), (b"test.bool", b""), (b"maybe", b""), rows.BOOLEAN_FAULT),
-             finding((2, 8), (b"test.bool", b""), (b"\\x1b[31m", b""), rows.BOOLEAN_FAULT), b"-:3:2: " + rows.NUL]
+             finding((2, 8), (b"test.bool", b""), (b"\\x1b[31m", b""), rows.BOOLEAN_FAULT), b"-:3:2: " + rows.NUL.replace(b"\n", b" [invalid-line]\n")]
     excerpts = [(b"[test] bool = maybe", 14, 5), (b'[test] bool = "?[31m"', 15, 5), (b"x?", 1, 1)]
     plain = Ended(1, b"".join(lines), summary((2, 2, 0, 3)))
     red = plain._replace(output=plain.output.replace(b" error: ", b" " + RED + b"error: " + PLAIN))

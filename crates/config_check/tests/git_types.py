@@ -12,7 +12,7 @@ import made
 import plain_reader
 import rows
 from checking import arguments
-from plain_reader import cut, finding
+from plain_reader import beginning, cut
 
 sys.path.append(str(pathlib.Path(__file__).resolve().parents[3] / "compare"))
 
@@ -26,6 +26,7 @@ TEXTS = 400
 # the last part of a row's key, and the type that Git is asked for
 KINDS = [("bool", "bool"), ("int", "int"), ("size", "int"), ("bool-or-int", "bool-or-int"), ("color", "color")]
 SHOULD_BE = b"note: should be "
+CODE = b" [not-canonical]\n"
 
 # a class: its name, the kind for which it is expected, its rule for a case, and texts that show it
 Own = collections.namedtuple("Own", "name kind rule shown")
@@ -85,8 +86,8 @@ def canonical_texts(program, how, key, values):
     places = [place for place, _, _ in plain_reader.entries(data)[0]]
     for line in program.run(how, data).output.splitlines(True):
         number = int(line.split(b":")[1])
-        front = finding(places[number - 1], (key, b""), cut(values[number - 1]), SHOULD_BE)[:-1]
-        found[number - 1] = line.removeprefix(front)[:-1] if line.startswith(front) else None
+        front = beginning(places[number - 1], (key, b""), cut(values[number - 1]), SHOULD_BE)
+        found[number - 1] = line.removeprefix(front).removesuffix(CODE) if line.startswith(front) else None
     return found
 
 

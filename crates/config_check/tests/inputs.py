@@ -92,5 +92,5 @@ def mutated(group, program, draw, count):
         compare(group, program, how, data, canonical=canonical)
         if size is None:
             lines, _ = plain_reader.told(made.ROWS, data, canonical)
-            expect_json(group, program, how, data, [plain_reader.as_json(*line) for line in lines])
+            expect_json(group, program, how, data, plain_reader.as_json(lines))
     group.notes.append(f"{count:,} entries")

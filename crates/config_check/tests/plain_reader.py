@@ -2,8 +2,10 @@
 
 `findings` returns what the program has to write, and its counts. Nothing here is meant to be fast.
 """
+import base64
 import collections
 import functools
+import hashlib
 import re
 import sys
 
@@ -669,11 +671,31 @@ def named(rows, key):
     return key if row is None else filled(row.text, key_of(key))
 
 
-def finding(place, key, value, why, name=b"-"):
-    """The line of a finding, whose key and value are given as they are shown, each with what follows it."""
+# the code of a finding, by what its reason begins with
+CODES = {
+    BOOLEAN_FAULT: "bad-boolean", INTEGER_FAULT: "bad-integer", COLOR_FAULT: "bad-color", OVERFLOW_FAULT: "out-of-range",
+    b"out of range: ": "out-of-range", b"not ": "not-a-word", b"no value": "no-value", b"unknown key": "unknown-key",
+    b"Git reads it only since ": "too-new", b"Git reads it only before ": "gone", b"deprecated: use ": "deprecated",
+    b"should be ": "not-canonical", b"Git cannot read this line": "invalid-line", b"a NUL byte ": "invalid-line",
+}
+
+
+def code_of(why):
+    """The code of a finding, by its severity and its reason."""
+    text = why.partition(b": ")[2]
+    return next(code for front, code in CODES.items() if text.startswith(front))
+
+
+def beginning(place, key, value, why, name=b"-"):
+    """The line of a finding up to its code. Its key and value are given as they are shown, each with what follows it."""
     (line, column), (severity, _, text) = place, why.partition(b": ")
     said = b"" if value is None else b"'%s'%s: " % value
-    return b"%s:%d:%d: %s: %s%s: %s%s\n" % (name, line, column, severity, *key, said, text)
+    return b"%s:%d:%d: %s: %s%s: %s%s" % (name, line, column, severity, *key, said, text)
+
+
+def finding(place, key, value, why, name=b"-"):
+    """The line of a finding."""
+    return b"%s [%s]\n" % (beginning(place, key, value, why, name), code_of(why).encode())
 
 
 def told(rows, data, canonical=False):
@@ -713,9 +735,37 @@ def suggestion(why):
     return match and SHOWN.sub(lambda one: bytes.fromhex(one[1].decode()) if one[1] else b"\\", match[1] or match[2] or b"")
 
 
-def as_json(place, key, value, why):
+def encoded(text):
+    """The bytes of a text in base64 if they are not UTF-8, and otherwise None."""
+    is_text = text is None or text.decode(errors="replace").encode() == text
+    return None if is_text else base64.b64encode(text).decode()
+
+
+def with_fingerprints(findings):
+    """Adds to each of these findings of a run, given with its key and its value, the digest of what it is: not of its
+    line, but of which of its equals it is."""
+    seen = collections.Counter()
+    for one, key, value in findings:
+        parts = [one["file"].encode(), one["code"].encode(), key, value]
+        same = b"".join(part + b"\0" for part in parts if part is not None)
+        one["fingerprint"] = hashlib.sha256(same + b"%d" % seen[same]).hexdigest()[:32]
+        seen[same] += 1
+    return [one for one, _, _ in findings]
+
+
+def member_texts(place, key, value, why):
     """The JSON members of a finding in standard input; the line that Git cannot read has no column."""
     severity, _, text = why.partition(b": ")
-    members = {"key": key, "reason": text, "severity": severity, "suggestion": suggestion(why), "value": value}
+    code = code_of(why)
+    names_key = code in ("unknown-key", "deprecated")
+    members = {"key": key, "reason": text, "severity": severity, "value": value,
+               "suggested_key": suggestion(why) if names_key else None,
+               "suggested_value": None if names_key else suggestion(why)}
     texts = {name: None if member is None else member.decode(errors="replace") for name, member in members.items()}
-    return {"file": "-", "line": place[0], "column": place[1]} | texts
+    coded = {f"{name}_base64": encoded(members[name]) for name in ("key", "value")}
+    return {"code": code, "file": "-", "line": place[0], "column": place[1]} | texts | coded
+
+
+def as_json(lines):
+    """The JSON objects of findings in standard input."""
+    return with_fingerprints([(member_texts(*line), line[1], line[2]) for line in lines])

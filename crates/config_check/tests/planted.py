@@ -37,8 +37,8 @@ def check(group, program):
     lines = [line.split("\t") for line in LINES.read_text(encoding="utf-8").splitlines() if not line.startswith("#")]
     told = found(program, "".join(f"{text}\n" for text, _, _ in lines).encode())
     for number, (text, severity, meant) in enumerate(lines, 1):
-        one = told.get(number, {"severity": None, "suggestion": None})
-        group.expect(text, (severity, None if meant == "-" else meant), (one["severity"], one["suggestion"]))
+        one = told.get(number, {"severity": None, "suggested_key": None, "suggested_value": None})
+        group.expect(text, (severity, None if meant == "-" else meant), (one["severity"], one["suggested_key"] or one["suggested_value"]))
     for text, line, column, why in UNREAD:
         wanted = [(line, column, "error", f"Git cannot read this line, and reads nothing of the file: {why}")]
         came = [tuple(one[name] for name in ("line", "column", "severity", "reason")) for one in found(program, text).values()]

@@ -452,31 +452,32 @@ GOOD_ROWS = [b"", b"\n", b"\n\n", b"#\n", b"# nodot bool", b"#nodot bool\n\n", b
 # files, the output for them, and the numbers of entries, judged entries, unknown keys and findings
 FILES = [
     (b"", b"", (0, 0, 0, 0)), (b"# [test] int\n;", b"", (0, 0, 0, 0)), (b"int\n", b"", (1, 0, 1, 0)),
-    (b"\xef\xbb\xbf[test]int", b"-:1:10: error: test.int: no value\n", (1, 1, 0, 1)),
-    (b"[TEST]\r\n\tINT = 1\\\r\n0x # no\n", b"-:2:2: error: test.int: '10x': " + INTEGER_FAULT[7:] + b"\n", (1, 1, 0, 1)),
-    (b"[test]\nint\n[test\nint\n", b"-:2:1: error: test.int: no value\n-:3: " + BAD_LINE, (1, 1, 0, 2)),
+    (b"\xef\xbb\xbf[test]int", b"-:1:10: error: test.int: no value [no-value]\n", (1, 1, 0, 1)),
+    (b"[TEST]\r\n\tINT = 1\\\r\n0x # no\n", b"-:2:2: error: test.int: '10x': " + INTEGER_FAULT[7:] + b" [bad-integer]\n", (1, 1, 0, 1)),
+    (b"[test]\nint\n[test\nint\n", b"-:2:1: error: test.int: no value [no-value]\n-:3: " + BAD_LINE, (1, 1, 0, 2)),
     (b'[test]\n\tint = "1\n', b"-:2: " + BAD_LINE, (0, 0, 0, 1)), (b"\n=", b"-:2: " + BAD_LINE, (0, 0, 0, 1)),
     (b"[test]\nint = 1\\2\n", b"-:2: " + BAD_LINE, (0, 0, 0, 1)), (b"#\0\n[x]y\0", b"-:2: " + NUL, (0, 0, 0, 1)),
-    (b"[test]\nint\nint = 1\0\n", b"-:2:1: error: test.int: no value\n-:3: " + NUL, (1, 1, 0, 2)),
+    (b"[test]\nint\nint = 1\0\n", b"-:2:1: error: test.int: no value [no-value]\n-:3: " + NUL, (1, 1, 0, 2)),
 ]
 
 # a file, and the line of JSON for it
 JSON_LINE = (b'[test]\nint = "\\"\\\\\\n\x1b\xff\xc3\xa9"\n',
-             b'{"column":1,"file":"-","key":"test.int","line":2,"reason":"Integers needs to be positive or negative numbers which may'
-             b' have a suffix like 1k, 42, or 50G","severity":"error","suggestion":null,'
-             b'"value":"\\"\\\\\\n\\u001b\xef\xbf\xbd\xc3\xa9"}\n')
-# files, and the line, severity, key, value, reason and suggestion of each finding
+             b'{"code":"bad-integer","column":1,"file":"-","fingerprint":"a7f11f434d2027147811b191589433bb","key":"test.int","key_base64":null,"line":2,'
+             b'"reason":"Integers needs to be positive or negative numbers which may'
+             b' have a suffix like 1k, 42, or 50G","severity":"error","suggested_key":null,'
+             b'"suggested_value":null,"value":"\\"\\\\\\n\\u001b\xef\xbf\xbd\xc3\xa9","value_base64":"IlwKG//DqQ=="}\n')
+# files, and the line, severity, key, value, reason, code, suggested key and suggested value of each finding
 JSON = [
     (b"", []), (b"[test]\nint = 1\n[other]x\n", []),
-    (b"[test]\nint\n", [(2, "error", "test.int", None, "no value", None)]),
-    (b"[test]\nbool = yes\nword-any-case = TWO\n", [(2, "note", "test.bool", "yes", "should be true", "true"),
-                                                   (3, "note", "test.word-any-case", "TWO", "should be Two", "Two")]),
-    (b"[test]\nin = \"\"\nwrong\n", [(2, "warning", "test.in", None, "unknown key; did you mean test.int?", "test.int"),
-                                   (3, "warning", "test.wrong", None, "unknown key", None)]),
+    (b"[test]\nint\n", [(2, "error", "test.int", None, "no value", "no-value", None, None)]),
+    (b"[test]\nbool = yes\nword-any-case = TWO\n", [(2, "note", "test.bool", "yes", "should be true", "not-canonical", None, "true"),
+                                                   (3, "note", "test.word-any-case", "TWO", "should be Two", "not-canonical", None, "Two")]),
+    (b"[test]\nin = \"\"\nwrong\n", [(2, "warning", "test.in", None, "unknown key; did you mean test.int?", "unknown-key", "test.int", None),
+                                   (3, "warning", "test.wrong", None, "unknown key", "unknown-key", None, None)]),
     (b'[middle "\\",\\"line\\":9\\\\\xff"]\nlst\n', [
         (2, "warning", 'middle.","line":9\\\ufffd.lst', None,
-         'unknown key; did you mean middle.","line":9\\\\\\xff.last?', 'middle.","line":9\\\ufffd.last')]),
-    (b"\n[test\n", [(2, "error", None, None, BAD_LINE.decode().removeprefix("error: ").strip(), None)]),
+         'unknown key; did you mean middle.","line":9\\\\\\xff.last?', "unknown-key", 'middle.","line":9\\\ufffd.last', None)]),
+    (b"\n[test\n", [(2, "error", None, None, BAD_LINE.decode().removeprefix("error: ").strip(), "invalid-line", None, None)]),
 ]
 
 # a file, and the severities for which `--fail-on` makes the status 1
@@ -489,7 +490,8 @@ FAIL_ON = [
 # arguments that are wrong
 WRONG_ARGUMENTS = [["--no-such-argument"], ["-x"], ["--settings"], ["--show-scope"], ["--show-origin"], ["--canonical=maybe"],
                    ["--canonical", "--canonical"], ["--fail-on"], ["--fail-on", "fatal"], ["--fail-on", "note", "--fail-on", "note"],
-                   ["--format"], ["--format", "xml"], ["--format", "json", "--format", "json"], ["--git"],
+                   ["--format"], ["--format", "xml"], ["--format", "json", "--format", "json"], ["--fix", "--diff", "x"], ["--explain", "no-code"], ["--fix"],
+                   ["--fix", "-"], ["--ignore", "no-code", "-"], ["--git"],
                    ["--git", "2.39", "--git", "2.39"], ["--color"], ["--color", "red"]]
 
 # texts that are no versions of Git, and versions, each with the severity of `pull.autostash = true` by it

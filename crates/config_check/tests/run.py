@@ -15,9 +15,11 @@ import tempfile
 
 import by_hand
 import endings
+import formats
 import git_types
 import here
 import inputs
+import mending
 import page
 import planted
 from checking import Group, Program
@@ -34,6 +36,8 @@ def groups(program, seed, count, large):
         ("planted mistakes", lambda group: planted.check(group, program)),
         ("files that are cut off", lambda group: inputs.cut(group, program)),
         ("files that arrive in pieces", lambda group: inputs.pieces(group, program, draw())),
+        ("codes, formats and hooks", lambda group: formats.check(group, program)),
+        ("files that are mended, and a baseline", lambda group: mending.check(group, program, draw())),
         ("the files that Git reads here", lambda group: here.check(group, program)),
         ("the types of Git", lambda group: git_types.check(group, program, draw())),
         ("large files", lambda group: inputs.large(group, program, draw(), large)),

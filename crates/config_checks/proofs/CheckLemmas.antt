@@ -241,18 +241,18 @@ module _ (rows : List Row) (options : Options) (setting : Setting) (s : Counts) 
   -- nothing is said of the key
   pub said_nothing : (reason meant : Option (List ℕ)) → IsUnknown rows setting.key.items
       → IsSaidAs rows setting.key.items reason meant → is_some reason ≡ false
-      → ReportsSetting rows options setting s (findings_as setting reason meant)
+      → ReportsSetting rows options setting s (findings_as s.entries setting reason meant)
       (record s { entries = s.entries + 1; unknown = s.unknown + 1 })
   said_nothing None meant is said none = unknown is said refl refl
   said_nothing (Some text) meant is said none = absurd (cc)
 
   -- the key is reported
   pub said_something : (reason meant : Option (List ℕ)) → IsSaidAs rows setting.key.items reason meant → is_some reason ≡ true
-      → ReportsSetting rows options setting s (findings_as setting reason meant)
+      → ReportsSetting rows options setting s (findings_as s.entries setting reason meant)
       (counted Warning (record s { entries = s.entries + 1; unknown = s.unknown + 1 }))
   said_something None meant said some = absurd (cc)
   said_something (Some text) meant (key, is, texts, meants) some = misspelled key is
-      (ap (λ t. findings_as setting (Some t) meant) texts ∙ ap (λ m. findings_as setting (Some (unknown_text key)) m) meants) refl
+      (ap (λ t. findings_as s.entries setting (Some t) meant) texts ∙ ap (λ m. findings_as s.entries setting (Some (unknown_text key)) m) meants) refl
 
 -- ---- results
 

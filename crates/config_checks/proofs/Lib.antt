@@ -12,3 +12,4 @@ mod OneKey
 mod OneSuggestion
 mod OneReport
 mod OneLine
+mod FixLemmas

@@ -4,13 +4,18 @@ use Rattle.std.proofs.Common.{◌&&◌, ◌==◌, nat_eq, nat_lt, if◌then◌el
 use Rattle.std.proofs.lemmas.Bool.{and_parts, cases_lt, cases_eq}
 use Rattle.std.specs.Bool.{⊤}
 use Rattle.std.specs.Fmt.{decimal, digits, digits_onto, digit_glyph}
+use Rattle.std.specs.Str.{is_utf8}
 use Rattle.std.specs.Str.Lossy.{utf8_lossy}
 use Rattle.json.specs.Print.{escape_byte, escape, quoted}
 use Rattle.json.proofs.Printed.Strings.{escape_byte_plain}
-use Rattle.serde_json.specs.Data.{Data, object, Members, no_members, member}
+use Rattle.base64.specs.Engines.{standard}
+use Rattle.base64.specs.GeneralPurpose.{encode_of}
+use Rattle.serde_json.specs.Data.{Data, null, string, object, Members, no_members, member}
 use Rattle.serde_json.specs.Written.{compact_text, comma_if, members_text}
 use Rattle.config_checks.specs.Findings.{Finding}
-use Rattle.config_checks.specs.Json.{IsOneLine, finding_json, text_or_null, severity_name}
+use Rattle.config_checks.specs.Codes.{code_name}
+use Rattle.config_checks.specs.Json.{IsOneLine, finding_json, text_or_null, bytes_or_null, severity_name}
+use Rattle.config_checks.specs.Json.{identity, fingerprint_of}
 
 join : (xs ys : List ℕ) → IsOneLine xs → IsOneLine ys → IsOneLine (xs ++ ys)
 join [] ys p q = q
@@ -83,6 +88,14 @@ text_or_none : (t : Option (List ℕ)) → IsOneLine (compact_text (text_or_null
 text_or_none None = one_line (compact_text (text_or_null None)) refl
 text_or_none (Some t) = in_quotes _
 
+coded : (is : Bool) (t : List ℕ) → IsOneLine (compact_text (if is then null else string (encode_of standard t)))
+coded true t = text_or_none None
+coded false t = in_quotes _
+
+bytes_or_none : (t : Option (List ℕ)) → IsOneLine (compact_text (bytes_or_null t))
+bytes_or_none None = text_or_none None
+bytes_or_none (Some t) = coded (is_utf8 t) t
+
 abbrev AreOneLine : Members → Type 0
 AreOneLine no_members = ⊤
 AreOneLine (member key d members) = IsOneLine (compact_text d) × AreOneLine members
@@ -104,24 +117,33 @@ abbrev members_of : Data → Members
 members_of (object members) = members
 members_of _ = no_members
 
-pub finding_one_line : (column : ℕ) (f : Finding) → IsOneLine (compact_text (finding_json column f))
-finding_one_line column f = (
+pub finding_one_line : (column equal : ℕ) (f : Finding) → IsOneLine (compact_text (finding_json column equal f))
+finding_one_line column equal f = (
   (λ e. omega arith),
-  in_braces false (members_of (finding_json column f)) (
-    in_digits column,
+  in_braces false (members_of (finding_json column equal f)) (
+    in_quotes (code_name f.code),
     (
-      in_quotes f.file,
+      in_digits column,
       (
-        text_or_none f.key,
+        in_quotes f.file,
         (
-          in_digits f.line,
+          in_quotes (fingerprint_of (identity equal f)),
           (
-            in_quotes (utf8_lossy f.reason),
+            text_or_none f.key,
             (
-              in_quotes (severity_name f.severity),
+              bytes_or_none f.key,
               (
-                text_or_none f.suggestion,
-                (text_or_none f.value, tt),
+                in_digits f.line,
+                (
+                  in_quotes (utf8_lossy f.reason),
+                  (
+                    in_quotes (severity_name f.severity),
+                    (
+                      text_or_none f.suggested_key,
+                      (text_or_none f.suggested_value, (text_or_none f.value, (bytes_or_none f.value, tt))),
+                    ),
+                  ),
+                ),
               ),
             ),
           ),

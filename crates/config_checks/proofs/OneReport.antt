@@ -18,6 +18,8 @@ use Rattle.config_file.specs.File as file
 use Rattle.config_file.specs.File.{Entry, TakesEntry, Reads}
 use Rattle.config_file.proofs.OneReading.{one_reading}
 use Rattle.config_checks.specs.declared.options.Options.{Options}
+use Rattle.config_checks.specs.declared.code.Code.{Code}
+use Rattle.config_checks.specs.declared.code.Code.TheVariants as kind
 use Rattle.config_checks.specs.declared.row.Row.{Row}
 use Rattle.config_checks.specs.declared.setting.Setting.{Setting}
 use Rattle.config_checks.specs.declared.reason.Reason.{Reason}
@@ -29,8 +31,9 @@ use Rattle.config_checks.specs.Rows.{Decides, IsUnknown}
 use Rattle.config_checks.specs.Settings.{IsSettingOf, IsValueOf, value_of}
 use Rattle.config_checks.specs.Suggestions.{IsPassed, IsUnknownKey, suggestion_text, unknown_text}
 use Rattle.config_checks.specs.Reasons.{HasFinding, IsSameFinding, severity_of}
+use Rattle.config_checks.specs.Codes.{code_of}
 use Rattle.config_checks.specs.Findings.{Finding, reason_text, no_word_text}
-use Rattle.config_checks.specs.Report.{suggestion_of, fault_of, fault_of_list, key_meant, counted, reason_finding}
+use Rattle.config_checks.specs.Report.{value_meant, instead_of, fault_of, fault_of_list, key_meant, counted, reason_finding}
 use Rattle.config_checks.specs.Report.{ReportsSetting, unknown, misspelled, right, found}
 use Rattle.config_checks.specs.Report.{Report, nothing, next, EndsReport, HasSettings, IsReport, BeginsReport}
 use Rattle.config_checks.proofs.OneFinding.{finding_once}
@@ -131,39 +134,45 @@ settings_once name text a b e f (entries, is, are) (entries', is', are') =
 
 -- ---- the report
 
-no_finding : (reason : Reason) → ¬ (IsSameFinding None (Some reason))
+pub no_finding : (reason : Reason) → ¬ (IsSameFinding None (Some reason))
 no_finding reason same = absurd (cc)
 
 module _ (options : Options) where
   -- the finding about a setting with these facts
-  abbrev found_for : Facts → Option Key → Severity → List ℕ → Option faults.Fault → Option (List ℕ) → Finding
-  found_for f row severity text fault suggestion = record {
+  abbrev found_for : ℕ → Facts → Code → Option Key → Severity → List ℕ → Option faults.Fault → Option (List ℕ) → Option (List ℕ) → Finding
+  found_for before f code row severity text fault meant value = record {
     file = f.0;
     line = f.1;
+    entry = Some before;
+    code = code;
     severity = severity;
     key = Some f.2;
     row = row;
     value = f.3;
     reason = text;
     fault = fault;
-    suggestion = suggestion;
+    suggested_key = meant;
+    suggested_value = value;
   }
 
   -- the finding about a setting with these facts, whose key is unknown
-  abbrev found_key : Facts → List ℕ → Option (List ℕ) → Finding
-  found_key f text meant = found_for (f.0, f.1, f.2, None) None Warning text None meant
+  abbrev found_key : ℕ → Facts → List ℕ → Option (List ℕ) → Finding
+  found_key before f text meant = found_for before (f.0, f.1, f.2, None) kind.UnknownKey None Warning text None meant None
 
-  same_found : (f : Facts) (row : Option Key) (goes_on : Bool) (a b : Reason) → IsSameFinding (Some a) (Some b)
-      → found_for f row (severity_of goes_on a) (reason_text a) (fault_of a) (suggestion_of a)
-      ≡ found_for f row (severity_of goes_on b) (reason_text b) (fault_of b) (suggestion_of b)
-  same_found f row goes_on (NotCanonical c) (NotCanonical d) same =
-      ap (λ l. found_for f row Note (codes "should be " ++ l) None (Some l)) same
-  same_found f row goes_on (NoWord l v) (NoWord m w) same =
-      λ i. found_for f row (severity_of goes_on (NoWord l v)) (no_word_text (same.0 i) (same.1 i))
-      (fault_of_list (same.0 i).form (same.1 i)) (option_copied (same.1 i))
-  same_found f row goes_on a b same =
-      let is : a ≡ b = cc in
-      ap (λ r. found_for f row (severity_of goes_on r) (reason_text r) (fault_of r) (suggestion_of r)) is
+  -- the finding about a setting with these facts, for a reason
+  abbrev found_by : ℕ → Facts → Option Key → Bool → Reason → Finding
+  found_by before f row goes_on r =
+      found_for before f (code_of r) row (severity_of goes_on r) (reason_text r) (fault_of r) (instead_of r) (value_meant r)
+
+  same_found : (before : ℕ) (f : Facts) (row : Option Key) (goes_on : Bool) (a b : Reason) → IsSameFinding (Some a) (Some b)
+      → found_by before f row goes_on a ≡ found_by before f row goes_on b
+  same_found before f row goes_on (NotCanonical c) (NotCanonical d) same =
+      ap (λ l. found_for before f kind.NotCanonical row Note (codes "should be " ++ l) None None (Some l)) same
+  same_found before f row goes_on (NoWord l v) (NoWord m w) same =
+      λ i. found_for before f kind.NotAWord row (severity_of goes_on (NoWord l v)) (no_word_text (same.0 i) (same.1 i))
+      (fault_of_list (same.0 i).form (same.1 i)) None (option_copied (same.1 i))
+  same_found before f row goes_on a b same =
+      let is : a ≡ b = cc in ap (found_by before f row goes_on) is
 
   same_severity : (goes_on : Bool) (a b : Reason) → IsSameFinding (Some a) (Some b)
       → severity_of goes_on a ≡ severity_of goes_on b
@@ -179,14 +188,14 @@ module _ (options : Options) where
         unknown (subst (IsUnknown rows) (ap (λ f. f.2) same) u) (subst (IsPassed rows) (ap (λ f. f.2) same) passed) none is
     moved a b s s' said same (misspelled key is_key shown is) =
         misspelled key (subst (λ k. IsUnknownKey rows k key) (ap (λ f. f.2) same) is_key)
-        (shown ∙ ap (λ f. found_key f (unknown_text key) (key_meant key) ∷ []) same) is
+        (shown ∙ ap (λ f. found_key s.entries f (unknown_text key) (key_meant key) ∷ []) same) is
     moved a b s s' said same (right row decides good none is) =
         right row (subst (λ k. Decides rows k row) (ap (λ f. f.2) same) decides)
         (subst (λ v. HasFinding options.git options.canonical row v None) (ap (λ f. f.3) same) good) none is
     moved a b s s' said same (found row reason decides bad shown is) =
         found row reason (subst (λ k. Decides rows k row) (ap (λ f. f.2) same) decides)
         (subst (λ v. HasFinding options.git options.canonical row v (Some reason)) (ap (λ f. f.3) same) bad)
-        (shown ∙ ap (λ f. found_for f (Some (key_of row.key)) (severity_of row.goes_on reason) (reason_text reason) (fault_of reason) (suggestion_of reason) ∷ []) same) is
+        (shown ∙ ap (λ f. found_by s.entries f (Some (key_of row.key)) row.goes_on reason ∷ []) same) is
 
     setting_once : (setting : Setting) (s : Counts) (line line' : List Finding) (t t' : Counts)
         → ReportsSetting rows options setting s line t → ReportsSetting rows options setting s line' t'
@@ -203,7 +212,7 @@ module _ (options : Options) where
         absurd (not_passed rows setting.key.items key is_key passed)
     setting_once setting s line line' t t' (misspelled key is_key shown is) (misspelled key' is_key' shown' is') =
         let nearest = nearest_same rows setting.key.items key key' is_key is_key' in
-        (shown ∙ ap (λ k. found_key (facts setting) (suggestion_text k) (option_map written k) ∷ []) nearest ∙ sym shown', is ∙ sym is')
+        (shown ∙ ap (λ k. found_key s.entries (facts setting) (suggestion_text k) (option_map written k) ∷ []) nearest ∙ sym shown', is ∙ sym is')
     setting_once setting s line line' t t' (misspelled key is_key shown is) (right row decides good none' is') =
         absurd (known_once rows setting.key.items row decides is_key.unknown)
     setting_once setting s line line' t t' (misspelled key is_key shown is) (found row reason decides bad shown' is') =
@@ -231,8 +240,8 @@ module _ (options : Options) where
         let same = row_once rows setting.key.items row' row decides' decides in
         let finding = finding_once options.git row options.canonical (value_of setting) (Some reason) (Some reason') bad
         (subst (λ r. HasFinding options.git options.canonical r (value_of setting) (Some reason')) same bad') in
-        let text = ap (λ f. f ∷ []) (same_found (facts setting) (Some (key_of row.key)) row.goes_on reason reason' finding) in
-        let written = subst (λ r. line' ≡ reason_finding setting r reason' ∷ []) same shown' in
+        let text = ap (λ f. f ∷ []) (same_found s.entries (facts setting) (Some (key_of row.key)) row.goes_on reason reason' finding) in
+        let written = subst (λ r. line' ≡ reason_finding s.entries setting r reason' ∷ []) same shown' in
         let counts = subst (λ r. t' ≡ counted (severity_of r.goes_on reason') (record s { entries = s.entries + 1 })) same is' in
         let severities = same_severity row.goes_on reason reason' finding in
         (shown ∙ text ∙ sym written, is ∙ ap (λ v. counted v (record s { entries = s.entries + 1 })) severities ∙ sym counts)

@@ -12,6 +12,7 @@ use Rattle.config_text.specs.declared.errors.Fault.{Fault}
 use Rattle.config_file.specs.Key.{Key}
 use Rattle.config_file.specs.KeyView.{key_of}
 use Rattle.config_integer.specs.declared.amount.Amount.{Amount}
+use Rattle.config_checks.specs.declared.code.Code.{Code}
 use Rattle.config_checks.specs.declared.finding.Finding as findings
 use Rattle.config_checks.specs.declared.kind.Form.{Form}
 use Rattle.config_checks.specs.declared.kind.Form.TheVariants as forms
@@ -123,27 +124,33 @@ line_feed = 10
 -- ---- the finding
 
 -- a finding; a key alone and an unknown key have no value, and a line that Git cannot read has no key either; an unknown
--- key has no row
+-- key has no row; `entry` is how many entries of the file precede that of the finding
 pub record Finding : Type 0 where
   pub file : List ℕ
   pub line : ℕ
+  pub entry : Option ℕ
+  pub code : Code
   pub severity : Severity
   pub key : Option (List ℕ)
   pub row : Option Key
   pub value : Option (List ℕ)
   pub reason : List ℕ
   pub fault : Option Fault
-  pub suggestion : Option (List ℕ)
+  pub suggested_key : Option (List ℕ)
+  pub suggested_value : Option (List ℕ)
 
 abbrev pub finding_of : findings.Finding → Finding
 finding_of f = record {
   file = f.file.now;
   line = f.line;
+  entry = f.entry;
+  code = f.code;
   severity = f.severity;
   key = option_copied f.key;
   row = option_map key_of f.row;
   value = option_copied f.value;
   reason = f.reason.now;
   fault = f.fault;
-  suggestion = option_copied f.suggestion;
+  suggested_key = option_copied f.suggested_key;
+  suggested_value = option_copied f.suggested_value;
 }

@@ -4,10 +4,12 @@ pub mod Versions
 pub mod Nearest
 pub mod Reasons
 pub mod Rows
+pub mod Codes
 pub mod Findings
 pub mod Json
 pub mod Settings
 pub mod Report
 pub mod Outcome
 pub mod Suggestions
+pub mod Fixes
 pub mod Reading

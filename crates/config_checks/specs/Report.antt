@@ -14,6 +14,7 @@ use denote.Ref.{Bor}
 use Rattle.config_checks.specs.declared.kind.Form.{Form}
 use Rattle.config_checks.specs.declared.kind.Form.TheVariants as forms
 use Rattle.config_checks.specs.declared.options.Options.{Options}
+use Rattle.config_checks.specs.declared.code.Code.TheVariants as kind
 use Rattle.config_checks.specs.declared.row.Row.{Row}
 use Rattle.config_checks.specs.declared.setting.Setting.{Setting}
 use Rattle.config_checks.specs.declared.reason.Reason.{Reason}
@@ -25,18 +26,23 @@ use Rattle.config_checks.specs.declared.check.Counts.{Counts}
 use Rattle.config_checks.specs.Rows.{Decides, IsUnknown}
 use Rattle.config_checks.specs.Settings.{IsSettingOf, value_of}
 use Rattle.config_checks.specs.Reasons.{HasFinding, severity_of}
+use Rattle.config_checks.specs.Codes.{code_of}
 use Rattle.config_checks.specs.Findings.{Finding, reason_text}
 use Rattle.config_checks.specs.Suggestions.{IsPassed, IsUnknownKey, nearest_of, unknown_text}
 
 -- ---- a finding
 
--- the text that is suggested in place of the value, if there is one
-abbrev pub suggestion_of : Reason → Option (List ℕ)
-suggestion_of (NoWord list meant) = option_copied meant
-suggestion_of (Deprecated word) = Some word.now
-suggestion_of (NotCanonical canonical) = Some canonical.bytes
-suggestion_of (OtherCase word) = Some word.now
-suggestion_of _ = None
+-- the value that is suggested, if there is one
+abbrev pub value_meant : Reason → Option (List ℕ)
+value_meant (NoWord list meant) = option_copied meant
+value_meant (NotCanonical canonical) = Some canonical.bytes
+value_meant (OtherCase word) = Some word.now
+value_meant _ = None
+
+-- the key that is suggested in place of a deprecated one
+abbrev pub instead_of : Reason → Option (List ℕ)
+instead_of (Deprecated word) = Some word.now
+instead_of _ = None
 
 -- the fault of the reader that also refuses a text which no word of a list of this form is near
 abbrev pub fault_of_form : Form → Option faults.Fault
@@ -54,18 +60,21 @@ fault_of (Refused fault) = Some fault
 fault_of (NoWord list meant) = fault_of_list list.now.form meant
 fault_of _ = None
 
--- the finding that the row of a setting gives for a reason
-abbrev pub reason_finding : Setting → Row → Reason → Finding
-reason_finding setting row reason = record {
+-- the finding that the row of a setting, which this many entries precede, gives for a reason
+abbrev pub reason_finding : (before : ℕ) → Setting → Row → Reason → Finding
+reason_finding before setting row reason = record {
   file = setting.file.now;
   line = setting.line;
+  entry = Some before;
+  code = code_of reason;
   severity = severity_of row.goes_on reason;
   key = Some setting.key.items;
   row = Some (key_of row.key);
   value = value_of setting;
   reason = reason_text reason;
   fault = fault_of reason;
-  suggestion = suggestion_of reason;
+  suggested_key = instead_of reason;
+  suggested_value = value_meant reason;
 }
 
 -- the text of the key that is suggested, if a key is near
@@ -73,17 +82,20 @@ abbrev pub key_meant : UnknownKey → Option (List ℕ)
 key_meant unknown = option_map written (nearest_of unknown)
 
 -- the finding about a setting with an unknown key
-abbrev pub unknown_finding : Setting → UnknownKey → Finding
-unknown_finding setting unknown = record {
+abbrev pub unknown_finding : (before : ℕ) → Setting → UnknownKey → Finding
+unknown_finding before setting unknown = record {
   file = setting.file.now;
   line = setting.line;
+  entry = Some before;
+  code = kind.UnknownKey;
   severity = Warning;
   key = Some setting.key.items;
   row = None;
   value = None;
   reason = unknown_text unknown;
   fault = None;
-  suggestion = key_meant unknown;
+  suggested_key = key_meant unknown;
+  suggested_value = None;
 }
 
 -- why a file is refused at a line
@@ -95,13 +107,16 @@ abbrev pub refused_finding : List ℕ → errors.Error → Finding
 refused_finding file error = record {
   file = file;
   line = error.line;
+  entry = None;
+  code = kind.InvalidLine;
   severity = Error;
   key = None;
   row = None;
   value = None;
   reason = fault_text error.fault;
   fault = None;
-  suggestion = None;
+  suggested_key = None;
+  suggested_value = None;
 }
 
 -- ---- the report
@@ -122,7 +137,7 @@ pub data ReportsSetting (rows : List Row) (options : Options) (setting : Setting
   unknown : IsUnknown rows setting.key.items → IsPassed rows setting.key.items → said ≡ []
       → s' ≡ record s { entries = s.entries + 1; unknown = s.unknown + 1 }
       → ReportsSetting rows options setting s said s'
-  misspelled : (key : UnknownKey) → IsUnknownKey rows setting.key.items key → said ≡ unknown_finding setting key ∷ []
+  misspelled : (key : UnknownKey) → IsUnknownKey rows setting.key.items key → said ≡ unknown_finding s.entries setting key ∷ []
       → s' ≡ counted Warning (record s { entries = s.entries + 1; unknown = s.unknown + 1 })
       → ReportsSetting rows options setting s said s'
   right : (row : Row) → Decides rows setting.key.items row
@@ -130,7 +145,7 @@ pub data ReportsSetting (rows : List Row) (options : Options) (setting : Setting
       → s' ≡ record s { entries = s.entries + 1 } → ReportsSetting rows options setting s said s'
   found : (row : Row) (reason : Reason) → Decides rows setting.key.items row
       → HasFinding options.git options.canonical row (value_of setting) (Some reason)
-      → said ≡ reason_finding setting row reason ∷ []
+      → said ≡ reason_finding s.entries setting row reason ∷ []
       → s' ≡ counted (severity_of row.goes_on reason) (record s { entries = s.entries + 1 })
       → ReportsSetting rows options setting s said s'
 

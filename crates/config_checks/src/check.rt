@@ -8,8 +8,10 @@ ghost use Rattle.config_checks.specs.Reading.Steps.{HasRoom, HasRoomForFinding, 
 ghost use Rattle.config_checks.specs.Reading.Steps.{IsSaid, said_findings, is_reported};
 ghost use Rattle.config_checks.specs.Reading.Steps.{Tells, ReportsEntries};
 
+use crate::code::Code;
 use crate::finding::{
-    Finding, bytes_of, fault_of, fault_text, key_meant, push_reason, suggestion_of, value_of,
+    Finding, bytes_of, fault_of, fault_text, instead_of, key_meant, push_reason, value_meant,
+    value_of,
 };
 use crate::lookup::{row_for, runs_of};
 use crate::options::Options;
@@ -23,6 +25,17 @@ use std::alloc::{AllocError, Global};
 use std::{fmt, io};
 
 /// Why a check failed.
+///
+/// ```rust
+/// use config_checks::check::CheckError;
+/// use std::alloc::AllocError;
+///
+/// let text = match CheckError::Memory(AllocError) {
+///     CheckError::Write(_) => "the output cannot be written",
+///     CheckError::Memory(_) => "no memory",
+/// };
+/// assert_eq!(rt; text, "no memory");
+/// ```
 #[derive(Drop)]
 pub enum CheckError {
     /// What receives the findings could not write one.
@@ -32,6 +45,24 @@ pub enum CheckError {
 }
 
 /// What receives the findings of a check, one after the other.
+///
+/// ```rust
+/// use config_checks::check::{CheckError, Receiver};
+/// use config_checks::finding::Finding;
+///
+/// /// Counts findings.
+/// #[derive(Drop)]
+/// struct Count(u64);
+///
+/// impl Receiver for Count {
+///     ghost received = { λ _. None };
+///
+///     fn receive(&mut self, _: &Finding<'_>) -> Result<(), CheckError> {
+///         self.0 = self.0.saturating_add(1);
+///         Ok(())
+///     }
+/// }
+/// ```
 pub trait Receiver {
     /// The findings that it has received, if they are known.
     ghost received: { Self → Option (List Finding) };
@@ -44,6 +75,14 @@ pub trait Receiver {
 }
 
 /// The counts of a check.
+///
+/// ```rust
+/// use config_checks::check::Counts;
+///
+/// let counts = Counts { entries: 3, unknown: 1, findings: 1, errors: 1, warnings: 0 };
+/// let text = format!(in alloc; "{counts}")?;
+/// assert_eq!(rt; text.as_str(), "3 entries, 2 judged, 1 unknown key, 1 finding");
+/// ```
 #[derive(Clone, Copy, Default)]
 pub struct Counts {
     /// The number of entries.
@@ -108,16 +147,18 @@ impl fmt::Display for Counts {
     }
 }
 
-/// Hands on that a setting is wrong, or should be spelled in another way, for this reason of its row.
+/// Hands on that a setting is wrong, or should be spelled in another way, for this reason of its row. `before`
+/// is how many entries precede it.
 fn give_reason<R: Receiver>(
     alloc: Global,
+    before: u64,
     setting: &Setting<'_>,
     row: &Row<'_>,
     reason: &Reason<'_, '_>,
     receiver: &mut R,
 ) -> Result<(), CheckError>
     ensures ok { OnOk result (Receives (R.received receiver.old) (R.received receiver.new)
-        (reason_finding setting.now row.now reason.now ∷ [])) }
+        (reason_finding before setting.now row.now reason.now ∷ [])) }
     ensures err { OnErr result (Receives (R.received receiver.old) (R.received receiver.new) []) }
 {
     let mut text = Vec::new(alloc);
@@ -125,13 +166,16 @@ fn give_reason<R: Receiver>(
     receiver.receive(&Finding {
         file: setting.file,
         line: setting.line,
+        entry: Some(before),
+        code: reason.code(),
         severity: reason.severity(row.goes_on),
         key: Some(&setting.key),
         row: Some(row.key),
         value: value_of(setting),
         reason: &text,
         fault: fault_of(reason),
-        suggestion: suggestion_of(reason),
+        suggested_key: instead_of(reason),
+        suggested_value: value_meant(reason),
     })
 }
 
@@ -187,31 +231,36 @@ fn recalled(
     }
 }
 
-/// Hands on what is said of the unknown key of a setting, and returns whether there is anything.
+/// Hands on what is said of the unknown key of a setting, which `before` entries precede, and returns whether
+/// there is anything.
 fn give_said<'f, R: Receiver>(
+    before: u64,
     setting: &'f Setting<'_>,
     said: &'f Said,
     receiver: &mut R,
 ) -> Result<bool, CheckError>
     ensures ok { OnOk result (Receives (R.received receiver.old) (R.received receiver.new)
-        (said_findings setting.now said.now)) }
+        (said_findings before setting.now said.now)) }
     ensures reported { IfOk result (λ told. told ≡ is_reported said.now) }
     ensures err { OnErr result (Receives (R.received receiver.old) (R.received receiver.new) []) }
 {
     let Some(reason) = &said.reason else {
         return Ok(false);
     };
-    let suggestion = bytes_of(&said.meant);
+    let suggested_key = bytes_of(&said.meant);
     receiver.receive(&Finding {
         file: setting.file,
         line: setting.line,
+        entry: Some(before),
+        code: Code::UnknownKey,
         severity: Severity::Warning,
         key: Some(&setting.key),
         row: None,
         value: None,
         reason,
         fault: None,
-        suggestion,
+        suggested_key,
+        suggested_value: None,
     })?;
     Ok(true)
 }
@@ -240,6 +289,7 @@ fn report<R: Receiver>(
     ensures err { OnErr result (Receives (R.received receiver.old) (R.received receiver.new) []) }
 {
     let Progress { counts, last } = progress;
+    let before = counts.entries;
     let mut counts = Counts {
         entries: counts.entries + 1,
         ..counts
@@ -250,7 +300,7 @@ fn report<R: Receiver>(
             Ok(said) => said,
             Err(error) => return Err(CheckError::Memory(error)),
         };
-        if give_said(setting, &said, receiver)? {
+        if give_said(before, setting, &said, receiver)? {
             counts = counts.with(Severity::Warning);
         }
         return Ok(Progress {
@@ -261,7 +311,7 @@ fn report<R: Receiver>(
     let value = value_of(setting);
     match find(alloc, options.git, row, value, options.canonical) {
         Ok(Some(reason)) => {
-            give_reason(alloc, setting, row, &reason, receiver)?;
+            give_reason(alloc, before, setting, row, &reason, receiver)?;
             let counts = counts.with(reason.severity(row.goes_on));
             Ok(Progress { counts, last })
         }
@@ -322,13 +372,16 @@ fn tell<R: Receiver>(
     receiver.receive(&Finding {
         file,
         line: error.line,
+        entry: None,
+        code: Code::InvalidLine,
         severity: Severity::Error,
         key: None,
         row: None,
         value: None,
         reason: fault_text(error.fault).as_bytes(),
         fault: None,
-        suggestion: None,
+        suggested_key: None,
+        suggested_value: None,
     })?;
     Ok(counts.with(Severity::Error))
 }

@@ -9,9 +9,11 @@ ghost use Rattle.config_checks.specs.Findings.{hex, is_control, piece_shown, sho
 ghost use Rattle.config_checks.specs.Findings.{range_text, version_text, words_text, more_text, few_words_text};
 ghost use Rattle.config_checks.specs.Findings.{no_word_front, list_text, word_asked, meant_text, no_word_text};
 ghost use Rattle.config_checks.specs.Findings.{reason_text};
-ghost use Rattle.config_checks.specs.Report.{suggestion_of, fault_of_form, fault_of, key_meant, fault_text};
+ghost use Rattle.config_checks.specs.Report.{value_meant, instead_of, fault_of_form, fault_of};
+ghost use Rattle.config_checks.specs.Report.{key_meant, fault_text};
 ghost use Rattle.config_checks.specs.Settings.{value_of};
 
+use crate::code::Code;
 use crate::kind::{Form, WordList};
 use crate::reason::{Reason, Severity};
 use crate::setting::Setting;
@@ -255,12 +257,25 @@ pub fn push_reason(out: &mut Vec<u8>, reason: &Reason<'_, '_>) -> Result<(), All
 }
 
 /// What a check finds on a line of a file.
+///
+/// ```rust
+/// use config_checks::finding::Finding;
+///
+/// /// The value that a finding suggests, or what it says if it suggests none.
+/// fn hint<'f>(finding: &Finding<'f>) -> &'f [u8] {
+///     finding.suggested_value.unwrap_or(finding.reason)
+/// }
+/// ```
 #[derive(Clone, Copy)]
 pub struct Finding<'f> {
     /// The name of the file.
     pub file: &'f str,
     /// The number of the line, from 1: that of the key, or of the line that Git cannot read.
     pub line: usize,
+    /// How many entries of the file precede the one that it is about. `None` for a line that Git cannot read.
+    pub entry: Option<u64>,
+    /// What kind of finding it is.
+    pub code: Code,
     /// How bad it is.
     pub severity: Severity,
     /// The key of the entry, as Git lists it. `None` for a line that Git cannot read.
@@ -273,8 +288,10 @@ pub struct Finding<'f> {
     pub reason: &'f [u8],
     /// The fault of the reader that refuses the value, if one does and no word is suggested.
     pub fault: Option<gix_config_value::Fault>,
-    /// The text that is suggested in place of the value or of an unknown key, if there is one.
-    pub suggestion: Option<&'f [u8]>,
+    /// The key that is suggested in place of an unknown or a deprecated one, if there is one.
+    pub suggested_key: Option<&'f [u8]>,
+    /// The value that is suggested, if there is one.
+    pub suggested_value: Option<&'f [u8]>,
 }
 
 /// The bytes of a text that may be missing.
@@ -294,13 +311,22 @@ pub(crate) fn value_of<'s>(setting: &'s Setting<'_>) -> Option<&'s [u8]>
     bytes_of(&setting.value)
 }
 
-/// The text that is suggested in place of a value, if the reason has one.
-pub(crate) fn suggestion_of<'r>(reason: &'r Reason<'_, '_>) -> Option<&'r [u8]>
-    ensures { option_copied result ≡ suggestion_of reason.now }
+/// The key that is suggested in place of a deprecated one, if the reason has one.
+pub(crate) fn instead_of<'r>(reason: &'r Reason<'_, '_>) -> Option<&'r [u8]>
+    ensures { option_copied result ≡ instead_of reason.now }
+{
+    match reason {
+        Reason::Deprecated(word) => Some(word),
+        _ => None,
+    }
+}
+
+/// The value that is suggested, if the reason has one.
+pub(crate) fn value_meant<'r>(reason: &'r Reason<'_, '_>) -> Option<&'r [u8]>
+    ensures { option_copied result ≡ value_meant reason.now }
 {
     match reason {
         Reason::NoWord { meant, .. } => *meant,
-        Reason::Deprecated(word) => Some(word),
         Reason::NotCanonical(canonical) => Some(canonical.as_str().as_bytes()),
         Reason::OtherCase(word) => Some(word),
         _ => None,

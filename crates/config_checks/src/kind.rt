@@ -10,6 +10,17 @@ use crate::key::is_same_word;
 use gix_config_value::integer::Amount;
 
 /// What a text has to be, given the words of a list.
+///
+/// ```rust
+/// use config_checks::kind::{Form, SettingKind};
+/// use config_checks::table::read_row;
+///
+/// let row = read_row(alloc, b"core.safecrlf bool-or-word warn").expect(&rt, "a line").expect(&rt, "a row");
+/// let SettingKind::Word(list) = &row.kind else {
+///     return Ok(());
+/// };
+/// assert!(rt; matches!(list.form, Form::BoolOrWord));
+/// ```
 #[derive(Clone, Copy)]
 pub enum Form {
     /// It is one of the words.
@@ -28,6 +39,17 @@ pub enum Form {
 }
 
 /// The words of a row. A word that ends in `*` matches each text that begins with the part before the `*`.
+///
+/// ```rust
+/// use config_checks::kind::SettingKind;
+/// use config_checks::table::read_row;
+///
+/// let row = read_row(alloc, b"push.default word nothing current").expect(&rt, "a line").expect(&rt, "a row");
+/// let SettingKind::Word(list) = &row.kind else {
+///     return Ok(());
+/// };
+/// assert!(rt; list.find(b"current").is_some() && list.find(b"matching").is_none());
+/// ```
 #[derive(Drop)]
 pub struct WordList<'t> {
     /// The words.
@@ -39,6 +61,14 @@ pub struct WordList<'t> {
 }
 
 /// What a row demands of the value of a setting.
+///
+/// ```rust
+/// use config_checks::kind::SettingKind;
+/// use config_checks::table::read_row;
+///
+/// let row = read_row(alloc, b"core.bare bool").expect(&rt, "a line").expect(&rt, "a row");
+/// assert!(rt; matches!(row.kind, SettingKind::Bool) && row.kind.takes_true());
+/// ```
 #[derive(Drop)]
 pub enum SettingKind<'t> {
     /// Any text.

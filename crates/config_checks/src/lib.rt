@@ -2,8 +2,11 @@
 #![tactic(auto)]
 
 pub mod check;
+pub mod code;
 mod edits;
 pub mod finding;
+pub mod fingerprint;
+pub mod fix;
 pub mod git;
 pub mod json_line;
 pub mod key;

@@ -3,6 +3,14 @@
 use crate::version::Version;
 
 /// The options of a check.
+///
+/// ```rust
+/// use config_checks::options::Options;
+/// use config_checks::version::Version;
+///
+/// let git = Version::read(b"2.39").expect(&rt, "a version");
+/// let options = Options { git, canonical: true }; // also reports `yes`, which should be `true`
+/// ```
 #[derive(Clone, Copy)]
 pub struct Options {
     /// The version of Git by whose rows values are judged.

@@ -29,6 +29,16 @@ use std::alloc::{AllocError, Global};
 const SHORT: usize = 2;
 
 /// Why a setting is wrong, or how it should be spelled.
+///
+/// ```rust
+/// use config_checks::reason::{Reason, judge};
+/// use config_checks::table::read_row;
+///
+/// let row = read_row(alloc, b"core.abbrev int 4 64").expect(&rt, "a line").expect(&rt, "a row");
+/// assert!(rt; matches!(judge(alloc, &row, Some(b"3"))?, Some(Reason::OutOfRange { .. })));
+/// assert!(rt; matches!(judge(alloc, &row, None)?, Some(Reason::NoValue)));
+/// assert!(rt; judge(alloc, &row, Some(b"7"))?.is_none());
+/// ```
 #[derive(Clone, Copy)]
 pub enum Reason<'r, 't> {
     /// It has no value, and needs one.
@@ -58,6 +68,13 @@ pub enum Reason<'r, 't> {
 }
 
 /// How bad a finding is.
+///
+/// ```rust
+/// use config_checks::reason::{Reason, Severity};
+///
+/// // Git stops at a wrong value, unless the row says that it goes on
+/// assert!(rt; matches!(Reason::NoValue.severity(false), Severity::Error));
+/// ```
 #[derive(Clone, Copy)]
 pub enum Severity {
     /// A Git command fails because of it.

@@ -9,6 +9,13 @@ use crate::version::Version;
 use config_file::key::Key;
 
 /// A row says what the value of a setting has to be if the key of the row covers the setting's key.
+///
+/// ```rust
+/// use config_checks::table::read_row;
+///
+/// let row = read_row(alloc, b"color.*.* warn color").expect(&rt, "a line").expect(&rt, "a row");
+/// assert!(rt; row.goes_on && row.key.name() == b"*".as_slice());
+/// ```
 #[derive(Drop)]
 pub struct Row<'t> {
     /// The key, which may have `*` as its subsection and as its name.
@@ -28,6 +35,16 @@ pub struct Row<'t> {
 }
 
 /// Consecutive rows of one section. A search skips most runs, because it first compares their sections.
+///
+/// ```rust
+/// use config_checks::lookup::{row_for, runs_of};
+/// use config_checks::table::read_rows;
+///
+/// let mut rows = Vec::new(alloc);
+/// assert!(rt; read_rows(alloc, b"core.bare bool\ncore.* text\nuser.name text", &mut rows).is_ok());
+/// let runs = runs_of(alloc, &rows)?;
+/// assert!(rt; row_for(&runs, b"core.editor").is_some() && row_for(&runs, b"user.email").is_none());
+/// ```
 #[derive(Clone, Copy)]
 pub struct Run<'r, 't> {
     /// The section of each of the rows, ignoring ASCII case.

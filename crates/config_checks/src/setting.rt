@@ -7,6 +7,18 @@ use config_file::entry::Entry;
 use std::alloc::{AllocError, Global};
 
 /// An entry of a file, with its key as Git lists it and the text of its value.
+///
+/// ```rust
+/// use config_checks::setting::Setting;
+/// use config_file::Entries;
+///
+/// let entry = Entries::new(b"[Core]\n\tBare = yes # no\n").next();
+/// let entry = entry.expect(&rt, "an entry").expect(&rt, "a line that can be read");
+/// let setting = Setting::of_entry(alloc, "config", &entry)?;
+/// assert_eq!(rt; setting.line, 2);
+/// assert_eq!(rt; setting.key.as_slice(), b"core.bare".as_slice());
+/// assert!(rt; matches!(setting.value, Some(text) if text.as_slice() == b"yes".as_slice()));
+/// ```
 #[derive(Drop)]
 pub struct Setting<'a> {
     /// The name of the file.

@@ -266,6 +266,14 @@ fn is_own(runs: &[Run<'_, '_>], key: &Key<'_>) -> bool
 }
 
 /// A key that no row covers and that a check reports.
+///
+/// ```rust
+/// use config_checks::suggestion::{UnknownKey, push_unknown};
+///
+/// let mut text = Vec::new(alloc);
+/// push_unknown(&mut text, &UnknownKey { nearest: None })?;
+/// assert_eq!(rt; text.as_slice(), b"unknown key".as_slice());
+/// ```
 #[derive(Clone, Copy)]
 pub struct UnknownKey<'k> {
     /// The nearest key of the rows if a key is near, with parts of the unknown key in place of `*`.

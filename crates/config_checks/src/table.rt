@@ -22,6 +22,13 @@ use std::alloc::{AllocError, Global};
 use thiserror::Error;
 
 /// Why a line is not a row.
+///
+/// ```rust
+/// use config_checks::table::{RowFault, read_row};
+///
+/// assert!(rt; matches!(read_row(alloc, b"core.bare"), Err(RowFault::NoKind)));
+/// assert!(rt; matches!(read_row(alloc, b"# a comment"), Ok(None)));
+/// ```
 #[derive(Clone, Copy, Debug, Error)]
 pub enum RowFault {
     /// It has no kind after its key and its marks.
@@ -51,6 +58,15 @@ pub enum RowFault {
 }
 
 /// A line that is not a row.
+///
+/// ```rust
+/// use config_checks::table::read_rows;
+///
+/// let mut rows = Vec::new(alloc);
+/// let bad = read_rows(alloc, b"a.b text\na.c boolean\n", &mut rows).err();
+/// let text = format!(in alloc; "{}", bad.expect(&rt, "the second line is no row").fault)?;
+/// assert_eq!(rt; text.as_str(), "no such kind");
+/// ```
 #[derive(Clone, Copy, Debug)]
 pub struct BadRow {
     /// The number of the line, from 1.

@@ -8,6 +8,15 @@ use gix_config_value::canonical::TryRead;
 use gix_config_value::integer::Amount;
 
 /// A version of Git by its first two numbers: `2.55`, and also `2.55.0`.
+///
+/// ```rust
+/// use config_checks::version::Version;
+///
+/// let old = Version::read(b"2.39.5").expect(&rt, "a version");
+/// let new = Version::read(b"2.51").expect(&rt, "a version");
+/// assert!(rt; old.is_before(new));
+/// assert!(rt; Version::read(b"2").is_none());
+/// ```
 #[derive(Clone, Copy, Debug)]
 pub struct Version {
     /// The first number.

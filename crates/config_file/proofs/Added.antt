@@ -7,8 +7,8 @@ use Rattle.std.specs.Char.{to_ascii_lowercase, is_ascii_alphabetic}
 use Rattle.std.proofs.lemmas.List.{append_cancel_right}
 use Rattle.std.proofs.lemmas.Bool.{and_parts}
 use Rattle.std.proofs.lemmas.Bool.Decides.{nat_tests}
-use Rattle.config_file.specs.declared.edit.change.Place.{Place}
-use Rattle.config_file.specs.declared.edit.change.Places.{Places}
+use Rattle.config_file.specs.declared.edit.setting.Place.{Place}
+use Rattle.config_file.specs.declared.edit.setting.Places.{Places}
 use Rattle.config_file.specs.declared.edit.write.End.{End}
 use Rattle.config_file.specs.declared.edit.write.End.TheVariants as end
 use Rattle.config_file.specs.declared.edit.piece.Held.{Held}
@@ -223,7 +223,7 @@ placing_ends {key = key} {text = text} {contents = contents} {is_inside = is_ins
 letter_is_key_byte : (b : ℕ) → is_ascii_alphabetic b ≡ true → is_key_byte b ≡ true
 letter_is_key_byte b is = grind (arith, nat_tests)
 
-name_parts : (name : List ℕ) → is_name name ≡ true
+pub name_parts : (name : List ℕ) → is_name name ≡ true
     → (b : ℕ) × (more : List ℕ) × (name ≡ b ∷ more) × (is_ascii_alphabetic b ≡ true) × (list_all is_key_byte name ≡ true)
 name_parts [] is = absurd (true≢false (sym is))
 name_parts (b ∷ more) is =

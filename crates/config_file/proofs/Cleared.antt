@@ -10,9 +10,9 @@ use Rattle.config_file.specs.declared.section.Section as code
 use Rattle.config_file.specs.Key.{Key}
 use Rattle.config_file.specs.Header.{Section}
 use Rattle.config_file.specs.Edit as spec
-use Rattle.config_file.specs.Edit.{Content, IsIn, WithoutIn, NoneIn, Changes, LosesSection, IsEnd, AreBlank}
+use Rattle.config_file.specs.Edit.{Content, IsIn, WithoutIn, NoneIn, Changes, LosesSection, IsEnd, AreBlank, IsBody, IsTail}
 use Rattle.config_file.specs.Reading.Edits.{Holds, Ends, Passed, anywhere, IsRead}
-use Rattle.config_file.specs.Reading.Edits.{IsPiece, contents_in, section_after, IsPast, IsHead, IsCleared}
+use Rattle.config_file.specs.Reading.Edits.{IsPiece, IsMade, contents_in, section_after, IsPast, IsHead, IsCleared}
 use Rattle.config_file.specs.Reading.Edits.{IsKept, IsLost, Clearing, ClearsPiece, IsBefore}
 use Rattle.config_file.specs.Views.{section_of}
 use Rattle.config_file.proofs.Pieces.{made_passed}
@@ -59,7 +59,7 @@ kept_before some r =
 with_end : {key : Key} {gone : List ℕ} (end : List ℕ) → IsEnd end → LosesSection key gone []
     → LosesSection key gone end
 with_end end is loses =
-    record { blanks = loses.blanks; header = loses.header; body = loses.body; joined = loses.joined; are_blank = loses.are_blank; is_header = loses.is_header; is_end = is }
+    record { blanks = loses.blanks; header = loses.header; body = loses.body; joined = loses.joined; are_blank = loses.are_blank; is_header = loses.is_header; is_body = loses.is_body; is_end = is }
 
 pub lost_before : {key : Key} {text rest new : List ℕ} {lost : Lost} {is_found : Bool} (end comments : List ℕ)
     → rest ≢ [] → IsLost key text rest new lost → is_found ≡ true → IsEnd end
@@ -100,8 +100,8 @@ header_lost {key = key} {text = text} {rest = rest} {new = new} piece lost r is 
     ∙ append-nil r.old in
     let past = past_more piece r.past is shorter in
     let bytes = piece.bytes.now in
-    let head : IsHead key bytes false =
-    header_may_go key piece.held header piece.blanks.now bytes piece.rest.now piece.is_line e is.blank is.made is_in false in
+    let head : IsHead key bytes true =
+    header_may_go key piece.held header piece.blanks.now bytes piece.rest.now piece.is_line e is.blank is.made is_in true in
     record {
       front = r.front;
       gone = bytes;
@@ -118,8 +118,9 @@ header_lost {key = key} {text = text} {rest = rest} {new = new} piece lost r is 
       new_is = r.new_is;
       cut = cut;
       are_comments = λ any. anywhere (holds_nothing any);
+      is_body = spec.none;
       is_end = is_end;
-      loses = record { blanks = head.blanks; header = head.header; body = head.tail; joined = head.joined; are_blank = head.are_blank; is_header = head.is_header; is_end = inl refl };
+      loses = record { blanks = head.blanks; header = head.header; body = head.tail; joined = head.joined; are_blank = head.are_blank; is_header = head.is_header; is_body = subst IsBody (sym (head.alone refl)) spec.none; is_end = inl refl };
       without = r.without;
       changes = r.changes;
     }
@@ -187,9 +188,28 @@ all_lost key (held.Header new) section is = spec.none
 all_lost key held.Nothing section is = spec.none
 all_lost key held.Comment section is = spec.none
 
-more_gone : {key : Key} {gone : List ℕ} (bytes : List ℕ) → LosesSection key gone []
+body_joined : {first second : List ℕ} → IsBody first → IsBody second → IsBody (first ++ second)
+body_joined {first = first} is spec.none = subst IsBody (sym (append-nil first)) is
+body_joined {first = first} is (spec.entry {body = body} {bytes = bytes} more entry) =
+    subst IsBody (append_assoc first body bytes) (spec.entry (body_joined is more) entry)
+body_joined {first = first} is (spec.line {body = body} {tail = tail} blanks more all t) =
+    subst IsBody (append_assoc first body (blanks ++ tail)) (spec.line blanks (body_joined is more) all t)
+
+line_body : {bytes tail rest : List ℕ} {is_line : Bool} (blanks : List ℕ) → AreBlank blanks
+    → bytes ≡ blanks ++ tail → IsTail tail rest is_line → IsBody bytes
+line_body blanks all joined t = subst IsBody (sym joined) (spec.line blanks spec.none all t)
+
+piece_body : (h : Held) (blanks rest : List ℕ) (is_line : Bool) {bytes : List ℕ}
+    → ((header : code.Section) → h ≡ held.Header header → ⊥) → AreBlank blanks
+    → IsMade h blanks bytes rest is_line → IsBody bytes
+piece_body (held.Header header) blanks rest is_line no_header all made = absurd (no_header header refl)
+piece_body (held.Entry parts) blanks rest is_line no_header all made = spec.entry spec.none made
+piece_body held.Nothing blanks rest is_line no_header all (tail, joined, t, none) = line_body blanks all joined t
+piece_body held.Comment blanks rest is_line no_header all (tail, joined, t) = line_body blanks all joined t
+
+more_gone : {key : Key} {gone : List ℕ} (bytes : List ℕ) → IsBody bytes → LosesSection key gone []
     → LosesSection key (gone ++ bytes) []
-more_gone bytes loses =
+more_gone bytes is_body loses =
     record {
       blanks = loses.blanks;
       header = loses.header;
@@ -199,6 +219,7 @@ more_gone bytes loses =
           ∙ ap (λ x. loses.blanks ++ x) (append_assoc loses.header loses.body bytes);
       are_blank = loses.are_blank;
       is_header = loses.is_header;
+      is_body = body_joined loses.is_body is_body;
       is_end = loses.is_end;
     }
 
@@ -243,6 +264,7 @@ piece_lost {key = key} {text = text} {rest = rest} {new = new} {lost = lost} pie
             (subst (λ c. Passed any bytes c any piece.rest.now) none
             (subst (λ s. Passed any bytes (contents_in piece.held any) s piece.rest.now) stays
             (made_passed piece.held piece.blanks.now piece.is_line is.blank is.made any)));
+        is_body = body_joined r.is_body (piece_body piece.held piece.blanks.now piece.rest.now piece.is_line no_header is.blank is.made);
         is_end = is_end;
         loses = r.loses;
         without = without;
@@ -263,8 +285,9 @@ piece_lost {key = key} {text = text} {rest = rest} {new = new} {lost = lost} pie
         new_is = r.new_is;
         cut = begins;
         are_comments = λ any. anywhere (holds_nothing any);
+        is_body = spec.none;
         is_end = is_end;
-        loses = more_gone bytes (more_gone r.comments r.loses);
+        loses = more_gone bytes (piece_body piece.held piece.blanks.now piece.rest.now piece.is_line no_header is.blank is.made) (more_gone r.comments r.is_body r.loses);
         without = without;
         changes = r.changes;
       }
@@ -348,7 +371,7 @@ lost_ends {key = key} {text = text} {new = new} end r whole left is_end =
     let none : Passed None (new ++ end) r.now r.base [] =
     anywhere (subst (λ c. Holds None (new ++ end) c r.base) (append-nil r.now) holds) in
     let put : Changes (LosesSection key) (r.gone ++ r.comments) end =
-    spec.changed spec.none (with_end end is_end (more_gone r.comments r.loses)) in
+    spec.changed spec.none (with_end end is_end (more_gone r.comments r.is_body r.loses)) in
     record {
       now = r.now;
       ends = passed_ends refl none;

@@ -1,6 +1,7 @@
 -- What edits make of a text, with its mark or without.
 use Rattle.std.proofs.Common.{◌≡◌, ℕ, Bool, false, List, [], ◌∷◌, ◌++◌, Option, None, map, refl}
 use Rattle.std.proofs.Common.{sym, ap, ◌∙◌, subst, append_assoc, inl, inr}
+use Rattle.config_file.specs.declared.edit.Change.{Change}
 use Rattle.config_file.specs.declared.edit.removal.Count.TheVariants as count
 use Rattle.config_file.specs.declared.edit.removal.Taken.{Taken}
 use Rattle.config_file.specs.File.{Entry, IsFile}
@@ -12,8 +13,8 @@ use Rattle.config_file.specs.Spelling.{HasNoHeader}
 use Rattle.config_file.specs.Edit.{Content, content, HasContents, Changes, ChangesBytes, ChangesKey}
 use Rattle.config_file.specs.Edit.{ReplacesKey, AddsKey, PutsLine, MayReplace, MayUnset}
 use Rattle.config_file.specs.Edit.{LosesOne, Without, NamesSection, LosesSection, RemovesSection}
-use Rattle.config_file.specs.Edit.{RenamesSection, NoneIn, LacksSection, LacksHeader}
-use Rattle.config_file.specs.Reading.Edits.{IsSplit, IsReplaced, IsAdded, IsTaken, IsCleared, Counted}
+use Rattle.config_file.specs.Edit.{RenamesSection, NoneIn, LacksSection, LacksHeader, ChangesEntries, MayChange}
+use Rattle.config_file.specs.Reading.Edits.{IsSplit, IsReplaced, IsAdded, IsTaken, IsCleared, Counted, IsEachChanged}
 use Rattle.config_file.specs.Reading.Edits.{RefusesName}
 use Rattle.config_file.proofs.OneKey.{cut_same, not_both}
 use Rattle.config_file.proofs.Changed.{change_behind}
@@ -168,3 +169,15 @@ pub same_name : {text old_name new_name edited : List ℕ} (entries : List Entry
     → old_name ≡ new_name → edited ≡ text → RenamesSection old_name new_name text edited
 same_name entries is_file same edited_is =
     (map content entries, (entries, is_file, refl), inl (same, edited_is))
+
+pub changed_entries : {changes : List Change} {text mark body new : List ℕ} {contents : List Content}
+    → HasContents text contents → IsSplit text mark body → IsEachChanged changes body contents new
+    → ChangesEntries changes text (mark ++ new)
+changed_entries {changes = changes} {mark = mark} {new = new} {contents = contents} has split r = (
+  contents,
+  has,
+  r.now,
+  file_of split r.ends,
+  r.each,
+  subst (λ t. Changes (MayChange changes) t (mark ++ new)) (sym (split_joined split)) (changes_marked mark r.bytes),
+)

@@ -1,7 +1,8 @@
 -- Texts that are put together from pieces.
 use Rattle.std.proofs.Common.{◌≡◌, ◌≢◌, ℕ, ◌+◌, ◌<◌, Bool, true, false, List, [], ◌∷◌, ◌++◌, Option, Some}
 use Rattle.std.proofs.Common.{None, length, map, refl, sym, ap, ◌∙◌, subst, append_assoc, append-nil, arith}
-use Rattle.std.proofs.Common.{inl, inr, ◌⊎◌, true≢false}
+use Rattle.std.proofs.Common.{inl, inr, ◌⊎◌, ◌==◌, true≢false}
+use Rattle.std.proofs.lemmas.Bool.Decides.{nat_tests}
 use Rattle.std.proofs.lemmas.List.{map-append}
 use Rattle.config_file.specs.declared.edit.piece.Held.{Held}
 use Rattle.config_file.specs.declared.edit.piece.Held.TheVariants as held
@@ -115,6 +116,20 @@ all_passed {section = section} {front = front} {all = all} joined passed whole (
     let moved : Ends section front all = subst (λ t. Ends section t all) same whole in
     (none, same, ends_once (passed_ends none passed) moved)
 all_passed joined passed whole (inr not_read) = absurd (not_read (left_read joined passed whole))
+
+pub is_none_left : (rest : List ℕ) → true ≡ (length rest == 0) → rest ≡ []
+is_none_left [] none = refl
+is_none_left (b ∷ rest) none = grind (arith, nat_tests)
+
+pub is_some_left : (rest : List ℕ) → false ≡ (length rest == 0) → rest ≢ []
+is_some_left rest some none = absurd (true≢false (sym (some ∙ ap (λ r. length r == 0) none)))
+
+-- where a piece cannot be read, the text is no file
+pub not_read : {section next : Option Section} {text front rest : List ℕ} {xs all : List Content}
+    → text ≡ front ++ rest → Passed section front xs next rest
+    → rest ≢ [] → (rest ≡ []) ⊎ (¬ (IsRead rest)) → ¬ (Ends section text all)
+not_read joined passed some (inl none) = λ whole. some none
+not_read joined passed some (inr not) = λ whole. not (left_read joined passed whole)
 
 -- a piece of a text
 pub some_left : (text rest : List ℕ) → length rest < length text → text ≢ []
@@ -419,3 +434,12 @@ section_renamed {text = text} {mark = mark} {body = body} {new = new} entries fr
       inr
           (from, to, names, names_now, now, file_of split ends, renames, whole),
     )
+
+pub text_of : {text mark body : List ℕ} {contents : List Content} → IsSplit text mark body
+    → Ends None body contents → HasContents text contents
+text_of {contents = contents} split ends =
+    subst (λ t. HasContents t contents) (sym (split_joined split)) (file_of split ends)
+
+pub no_file : {text mark body : List ℕ} → IsSplit text mark body
+    → ((contents : List Content) → ¬ (Ends None body contents)) → (entries : List Entry) → ¬ (IsFile text entries None)
+no_file split none entries = λ is_file. none (map content entries) (body_ends is_file split)

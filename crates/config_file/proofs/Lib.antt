@@ -66,6 +66,7 @@ pub mod Replaced
 pub mod Closed
 pub mod Added
 pub mod EditedKeys
+pub mod EachEntry
 pub mod Removed
 pub mod Cleared
 pub mod Decided

@@ -2,7 +2,7 @@
 use Rattle.std.proofs.Common.{◌≡◌, ◌≢◌, ℕ, ◌+◌, ◌<◌, Bool, false, List, [], ◌∷◌, ◌++◌, Option, Some}
 use Rattle.std.proofs.Common.{None, is_some, length, refl, sym, ap, ◌∙◌, subst, append_assoc, append-nil, inl}
 use Rattle.std.proofs.Common.{inr, ◌⊎◌, true≢false}
-use Rattle.config_file.specs.declared.edit.change.Found.{Found}
+use Rattle.config_file.specs.declared.edit.setting.Found.{Found}
 use Rattle.config_file.specs.declared.edit.piece.Held.{Held}
 use Rattle.config_file.specs.declared.edit.piece.Held.TheVariants as held
 use Rattle.config_file.specs.declared.edit.piece.Piece.{Piece}
@@ -29,7 +29,7 @@ use Rattle.config_file.proofs.LineEnds.{rest_none}
 use Rattle.config_file.proofs.Changed.{change_in}
 use Rattle.config_file.proofs.Pieces.{entry_passed, made_passed}
 use Rattle.config_file.proofs.Edits.{holds_nothing, holds_join, holds_end, passed_holds, passed_join}
-use Rattle.config_file.proofs.Edits.{passed_ends, ends_once, all_passed, some_left, joined_more}
+use Rattle.config_file.proofs.Edits.{passed_ends, ends_once, not_read, some_left, joined_more}
 use Rattle.config_file.proofs.Edits.{header_listed}
 
 -- texts one after the other
@@ -321,19 +321,18 @@ change_once {Other = Other} {new = new} also c =
 
 -- at the end of the text
 pub none_replaced : (key : Key) (text rest start new : List ℕ) (section : Option Section) (several : Bool)
-    (contents : List Content)
-    → Replacing key text rest start new section None several
-    → Ends None text contents → (rest ≡ []) ⊎ (¬ (IsRead rest)) → HasNone key contents
-none_replaced key text rest start new section several contents (front, passed, past, nothing, start_is, new_is, several_is) whole left =
-    let (rest_is, text_is, contents_are) = all_passed past.joined past.passed whole left in
-    subst (λ c. HasNone key c) contents_are nothing
+    → Replacing key text rest start new section None several → rest ≡ []
+    → (contents : List Content) × Ends None text contents × HasNone key contents
+none_replaced key text rest start new section several (front, contents, past, nothing, start_is, new_is, several_is) none =
+    let text_is : text ≡ front = past.joined ∙ ap (λ r. front ++ r) none ∙ append-nil front in
+    (contents, subst (λ t. Ends None t contents) (sym text_is) (passed_ends none past.passed), nothing)
 
-pub one_replaced : {key : Key} {text rest start new value put : List ℕ} {contents : List Content}
+pub one_replaced : {key : Key} {text rest start new value put : List ℕ}
     {section : Option Section} {several : Bool} {f : Found}
-    → IsFound key text rest start new section f several → Ends None text contents
-    → (rest ≡ []) ⊎ (¬ (IsRead rest)) → IsSet f.parts f.piece value put
-    → IsReplaced key value text contents (new ++ (put ++ start)) several
-one_replaced {key = key} {text = text} {rest = rest} {start = start} {new = new} {value = value} {put = put} {contents = contents} {section = section} {f = f} r whole left set =
+    → IsFound key text rest start new section f several
+    → rest ≡ [] → IsSet f.parts f.piece value put
+    → (contents : List Content) × Ends None text contents × IsReplaced key value text contents (new ++ (put ++ start)) several
+one_replaced {key = key} {text = text} {rest = rest} {start = start} {new = new} {value = value} {put = put} {section = section} {f = f} r rest_is set =
     let x : Content = content_of r.at f.parts in
     let now_x : Content = (r.at, f.parts.key.now, Some set.raw) in
     let rest_now : f.piece.rest.now ≡ r.between ++ rest = sym r.start_is ∙ r.cut in
@@ -353,54 +352,74 @@ one_replaced {key = key} {text = text} {rest = rest} {start = start} {new = new}
     r.joined ∙ ap (λ s. r.front ++ (f.piece.bytes.now ++ s)) r.cut
     ∙ ap (λ s. r.front ++ s) (sym (append_assoc f.piece.bytes.now r.between rest))
     ∙ sym (append_assoc r.front (f.piece.bytes.now ++ r.between) rest) in
-    let (rest_is, text_is, contents_are) = all_passed joined passed whole left in
+    let text_is : text ≡ front = joined ∙ ap (λ t. front ++ t) rest_is ∙ append-nil front in
+    let contents : List Content = r.before ++ x ∷ r.after in
     let start_is : r.between ≡ start =
-    sym (r.cut ∙ ap (λ s. r.between ++ s) rest_is ∙ append-nil r.between) in
-    let x_is : x.2 ≡ value_of f.parts.value = refl in
-    record {
-      now = r.left ++ now_x ∷ r.after;
-      ends = passed_ends rest_is
-          (subst (λ s. Passed None (new ++ (put ++ s))
-          (r.left ++ now_x ∷ r.after) section rest) start_is passed_now);
-      replaces = record {
-        before = r.before;
-        left = r.left;
-        after = r.after;
-        x = x;
-        raw = set.raw;
-        old_is = sym contents_are;
-        is_of = r.is_of;
-        last = r.last;
-        others = r.others;
-        has_value = set.has_value;
-        new_is = refl;
-      };
-      changes = subst (λ t. Changes (MayReplace key value) t (new ++ (put ++ start))) (sym r.joined)
-          (changes_with r.front new start (changes_more (λ gone put loses. inl loses) r.changes)
-          (elim set.bytes [
-            | inl same ↦ subst (λ p. Changes (MayReplace key value) f.piece.bytes.now p) (sym same.1)
-                (all_kept f.piece.bytes.now)
-            | inr other ↦ change_once (λ gone put may. inr may) other.1
-          ]));
-      single = λ one.
-          let (new_is, left_is) = r.single one in (
-            subst (λ l. Without key r.before l) left_is r.others,
-            subst (λ n. ChangesBytes (value_of f.parts.value) value text (n ++ (put ++ start))) (sym new_is)
-                (subst (λ t. ChangesBytes (value_of f.parts.value) value t (r.front ++ (put ++ start)))
-                (sym r.joined)
-                (elim set.bytes [
-                  | inl same ↦ inl (same.0, ap (λ p. r.front ++ (p ++ start)) same.1)
-                  | inr other ↦ inr (other.0, change_in r.front start other.1)
-                ])),
-          );
-      many = λ yes.
-          let (before, between, after, a, b, e, is_a, is_b) = r.many yes in
-          let all_is : r.before ++ x ∷ r.after ≡ before ++ a ∷ (between ++ b ∷ (after ++ r.after)) =
-          sym (append_assoc r.before (x ∷ []) r.after) ∙ ap (λ c. c ++ r.after) e
-          ∙ append_assoc before (a ∷ (between ++ b ∷ after)) r.after
-          ∙ ap (λ c. before ++ a ∷ c) (append_assoc between (b ∷ after) r.after) in
-          (before, between, after ++ r.after, a, b, sym contents_are ∙ all_is, is_a, is_b);
-    }
+    sym (r.cut ∙ ap (λ s. r.between ++ s) rest_is ∙ append-nil r.between) in (
+      contents,
+      subst (λ t. Ends None t contents) (sym text_is) (passed_ends rest_is passed),
+      record {
+        now = r.left ++ now_x ∷ r.after;
+        ends = passed_ends rest_is
+            (subst (λ s. Passed None (new ++ (put ++ s))
+            (r.left ++ now_x ∷ r.after) section rest) start_is passed_now);
+        replaces = record {
+          before = r.before;
+          left = r.left;
+          after = r.after;
+          x = x;
+          raw = set.raw;
+          old_is = refl;
+          is_of = r.is_of;
+          last = r.last;
+          others = r.others;
+          has_value = set.has_value;
+          new_is = refl;
+        };
+        changes = subst (λ t. Changes (MayReplace key value) t (new ++ (put ++ start))) (sym r.joined)
+            (changes_with r.front new start (changes_more (λ gone put loses. inl loses) r.changes)
+            (elim set.bytes [
+              | inl same ↦ subst (λ p. Changes (MayReplace key value) f.piece.bytes.now p) (sym same.1)
+                  (all_kept f.piece.bytes.now)
+              | inr other ↦ change_once (λ gone put may. inr may) other.1
+            ]));
+        single = λ one.
+            let (new_is, left_is) = r.single one in (
+              subst (λ l. Without key r.before l) left_is r.others,
+              subst (λ n. ChangesBytes (value_of f.parts.value) value text (n ++ (put ++ start))) (sym new_is)
+                  (subst (λ t. ChangesBytes (value_of f.parts.value) value t (r.front ++ (put ++ start)))
+                  (sym r.joined)
+                  (elim set.bytes [
+                    | inl same ↦ inl (same.0, ap (λ p. r.front ++ (p ++ start)) same.1)
+                    | inr other ↦ inr (other.0, change_in r.front start other.1)
+                  ])),
+            );
+        many = λ yes.
+            let (before, between, after, a, b, e, is_a, is_b) = r.many yes in
+            let all_is : r.before ++ x ∷ r.after ≡ before ++ a ∷ (between ++ b ∷ (after ++ r.after)) =
+            sym (append_assoc r.before (x ∷ []) r.after) ∙ ap (λ c. c ++ r.after) e
+            ∙ append_assoc before (a ∷ (between ++ b ∷ after)) r.after
+            ∙ ap (λ c. before ++ a ∷ c) (append_assoc between (b ∷ after) r.after) in
+            (before, between, after ++ r.after, a, b, all_is, is_a, is_b);
+      },
+    )
+
+pub not_replaced : (key : Key) (text rest start new : List ℕ) (section : Option Section) (several : Bool)
+    (found : Option Found) → Replacing key text rest start new section found several
+    → rest ≢ [] → (rest ≡ []) ⊎ (¬ (IsRead rest)) → (contents : List Content) → ¬ (Ends None text contents)
+not_replaced key text rest start new section several None (front, xs, past, nothing, start_is, new_is, several_is) some end contents =
+    not_read past.joined past.passed some end
+not_replaced key text rest start new section several (Some f) r some end contents =
+    let piece = f.piece in
+    let goes_on : piece.rest.now ≢ [] = λ none. some (rest_none r.between rest (sym r.cut ∙ r.start_is ∙ none)) in
+    let entry = passed_holds goes_on (entry_passed piece.blanks.now piece.is_line r.blank r.is_entry r.at) in
+    let passed = holds_then r.front (piece.bytes.now ++ r.between) r.before_is
+    (holds_then piece.bytes.now r.between entry r.between_is) in
+    let joined : text ≡ (r.front ++ (piece.bytes.now ++ r.between)) ++ rest =
+    r.joined ∙ ap (λ s. r.front ++ (piece.bytes.now ++ s)) r.cut
+    ∙ ap (λ s. r.front ++ s) (sym (append_assoc piece.bytes.now r.between rest))
+    ∙ sym (append_assoc r.front (piece.bytes.now ++ r.between) rest) in
+    not_read joined passed some end
 
 -- what the code needs to know on its way
 pub replacing_listable : (key : Key) (text rest start new : List ℕ) (section : Option Section)

@@ -1,8 +1,9 @@
 -- Edits of a text: what changes in its entries, and what in its bytes.
 use Rattle.std.specs.Prelude.{◌≡◌, ◌≢◌, ℕ, Bool, true, false, List, [], ◌∷◌, ◌++◌, Option, Some, None, map}
-use Rattle.std.specs.Prelude.{◌⊎◌, ⊤}
+use Rattle.std.specs.Prelude.{◌⊎◌, ⊤, ◌+◌, ◌≤◌, ◌<◌, length, option_copied, MatchOption}
 use Rattle.std.specs.Char.{to_ascii_lowercase}
 use Rattle.std.specs.List.{list_all, AllZip}
+use Rattle.config_file.specs.declared.edit.Change.{Change}
 use Rattle.config_file.specs.declared.edit.EditError.{EditError}
 use Rattle.config_file.specs.declared.edit.EditError.TheVariants as error
 use Rattle.config_file.specs.Bytes.{tab, line_feed, carriage_return, dot, space, equals_sign, left_bracket}
@@ -13,7 +14,9 @@ use Rattle.config_file.specs.Spelling.{Names, IsHeader, IsSpelling, HasNoHeader,
 use Rattle.config_file.specs.File.{Entry, TakesEntry, IsFile}
 use Rattle.config_file.specs.Bytes.{BeginsWithLetter}
 use Rattle.config_file.specs.Listing.{IsListedSection}
-use Rattle.config_file.specs.Key.{Key, IsKey, RefusesKey, stem}
+use Rattle.config_file.specs.declared.key.KeyError.{KeyError}
+use Rattle.config_file.specs.declared.key.KeyError.TheVariants as key_error
+use Rattle.config_file.specs.Key.{Key, IsKey, RefusesKey, stem, is_name}
 
 -- an entry without its line: its section, its key and the bytes of its value
 abbrev pub Content : Type 0
@@ -293,7 +296,15 @@ pub record PutsLine (key : Key) (value : List ℕ) (contents : List Content) (ol
   pub is_header : IsNewHeader key contents back feed header
   pub spells : IsSpelling spelling value
 
--- a header of a section of the key goes, with what follows it
+-- entries, comments and blanks, each up to the end of its line, and no header
+pub data IsBody : List ℕ → Type 0 where
+  none : IsBody []
+  entry : {body key at blanks bytes rest : List ℕ} {value : Option (List ℕ)} {lines : ℕ} {is_line : Bool}
+      → IsBody body → IsEntry key value lines at blanks bytes rest is_line → IsBody (body ++ bytes)
+  line : {body tail rest : List ℕ} {is_line : Bool} (blanks : List ℕ)
+      → IsBody body → AreBlank blanks → IsTail tail rest is_line → IsBody (body ++ (blanks ++ tail))
+
+-- a header of a section of the key goes, with what precedes the next header
 pub record LosesSection (key : Key) (gone put : List ℕ) : Type 0 where
   pub blanks : List ℕ
   pub header : List ℕ
@@ -301,6 +312,7 @@ pub record LosesSection (key : Key) (gone put : List ℕ) : Type 0 where
   pub joined : gone ≡ blanks ++ (header ++ body)
   pub are_blank : AreBlank blanks
   pub is_header : IsHeaderOf key header
+  pub is_body : IsBody body
   pub is_end : IsEnd put
 
 -- The new text is a file without the entries of the sections of this name, and those sections are gone.
@@ -405,3 +417,76 @@ abbrev pub Decides : List ℕ → List ℕ → List ℕ → Type 0
 Decides name value text =
     (key : Key) × IsKey name key × (before : List Content) × (x : Content) × (after : List Content)
     × HasContents text (before ++ x ∷ after) × IsOf key x × HasValue x.2 value × HasNone key after
+
+-- the change is one of these
+abbrev pub Has : List Change → Change → Type 0
+Has changes change = (before after : List Change) × (changes ≡ before ++ change ∷ after)
+
+-- an entry before and after a change: it has the last part of the key and the value of the change, where that has them
+abbrev pub IsChanged : Change → Content → Content → Type 0
+IsChanged change x y = (y.0 ≡ x.0) × MatchOption (option_copied change.name) (y.1 ≡ x.1) (λ name. y.1 ≡ name)
+    × MatchOption (option_copied change.value) (y.2 ≡ x.2) (HasValue y.2)
+
+-- the entry that each of the changes names is changed now, and the others are as they were
+pub data ChangesEach : List Change → List Content → List Content → Type 0 where
+  none : ChangesEach [] [] []
+  kept : (x : Content) {changes : List Change} {old new : List Content}
+      → ChangesEach changes old new → ChangesEach changes (old ++ x ∷ []) (new ++ x ∷ [])
+  changed : (change : Change) (x y : Content) {changes : List Change} {old new : List Content}
+      → ChangesEach changes old new → change.entry ≡ length old → IsChanged change x y
+      → ChangesEach (changes ++ change ∷ []) (old ++ x ∷ []) (new ++ y ∷ [])
+
+-- of this many entries, the changes name some from this one on, each behind the one before
+abbrev pub AreInOrder : ℕ → List Change → ℕ → Type 0
+AreInOrder from [] count = ⊤
+AreInOrder from (change ∷ changes) count =
+    (from ≤ change.entry) × (change.entry < count) × AreInOrder (change.entry + 1) changes count
+
+-- in an entry, bytes of the value become a spelling of the one of the change, and then the key becomes another
+pub record ChangesEntry (change : Change) (gone put : List ℕ) : Type 0 where
+  pub key : List ℕ
+  pub value : Option (List ℕ)
+  pub lines : ℕ
+  pub at : List ℕ
+  pub blanks : List ℕ
+  pub rest : List ℕ
+  pub is_line : Bool
+  pub valued : List ℕ
+  pub is_entry : IsEntry key value lines at blanks gone rest is_line
+  pub is_valued : MatchOption (option_copied change.value) (valued ≡ gone) (λ new. ChangesBytes value new gone valued)
+  pub is_named : MatchOption (option_copied change.name) (put ≡ valued)
+      (λ name. (more : List ℕ) × (valued ≡ blanks ++ (key ++ more)) × (put ≡ blanks ++ (name ++ more)))
+
+-- an entry changes as one of the changes asks
+abbrev pub MayChange : List Change → List ℕ → List ℕ → Type 0
+MayChange changes gone put = (change : Change) × Has changes change × ChangesEntry change gone put
+
+-- what `change_entries` makes: the entries that the changes name are changed, and no other bytes
+abbrev pub ChangesEntries : List Change → List ℕ → List ℕ → Type 0
+ChangesEntries changes old new = (contents : List Content) × HasContents old contents
+    × (now : List Content) × HasContents new now × ChangesEach changes contents now
+    × Changes (MayChange changes) old new
+
+-- why a text is not the last part of a key: it is empty, or has a wrong byte
+abbrev pub RefusesLastPart : Option (List ℕ) → KeyError → Type 0
+RefusesLastPart (Some []) key_error.NoName = ⊤
+RefusesLastPart (Some (b ∷ more)) key_error.BadByte = is_name (b ∷ more) ≡ false
+RefusesLastPart _ _ = ⊥
+
+-- why a change is refused: by its name, or by its value
+abbrev pub RefusesOneChange : Change → EditError → Type 0
+RefusesOneChange change (error.Key e) = RefusesLastPart (option_copied change.name) e
+RefusesOneChange change error.Value = LacksSpelling (option_copied change.value)
+RefusesOneChange change _ = ⊥
+
+-- why changes are refused of which one cannot be written
+abbrev pub RefusesOneOf : List Change → EditError → Type 0
+RefusesOneOf changes e = (change : Change) × Has changes change × RefusesOneChange change e
+
+-- why changes are refused, in this order: by one of them, by the text, or by their order and the entries of the text
+abbrev pub RefusesChanges : List Change → List ℕ → EditError → Type 0
+RefusesChanges changes text (error.Memory e) = ⊤
+RefusesChanges changes text (error.File e) = (entries : List Entry) × IsFile text entries (Some e)
+RefusesChanges changes text error.Absent =
+    (contents : List Content) × HasContents text contents × ¬ (AreInOrder 0 changes (length contents))
+RefusesChanges changes text e = RefusesOneOf changes e

@@ -3,32 +3,44 @@
 //!
 //! An edit has the places of its bytes from the reader of this crate, and never from a search for `[` or a line
 //! end. It is proved of each which entries and which bytes it changes, and when it is refused.
-ghost use Rattle.std.specs.Prelude.{◌≡◌, ◌++◌, ◌∷◌, [], List, ℕ, None, Some, true, map, ⊤, IfOk, MatchResult};
-ghost use Rattle.config_file.specs.Edit.{content, AddsOne, HasNone, HasSeveral, Never, RefusesEdit, RefusesRemoval, RefusesRenaming, RemovesSection, RenamesSection, ReplacesAll, Sets, Unsets, UnsetsAll};
+ghost use Rattle.std.specs.Prelude.{◌≡◌, ◌++◌, ◌∷◌, [], List, ℕ, None, Some, true, map, ⊤, IfOk, MatchResult, option_copied};
+ghost use Rattle.config_file.specs.Edit.{content, AddsOne, AreInOrder, ChangesEntries, HasNone, HasSeveral, Never, RefusesChanges, RefusesEdit, RefusesLastPart, RefusesOneChange, RefusesOneOf, RefusesRemoval, RefusesRenaming, RemovesSection, RenamesSection, ReplacesAll, Sets, Unsets, UnsetsAll};
 ghost use Rattle.config_file.specs.Spelling.{HasNoSpelling};
 ghost use Rattle.config_file.specs.File.{Entry, IsFile};
-ghost use Rattle.config_file.specs.Reading.Edits.{IsSplit, RefusesName, RefusesText};
+ghost use Rattle.config_file.specs.Reading.Edits.{AreWritable, IsSplit, IsWritable, IsWritableName, RefusesName, RefusesText};
 ghost use Rattle.config_file.specs.Key.{IsKey};
 ghost use Rattle.config_file.specs.KeyView.{key_of};
 ghost use Rattle.config_file.specs.Reading.Spellings as spec;
 ghost use Rattle.config_file.specs.declared.edit.EditError.TheVariants.{Memory, Value};
 
-mod change;
+mod each;
 mod piece;
 mod removal;
 mod sections;
+mod setting;
 mod write;
 
-use crate::edit::change::{added, replace};
+use crate::edit::each::{change_at, change_each};
 use crate::edit::removal::{Count, without};
 use crate::edit::sections::{renamed, without_section};
+use crate::edit::setting::{Replacement, added, replace};
 use crate::errors::Error as FileError;
-use crate::key::{Key, KeyError};
+use crate::key::{Key, KeyError, is_name};
 use crate::reader::{Entries, after_mark};
 use crate::spelling::{is_section, is_spellable};
 use std::alloc::{AllocError, Global};
 
 /// Why a text is not edited.
+///
+/// ```rust
+/// use config_file::edit::{EditError, set, unset};
+///
+/// let text = b"[remote \"a\"]\n\turl = b\n\turl = c\n";
+/// assert!(rt; matches!(unset(alloc, text, b"remote.a.url"), Err(EditError::Several)));
+/// assert!(rt; matches!(unset(alloc, text, b"core.bare"), Err(EditError::Absent)));
+/// assert!(rt; matches!(set(alloc, text, b"core.bare", b"a\0b"), Err(EditError::Value)));
+/// assert!(rt; matches!(set(alloc, b"[core", b"core.bare", b"true"), Err(EditError::File(_))));
+/// ```
 #[derive(Drop, Debug)]
 pub enum EditError {
     /// Memory was refused.
@@ -75,6 +87,17 @@ fn check_file(text: &[u8]) -> Result<(), EditError>
         }
     }
     Ok(())
+}
+
+/// Why a text is refused that is not a configuration file.
+fn fault_of(text: &[u8]) -> EditError
+    requires { (entries : List Entry) → ¬ (IsFile text.now entries None) }
+    ensures { RefusesText text.now result }
+{
+    match check_file(text) {
+        Err(error) => error,
+        Ok(()) => unreachable!(),
+    }
 }
 
 /// The key that this text is, if a header can have its section.
@@ -142,16 +165,16 @@ pub fn set(alloc: Global, text: &[u8], key: &[u8], value: &[u8]) -> Result<Vec<u
 {
     let key = parse_key(key)?;
     check_value(value)?;
-    check_file(text)?;
     let (mark, body) = split_mark(text);
     match replace(alloc, body, &key, value)? {
-        Some(replaced) => {
+        Replacement::Done(replaced) => {
             if replaced.several {
                 return Err(EditError::Several);
             }
             Ok(marked(replaced.text, alloc, mark)?)
         }
-        None => Ok(marked(added(alloc, body, &key, value)?, alloc, mark)?),
+        Replacement::Nothing => Ok(marked(added(alloc, body, &key, value)?, alloc, mark)?),
+        Replacement::Unread => Err(fault_of(text)),
     }
 }
 
@@ -168,11 +191,11 @@ pub fn replace_all(
 {
     let key = parse_key(key)?;
     check_value(value)?;
-    check_file(text)?;
     let (mark, body) = split_mark(text);
     match replace(alloc, body, &key, value)? {
-        Some(replaced) => Ok(marked(replaced.text, alloc, mark)?),
-        None => Ok(marked(added(alloc, body, &key, value)?, alloc, mark)?),
+        Replacement::Done(replaced) => Ok(marked(replaced.text, alloc, mark)?),
+        Replacement::Nothing => Ok(marked(added(alloc, body, &key, value)?, alloc, mark)?),
+        Replacement::Unread => Err(fault_of(text)),
     }
 }
 
@@ -308,6 +331,91 @@ pub fn remove_section(alloc: Global, text: &[u8], name: &[u8]) -> Result<Vec<u8>
     };
     let (mark, body) = split_mark(text);
     match without_section(alloc, body, &key)? {
+        Some(new) => Ok(marked(new, alloc, mark)?),
+        None => Err(EditError::Absent),
+    }
+}
+
+/// What an entry gets: another last part of its key, another value, or both.
+///
+/// ```rust
+/// use config_file::edit::{Change, change_entries};
+///
+/// let text = b"[user]\n\temial = A # me\n\tname = B\n";
+/// let changes = [
+///     Change { entry: 0, name: Some(b"email"), value: None },
+///     Change { entry: 1, name: None, value: Some(b"C") },
+/// ];
+/// let new = change_entries(alloc, text, &changes).expect(&rt, "a text");
+/// assert!(rt; new.as_slice() == b"[user]\n\temail = A # me\n\tname = C\n".as_slice());
+/// ```
+#[derive(Clone, Copy, Debug)]
+pub struct Change<'c> {
+    /// Which entry of the text it is, from 0.
+    pub entry: usize,
+    /// The last part of its key from now on.
+    pub name: Option<&'c [u8]>,
+    /// The value that it has from now on.
+    pub value: Option<&'c [u8]>,
+}
+
+/// Refuses a name that is not the last part of a key.
+fn check_name(name: Option<&[u8]>) -> Result<(), KeyError>
+    ensures { MatchResult result (λ _. IsWritableName (option_copied name.entry)) (RefusesLastPart (option_copied name.entry)) }
+{
+    match name {
+        Some([]) => Err(KeyError::NoName),
+        Some(name) if !is_name(name) => Err(KeyError::BadByte),
+        _ => Ok(()),
+    }
+}
+
+/// Refuses a change that cannot be written.
+fn check_change(change: &Change<'_>) -> Result<(), EditError>
+    ensures { MatchResult result (λ _. IsWritable change.now) (RefusesOneChange change.now) }
+{
+    if let Err(error) = check_name(change.name) {
+        return Err(EditError::Key(error));
+    }
+    match change.value {
+        Some(value) => check_value(value),
+        None => Ok(()),
+    }
+}
+
+/// Refuses changes of which one cannot be written.
+fn check_changes(changes: &[Change<'_>]) -> Result<(), EditError>
+    ensures { MatchResult result (λ _. AreWritable changes.now) (RefusesOneOf changes.now) }
+{
+    let mut index = 0usize;
+    'changes: while let Some(change) = change_at(changes, index) {
+        if let Err(error) = check_change(change) {
+            return Err(error);
+        }
+        index += 1;
+    }
+    Ok(())
+}
+
+/// The text in which some of its entries have changed: the last part of a key, a value, or both. Only the
+/// bytes of this part and of this value change, as in [`set`]. The changes are in the order of their entries,
+/// one at most for each.
+///
+/// It fails, in this order, if a name is not the last part of a key or a value has a NUL, the text is no
+/// configuration file, a change is of no entry or not of one behind that of the change before, or memory is
+/// refused at any time.
+pub fn change_entries(
+    alloc: Global,
+    text: &[u8],
+    changes: &[Change<'_>],
+) -> Result<Vec<u8>, EditError>
+    ensures { MatchResult result (λ new. ChangesEntries changes.now text.now new.items)
+        (RefusesChanges changes.now text.now) }
+{
+    check_changes(changes)?;
+    check_file(text)?;
+    let (mark, body) = split_mark(text);
+    match change_each(alloc, body, changes)? {
         Some(new) => Ok(marked(new, alloc, mark)?),
         None => Err(EditError::Absent),
     }

@@ -21,6 +21,7 @@ use std::alloc::{AllocError, Global};
 /// assert!(rt; Condition::parse(b"OnBranch:main") == Condition::Unknown); // here case counts
 /// ```
 #[derive(Clone, Copy, PartialEq, Eq, Debug)]
+#[non_exhaustive]
 pub enum Condition<'c> {
     /// Always: `include.path`.
     Always,

@@ -263,7 +263,7 @@ fn is_one_line(subsection: Option<&[u8]>) -> bool
 }
 
 /// Whether this is a letter, followed by bytes of keys.
-fn is_name(name: &[u8]) -> bool
+pub(crate) fn is_name(name: &[u8]) -> bool
     ensures { result ≡ keys.is_name name.now }
 {
     match split(name) {

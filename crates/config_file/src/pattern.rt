@@ -244,7 +244,7 @@ fn found_after_deep<'t>(pattern: &'t [u8], text: &'t [u8], ignores_case: bool) -
 ///
 /// It takes no memory, and at most as much time as the length of the pattern times the square of that of the
 /// text. An earlier star is not tried again, since what would match from there matches from the last star too.
-pub fn matches(pattern: &[u8], text: &[u8], ignores_case: bool) -> bool
+pub(crate) fn matches(pattern: &[u8], text: &[u8], ignores_case: bool) -> bool
     ensures { IsTrue result ↔ (MatchesText ignores_case pattern.now text.now) }
 {
     let mut found = found_deep(pattern, text, true, ignores_case);

@@ -141,6 +141,7 @@ impl<F: fmt::Display> fmt::Display for Refused<'_, '_, F> {
 /// assert_eq!(rt; fault.text(), "Permission denied");
 /// ```
 #[derive(Clone, Copy, Debug)]
+#[non_exhaustive]
 pub enum IncludeFault<'t> {
     /// The entry has no value.
     MissingValue,
@@ -187,6 +188,7 @@ impl fmt::Display for IncludeFault<'_> {
 /// assert_eq!(rt; settings.entries.len(), 1); // the entry before that line
 /// ```
 #[derive(Clone, Copy, Debug)]
+#[non_exhaustive]
 pub enum AddError<'t> {
     /// A line of a file cannot be read. The entries before it are added.
     Line {

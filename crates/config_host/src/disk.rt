@@ -17,7 +17,7 @@ use std::os::unix::fs::FileTypeExt;
 use thiserror::Error;
 
 /// The number of bytes of the longest file that is read: 1 GiB.
-pub const LONGEST: usize = 1 << 30;
+pub(crate) const LONGEST: usize = 1 << 30;
 
 /// How many bytes are read at once.
 const PIECE: usize = 1 << 16;
@@ -26,7 +26,18 @@ const PIECE: usize = 1 << 16;
 const LEAST: usize = 1 << 10;
 
 /// Why a file is not read.
+///
+/// ```rust
+/// use bumpalo::Bump;
+/// use config_host::{Disk, ReadError};
+///
+/// let texts = Bump::new(rt.alloc());
+/// let disk = Disk::new(&rt, &texts);
+/// assert!(rt; matches!(disk.first(b"missing"), Err(error) if error.is_missing()));
+/// assert!(rt; matches!(disk.first(b"\xff"), Err(ReadError::Name)));
+/// ```
 #[derive(Debug, Drop, Error)]
+#[non_exhaustive]
 pub enum ReadError {
     /// Its name is not UTF-8, and the system opens no such file here.
     #[error("its name is not UTF-8")]
@@ -34,7 +45,7 @@ pub enum ReadError {
     /// It is a folder, a pipe, or another thing whose end an include does not wait for.
     #[error("it is no regular file")]
     Kind,
-    /// It is longer than [`LONGEST`].
+    /// It is longer than 1 GiB.
     #[error("it is longer than 1 GiB")]
     Length,
     /// Its name does not begin at the root, and it is included by a setting that is in no file.
@@ -120,7 +131,7 @@ fn read_piece<'t, F: Read>(
     Ok(count != 0)
 }
 
-/// Reads to the end, at most [`LONGEST`] bytes, through this room. If the length is not known, it reads until Git
+/// Reads to the end, at most 1 GiB, through this room. If the length is not known, it reads until Git
 /// would stop.
 fn read_all<'t, F: Read>(
     file: &mut F,
@@ -189,6 +200,25 @@ fn name_from_root<R: Host>(host: &R, name: &[u8]) -> io::Result<Vec<u8>> {
 }
 
 /// The files of a host, whose texts are kept in memory until all of them are given up together.
+///
+/// ```rust
+/// use bumpalo::Bump;
+/// use config_file::Settings;
+/// use config_host::surroundings::Followed;
+/// use config_host::{Disk, Surroundings};
+/// use std::fs;
+///
+/// fs::write(&rt, "disk-top", b"[include]\n\tpath = disk-more\n")?;
+/// fs::write(&rt, "disk-more", b"[core]\n\tbare\n")?;
+/// let texts = Bump::new(rt.alloc());
+/// let disk = Disk::new(&rt, &texts);
+/// let (place, text) = disk.first(b"disk-top").expect(&rt, "a text");
+/// let surroundings = Surroundings::new(&rt, Followed::AsGit)?;
+/// let mut settings = Settings::new(alloc);
+/// let added = settings.add_with_includes(alloc, &disk, &surroundings.known(), place, text);
+/// assert!(rt; added.is_ok());
+/// assert_eq!(rt; settings.entries.len(), 2);
+/// ```
 #[derive(Drop)]
 pub struct Disk<'t, R> {
     pub(crate) host: &'t R,
@@ -249,7 +279,7 @@ impl<'t, R: Host> Disk<'t, R> {
         }
     }
 
-    /// The bytes to the end of what is read, at most [`LONGEST`]. If the length is not known, as that of a
+    /// The bytes to the end of what is read, at most 1 GiB. If the length is not known, as that of a
     /// device, they are read until Git would stop in them.
     pub fn text<F: Read + Drop>(
         &self,

@@ -11,12 +11,38 @@ use std::io::{self, ErrorKind};
 use thiserror::Error;
 
 /// A system of files, an environment and memory: those of the program, or of a test.
+///
+/// ```rust
+/// use config_host::Host;
+/// use config_host::environment::variable;
+/// use std::alloc::AllocError;
+///
+/// // is called with the program's `rt`, and by a test with a system of its own
+/// fn has_home<R: Host>(host: &R) -> Result<bool, AllocError> {
+///     Ok(variable(host, "HOME")?.is_some())
+/// }
+/// assert!(rt; !has_home(&rt).expect(&rt, "memory"));
+/// ```
 pub trait Host: Files + Env + AllocGlobal {}
 
 impl<R: Files + Env + AllocGlobal> Host for R {}
 
 /// Why a program cannot say where it runs.
+///
+/// ```rust
+/// use bumpalo::Bump;
+/// use config_host::{Disk, HostError, files_here};
+///
+/// let texts = Bump::new(rt.alloc());
+/// let said = match files_here(&Disk::new(&rt, &texts)) {
+///     Ok(_) => "no fault",
+///     Err(HostError::Variable(name)) => name, // it is not UTF-8
+///     Err(_) => "the system",
+/// };
+/// assert_eq!(rt; said, "no fault");
+/// ```
 #[derive(Debug, Drop, Error)]
+#[non_exhaustive]
 pub enum HostError {
     /// The variable of this name is needed, and it is not UTF-8.
     #[error("{0} is not UTF-8")]
@@ -43,7 +69,19 @@ impl From<AllocError> for HostError {
 }
 
 /// Why the arguments of a program cannot be read.
+///
+/// ```rust
+/// use config_host::{ArgumentError, arguments};
+///
+/// let count = match arguments(&rt) {
+///     Ok(arguments) => arguments.len(), // the name of the program is the first
+///     Err(ArgumentError::NotUtf8(bytes)) => bytes.len(),
+///     Err(_) => 0, // memory was refused
+/// };
+/// assert!(rt; count > 0);
+/// ```
 #[derive(Debug, Drop, Error)]
+#[non_exhaustive]
 pub enum ArgumentError {
     /// This argument is not UTF-8.
     #[error("{}: the argument is not UTF-8", BStr::new(.0))]
@@ -107,7 +145,10 @@ pub fn variable<R: Host>(host: &R, name: &str) -> Result<Option<Vec<u8>>, AllocE
 }
 
 /// The value of an environment variable that has to be UTF-8.
-pub fn text_variable<R: Host>(host: &R, name: &'static str) -> Result<Option<String>, HostError> {
+pub(crate) fn text_variable<R: Host>(
+    host: &R,
+    name: &'static str,
+) -> Result<Option<String>, HostError> {
     let Some(value) = variable(host, name)? else {
         return Ok(None);
     };
@@ -137,7 +178,7 @@ pub fn arguments<R: Host>(host: &R) -> Result<Vec<String>, ArgumentError> {
 }
 
 /// The name of the current folder from the root, without links.
-pub fn current_folder<R: Host>(host: &R) -> io::Result<Vec<u8>> {
+pub(crate) fn current_folder<R: Host>(host: &R) -> io::Result<Vec<u8>> {
     let mut bytes = Vec::new(host.alloc());
     if bytes.resize(LONGEST_FOLDER, 0).is_err() {
         return Err(io::Error::from(ErrorKind::OutOfMemory));

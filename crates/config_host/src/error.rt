@@ -12,7 +12,17 @@ use std::io;
 use thiserror::Error;
 
 /// Where Git would stop, and why.
+///
+/// ```rust
+/// use bumpalo::Bump;
+/// use config_host::settings_here;
+///
+/// let texts = Bump::new(rt.alloc());
+/// let error = settings_here(&rt, &texts, b"missing").err().expect(&rt, "no such folder");
+/// assert!(rt; error.to_string(alloc)?.as_bytes().starts_with(b"missing: "));
+/// ```
 #[derive(Debug, Drop, Error)]
+#[non_exhaustive]
 pub enum HereError<'t> {
     /// The system refuses an answer, or memory, or a variable is not UTF-8.
     #[error("{0}")]
@@ -60,7 +70,18 @@ impl From<AllocError> for HereError<'_> {
 }
 
 /// Why Git uses no repository although one is there. It then reads no settings of it.
+///
+/// ```rust
+/// use bumpalo::Bump;
+/// use config_host::{Refusal, read_here};
+///
+/// let texts = Bump::new(rt.alloc());
+/// let here = read_here(&rt, &texts, b".").expect(&rt, "settings that Git can read");
+/// let is_unsafe = matches!(here.refusal, Some(Refusal::Owner(_) | Refusal::Bare(_)));
+/// assert!(rt; !is_unsafe);
+/// ```
 #[derive(Debug, Drop, Error)]
+#[non_exhaustive]
 pub enum Refusal {
     /// GIT_DIR has this text, which names no git directory.
     #[error("not a git repository: '{}'", BStr::new(.0))]

@@ -13,6 +13,16 @@ use config_file::Settings;
 use std::io::{self, ErrorKind};
 
 /// What Git reads in a folder.
+///
+/// ```rust
+/// use bumpalo::Bump;
+/// use config_host::{Disk, read_here};
+///
+/// let texts = Bump::new(rt.alloc());
+/// let here = read_here(&rt, &texts, b".").expect(&rt, "settings that Git can read");
+/// assert!(rt; here.refusal.is_none());
+/// let disk = Disk::new(&rt, &texts).within(&here.folder)?; // opens the files of `here.settings`
+/// ```
 #[derive(Drop)]
 pub struct Here<'t> {
     /// All settings, in Git's order, each with its scope, its file and its line. The name of a file that does

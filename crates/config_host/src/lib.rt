@@ -4,28 +4,28 @@
 //! - [`settings_here`] reads all that Git reads in a folder, in one call.
 //! - [`environment`] gives arguments and variables as bytes, and [`names`] the paths that they spell.
 //! - [`disk`] reads files, and refuses those that would take all memory. [`locked`] replaces the text of one.
-//! - [`repository`] finds the repository as [`search`] does by [`head`], [`owner`] and [`format`].
-//! - [`sources`] lists what Git reads, with the settings of a [`command`], and [`reading`] follows includes.
+//! - [`repository`] finds the repository as Git does: by its HEAD, its owner and its format.
+//! - [`sources`] lists what Git reads, with the settings of a command, and [`reading`] follows includes.
 //! - [`surroundings`] holds what includes ask about, and [`shown`] writes messages without control
 //!   characters.
 //! - [`terminal`] tells whether to write colors, and how many.
 #![tactic(auto)]
 
-pub mod command;
+mod command;
 pub mod disk;
 pub mod environment;
 pub mod error;
-pub mod format;
-pub mod head;
+mod format;
+mod head;
 pub mod here;
 pub mod laws;
-pub mod lines;
+mod lines;
 pub mod locked;
 pub mod names;
-pub mod owner;
+mod owner;
 pub mod reading;
 pub mod repository;
-pub mod search;
+mod search;
 pub mod shown;
 pub mod sources;
 pub mod surroundings;

@@ -22,6 +22,16 @@ const LINKS: usize = 40;
 const MODE: u32 = 0o7777;
 
 /// Why the text of a file is not replaced. The file then has its old text.
+///
+/// ```rust
+/// use bumpalo::Bump;
+/// use config_host::{Disk, LockError, Locked};
+///
+/// let texts = Bump::new(rt.alloc());
+/// let disk = Disk::new(&rt, &texts);
+/// let _locked = Locked::of(&disk, b"twice").expect(&rt, "a lock");
+/// assert!(rt; matches!(Locked::of(&disk, b"twice"), Err(LockError::Held(_))));
+/// ```
 #[derive(Debug, Drop, Error)]
 pub enum LockError {
     /// The lock of this name is there: another program replaces the text, or was ended as it did.

@@ -6,7 +6,7 @@ use std::fs::{self, Metadata};
 use std::io::{self, ErrorKind};
 
 /// The name as a text. Otherwise the error that the system has for such names, which no file has.
-pub fn text_of(name: &[u8]) -> io::Result<&str> {
+pub(crate) fn text_of(name: &[u8]) -> io::Result<&str> {
     match str::from_utf8(name) {
         Ok(text) => Ok(text),
         Err(_) => Err(io::Error::from(ErrorKind::InvalidFilename)),
@@ -14,7 +14,7 @@ pub fn text_of(name: &[u8]) -> io::Result<&str> {
 }
 
 /// What the system answers, or `None` if it has no answer. Only refused memory is an error.
-pub fn answer<T: Drop>(asked: io::Result<T>) -> io::Result<Option<T>> {
+pub(crate) fn answer<T: Drop>(asked: io::Result<T>) -> io::Result<Option<T>> {
     match asked {
         Ok(answer) => Ok(Some(answer)),
         Err(error) if error.kind() == ErrorKind::OutOfMemory => Err(error),
@@ -23,12 +23,12 @@ pub fn answer<T: Drop>(asked: io::Result<T>) -> io::Result<Option<T>> {
 }
 
 /// The bytes before the last `/` of a name, and those after it, or `None` if it has no `/`.
-pub fn split_last(name: &[u8]) -> Option<(&[u8], &[u8])> {
+pub(crate) fn split_last(name: &[u8]) -> Option<(&[u8], &[u8])> {
     name.rsplit_once_str(b"/")
 }
 
 /// The folder of a file, in which the name that it links to begins.
-pub fn folder_of(name: &[u8]) -> &[u8] {
+pub(crate) fn folder_of(name: &[u8]) -> &[u8] {
     match split_last(name) {
         Some(([], _)) => b"/",
         Some((folder, _)) => folder,
@@ -37,7 +37,7 @@ pub fn folder_of(name: &[u8]) -> &[u8] {
 }
 
 /// The folder above this one, whose name begins at the root and has no `/` at its end.
-pub fn parent(folder: &[u8]) -> Option<&[u8]> {
+pub(crate) fn parent(folder: &[u8]) -> Option<&[u8]> {
     if folder == b"/".as_slice() {
         return None;
     }
@@ -49,12 +49,12 @@ pub fn parent(folder: &[u8]) -> Option<&[u8]> {
 }
 
 /// A copy of a name.
-pub fn copied<R: Host>(host: &R, name: &[u8]) -> io::Result<Vec<u8>> {
+pub(crate) fn copied<R: Host>(host: &R, name: &[u8]) -> io::Result<Vec<u8>> {
     Ok(name.to_vec(host.alloc())?)
 }
 
 /// The name of a file in a folder. A name that begins with `/` is kept. An empty folder is the current one.
-pub fn inside<R: Host>(host: &R, folder: &[u8], name: &[u8]) -> io::Result<Vec<u8>> {
+pub(crate) fn inside<R: Host>(host: &R, folder: &[u8], name: &[u8]) -> io::Result<Vec<u8>> {
     let mut whole = Vec::new(host.alloc());
     if !folder.is_empty() && !name.starts_with(b"/") {
         whole.extend_from_slice(folder)?;
@@ -67,7 +67,7 @@ pub fn inside<R: Host>(host: &R, folder: &[u8], name: &[u8]) -> io::Result<Vec<u
 }
 
 /// The name of a file below a folder, with a `/` between them whatever the folder is, as Git joins them.
-pub fn below<R: Host>(host: &R, folder: &[u8], name: &[u8]) -> io::Result<Vec<u8>> {
+pub(crate) fn below<R: Host>(host: &R, folder: &[u8], name: &[u8]) -> io::Result<Vec<u8>> {
     let mut whole = copied(host, folder)?;
     whole.push(b'/')?;
     whole.extend_from_slice(name)?;
@@ -75,7 +75,7 @@ pub fn below<R: Host>(host: &R, folder: &[u8], name: &[u8]) -> io::Result<Vec<u8
 }
 
 /// What the system knows of the file of this name, which may be a link, or `None`.
-pub fn known_of_link<R: Host>(host: &R, name: &[u8]) -> io::Result<Option<Metadata>> {
+pub(crate) fn known_of_link<R: Host>(host: &R, name: &[u8]) -> io::Result<Option<Metadata>> {
     answer(match text_of(name) {
         Ok(name) => fs::symlink_metadata(host, name),
         Err(error) => Err(error),
@@ -83,7 +83,7 @@ pub fn known_of_link<R: Host>(host: &R, name: &[u8]) -> io::Result<Option<Metada
 }
 
 /// What the system knows of the file of this name, or `None`.
-pub fn known_of<R: Host>(host: &R, name: &[u8]) -> io::Result<Option<Metadata>> {
+pub(crate) fn known_of<R: Host>(host: &R, name: &[u8]) -> io::Result<Option<Metadata>> {
     answer(match text_of(name) {
         Ok(name) => fs::metadata(host, name),
         Err(error) => Err(error),
@@ -96,7 +96,7 @@ pub fn exists<R: Host>(host: &R, name: &[u8]) -> io::Result<bool> {
 }
 
 /// Whether there is a folder of this name.
-pub fn is_folder<R: Host>(host: &R, name: &[u8]) -> io::Result<bool> {
+pub(crate) fn is_folder<R: Host>(host: &R, name: &[u8]) -> io::Result<bool> {
     Ok(match known_of(host, name)? {
         Some(known) => known.is_dir(),
         None => false,
@@ -104,7 +104,7 @@ pub fn is_folder<R: Host>(host: &R, name: &[u8]) -> io::Result<bool> {
 }
 
 /// Whether there is a regular file of this name.
-pub fn is_file<R: Host>(host: &R, name: &[u8]) -> io::Result<bool> {
+pub(crate) fn is_file<R: Host>(host: &R, name: &[u8]) -> io::Result<bool> {
     Ok(match known_of(host, name)? {
         Some(known) => known.is_file(),
         None => false,
@@ -112,7 +112,7 @@ pub fn is_file<R: Host>(host: &R, name: &[u8]) -> io::Result<bool> {
 }
 
 /// The name from the root without links, or `None` if the system does not know it.
-pub fn real_name<R: Host>(host: &R, name: &[u8]) -> io::Result<Option<Vec<u8>>> {
+pub(crate) fn real_name<R: Host>(host: &R, name: &[u8]) -> io::Result<Option<Vec<u8>>> {
     let real = answer(match text_of(name) {
         Ok(name) => fs::canonicalize(host, name),
         Err(error) => Err(error),
@@ -124,7 +124,7 @@ pub fn real_name<R: Host>(host: &R, name: &[u8]) -> io::Result<Option<Vec<u8>>> 
 }
 
 /// The name from the root without links, or the other name if the system does not know it.
-pub fn resolved<R: Host>(host: &R, name: &[u8], other: &[u8]) -> io::Result<Vec<u8>> {
+pub(crate) fn resolved<R: Host>(host: &R, name: &[u8], other: &[u8]) -> io::Result<Vec<u8>> {
     match real_name(host, name)? {
         Some(real) => Ok(real),
         None => copied(host, other),
@@ -132,6 +132,6 @@ pub fn resolved<R: Host>(host: &R, name: &[u8], other: &[u8]) -> io::Result<Vec<
 }
 
 /// A line without the line ends at its end.
-pub fn without_line_ends(line: &[u8]) -> &[u8] {
+pub(crate) fn without_line_ends(line: &[u8]) -> &[u8] {
     line.trim_end_with(|character| character == '\n' || character == '\r')
 }

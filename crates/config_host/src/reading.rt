@@ -14,6 +14,24 @@ use std::alloc::{AllocError, Global};
 use std::io;
 
 /// An entry that a walk comes to.
+///
+/// ```rust
+/// use bumpalo::Bump;
+/// use config_file::Walk;
+/// use config_host::reading::next_entry;
+/// use config_host::surroundings::Followed;
+/// use config_host::{Disk, Surroundings};
+/// use std::fs;
+///
+/// fs::write(&rt, "taken", b"[core]\n\tbare\n")?;
+/// let texts = Bump::new(rt.alloc());
+/// let disk = Disk::new(&rt, &texts);
+/// let surroundings = Surroundings::new(&rt, Followed::AsGit)?;
+/// let (place, text) = disk.first(b"taken").expect(&rt, "a text");
+/// let mut walk = Walk::new(place, text);
+/// let first = next_entry(&disk, &surroundings.known(), &mut walk).expect(&rt, "an entry");
+/// assert!(rt; matches!(first, Some(taken) if taken.entry.line == 2 && taken.stop.is_none()));
+/// ```
 #[derive(Drop)]
 pub struct Taken<'t> {
     /// The file in which it is.
@@ -323,7 +341,7 @@ fn around<'t, R: Host>(host: &R, repository: Option<Repository>) -> io::Result<S
 
 /// The settings of these files and of the command, with what they include, in order. Conditions ask about
 /// this repository.
-pub fn settings_at<'t, R: Host>(
+pub(crate) fn settings_at<'t, R: Host>(
     disk: &Disk<'t, R>,
     names: &[Named],
     repository: Option<Repository>,

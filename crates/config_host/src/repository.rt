@@ -11,6 +11,16 @@ use crate::surroundings::Repository;
 use std::io::{self, ErrorKind};
 
 /// Where Git works once it has looked for the repository of a folder.
+///
+/// ```rust
+/// use bumpalo::Bump;
+/// use config_host::Disk;
+/// use config_host::repository::find;
+///
+/// let texts = Bump::new(rt.alloc());
+/// let location = find(&Disk::new(&rt, &texts), b".").expect(&rt, "a folder");
+/// assert!(rt; location.used().expect(&rt, "no stop").is_none());
+/// ```
 #[derive(Drop)]
 pub struct Location<'t> {
     /// The folder in which names begin, as the system opens it: the top of the work tree, or the folder

@@ -13,6 +13,18 @@ use std::alloc::AllocError;
 use std::io;
 
 /// A file that Git reads if it is there.
+///
+/// ```rust
+/// use bumpalo::Bump;
+/// use config_file::Scope;
+/// use config_host::Disk;
+/// use config_host::sources::{is_there, names};
+///
+/// let texts = Bump::new(rt.alloc());
+/// let files = names(&rt, None)?;
+/// assert!(rt; matches!(files.first(), Some(system) if system.scope == Scope::System));
+/// assert!(rt; !is_there(&Disk::new(&rt, &texts), b"missing")?);
+/// ```
 #[derive(Drop)]
 pub struct Named {
     /// Where Git has it from.
@@ -22,6 +34,25 @@ pub struct Named {
 }
 
 /// A text that Git reads first, before it comes to what the text includes.
+///
+/// ```rust
+/// use bumpalo::Bump;
+/// use config_file::{Scope, Settings};
+/// use config_host::Disk;
+/// use config_host::sources::{Named, sources};
+/// use std::fs;
+///
+/// fs::write(&rt, "source", b"[core]\n\tbare\n")?;
+/// let mut names = Vec::new(alloc);
+/// names.push(Named { scope: Scope::Local, name: b"source".to_vec(alloc)? })?;
+/// let texts = Bump::new(rt.alloc());
+/// let mut settings = Settings::new(alloc);
+/// for source in &sources(&Disk::new(&rt, &texts), &names).expect(&rt, "a file that can be read") {
+///     settings.scope = source.scope;
+///     assert!(rt; settings.add_file(alloc, source.place.name, source.text).is_ok());
+/// }
+/// assert_eq!(rt; settings.entries.len(), 1);
+/// ```
 #[derive(Clone, Copy)]
 pub struct Source<'t> {
     /// Where Git has it from.
@@ -122,7 +153,7 @@ fn push_repository<R: Host>(
 }
 
 /// The files that no repository can change: those of the system and of the user.
-pub fn protected_names<R: Host>(host: &R) -> io::Result<Vec<Named>> {
+pub(crate) fn protected_names<R: Host>(host: &R) -> io::Result<Vec<Named>> {
     let mut names = Vec::new(host.alloc());
     push_system(host, &mut names)?;
     push_global(host, &mut names)?;

@@ -31,7 +31,7 @@ pub fn has_includes(text: &[u8]) -> bool {
 }
 
 /// Whether a text has a section of conditions.
-pub fn has_conditions(text: &[u8]) -> bool {
+pub(crate) fn has_conditions(text: &[u8]) -> bool {
     has_section(text, b"includeif")
 }
 
@@ -41,6 +41,15 @@ fn may_ask_for_urls(text: &[u8]) -> bool {
 }
 
 /// Which includes a program follows.
+///
+/// ```rust
+/// use config_file::Includes;
+/// use config_host::Surroundings;
+/// use config_host::surroundings::Followed;
+///
+/// let surroundings = Surroundings::new(&rt, Followed::Nothing)?;
+/// assert!(rt; matches!(surroundings.known().includes, Includes::Skipped));
+/// ```
 #[derive(Clone, Copy, PartialEq, Eq)]
 pub enum Followed {
     /// None of them.
@@ -52,6 +61,19 @@ pub enum Followed {
 }
 
 /// A repository: what conditions of includes ask about it, and where its settings are.
+///
+/// ```rust
+/// use bumpalo::Bump;
+/// use config_host::Disk;
+/// use config_host::repository::find;
+///
+/// let texts = Bump::new(rt.alloc());
+/// let location = find(&Disk::new(&rt, &texts), b".").expect(&rt, "a folder");
+/// match location.repository {
+///     Some(repository) => assert!(rt; repository.real_git_dir.starts_with(b"/")),
+///     None => {} // the folder is in no repository
+/// }
+/// ```
 #[derive(Drop)]
 pub struct Repository {
     /// The absolute path of the git directory, with its links resolved.
@@ -70,6 +92,19 @@ pub struct Repository {
 }
 
 /// What includes ask about: the home directory, the repository, and the URLs of remotes.
+///
+/// ```rust
+/// use bumpalo::Bump;
+/// use config_host::repository::find;
+/// use config_host::surroundings::Followed;
+/// use config_host::{Disk, Surroundings};
+///
+/// let texts = Bump::new(rt.alloc());
+/// let location = find(&Disk::new(&rt, &texts), b".").expect(&rt, "a folder");
+/// let mut surroundings = Surroundings::new(&rt, Followed::AsGit)?;
+/// surroundings.set_repository(&rt, location.repository)?; // for `gitdir:` and `onbranch:`
+/// assert!(rt; surroundings.repository().is_none());
+/// ```
 #[derive(Drop)]
 pub struct Surroundings<'t> {
     followed: Followed,
@@ -101,12 +136,12 @@ impl<'t> Surroundings<'t> {
     }
 
     /// Whether this text asks about a repository, and it is not known yet.
-    pub fn lack(&self, text: &[u8]) -> bool {
+    pub(crate) fn lack(&self, text: &[u8]) -> bool {
         !self.is_known && self.followed == Followed::AsGit && has_conditions(text)
     }
 
     /// Whether this text may ask about the URLs of remotes, and they were not sought yet.
-    pub fn lack_urls(&self, text: &[u8]) -> bool {
+    pub(crate) fn lack_urls(&self, text: &[u8]) -> bool {
         !self.are_sought && self.followed == Followed::AsGit && may_ask_for_urls(text)
     }
 
@@ -125,7 +160,7 @@ impl<'t> Surroundings<'t> {
     }
 
     /// Takes these as the URLs of all remotes.
-    pub fn set_urls(&mut self, urls: Vec<&'t [u8]>) {
+    pub(crate) fn set_urls(&mut self, urls: Vec<&'t [u8]>) {
         self.urls = urls;
         self.are_sought = true;
     }
@@ -141,7 +176,7 @@ impl<'t> Surroundings<'t> {
     }
 
     /// What a walk knows that looks for the URLs of remotes: each condition on them holds.
-    pub fn seeking(&self) -> Known<'_> {
+    pub(crate) fn seeking(&self) -> Known<'_> {
         self.knowing(Urls::Sought)
     }
 

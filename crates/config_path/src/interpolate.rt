@@ -259,7 +259,7 @@ fn home_in_line<'a>(line: &'a [u8], name: &[u8]) -> Option<&'a [u8]>
 }
 
 /// Does the same as [`home_for_user`], for a passwd text and a name of any bytes.
-pub fn home_in_passwd<'a>(passwd: &'a [u8], name: &[u8]) -> Option<&'a [u8]>
+pub(crate) fn home_in_passwd<'a>(passwd: &'a [u8], name: &[u8]) -> Option<&'a [u8]>
     ensures { option_copied result ≡ home_in passwd.now name.now }
 {
     if name.contains(&0) {

@@ -1,18 +1,23 @@
 //! The words that change a file: `set`, `unset`, `rename-section`, `remove-section`, and Git's older flags
 //! for them.
 
-use crate::arguments::{file_argument, flag};
-use crate::options::{type_argument, words_argument};
+ghost use Rattle.std.specs.Prelude.{◌≡◌, ◌⊎◌};
+ghost use Rattle.config_value.specs.declared.edits.Refusal.TheVariants.{Edit, Pattern};
+
+use crate::arguments::{file_argument, flag, valued};
+use crate::options::{fixed_argument, pattern_argument, type_argument, words_argument};
 use crate::output::tell;
-use crate::request::Texts;
+use crate::request::{Request, Style, Subject, Texts};
+use crate::selected::{Changed, places, with_comment, with_value, without};
 use crate::shown::Shown;
 use crate::sources::{named_by_variable, of_scope};
+use crate::wanted::{Patterns, Unclear, Wanted};
 use crate::words::{CHANGES, Misuse, shown_of, texts_of};
 use bstr::BStr;
 use bumpalo::Bump;
 use clap::{ArgMatches, Command};
 use config_file::edit::{self, EditError};
-use config_file::{KeyError, Scope};
+use config_file::{Key, KeyError, Scope};
 use config_host::repository::{Location, find};
 use config_host::sources::names;
 use config_host::{Disk, HereError, HostError, LockError, Locked};
@@ -76,8 +81,9 @@ a scope they change the file of the repository. All bytes but those of the chang
 
 Statuses: 0 if the file is as asked, 1 for a key with a wrong byte, 2 for a key without a section or a \
 name, 3 for a file that is no configuration file, 4 if the new file is not written, 5 if several entries \
-have the key or none, 128 if the value is none of its type or no section has the name, 129 for a wrong \
-usage, and 255 if the file is locked or no section can have the name.
+have the key or none, 6 for an invalid pattern, 128 if the value is none of its type, the comment has a \
+line end or no section has the name, 129 for a wrong usage, and 255 if the file is locked or no section can \
+have the name.
 
 Examples:
   config_value set core.editor 'vim -n'
@@ -94,6 +100,14 @@ pub fn change_command<'a>(alloc: Global) -> Result<Command<'a>, AllocError> {
         .after_help(AFTER)
         .arg(file_argument(alloc))?
         .arg(type_argument(alloc))?
+        .arg(pattern_argument(alloc))?
+        .arg(fixed_argument(alloc))?
+        .arg(valued(
+            alloc,
+            "comment",
+            "TEXT",
+            "Write this comment behind the value, in place of the one that is there",
+        ))?
         .arg(words_argument(
             alloc,
             "WORDS",
@@ -131,10 +145,35 @@ fn older<'m>(matches: &ArgMatches<'_>, word: &'m str) -> Result<(&'m str, bool, 
     Ok(found)
 }
 
-/// The change that the arguments ask for.
-fn change_of<'a>(matches: &ArgMatches<'a>, word: &str) -> Result<Change<'a>, Misuse> {
-    let (word, all, append) = older(matches, word)?;
-    match (word, matches.get_strs("words").unwrap_or(&[])) {
+/// The words of a change without the pattern of values, which comes last behind an older flag.
+fn split_pattern<'m, 'a>(word: &str, words: &'m [&'a str]) -> (&'m [&'a str], Option<&'a str>) {
+    match (word, words) {
+        ("set", [_, _, pattern]) => (&words[..2], Some(*pattern)),
+        ("unset", [_, pattern]) => (&words[..1], Some(*pattern)),
+        _ => (words, None),
+    }
+}
+
+/// A change, and of which entries it is.
+#[derive(Clone, Copy)]
+struct Asked<'a> {
+    change: Change<'a>,
+    /// The pattern of the values of the entries that change, if not all of the key do.
+    pattern: Option<&'a str>,
+    /// Whether the pattern is the value itself.
+    is_fixed: bool,
+    /// The comment that the value gets.
+    comment: Option<&'a str>,
+}
+
+/// The change that these words ask for.
+fn change_of<'a>(
+    word: &str,
+    words: &[&'a str],
+    all: bool,
+    append: bool,
+) -> Result<Change<'a>, Misuse> {
+    match (word, words) {
         ("set", [key, value]) if append => Ok(Change::Add(*key, *value)),
         ("set", [key, value]) if all => Ok(Change::Replace(*key, *value)),
         ("set", [key, value]) => Ok(Change::Set(*key, *value)),
@@ -146,8 +185,132 @@ fn change_of<'a>(matches: &ArgMatches<'a>, word: &str) -> Result<Change<'a>, Mis
     }
 }
 
-/// The text after a change.
-fn changed(
+/// Refuses options that do not go together.
+fn check_asked(asked: &Asked<'_>, is_older: bool) -> Result<(), Misuse> {
+    match (asked.change, asked.pattern, asked.comment) {
+        (Change::Add(..), Some(_), _) if is_older => Err(Misuse::Count),
+        (Change::Add(..), Some(_), _) => Err(Misuse::Fatal(
+            "--append cannot be used with --value=<pattern>",
+        )),
+        (Change::Rename(..) | Change::Remove(_), Some(_), _) => {
+            Err(Misuse::Apart("--value is only applicable to set and unset"))
+        }
+        (_, None, _) if asked.is_fixed && is_older => Err(Misuse::Apart(
+            "--fixed-value only applies with a pattern of values",
+        )),
+        (_, None, _) if asked.is_fixed => Err(Misuse::Fatal(
+            "--fixed-value only applies with --value=<pattern>",
+        )),
+        (Change::Set(..) | Change::Add(..) | Change::Replace(..), _, Some(comment)) => {
+            if comment.contains('\n') {
+                return Err(Misuse::Fatal("no multi-line comment allowed"));
+            }
+            Ok(())
+        }
+        (_, _, Some(_)) => Err(Misuse::Apart("--comment is only applicable to set")),
+        _ => Ok(()),
+    }
+}
+
+/// What the arguments ask for.
+fn asked_of<'a>(matches: &ArgMatches<'a>, first: &str) -> Result<Asked<'a>, Misuse> {
+    let is_older = !CHANGES.contains(&first);
+    let (word, all, append) = older(matches, first)?;
+    let words = matches.get_strs("words").unwrap_or(&[]);
+    let (words, pattern) = if is_older {
+        split_pattern(word, words)
+    } else {
+        (words, matches.get_str("value"))
+    };
+    let asked = Asked {
+        change: change_of(word, words, all, append)?,
+        pattern,
+        is_fixed: matches.get_flag("fixed-value"),
+        comment: matches.get_str("comment"),
+    };
+    check_asked(&asked, is_older)?;
+    Ok(asked)
+}
+
+/// Why a text is not changed.
+#[derive(Drop)]
+enum Refusal {
+    Edit(EditError),
+    /// The text is no pattern.
+    Pattern,
+}
+
+impl From<EditError> for Refusal {
+    ghost from_gives = { λ error refusal. refusal ≡ Edit error };
+
+    fn from(error: EditError) -> Refusal {
+        Refusal::Edit(error)
+    }
+}
+
+impl From<Unclear> for Refusal {
+    ghost from_gives = { λ _ refusal. (refusal ≡ Pattern) ⊎ ((error : _) × (refusal ≡ Edit error)) };
+
+    fn from(unclear: Unclear) -> Refusal {
+        match unclear {
+            Unclear::Key(error) => Refusal::Edit(EditError::Key(error)),
+            Unclear::Pattern => Refusal::Pattern,
+            Unclear::Memory => Refusal::Edit(EditError::Memory(AllocError)),
+        }
+    }
+}
+
+/// The places of the entries of a key in a text, with values that fit the pattern if there is one.
+fn places_of<'a>(
+    alloc: Global,
+    text: &[u8],
+    key: &'a str,
+    asked: &Asked<'a>,
+) -> Result<Vec<usize>, Refusal> {
+    if let Err(error) = Key::parse(key.as_bytes()) {
+        return Err(Refusal::Edit(EditError::Key(error)));
+    }
+    let request = Request {
+        subject: Subject::Key(key),
+        value: asked.pattern,
+        is_fixed: asked.is_fixed,
+        ..Request::new(Style::Git, Texts::Here, &[])
+    };
+    let patterns = Patterns::new(alloc, &request)?;
+    let mut wanted = Wanted::new(alloc, &request, &patterns)?;
+    Ok(places(alloc, text, &mut wanted)?)
+}
+
+/// The text after a change of the entries whose values fit.
+fn changed_where(
+    alloc: Global,
+    text: &[u8],
+    asked: &Asked<'_>,
+    value: &[u8],
+) -> Result<Changed, Refusal> {
+    let change = asked.change;
+    let (Change::Set(key, _)
+    | Change::Replace(key, _)
+    | Change::Unset(key)
+    | Change::UnsetAll(key)) = change
+    else {
+        return Err(Refusal::Pattern);
+    };
+    let places = places_of(alloc, text, key, asked)?;
+    if places.len() > 1 && matches!(change, Change::Set(..) | Change::Unset(_)) {
+        return Err(Refusal::Edit(EditError::Several));
+    }
+    if matches!(change, Change::Set(..) | Change::Replace(..)) {
+        return Ok(with_value(alloc, text, key, value, places.as_slice())?);
+    }
+    Ok(Changed {
+        text: without(alloc, text, key, places.as_slice())?,
+        place: None,
+    })
+}
+
+/// The text after a change of all entries of the key.
+fn changed_all(
     alloc: Global,
     text: &[u8],
     change: Change<'_>,
@@ -166,6 +329,47 @@ fn changed(
             new.as_bytes(),
         ),
         Change::Remove(name) => edit::remove_section(alloc, text, name.as_bytes()),
+    }
+}
+
+/// The text after a change.
+fn changed(
+    alloc: Global,
+    text: &[u8],
+    asked: &Asked<'_>,
+    value: &[u8],
+) -> Result<Vec<u8>, Refusal> {
+    let new = match asked.pattern {
+        Some(_) => changed_where(alloc, text, asked, value)?,
+        None => Changed {
+            text: changed_all(alloc, text, asked.change, value)?,
+            place: None,
+        },
+    };
+    let Some(comment) = asked.comment else {
+        return Ok(new.text);
+    };
+    let (Change::Set(key, _) | Change::Add(key, _) | Change::Replace(key, _)) = asked.change else {
+        return Ok(new.text);
+    };
+    let place = match new.place {
+        Some(place) => place,
+        None => last_place(alloc, &new.text, key)?,
+    };
+    Ok(with_comment(alloc, &new.text, place, comment)?)
+}
+
+/// The place of the last entry of a key.
+fn last_place(alloc: Global, text: &[u8], key: &str) -> Result<usize, Refusal> {
+    let all = Asked {
+        change: Change::UnsetAll(key),
+        pattern: None,
+        is_fixed: false,
+        comment: None,
+    };
+    match places_of(alloc, text, key, &all)?.last() {
+        Some(place) => Ok(*place),
+        None => Err(Refusal::Edit(EditError::Absent)),
     }
 }
 
@@ -222,6 +426,8 @@ const NO_FILE: u8 = 3;
 const NOT_WRITTEN: u8 = 4;
 
 const NOTHING: u8 = 5;
+
+const NO_PATTERN: u8 = 6;
 
 const DIED: u8 = 128;
 
@@ -290,18 +496,23 @@ fn change_file<'t>(
     rt: &'t HostRuntime,
     disk: &Disk<'t, HostRuntime>,
     name: &[u8],
-    change: Change<'_>,
+    asked: &Asked<'_>,
     value: &[u8],
 ) -> Result<u8, HostError> {
     let locked = match Locked::of(disk, name) {
         Ok(locked) => locked,
         Err(error) => return refuse_lock(rt, name, &error),
     };
-    let new = match changed(rt.alloc(), locked.text(), change, value) {
+    let new = match changed(rt.alloc(), locked.text(), asked, value) {
         Ok(new) => new,
-        Err(error) => {
-            tell_refusal(rt, name, change, &error)?;
-            return Ok(status_of(change, &error));
+        Err(Refusal::Edit(error)) => {
+            tell_refusal(rt, name, asked.change, &error)?;
+            return Ok(status_of(asked.change, &error));
+        }
+        Err(Refusal::Pattern) => {
+            let pattern = asked.pattern.unwrap_or("");
+            tell(rt, format_args!("config_value: invalid pattern: {pattern}"))?;
+            return Ok(NO_PATTERN);
         }
     };
     if new.as_slice() == locked.text() {
@@ -318,7 +529,7 @@ fn change_here<'t>(
     rt: &'t HostRuntime,
     texts: &'t Bump,
     scope: Scope,
-    change: Change<'_>,
+    asked: &Asked<'_>,
     value: &[u8],
 ) -> Result<u8, HereError<'t>> {
     let disk = Disk::new(rt, texts);
@@ -336,7 +547,7 @@ fn change_here<'t>(
     }
     let disk = disk.within(&folder)?;
     match of_scope(&disk, names(rt, repository.as_ref())?, scope)? {
-        Some(named) => Ok(change_file(rt, &disk, &named.name, change, value)?),
+        Some(named) => Ok(change_file(rt, &disk, &named.name, asked, value)?),
         None => {
             tell(
                 rt,
@@ -354,7 +565,7 @@ fn change_here<'t>(
 fn run_change(
     rt: &HostRuntime,
     texts: Texts<'_, '_>,
-    change: Change<'_>,
+    asked: &Asked<'_>,
     value: &[u8],
 ) -> Result<u8, HostError> {
     let kept = Bump::new(rt.alloc());
@@ -363,13 +574,13 @@ fn run_change(
             rt,
             &Disk::new(rt, &kept),
             file.as_bytes(),
-            change,
+            asked,
             value,
         )?,
-        Texts::OfScope(scope) => told(rt, change_here(rt, &kept, scope, change, value))?,
+        Texts::OfScope(scope) => told(rt, change_here(rt, &kept, scope, asked, value))?,
         _ => match named_by_variable(rt)? {
-            Some(file) => change_file(rt, &Disk::new(rt, &kept), file.as_bytes(), change, value)?,
-            None => told(rt, change_here(rt, &kept, Scope::Local, change, value))?,
+            Some(file) => change_file(rt, &Disk::new(rt, &kept), file.as_bytes(), asked, value)?,
+            None => told(rt, change_here(rt, &kept, Scope::Local, asked, value))?,
         },
     };
     Ok(outcome)
@@ -392,12 +603,12 @@ pub fn run<'a>(
     matches: &ArgMatches<'a>,
     word: &str,
 ) -> Result<Result<u8, HostError>, Misuse> {
-    let change = change_of(matches, word)?;
+    let asked = asked_of(matches, word)?;
     let shown = shown_of(matches)?;
     let texts = texts_of(matches)?;
-    let value = value_of(change);
+    let value = value_of(asked.change);
     Ok(match written(rt.alloc(), shown, value) {
-        Ok(Some(text)) => run_change(rt, texts, change, text.as_slice()),
+        Ok(Some(text)) => run_change(rt, texts, &asked, text.as_slice()),
         Ok(None) => match tell(
             rt,
             format_args!("config_value: {value}: it is none of its type"),

@@ -9,6 +9,7 @@ mod files;
 mod options;
 mod output;
 mod request;
+mod selected;
 mod shown;
 mod sources;
 mod wanted;

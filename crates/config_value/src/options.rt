@@ -170,8 +170,14 @@ fn default_argument<'a>(alloc: Global) -> Arg<'a> {
     valued(alloc, "default", "VALUE", help)
 }
 
+/// The pattern of values.
+pub fn pattern_argument<'a>(alloc: Global) -> Arg<'a> {
+    let help = "Take only entries whose value the pattern matches, or after ! does not match";
+    valued(alloc, "value", "PATTERN", help)
+}
+
 /// Whether the pattern of values is the value itself.
-fn fixed_argument<'a>(alloc: Global) -> Arg<'a> {
+pub fn fixed_argument<'a>(alloc: Global) -> Arg<'a> {
     flag(alloc, "fixed-value", "Take PATTERN for the value itself")
 }
 
@@ -193,12 +199,7 @@ fn get_command<'a>(alloc: Global) -> Result<Command<'a>, AllocError> {
     let command = with_options(alloc, command)?
         .arg(flag(alloc, "all", "Print all values of the key"))?
         .arg(default_argument(alloc))?
-        .arg(valued(
-            alloc,
-            "value",
-            "PATTERN",
-            "Take only entries whose value the pattern matches, or after ! does not match",
-        ))?
+        .arg(pattern_argument(alloc))?
         .arg(fixed_argument(alloc))?
         .arg(flag(alloc, "regexp", "Take KEY for a pattern of keys"))?
         .arg(valued(

@@ -229,4 +229,9 @@ impl<'k, 'p> Wanted<'k, 'p> {
             None => true,
         }
     }
+
+    /// Whether a change is also of an entry that is a key alone: to such a one Git applies no pattern.
+    pub fn fits_alone(&self) -> bool {
+        self.fixed.is_none() && (self.values.is_none() || self.is_negated)
+    }
 }

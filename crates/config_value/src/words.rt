@@ -44,9 +44,9 @@ pub enum Misuse {
     /// Options that do not go together, as this says.
     #[error("{0}")]
     Apart(&'static str),
-    /// The same of options of `get`.
+    /// The same, where Git has a status of its own for it.
     #[error("{0}")]
-    ApartInGet(&'static str),
+    Fatal(&'static str),
     /// There is no such type.
     #[error("unrecognized --type argument")]
     Type,
@@ -57,7 +57,7 @@ impl Misuse {
     pub fn status(self) -> u8 {
         match self {
             Misuse::Count | Misuse::Apart(_) => 129,
-            Misuse::ApartInGet(_) | Misuse::Type => 128,
+            Misuse::Fatal(_) | Misuse::Type => 128,
         }
     }
 }
@@ -108,10 +108,17 @@ fn is_option(argument: &str) -> bool {
 fn older_word(arguments: &[String]) -> Word {
     let mut is_value = false;
     let mut has_key = false;
-    for argument in arguments {
+    for (at, argument) in arguments.iter().enumerate() {
         let option = argument.as_str();
         if is_value {
             is_value = false;
+        } else if option == "--" {
+            // a key and a value follow, though they may begin with a dash
+            return if arguments.len().saturating_sub(at) > 2 {
+                Word::Change
+            } else {
+                Word::Nothing
+            };
         } else if OLDER.contains(&option) {
             return Word::Older;
         } else if OLDER_CHANGES.contains(&option) {
@@ -387,13 +394,13 @@ fn check_get(matches: &ArgMatches<'_>) -> Result<(), Misuse> {
     let (has_url, has_all) = (matches.get_str("url").is_some(), matches.get_flag("all"));
     let has_value = matches.get_str("value").is_some();
     if matches.get_flag("fixed-value") && !has_value {
-        return Err(Misuse::ApartInGet("--fixed-value only applies with --value="));
+        return Err(Misuse::Fatal("--fixed-value only applies with --value="));
     }
     if matches.get_str("default").is_some() && (has_all || has_url) {
-        return Err(Misuse::ApartInGet("--default= cannot be used with --all or --url="));
+        return Err(Misuse::Fatal("--default= cannot be used with --all or --url="));
     }
     if has_url && (has_all || has_value || matches.get_flag("regexp")) {
-        return Err(Misuse::ApartInGet("--url= cannot be used with --all, --regexp or --value"));
+        return Err(Misuse::Fatal("--url= cannot be used with --all, --regexp or --value"));
     }
     Ok(())
 }

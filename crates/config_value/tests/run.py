@@ -65,6 +65,20 @@ CHANGES = (
     (["unset", "a.k"], b"[a]\n\tk = 1\n[b]\n", b"[b]\n"),
     (["unset", "a.k"], b"[a]\n\t# why\n\tk = 1\n", b"[a]\n\t# why\n"),
     (["--unset-all", "a.k"], b"[a]\n\tk = 1\n\tK\n[a]\n\tk = 2\n\tl\n", b"[a]\n\tl\n"),
+    (["set", "--comment=why", "a.k", "1"], b"[a]\r\n\tk = 1 # old\r\n", b"[a]\r\n\tk = 1 # why\r\n"),
+    (["set", "--comment=why", "a.k", "2"], b"[a]\r\n\tk = 1\r\n", b"[a]\r\n\tk = 2 # why\r\n"),
+    (["set", "--comment= \t# b", "a.k", "9"], b"[a]\n\tk = 1\n", b"[a]\n\tk = 9 \t# b\n"),
+    (["set", "--comment=#b", "a.k", "9"], b"[a]\n\tk = 1;c\n", b"[a]\n\tk = 9 #b\n"),
+    (["set", "--comment=b", "a.k", "v"], b"[a]\n\tk = v\\", b"[a]\n\tk = v\\\n # b"),
+    (["set", "--append", "--comment=b", "a.k", "7"], b"[a]\n\tk = 7\n[b]\n", b"[a]\n\tk = 7\n\tk = 7 # b\n[b]\n"),
+    (["set", "--value=[0-9]", "--all", "a.k", "9"], b"[a]\n\tk = 1 # c\n\tk = x\n\tk = 3\n", b"[a]\n\tk = x\n\tk = 9\n"),
+    (["set", "--value=zzz", "a.k", "9"], b"[a]\n\tk = 1\n\tk = x\n", b"[a]\n\tk = 1\n\tk = x\n\tk = 9\n"),
+    (["set", "--value=x", "--fixed-value", "--comment=c", "a.k", "9"], b"[a]\n\tk = 1\n\tk = x\n\tk = 9\n",
+     b"[a]\n\tk = 1\n\tk = 9 # c\n\tk = 9\n"),
+    (["unset", "--value=1", "a.k"], b"[a] k = 1\n\tk = x\n", b"[a]\n\tk = x\n"),
+    (["--unset", "a.k", "!x"], b"[a]\n\tk\n\tk = x\n", b"[a]\n\tk = x\n"),
+    (["--", "-a.k", "-1"], b"[-a]\n\tk = 1\n", b"[-a]\n\tk = -1\n"),
+    (["--replace-all", "a.k", "2", "^1"], b"[a]\n\tk = 1\n\tk = x\n", b"[a]\n\tk = 2\n\tk = x\n"),
     (["rename-section", "a", "b"], b"# c\0d\n[a]\n\tk = 1\n", b"# c\0d\n[b]\n\tk = 1\n"),
     (["rename-section", "a", "b"], b"[a]\n\tk = x\\\n[a]\n\tl = 1\n", b"[b]\n\tk = x\\\n[a]\n\tl = 1\n"),
     (["rename-section", "a", "b"], b"\xef\xbb\xbf[a]\n\tk = 1\n", b"\xef\xbb\xbf[b]\n\tk = 1\n"),
@@ -392,7 +406,7 @@ def changes(tests):
 
     for (word, *words), old, new in CHANGES:
         tests.write(b"edit", old)
-        change([word, "-f", "edit", *words], 0, new)
+        change(["-f", "edit", word, *words] if word == "--" else [word, "-f", "edit", *words], 0, new)
     change(["set", "-f", "new", "a.k", "v"], 0, b"[a]\n\tk = v\n", name=b"new")
     change(["unset", "-f", "absent", "a.k"], 5, None, name=b"absent")
     change(["remove-section", "-f", "absent", "a"], 128, None, b"config_value: no such section: a\n", name=b"absent")
@@ -401,6 +415,15 @@ def changes(tests):
                                 (["rename-section", "-f", "edit", "a", "y_z"], 255, b"invalid section name"),
                                 (["remove-section", "-f", "edit", "z"], 128, b"no such section: z")):
         change(words, status, b"[a]\n\tk = v\n", b"config_value: " + told + b"\n")
+    for words, status, told in ((["set", "--value=(", "-f", "edit", "a.k", "w"], 6, b"invalid pattern: ("),
+                                (["set", "--append", "--value=x", "-f", "edit", "a.k", "w"], 128,
+                                 b"--append cannot be used with --value=<pattern>"),
+                                (["set", "--fixed-value", "-f", "edit", "a.k", "w"], 128,
+                                 b"--fixed-value only applies with --value=<pattern>"),
+                                (["set", "--comment=a\nb", "-f", "edit", "a.k", "w"], 128, b"no multi-line comment allowed"),
+                                (["unset", "--comment=b", "-f", "edit", "a.k"], 129, b"--comment is only applicable to set")):
+        change(words, status, b"[a]\n\tk = v\n", b"config_value: " + told + b"\n")
+    change(["unset", "--value=zz", "-f", "edit", "a.k"], 5, b"[a]\n\tk = v\n")
     tests.write(b"held", b"[a]\n\tk = v\n")
     tests.write(b"held.lock", b"")
     told = b"config_value: held: held.lock: the lock is held\n"
@@ -432,6 +455,18 @@ def changes(tests):
     change(["set", "--global", "a.k", "v"], 0, b"[a]\n\tk = v\n", name=b"changed/.gitconfig", folder=b"changed", more=more)
 
 
+def together(tests):
+    """Two programs that add entries to one file at once lose none. A lock that is held is tried again."""
+    tests.write(b"shared", b"[a]\n")
+    loop = 'for n in $(seq 50); do until "$1" set --append -f shared a.k "$2$n" 2> /dev/null; do :; done; done'
+    runs = [subprocess.Popen(["sh", "-c", loop, "-", tests.program, name], cwd=os.fsdecode(tests.path(b"")))
+            for name in "vw"]
+    tests.expect("two programs end", [0, 0], [run.wait() for run in runs])
+    lines = pathlib.Path(os.fsdecode(tests.path(b"shared"))).read_text("utf-8").splitlines()
+    tests.expect("two programs lose nothing", ["[a]", *sorted(f"\tk = {name}{n}" for name in "vw" for n in range(1, 51))],
+                 [*lines[:1], *sorted(lines[1:])])
+
+
 def killed(tests):
     """A program that is killed as it changes a file leaves the old text or the new one."""
     old = b"[a]\n\tk = v\n" + b"\tj = of a line that makes the file long\n" * 20000
@@ -457,8 +492,8 @@ def main():
     arguments = arguments.parse_args()
     with tempfile.TemporaryDirectory() as folder:
         tests = Tests(arguments.program, arguments.git, os.path.realpath(folder))
-        for part in (words, flags, types, endless, names, folders, shown, statuses, repositories, here, changes, killed,
-                     memory):
+        for part in (words, flags, types, endless, names, folders, shown, statuses, repositories, here, changes, together,
+                     killed, memory):
             part(tests)
     print(f"{tests.passed} passed, {tests.failed} failed")
     return 1 if tests.failed else 0

@@ -7,7 +7,7 @@
  *
  * What a call writes must not overlap what it reads, or what else it writes. Pointers to what it writes, and to the
  * structs that it reads, must not be null, except for `fault` and `line`, which may always be null, and a buffer of
- * capacity 0. A length, a capacity, and the size of an array of lengths must be at most PTRDIFF_MAX bytes.
+ * capacity 0. A length or a capacity must be at most PTRDIFF_MAX.
  *
  * A call returns GCV_OK, or another gcv_status that says why it failed. Unless its comment says otherwise, a call that
  * failed has written nothing.
@@ -15,11 +15,7 @@
  * A call that writes a text takes a buffer, its capacity, and `size`. If it returns GCV_OK, the text is at the front of
  * the buffer, the bytes after it are unchanged, no NUL is added, and `*size` is the length of the text. If it returns
  * GCV_SHORT_BUFFER, the buffer is unchanged, and `*size` is the capacity that the text needs. After any other status
- * the buffer and `*size` are unchanged.
- *
- * Most calls are inline, and the library exports all of them. A generator of bindings sees all of them if GCV_CALL is
- * defined as `extern`; do not define it in a program. Most calls use one with `gcv_raw_` in its name, which takes no
- * null pointer, even if the length is 0, and is proved to keep its contract. */
+ * the buffer and `*size` are unchanged. */
 #ifndef GIX_CONFIG_VALUE_H
 #define GIX_CONFIG_VALUE_H
 
@@ -38,15 +34,6 @@
 extern "C" {
 #endif
 
-#if defined(__cplusplus) || (defined(__STDC_VERSION__) && __STDC_VERSION__ >= 199901L)
-#define GCV_INLINE static inline
-#else
-#define GCV_INLINE static __inline
-#endif
-#ifndef GCV_CALL
-#define GCV_CALL GCV_INLINE
-#endif
-
 /* With these a compiler can warn of wrong calls: a null pointer, a status that is ignored, pointers that overlap. */
 #ifdef __GNUC__
 #define GCV_NONNULL(positions) __attribute__((nonnull positions))
@@ -57,7 +44,7 @@ extern "C" {
 #define GCV_CHECKED
 #define GCV_RESTRICT
 #endif
-#define GCV_RETURNS(positions) GCV_CALL GCV_CHECKED GCV_NONNULL(positions) gcv_status
+#define GCV_RETURNS(positions) GCV_CHECKED GCV_NONNULL(positions) gcv_status
 
 /* An enum has a type of its own, of 32 bits, so that a compiler can tell a status from a fault. */
 #if defined(__cplusplus) && __cplusplus >= 201103L
@@ -69,18 +56,18 @@ extern "C" {
 /* The statuses that calls return. */
 typedef GCV_ENUM(gcv_status) {
     GCV_OK = 0,
-    GCV_REFUSED = 1,           /* the text has no value of its kind, or means no path; see the fault */
+    GCV_REFUSED = 1,           /* a text has no value or means no path (see the fault), or a file is not read */
     GCV_OVERFLOW = 2,          /* the product of an integer does not fit int64_t */
     GCV_NO_TEXT = 3,           /* one of the colors has no text */
     GCV_TOO_MANY_NAMES = 4,    /* the two colors have more than two names together */
-    GCV_ABSENT = 5,            /* no entry has the name or the key, no section has the name, or no entry is left */
+    GCV_ABSENT = 5,            /* no entry has the key, no section the name, no entry is left, or no file is there */
     GCV_UNKNOWN_KIND = 6,      /* the number is not that of a kind */
     GCV_UNKNOWN_FAULT = 7,     /* the number is not that of a fault */
     GCV_BAD_SUFFIX = 8,        /* the number is not that of a suffix */
     GCV_BAD_NAME = 9,          /* the struct is not that of a name */
     GCV_BAD_FLAG = 10,         /* a flag is neither 0 nor 1 */
     /* 11 is no status */
-    GCV_BAD_LENGTHS = 12,      /* lengths are not those of texts that fill the bytes, or a walk or settings are invalid */
+    GCV_BAD_LENGTHS = 12,      /* the numbers in a walk are not those of one */
     GCV_SHORT_BUFFER = 13,     /* the buffer is shorter than the text */
     GCV_NO_MEMORY = 14,        /* malloc failed, or a path would be longer than memory can be */
     GCV_BAD_LINE = 15,         /* a line of a file is invalid */
@@ -120,20 +107,10 @@ typedef GCV_ENUM(gcv_kind) {
 /* The reasons why a text or a path is refused. */
 typedef GCV_ENUM(gcv_fault) {
     GCV_FAULT_NONE = 0, /* for a refused suffix, which has no fault of its own */
-    GCV_FAULT_BOOLEAN = 1,
-    GCV_FAULT_INTEGER = 2,
-    GCV_FAULT_OVERFLOW = 3,
-    GCV_FAULT_OUT_OF_RANGE = 4,
-    GCV_FAULT_COLOR = 5,
-    GCV_FAULT_PATH_MISSING = 6,
-    GCV_FAULT_INSTALL_DIR_MISSING = 7,
-    GCV_FAULT_HOME_MISSING = 8,
-    GCV_FAULT_LOOKUP_MISSING = 9,
-    GCV_FAULT_USER_NOT_FOUND = 10,
-    GCV_FAULT_ILL_FORMED_PAST_PREFIX = 11,
-    GCV_FAULT_ILL_FORMED_PAST_HOME = 12,
-    GCV_FAULT_ILL_FORMED_USERNAME = 13,
-    GCV_FAULT_ILL_FORMED_PAST_USER = 14,
+    GCV_FAULT_BOOLEAN = 1, GCV_FAULT_INTEGER = 2, GCV_FAULT_OVERFLOW = 3, GCV_FAULT_OUT_OF_RANGE = 4,
+    GCV_FAULT_COLOR = 5, GCV_FAULT_PATH_MISSING = 6, GCV_FAULT_INSTALL_DIR_MISSING = 7, GCV_FAULT_HOME_MISSING = 8,
+    GCV_FAULT_LOOKUP_MISSING = 9, GCV_FAULT_USER_NOT_FOUND = 10, GCV_FAULT_ILL_FORMED_PAST_PREFIX = 11,
+    GCV_FAULT_ILL_FORMED_PAST_HOME = 12, GCV_FAULT_ILL_FORMED_USERNAME = 13, GCV_FAULT_ILL_FORMED_PAST_USER = 14,
     GCV_FAULT_ILL_FORMED_PATH = 15
 } gcv_fault;
 
@@ -156,23 +133,9 @@ typedef GCV_ENUM(gcv_depth) {
 /* The tag of a name. */
 typedef GCV_ENUM(gcv_tag) {
     GCV_NO_NAME = 0, /* in a color without this name */
-    GCV_NORMAL = 1,
-    GCV_DEFAULT = 2,
-    GCV_BLACK = 3,
-    GCV_BRIGHT_BLACK = 4,
-    GCV_RED = 5,
-    GCV_BRIGHT_RED = 6,
-    GCV_GREEN = 7,
-    GCV_BRIGHT_GREEN = 8,
-    GCV_YELLOW = 9,
-    GCV_BRIGHT_YELLOW = 10,
-    GCV_BLUE = 11,
-    GCV_BRIGHT_BLUE = 12,
-    GCV_MAGENTA = 13,
-    GCV_BRIGHT_MAGENTA = 14,
-    GCV_CYAN = 15,
-    GCV_BRIGHT_CYAN = 16,
-    GCV_WHITE = 17,
+    GCV_NORMAL = 1, GCV_DEFAULT = 2, GCV_BLACK = 3, GCV_BRIGHT_BLACK = 4, GCV_RED = 5, GCV_BRIGHT_RED = 6,
+    GCV_GREEN = 7, GCV_BRIGHT_GREEN = 8, GCV_YELLOW = 9, GCV_BRIGHT_YELLOW = 10, GCV_BLUE = 11, GCV_BRIGHT_BLUE = 12,
+    GCV_MAGENTA = 13, GCV_BRIGHT_MAGENTA = 14, GCV_CYAN = 15, GCV_BRIGHT_CYAN = 16, GCV_WHITE = 17,
     GCV_BRIGHT_WHITE = 18,
     GCV_ANSI = 19, /* the number `palette` of the terminal's palette */
     GCV_RGB = 20   /* `red`, `green` and `blue` */
@@ -220,187 +183,110 @@ typedef struct gcv_color {
     uint32_t attributes;
 } gcv_color;
 
-/* An entry of a list of settings, and the place of its text in the bytes. */
-typedef struct gcv_entry {
-    size_t index; /* from 0 */
-    size_t start;
-    size_t length;
-} gcv_entry;
+/* The library is built for 64 bits, and for enums of 32 bits: a compiler that differs reports an error. */
+extern const char gcv_is_for_this_compiler[sizeof(size_t) == 8 && sizeof(gcv_status) == 4 ? 1 : -1];
 
-/* The place of a setting of a file in the bytes of all settings, in which NUL ends each text. */
-typedef struct gcv_place {
-    size_t key;         /* where its key begins */
-    size_t value;       /* where its value begins, after the key's NUL */
-    size_t line;        /* the line of its entry, from 1 */
-    uint32_t has_value; /* 1 if it has a value, and 0 for a key without `=` */
-} gcv_place;
+/* Returns the version of the library, as a text that ends with NUL. */
+const char *gcv_version(void);
 
-/* The room that the settings of a file need, or the line at which the file is refused. */
-typedef struct gcv_file {
-    size_t size;  /* how many bytes the keys and the values take */
-    size_t count; /* how many settings there are */
-    size_t line;  /* the line that was refused, from 1, or 0 if no line was */
-} gcv_file;
+/* Returns the text of a status, which ends with NUL: "unknown status" if no status has the number. */
+const char *gcv_status_text(gcv_status status);
 
-/* A file of a walk, and the entries that are left of it. Only calls of the library read and write its members. */
-typedef struct gcv_frame {
-    const char *name;
-    size_t name_length;
-    const char *real_dir;
-    size_t real_dir_length;
-    const char *section;
-    size_t section_length;
-    const char *subsection;
-    size_t subsection_length;
-    const char *rest;
-    size_t rest_length;
-    size_t line;
-    uint32_t parts;
-} gcv_frame;
+/* Writes the text of a fault, at most GCV_LONGEST_TEXT bytes. Returns GCV_UNKNOWN_FAULT if no fault has the number. */
+GCV_NONNULL((4)) gcv_status gcv_fault_text(gcv_fault fault, char *GCV_RESTRICT buffer, size_t capacity, size_t *size);
 
-/* The bytes of a text, for an array of texts. The pointer is not null, even if the length is 0. */
-typedef struct gcv_text {
-    const char *bytes;
-    size_t length;
-} gcv_text;
+/* Readers. Each writes the value of the text to `*out`. If the text has no value, it writes the fault to `*fault`
+ * instead, and returns GCV_REFUSED. The other one is unchanged. */
 
-/* The structs of gcv_raw_next, which gcv_next makes of a gcv_known, and of which it makes a gcv_step. */
-typedef struct gcv_raw_known {
-    const char *install_dir;
-    size_t install_dir_length;
-    const char *home;
-    size_t home_length;
-    const char *real_home;
-    size_t real_home_length;
-    const char *git_dir;
-    size_t git_dir_length;
-    const char *real_git_dir;
-    size_t real_git_dir_length;
-    const char *branch;
-    size_t branch_length;
-    const gcv_text *urls;
-    size_t urls_length;
-    uint32_t has_install_dir;
-    uint32_t has_home;
-    uint32_t has_real_home;
-    uint32_t has_repository;
-    uint32_t has_branch;
-    uint32_t follows;
-    uint32_t seeks_urls;
-} gcv_raw_known;
+/* Reads GCV_KIBI, GCV_MEBI or GCV_GIBI. The fault is GCV_FAULT_NONE. */
+GCV_RETURNS((3)) gcv_read_suffix(const char *text, size_t length, gcv_suffix *GCV_RESTRICT out, gcv_fault *fault);
+/* Reads a number and its suffix, whose product need not fit int64_t. The fault is GCV_FAULT_INTEGER. */
+GCV_RETURNS((3)) gcv_read_integer(const char *text, size_t length, gcv_integer *GCV_RESTRICT out, gcv_fault *fault);
+/* Reads the product of a number and its suffix. The fault is GCV_FAULT_INTEGER if the text is no integer, and
+ * GCV_FAULT_OVERFLOW if the product does not fit int64_t. */
+GCV_RETURNS((3)) gcv_read_amount(const char *text, size_t length, int64_t *GCV_RESTRICT out, gcv_fault *fault);
+/* Reads 1 for true and 0 for false. The fault is GCV_FAULT_BOOLEAN. */
+GCV_RETURNS((3)) gcv_read_boolean(const char *text, size_t length, uint32_t *GCV_RESTRICT out, gcv_fault *fault);
+/* Reads a name, whose tag is not GCV_NO_NAME. The fault is GCV_FAULT_COLOR. */
+GCV_RETURNS((3)) gcv_read_name(const char *text, size_t length, gcv_name *GCV_RESTRICT out, gcv_fault *fault);
+/* Reads the one bit of an attribute. The fault is GCV_FAULT_COLOR. */
+GCV_RETURNS((3)) gcv_read_attribute(const char *text, size_t length, uint32_t *GCV_RESTRICT out, gcv_fault *fault);
+/* Reads a color. The fault is GCV_FAULT_COLOR. */
+GCV_RETURNS((3)) gcv_read_color(const char *text, size_t length, gcv_color *GCV_RESTRICT out, gcv_fault *fault);
 
-typedef struct gcv_raw_step {
-    const char *name;
-    size_t name_length;
-    size_t line;
-    size_t value;
-    size_t included;
-    size_t size;
-    uint32_t has_value;
-    gcv_status include;
-} gcv_raw_step;
+/* Readers of texts that end with NUL, as a callback over a configuration gets them. A null text means a key without
+ * `=`: it is true as a boolean, and refused as anything else. Values and faults are those of gcv_read_boolean,
+ * gcv_read_amount and gcv_read_color; the fault is GCV_FAULT_OUT_OF_RANGE if an amount does not fit int32_t. */
+GCV_RETURNS((2)) gcv_parse_bool(const char *text, int *GCV_RESTRICT out, gcv_fault *fault);
+GCV_RETURNS((2)) gcv_parse_int32(const char *text, int32_t *GCV_RESTRICT out, gcv_fault *fault);
+GCV_RETURNS((2)) gcv_parse_int64(const char *text, int64_t *GCV_RESTRICT out, gcv_fault *fault);
+GCV_RETURNS((2)) gcv_parse_color(const char *text, gcv_color *GCV_RESTRICT out, gcv_fault *fault);
 
-/* The library expects this layout. A compiler that lays the structs out in another way reports an error. */
-#if defined(__cplusplus) && __cplusplus >= 201103L
-#define GCV_ASSERT(fact) static_assert(fact, #fact)
-#elif defined(__STDC_VERSION__) && __STDC_VERSION__ >= 201112L
-#define GCV_ASSERT(fact) _Static_assert(fact, #fact)
-#else
-#define GCV_ASSERT(fact) extern const char gcv_asserted[(fact) ? 1 : -1]
-#endif
-GCV_ASSERT(sizeof(gcv_status) == 4 && sizeof(gcv_kind) == 4 && sizeof(gcv_fault) == 4);
-GCV_ASSERT(offsetof(gcv_integer, value) == 0);
-GCV_ASSERT(offsetof(gcv_integer, suffix) == 8);
-GCV_ASSERT(sizeof(gcv_integer) == 16);
-GCV_ASSERT(offsetof(gcv_name, tag) == 0);
-GCV_ASSERT(offsetof(gcv_name, palette) == 4);
-GCV_ASSERT(offsetof(gcv_name, red) == 5);
-GCV_ASSERT(offsetof(gcv_name, green) == 6);
-GCV_ASSERT(offsetof(gcv_name, blue) == 7);
-GCV_ASSERT(sizeof(gcv_name) == 8);
-GCV_ASSERT(offsetof(gcv_color, foreground) == 0);
-GCV_ASSERT(offsetof(gcv_color, background) == 8);
-GCV_ASSERT(offsetof(gcv_color, attributes) == 16);
-GCV_ASSERT(sizeof(gcv_color) == 20);
-GCV_ASSERT(offsetof(gcv_entry, index) == 0);
-GCV_ASSERT(offsetof(gcv_entry, start) == 8);
-GCV_ASSERT(offsetof(gcv_entry, length) == 16);
-GCV_ASSERT(sizeof(gcv_entry) == 24);
-GCV_ASSERT(offsetof(gcv_place, key) == 0);
-GCV_ASSERT(offsetof(gcv_place, value) == 8);
-GCV_ASSERT(offsetof(gcv_place, line) == 16);
-GCV_ASSERT(offsetof(gcv_place, has_value) == 24);
-GCV_ASSERT(sizeof(gcv_place) == 32);
-GCV_ASSERT(offsetof(gcv_file, size) == 0);
-GCV_ASSERT(offsetof(gcv_file, count) == 8);
-GCV_ASSERT(offsetof(gcv_file, line) == 16);
-GCV_ASSERT(sizeof(gcv_file) == 24);
-GCV_ASSERT(offsetof(gcv_frame, name) == 0);
-GCV_ASSERT(offsetof(gcv_frame, name_length) == 8);
-GCV_ASSERT(offsetof(gcv_frame, real_dir) == 16);
-GCV_ASSERT(offsetof(gcv_frame, real_dir_length) == 24);
-GCV_ASSERT(offsetof(gcv_frame, section) == 32);
-GCV_ASSERT(offsetof(gcv_frame, section_length) == 40);
-GCV_ASSERT(offsetof(gcv_frame, subsection) == 48);
-GCV_ASSERT(offsetof(gcv_frame, subsection_length) == 56);
-GCV_ASSERT(offsetof(gcv_frame, rest) == 64);
-GCV_ASSERT(offsetof(gcv_frame, rest_length) == 72);
-GCV_ASSERT(offsetof(gcv_frame, line) == 80);
-GCV_ASSERT(offsetof(gcv_frame, parts) == 88);
-GCV_ASSERT(sizeof(gcv_frame) == 96);
-GCV_ASSERT(offsetof(gcv_text, bytes) == 0);
-GCV_ASSERT(offsetof(gcv_text, length) == 8);
-GCV_ASSERT(sizeof(gcv_text) == 16);
-GCV_ASSERT(offsetof(gcv_raw_known, install_dir) == 0);
-GCV_ASSERT(offsetof(gcv_raw_known, install_dir_length) == 8);
-GCV_ASSERT(offsetof(gcv_raw_known, home) == 16);
-GCV_ASSERT(offsetof(gcv_raw_known, home_length) == 24);
-GCV_ASSERT(offsetof(gcv_raw_known, real_home) == 32);
-GCV_ASSERT(offsetof(gcv_raw_known, real_home_length) == 40);
-GCV_ASSERT(offsetof(gcv_raw_known, git_dir) == 48);
-GCV_ASSERT(offsetof(gcv_raw_known, git_dir_length) == 56);
-GCV_ASSERT(offsetof(gcv_raw_known, real_git_dir) == 64);
-GCV_ASSERT(offsetof(gcv_raw_known, real_git_dir_length) == 72);
-GCV_ASSERT(offsetof(gcv_raw_known, branch) == 80);
-GCV_ASSERT(offsetof(gcv_raw_known, branch_length) == 88);
-GCV_ASSERT(offsetof(gcv_raw_known, urls) == 96);
-GCV_ASSERT(offsetof(gcv_raw_known, urls_length) == 104);
-GCV_ASSERT(offsetof(gcv_raw_known, has_install_dir) == 112);
-GCV_ASSERT(offsetof(gcv_raw_known, has_home) == 116);
-GCV_ASSERT(offsetof(gcv_raw_known, has_real_home) == 120);
-GCV_ASSERT(offsetof(gcv_raw_known, has_repository) == 124);
-GCV_ASSERT(offsetof(gcv_raw_known, has_branch) == 128);
-GCV_ASSERT(offsetof(gcv_raw_known, follows) == 132);
-GCV_ASSERT(offsetof(gcv_raw_known, seeks_urls) == 136);
-GCV_ASSERT(sizeof(gcv_raw_known) == 144);
-GCV_ASSERT(offsetof(gcv_raw_step, name) == 0);
-GCV_ASSERT(offsetof(gcv_raw_step, name_length) == 8);
-GCV_ASSERT(offsetof(gcv_raw_step, line) == 16);
-GCV_ASSERT(offsetof(gcv_raw_step, value) == 24);
-GCV_ASSERT(offsetof(gcv_raw_step, included) == 32);
-GCV_ASSERT(offsetof(gcv_raw_step, size) == 40);
-GCV_ASSERT(offsetof(gcv_raw_step, has_value) == 48);
-GCV_ASSERT(offsetof(gcv_raw_step, include) == 52);
-GCV_ASSERT(sizeof(gcv_raw_step) == 56);
-#undef GCV_ASSERT
+/* Writes the number times the factor of its suffix to `*out`. Returns GCV_OVERFLOW if the product does not fit int64_t,
+ * and GCV_BAD_SUFFIX if no suffix has the number. */
+GCV_RETURNS((1, 2)) gcv_product(const gcv_integer *value, int64_t *GCV_RESTRICT out);
 
-/* The settings of files in order, in two arrays of the caller. Start with all members 0: no settings and no room. */
-typedef struct gcv_settings {
-    char *bytes;
-    size_t capacity; /* of `bytes` */
-    size_t size;     /* how many bytes are in use */
-    gcv_place *places;
-    size_t room;  /* how many places the array has */
-    size_t count; /* how many of them are in use */
-} gcv_settings;
+/* Values as texts. If some text reads to the value, the canonical text is written. */
 
-/* A setting. Its key is as Git lists it: the section and the last part in lower case, the subsection as it is. NUL ends
- * both texts; a key without `=` has a null value, not an empty one. They stay valid as long as the caller's bytes. */
-typedef struct gcv_setting {
-    const char *key;
-    const char *value;
-    size_t line; /* the line of its entry, from 1 */
-} gcv_setting;
+/* Writes k, m or g. Returns GCV_BAD_SUFFIX if no suffix has the number. */
+GCV_RETURNS((4)) gcv_show_suffix(gcv_suffix suffix, char *GCV_RESTRICT buffer, size_t capacity, size_t *size);
+/* Writes the number in decimal and the letter of its suffix. Returns GCV_BAD_SUFFIX if no suffix has the number. */
+GCV_RETURNS((1, 4)) gcv_show_integer(const gcv_integer *value, char *GCV_RESTRICT buffer, size_t capacity,
+                                     size_t *size);
+/* Writes the number in decimal. */
+GCV_RETURNS((4)) gcv_show_amount(int64_t value, char *GCV_RESTRICT buffer, size_t capacity, size_t *size);
+/* Writes true for 1 and false for 0. Returns GCV_BAD_FLAG if the value is neither. */
+GCV_RETURNS((4)) gcv_show_boolean(uint32_t value, char *GCV_RESTRICT buffer, size_t capacity, size_t *size);
+/* Writes the word of the name, its number, or # and six digits. Returns GCV_BAD_NAME if no name has the struct. */
+GCV_RETURNS((1, 4)) gcv_show_name(const gcv_name *value, char *GCV_RESTRICT buffer, size_t capacity, size_t *size);
+/* Writes the words of the known bits, the lowest first, with one space between. */
+GCV_RETURNS((4)) gcv_show_attribute(uint32_t bits, char *GCV_RESTRICT buffer, size_t capacity, size_t *size);
+/* Writes the foreground, the background and the attributes, if the color has them, with one space between. Returns
+ * GCV_BAD_NAME if the struct of one of its names is neither all 0 nor of a name. Two sorts of colors have no text, and
+ * gcv_compose returns GCV_NO_TEXT for them: a background alone is shown as a foreground, unknown bits are left out. */
+GCV_RETURNS((1, 4)) gcv_show_color(const gcv_color *value, char *GCV_RESTRICT buffer, size_t capacity, size_t *size);
+/* Writes the escape sequence that Git sends to a terminal for this color: its attributes, reset first, then its
+ * foreground and its background. It is empty for a color that changes nothing. `\033[m` ends a color. Returns
+ * GCV_BAD_NAME as gcv_show_color does. */
+GCV_RETURNS((1, 4)) gcv_escape_color(const gcv_color *value, char *GCV_RESTRICT buffer, size_t capacity, size_t *size);
+
+/* Texts of a kind. */
+
+/* Writes the canonical text of the value of a text, at most GCV_LONGEST_TEXT bytes. Returns GCV_REFUSED if the text has
+ * no value of the kind (its reader tells the fault), and GCV_UNKNOWN_KIND if no kind has the number. */
+GCV_RETURNS((6)) gcv_normalize(gcv_kind kind, const char *text, size_t length, char *GCV_RESTRICT buffer,
+                               size_t capacity, size_t *size);
+
+/* Writes 1 to `*out` if both texts mean the same, and otherwise 0. Returns GCV_REFUSED if one of them has no value of
+ * the kind, and GCV_UNKNOWN_KIND if no kind has the number. */
+GCV_RETURNS((6)) gcv_same(gcv_kind kind, const char *first, size_t first_length, const char *second,
+                          size_t second_length, uint32_t *GCV_RESTRICT out);
+
+/* Colors. */
+
+/* Writes to `*out` the color of the text of the first color, white space, and the text of the second. Returns
+ * GCV_BAD_NAME as gcv_show_color does, GCV_NO_TEXT if one of the colors has no text (it has an unknown bit, or a
+ * background alone), and GCV_TOO_MANY_NAMES if they have more than two names together. */
+GCV_RETURNS((1, 2, 3)) gcv_compose(const gcv_color *first, const gcv_color *second, gcv_color *GCV_RESTRICT out);
+
+/* Writes to `*out` the color `base`, but with the names that `top` has, and without each attribute whose opposite `top`
+ * has: what a user's color makes of a theme's. Returns GCV_BAD_NAME as gcv_show_color does. */
+GCV_RETURNS((1, 2, 3)) gcv_over(const gcv_color *base, const gcv_color *top, gcv_color *GCV_RESTRICT out);
+
+/* Writes to `*out` what a terminal of this depth shows for a color: red, green and blue become the nearest number of
+ * its palette, and with 16 colors so does a number above 15. Returns GCV_BAD_NAME as gcv_show_color does, and
+ * GCV_BAD_DEPTH if the depth has no colors. */
+GCV_RETURNS((1, 3)) gcv_reduce_color(const gcv_color *value, gcv_depth depth, gcv_color *GCV_RESTRICT out);
+
+/* Returns how many colors a program writes with, from whether its output is a terminal and from the variables NO_COLOR,
+ * TERM and COLORTERM of its environment, each null if it is not set. These decide, the first that applies:
+ * - no terminal, NO_COLOR that is not empty, or TERM that is not set or `dumb`: GCV_NO_COLORS
+ * - COLORTERM `truecolor` or `24bit`, or TERM that ends in `-direct`: GCV_TRUE_COLOR
+ * - TERM with `256color` in it: GCV_ANSI256
+ * - any other terminal: GCV_ANSI16 */
+gcv_depth gcv_terminal_depth(int is_terminal, const char *no_color, const char *term, const char *colorterm);
+
+/* Paths. */
 
 /* What a path may refer to, as any bytes. A null pointer means that it is not given, whatever its length. */
 typedef struct gcv_context {
@@ -411,6 +297,39 @@ typedef struct gcv_context {
     const char *passwd; /* for ~user: a text with the lines of /etc/passwd */
     size_t passwd_length;
 } gcv_context;
+
+/* Writes 1 to `*optional` if the path begins with the mark `:(optional)`, and otherwise 0. Writes to `*start` the index
+ * at which the path begins after that one mark. */
+GCV_NONNULL((3, 4)) void gcv_cut_mark(const char *text, size_t length, uint32_t *optional, size_t *start);
+
+/* Writes the path that a text means. One mark is cut off first. %(prefix)/ means the install directory, ~ the home
+ * directory, and ~user the home directory of that user in the passwd text.
+ *
+ * Returns GCV_REFUSED if the text means no path, and then `*fault` is one of the faults of paths; after any other
+ * status it is unchanged. What follows the directory must be UTF-8, and so must a user's name. The directories and the
+ * passwd text may be any bytes, and so the written path may be any bytes too. The call allocates nothing, and returns
+ * GCV_NO_MEMORY if the path would be longer than PTRDIFF_MAX. */
+GCV_RETURNS((3, 6)) gcv_interpolate(const char *text, size_t length, const gcv_context *context,
+                                    char *GCV_RESTRICT buffer, size_t capacity, size_t *size, gcv_fault *fault);
+
+/* Finds a user, whose name is UTF-8 and need not end with NUL. Returns the home directory, which ends with NUL and must
+ * stay valid until the path call returns, or null if there is no such user. */
+typedef const char *gcv_find_home(void *state, const char *name, size_t length);
+
+/* Does what gcv_interpolate does, but `find(state, ..)` finds users, and the passwd text is not read. It is called once
+ * for ~user, and for no other path; a null `find` is like a null passwd text. For a path of a user the call allocates
+ * and frees memory, and returns GCV_NO_MEMORY if malloc fails. */
+GCV_RETURNS((3, 8)) gcv_interpolate_with(const char *text, size_t length, const gcv_context *context,
+                                         gcv_find_home *find, void *state, char *GCV_RESTRICT buffer, size_t capacity,
+                                         size_t *size, gcv_fault *fault);
+
+/* The settings of files. */
+
+/* The bytes of a text, for an array of texts. The pointer is not null, even if the length is 0. */
+typedef struct gcv_text {
+    const char *bytes;
+    size_t length;
+} gcv_text;
 
 /* What includes may refer to, as any bytes. A null pointer means that it is not given, whatever its length. */
 typedef struct gcv_known {
@@ -430,6 +349,82 @@ typedef struct gcv_known {
     size_t urls_length;   /* how many there are */
     int seeks_urls;       /* not 0 while URLs are sought: then each hasconfig:remote.*.url: holds */
 } gcv_known;
+
+/* A setting. NUL ends its texts. Its key is as Git lists it: the section and the last part in lower case, the
+ * subsection as it is. A key without `=` has a null value, not an empty one. */
+typedef struct gcv_setting {
+    const char *key;
+    const char *value;
+    const char *file; /* the name of its file */
+    size_t line;      /* the line of its entry, from 1 */
+} gcv_setting;
+
+/* The settings of files, in Git's order. Begin with GCV_NO_SETTINGS, and end with gcv_free_settings. */
+typedef struct gcv_settings {
+    const gcv_setting *list; /* the settings, until the next call that reads files */
+    size_t count;            /* how many there are */
+    const char *file;        /* the name of the file at which a call stopped, or null */
+    size_t line;             /* and the line of the entry there, or 0 if the file itself is not read */
+    struct gcv_memory *memory;
+} gcv_settings;
+#define GCV_NO_SETTINGS {NULL, 0, NULL, 0, NULL}
+
+/* A file that was opened, with memory of malloc, which the library frees. */
+typedef struct gcv_file {
+    char *text;
+    size_t length;
+    char *real_dir; /* its folder as an absolute path without links, which NUL ends, for conditions with ./, or null */
+} gcv_file;
+
+/* Opens a file, whose name ends with NUL. Returns GCV_OK, GCV_ABSENT if it is not there, or why to stop. */
+typedef gcv_status gcv_open(void *state, const char *name, gcv_file *out);
+
+/* A gcv_open of the files of the system, which needs no state. It returns GCV_REFUSED for a file that cannot be read,
+ * or that is longer than 1 GiB. */
+GCV_RETURNS((2, 3)) gcv_open_file(void *state, const char *name, gcv_file *out);
+
+/* Adds the settings of these files in order, each with what it includes, as Git reads them. The names end with NUL. A
+ * null `known` means that no file is included. A file that is not there has no settings. If conditions ask about the
+ * URLs of remotes and `known` has none, the files are read twice, first for the URLs.
+ *
+ * The call stops where Git stops, and adds nothing then: at GCV_BAD_LINE and GCV_NUL; at an include with GCV_NO_VALUE,
+ * GCV_NO_DIRECTORY or GCV_TOO_DEEP; at a status of `open`; and, if conditions ask about URLs, with GCV_REFUSED at the
+ * URL of a remote in a file that is included on a condition. It allocates memory, and returns GCV_NO_MEMORY if malloc fails. */
+GCV_RETURNS((1, 2, 5)) gcv_read_files(gcv_settings *settings, const char *const *names, size_t count,
+                                      const gcv_known *known, gcv_open *open, void *state);
+
+/* Returns the last setting with this key, which decides, or null. The key ends with NUL: "core.autoCRLF", or
+ * "branch.Main.rebase", in which only the case of "Main" counts. */
+GCV_NONNULL((1, 2)) const gcv_setting *gcv_find_setting(const gcv_settings *settings, const char *key);
+
+/* Whether this is the key that Git lists so. Case counts only between the first dot and the last one. */
+GCV_NONNULL((1, 2)) int gcv_is_key(const char *listed, const char *key);
+
+/* Frees the memory of settings, which are GCV_NO_SETTINGS then. */
+GCV_NONNULL((1)) void gcv_free_settings(gcv_settings *settings);
+
+/* A walk over files, one entry at a time: gcv_read_files without memory of the library.
+ *
+ * gcv_enter begins a walk, and gcv_next returns one entry after the other, in Git's order. If an entry includes a file,
+ * open it and call gcv_enter: its entries come next. If there is no such file, just go on, as Git does. Git stops at an
+ * entry whose `include` is GCV_NO_VALUE or GCV_NO_DIRECTORY, at GCV_BAD_LINE, GCV_NUL and GCV_TOO_DEEP, and at a file
+ * that it cannot read. A caller may go on all the same. */
+
+/* A file of a walk, and the entries that are left of it. Only calls of the library read and write its members. */
+typedef struct gcv_frame {
+    const char *name;
+    size_t name_length;
+    const char *real_dir;
+    size_t real_dir_length;
+    const char *section;
+    size_t section_length;
+    const char *subsection;
+    size_t subsection_length;
+    const char *rest;
+    size_t rest_length;
+    size_t line;
+    uint32_t parts;
+} gcv_frame;
 
 /* The most files that a walk is in: a file, and ten that are included, each by the one before. */
 enum { GCV_MOST_FRAMES = 11 };
@@ -453,45 +448,30 @@ typedef struct gcv_step {
     size_t size;          /* how many bytes of the buffer the three texts take */
 } gcv_step;
 
-/* Returns the version of the library, as a text that ends with NUL. */
-const char *gcv_version(void);
+/* Goes on in the text of a file. `file` is its name: relative paths in it are below its directory. `real_dir` is this
+ * directory as an absolute path, links resolved and no / at its end, for conditions with ./ alone. The walk keeps the
+ * three pointers, so the texts must stay valid and unchanged while it is in the file, which is the last one of `count`.
+ * Returns GCV_TOO_DEEP if the walk is in GCV_MOST_FRAMES files already. */
+GCV_RETURNS((1)) gcv_enter(gcv_walk *GCV_RESTRICT walk, const char *file, size_t file_length, const char *real_dir,
+                           size_t real_dir_length, const char *text, size_t length);
 
-/* Returns the text of a status, which ends with NUL: "unknown status" if no status has the number. */
-const char *gcv_status_text(gcv_status status);
-
-/* Writes the text of a fault, at most GCV_LONGEST_TEXT bytes. Returns GCV_UNKNOWN_FAULT if no fault has the number. */
-gcv_status gcv_fault_text(gcv_fault fault, char *GCV_RESTRICT buffer, size_t capacity, size_t *size) GCV_NONNULL((4));
-
-/* Readers of texts that end with NUL, as a callback over a configuration gets them. A null text means a key without
- * `=`: it is true as a boolean, and refused as anything else. Values and faults are those of gcv_read_boolean,
- * gcv_read_amount and gcv_read_color; the fault is GCV_FAULT_OUT_OF_RANGE if an amount does not fit int32_t. */
-GCV_CHECKED gcv_status gcv_parse_bool(const char *text, int *GCV_RESTRICT out, gcv_fault *fault)
-    GCV_NONNULL((2));
-GCV_CHECKED gcv_status gcv_parse_int32(const char *text, int32_t *GCV_RESTRICT out, gcv_fault *fault)
-    GCV_NONNULL((2));
-GCV_CHECKED gcv_status gcv_parse_int64(const char *text, int64_t *GCV_RESTRICT out, gcv_fault *fault)
-    GCV_NONNULL((2));
-GCV_CHECKED gcv_status gcv_parse_color(const char *text, gcv_color *GCV_RESTRICT out, gcv_fault *fault)
-    GCV_NONNULL((2));
-
-/* Returns how many colors a program writes with, from whether its output is a terminal and from the variables NO_COLOR,
- * TERM and COLORTERM of its environment, each null if it is not set. These decide, the first that applies:
- * - no terminal, NO_COLOR that is not empty, or TERM that is not set or `dumb`: GCV_NO_COLORS
- * - COLORTERM `truecolor` or `24bit`, or TERM that ends in `-direct`: GCV_TRUE_COLOR
- * - TERM with `256color` in it: GCV_ANSI256
- * - any other terminal: GCV_ANSI16 */
-gcv_depth gcv_terminal_depth(int is_terminal, const char *no_color, const char *term, const char *colorterm);
-
-/* Finds a user, whose name is UTF-8 and need not end with NUL. Returns the home directory, which ends with NUL and must
- * stay valid until the path call returns, or null if there is no such user. */
-typedef const char *gcv_find_home(void *state, const char *name, size_t length);
-
-/* Does what gcv_interpolate does, but `find(state, ..)` finds users, and the passwd text is not read. It is called once
- * for ~user, and for no other path; a null `find` is like a null passwd text. For a path of a user the call allocates
- * and frees memory, and returns GCV_NO_MEMORY if malloc fails. */
-GCV_CHECKED gcv_status gcv_interpolate_with(const char *text, size_t length, const gcv_context *context,
-                                            gcv_find_home *find, void *state, char *GCV_RESTRICT buffer,
-                                            size_t capacity, size_t *size, gcv_fault *fault) GCV_NONNULL((3, 8));
+/* Writes the next entry of the walk to `*out`, and its texts into the buffer: its key, its value if it has one, and the
+ * name of the file that it includes if it includes one, each with a NUL. Writes null for a text that is not there.
+ *
+ * `out->include` is GCV_NO_INCLUDE if the entry includes no file, or if its condition does not hold: without a
+ * repository no condition on it does. A null `known` means that no entry includes a file. If there is a condition
+ * hasconfig:remote.*.url:, Git walks over all files with `seeks_urls` first, to get the values of all remote.NAME.url.
+ * It stops at one in a file that is included on a condition. Otherwise `out->include` is GCV_NO_VALUE if there is no
+ * value, and GCV_NO_DIRECTORY if the value begins with `~` and a user's name, or with a directory that is null.
+ *
+ * Returns GCV_ABSENT after the last entry; then the walk may enter another file. Returns GCV_BAD_LINE if Git would
+ * refuse a line, and GCV_NUL at a NUL outside a comment, where Git would cut the text, and writes the file and the line
+ * to `*out`. The file ends there: the next call goes on after the entry that included it. After any other status the
+ * walk is unchanged. GCV_SHORT_BUFFER means that the texts need a capacity, which is written to `out->size`, and
+ * GCV_BAD_LENGTHS that the numbers in the walk are not those of a walk. The call allocates and frees memory, and
+ * returns GCV_NO_MEMORY if malloc fails. */
+GCV_RETURNS((1, 5)) gcv_next(gcv_walk *GCV_RESTRICT walk, const gcv_known *known, char *GCV_RESTRICT buffer,
+                             size_t capacity, gcv_step *GCV_RESTRICT out);
 
 /* Finds an environment variable. Returns its value, which ends with NUL and must stay valid until the call returns, or
  * null if it is not set. */
@@ -504,14 +484,14 @@ typedef const char *gcv_get_variable(void *state, const char *name);
  *
  * Returns the status of the first setting that Git refuses: GCV_BAD_COUNT to GCV_KEY_LINE_FEED. It asks for each
  * variable twice, allocates and frees memory, and returns GCV_NO_MEMORY if malloc fails: then bytes may be written. */
-GCV_CHECKED gcv_status gcv_command_text(gcv_get_variable *get, void *state, char *GCV_RESTRICT buffer, size_t capacity,
-                                        size_t *size) GCV_NONNULL((1, 5));
+GCV_RETURNS((1, 5)) gcv_command_text(gcv_get_variable *get, void *state, char *GCV_RESTRICT buffer, size_t capacity,
+                                     size_t *size);
 
 /* Edits of the text of a configuration file: one setting changes, and each other byte stays. A key and a name of a
  * section are as Git takes them: "user.name", "branch.Main.rebase", "branch.Main". Each call writes the new text to the
  * buffer.
  *
- * Returns GCV_BAD_LINE and GCV_NUL as gcv_add_file does, and writes the line to `*line`, which otherwise is unchanged.
+ * Returns GCV_BAD_LINE and GCV_NUL as gcv_next does, and writes the line to `*line`, which otherwise is unchanged.
  * For a key that Git refuses, a call with a key returns GCV_NO_SECTION, GCV_NO_KEY_NAME, GCV_BAD_KEY or
  * GCV_KEY_LINE_FEED, and GCV_BAD_SECTION if its subsection has a NUL. The calls allocate and free memory, and return
  * GCV_NO_MEMORY if malloc fails. */
@@ -521,554 +501,39 @@ GCV_CHECKED gcv_status gcv_command_text(gcv_get_variable *get, void *state, char
  * section, or in a new section at the end. If the key has the value already, the new text is the old one.
  *
  * Returns GCV_SEVERAL if several entries have the key, and GCV_BAD_VALUE if the value has a NUL. */
-GCV_CHECKED gcv_status gcv_set(const char *text, size_t length, const char *key, size_t key_length, const char *value,
-                               size_t value_length, char *GCV_RESTRICT buffer, size_t capacity, size_t *size,
-                               size_t *line) GCV_NONNULL((9));
+GCV_RETURNS((9)) gcv_set(const char *text, size_t length, const char *key, size_t key_length, const char *value,
+                         size_t value_length, char *GCV_RESTRICT buffer, size_t capacity, size_t *size, size_t *line);
 
 /* Does what gcv_set does, also if several entries have the key: the last one gets the value, and the others go with
  * their lines. Returns GCV_BAD_VALUE as gcv_set does. */
-GCV_CHECKED gcv_status gcv_replace_all(const char *text, size_t length, const char *key, size_t key_length,
-                                       const char *value, size_t value_length, char *GCV_RESTRICT buffer,
-                                       size_t capacity, size_t *size, size_t *line) GCV_NONNULL((9));
+GCV_RETURNS((9)) gcv_replace_all(const char *text, size_t length, const char *key, size_t key_length,
+                                 const char *value, size_t value_length, char *GCV_RESTRICT buffer, size_t capacity,
+                                 size_t *size, size_t *line);
 
 /* Adds an entry, where gcv_set puts a new one, whatever entries the key has. Returns GCV_BAD_VALUE as gcv_set does. */
-GCV_CHECKED gcv_status gcv_add(const char *text, size_t length, const char *key, size_t key_length, const char *value,
-                               size_t value_length, char *GCV_RESTRICT buffer, size_t capacity, size_t *size,
-                               size_t *line) GCV_NONNULL((9));
+GCV_RETURNS((9)) gcv_add(const char *text, size_t length, const char *key, size_t key_length, const char *value,
+                         size_t value_length, char *GCV_RESTRICT buffer, size_t capacity, size_t *size, size_t *line);
 
 /* Takes away the entry of a key, with its line and the comment on it. A header before it on the line stays. But the
  * header goes too if its section has neither an entry nor a comment left, and no comment comes before the header.
  * Returns GCV_ABSENT if no entry has the key, and GCV_SEVERAL if several have it. */
-GCV_CHECKED gcv_status gcv_unset(const char *text, size_t length, const char *key, size_t key_length,
-                                 char *GCV_RESTRICT buffer, size_t capacity, size_t *size, size_t *line)
-    GCV_NONNULL((7));
+GCV_RETURNS((7)) gcv_unset(const char *text, size_t length, const char *key, size_t key_length,
+                           char *GCV_RESTRICT buffer, size_t capacity, size_t *size, size_t *line);
 
 /* Does what gcv_unset does, with all entries of a key. Returns GCV_ABSENT if there is none. */
-GCV_CHECKED gcv_status gcv_unset_all(const char *text, size_t length, const char *key, size_t key_length,
-                                     char *GCV_RESTRICT buffer, size_t capacity, size_t *size, size_t *line)
-    GCV_NONNULL((7));
+GCV_RETURNS((7)) gcv_unset_all(const char *text, size_t length, const char *key, size_t key_length,
+                               char *GCV_RESTRICT buffer, size_t capacity, size_t *size, size_t *line);
 
 /* Gives the sections of the old name the new one. Returns GCV_BAD_SECTION if no header can have the new name, and
  * GCV_ABSENT if no section has the old one. */
-GCV_CHECKED gcv_status gcv_rename_section(const char *text, size_t length, const char *old_name, size_t old_name_length,
-                                          const char *new_name, size_t new_name_length, char *GCV_RESTRICT buffer,
-                                          size_t capacity, size_t *size, size_t *line) GCV_NONNULL((9));
+GCV_RETURNS((9)) gcv_rename_section(const char *text, size_t length, const char *old_name, size_t old_name_length,
+                                    const char *new_name, size_t new_name_length, char *GCV_RESTRICT buffer,
+                                    size_t capacity, size_t *size, size_t *line);
 
 /* Takes away the sections of a name, with their headers and all that is in them. Comments directly above the next
  * header stay. Returns GCV_ABSENT if no section has the name. */
-GCV_CHECKED gcv_status gcv_remove_section(const char *text, size_t length, const char *name, size_t name_length,
-                                          char *GCV_RESTRICT buffer, size_t capacity, size_t *size, size_t *line)
-    GCV_NONNULL((7));
-
-/* The calls that are proved. No pointer may be null. */
-gcv_status gcv_raw_read_suffix(const char *text, size_t length, gcv_suffix *out, gcv_fault *fault);
-gcv_status gcv_raw_read_integer(const char *text, size_t length, gcv_integer *out, gcv_fault *fault);
-gcv_status gcv_raw_read_amount(const char *text, size_t length, int64_t *out, gcv_fault *fault);
-gcv_status gcv_raw_read_boolean(const char *text, size_t length, uint32_t *out, gcv_fault *fault);
-gcv_status gcv_raw_read_name(const char *text, size_t length, gcv_name *out, gcv_fault *fault);
-gcv_status gcv_raw_read_attribute(const char *text, size_t length, uint32_t *out, gcv_fault *fault);
-gcv_status gcv_raw_read_color(const char *text, size_t length, gcv_color *out, gcv_fault *fault);
-gcv_status gcv_raw_product(const gcv_integer *value, int64_t *out);
-gcv_status gcv_raw_show_suffix(gcv_suffix suffix, char *buffer, size_t capacity, size_t *size);
-gcv_status gcv_raw_show_integer(const gcv_integer *value, char *buffer, size_t capacity, size_t *size);
-gcv_status gcv_raw_show_amount(int64_t value, char *buffer, size_t capacity, size_t *size);
-gcv_status gcv_raw_show_boolean(uint32_t value, char *buffer, size_t capacity, size_t *size);
-gcv_status gcv_raw_show_name(const gcv_name *value, char *buffer, size_t capacity, size_t *size);
-gcv_status gcv_raw_show_attribute(uint32_t bits, char *buffer, size_t capacity, size_t *size);
-gcv_status gcv_raw_show_color(const gcv_color *value, char *buffer, size_t capacity, size_t *size);
-gcv_status gcv_raw_escape_color(const gcv_color *value, char *buffer, size_t capacity, size_t *size);
-gcv_status gcv_raw_json_suffix(gcv_suffix suffix, char *buffer, size_t capacity, size_t *size);
-gcv_status gcv_raw_json_integer(const gcv_integer *value, char *buffer, size_t capacity, size_t *size);
-gcv_status gcv_raw_json_boolean(uint32_t value, char *buffer, size_t capacity, size_t *size);
-gcv_status gcv_raw_json_name(const gcv_name *value, char *buffer, size_t capacity, size_t *size);
-gcv_status gcv_raw_json_attribute(uint32_t bits, char *buffer, size_t capacity, size_t *size);
-gcv_status gcv_raw_normalize(gcv_kind kind, const char *text, size_t length, char *buffer, size_t capacity,
-                             size_t *size);
-gcv_status gcv_raw_same(gcv_kind kind, const char *first, size_t first_length, const char *second, size_t second_length,
-                        uint32_t *out);
-gcv_status gcv_raw_compose(const gcv_color *first, const gcv_color *second, gcv_color *out);
-gcv_status gcv_raw_over(const gcv_color *base, const gcv_color *top, gcv_color *out);
-gcv_status gcv_raw_reduce_color(const gcv_color *value, gcv_depth depth, gcv_color *out);
-gcv_status gcv_raw_terminal_depth(uint32_t is_terminal, uint32_t has_no_color, const char *no_color,
-                                   size_t no_color_length, uint32_t has_term, const char *term, size_t term_length,
-                                   uint32_t has_colorterm, const char *colorterm, size_t colorterm_length,
-                                   gcv_depth *out);
-gcv_status gcv_raw_lookup(gcv_kind kind, const char *bytes, size_t bytes_length, const size_t *lengths,
-                          size_t lengths_count, const char *name, size_t name_length, gcv_entry *out);
-gcv_status gcv_raw_read_file(const char *text, size_t length, char *bytes, size_t capacity, gcv_place *places,
-                             size_t room, gcv_file *out);
-gcv_status gcv_raw_enter(size_t *count, gcv_frame *frame, const char *name, size_t name_length, const char *real_dir,
-                         size_t real_dir_length, const char *text, size_t length);
-gcv_status gcv_raw_next(gcv_frame *frames, size_t frames_count, size_t *count, const gcv_raw_known *known, char *buffer,
-                        size_t capacity, gcv_raw_step *out);
-gcv_status gcv_raw_command_setting(const char *key, size_t key_length, const char *value, size_t value_length,
-                                   char *buffer, size_t capacity, size_t *size);
-gcv_status gcv_raw_command_parameters(const char *parameters, size_t parameters_length, char *buffer, size_t capacity,
-                                      size_t *size);
-gcv_status gcv_raw_command_count(const char *text, size_t length, size_t *count);
-gcv_status gcv_raw_set(const char *text, size_t length, const char *key, size_t key_length, const char *value,
-                       size_t value_length, char *buffer, size_t capacity, size_t *size, size_t *line);
-gcv_status gcv_raw_replace_all(const char *text, size_t length, const char *key, size_t key_length, const char *value,
-                               size_t value_length, char *buffer, size_t capacity, size_t *size, size_t *line);
-gcv_status gcv_raw_add(const char *text, size_t length, const char *key, size_t key_length, const char *value,
-                       size_t value_length, char *buffer, size_t capacity, size_t *size, size_t *line);
-gcv_status gcv_raw_unset(const char *text, size_t length, const char *key, size_t key_length, char *buffer,
-                         size_t capacity, size_t *size, size_t *line);
-gcv_status gcv_raw_unset_all(const char *text, size_t length, const char *key, size_t key_length, char *buffer,
-                             size_t capacity, size_t *size, size_t *line);
-gcv_status gcv_raw_rename_section(const char *text, size_t length, const char *old_name, size_t old_name_length,
-                                  const char *new_name, size_t new_name_length, char *buffer, size_t capacity,
-                                  size_t *size, size_t *line);
-gcv_status gcv_raw_remove_section(const char *text, size_t length, const char *name, size_t name_length, char *buffer,
-                                  size_t capacity, size_t *size, size_t *line);
-void gcv_raw_cut_mark(const char *text, size_t length, uint32_t *optional, size_t *start);
-gcv_status gcv_raw_interpolate(const char *text, size_t length, uint32_t has_install_dir, const char *install_dir,
-                               size_t install_dir_length, uint32_t has_home, const char *home, size_t home_length,
-                               uint32_t has_passwd, const char *passwd, size_t passwd_length, char *buffer,
-                               size_t capacity, size_t *size, gcv_fault *fault);
-gcv_status gcv_raw_fault_text(gcv_fault fault, char *buffer, size_t capacity, size_t *size);
-
-/* Returns the address of a text, which is not null even if the text is empty. */
-GCV_INLINE const char *gcv_bytes(const char *text, size_t length)
-{
-    return length == 0 ? "" : text;
-}
-
-/* Readers. Each writes the value of the text to `*out`. If the text has no value, it writes the fault to `*fault`
- * instead, and returns GCV_REFUSED. The other one is unchanged. */
-
-/* Reads GCV_KIBI, GCV_MEBI or GCV_GIBI. The fault is GCV_FAULT_NONE. */
-GCV_RETURNS((3)) gcv_read_suffix(const char *text, size_t length, gcv_suffix *GCV_RESTRICT out, gcv_fault *fault)
-{
-    gcv_fault unused = GCV_FAULT_NONE;
-    return gcv_raw_read_suffix(gcv_bytes(text, length), length, out, fault ? fault : &unused);
-}
-
-/* Reads a number and its suffix, whose product need not fit int64_t. The fault is GCV_FAULT_INTEGER. */
-GCV_RETURNS((3)) gcv_read_integer(const char *text, size_t length, gcv_integer *GCV_RESTRICT out, gcv_fault *fault)
-{
-    gcv_fault unused = GCV_FAULT_NONE;
-    return gcv_raw_read_integer(gcv_bytes(text, length), length, out, fault ? fault : &unused);
-}
-
-/* Reads the product of a number and its suffix. The fault is GCV_FAULT_INTEGER if the text is no integer, and
- * GCV_FAULT_OVERFLOW if the product does not fit int64_t. */
-GCV_RETURNS((3)) gcv_read_amount(const char *text, size_t length, int64_t *GCV_RESTRICT out, gcv_fault *fault)
-{
-    gcv_fault unused = GCV_FAULT_NONE;
-    return gcv_raw_read_amount(gcv_bytes(text, length), length, out, fault ? fault : &unused);
-}
-
-/* Reads 1 for true and 0 for false. The fault is GCV_FAULT_BOOLEAN. */
-GCV_RETURNS((3)) gcv_read_boolean(const char *text, size_t length, uint32_t *GCV_RESTRICT out, gcv_fault *fault)
-{
-    gcv_fault unused = GCV_FAULT_NONE;
-    return gcv_raw_read_boolean(gcv_bytes(text, length), length, out, fault ? fault : &unused);
-}
-
-/* Reads a name, whose tag is not GCV_NO_NAME. The fault is GCV_FAULT_COLOR. */
-GCV_RETURNS((3)) gcv_read_name(const char *text, size_t length, gcv_name *GCV_RESTRICT out, gcv_fault *fault)
-{
-    gcv_fault unused = GCV_FAULT_NONE;
-    return gcv_raw_read_name(gcv_bytes(text, length), length, out, fault ? fault : &unused);
-}
-
-/* Reads the one bit of an attribute. The fault is GCV_FAULT_COLOR. */
-GCV_RETURNS((3)) gcv_read_attribute(const char *text, size_t length, uint32_t *GCV_RESTRICT out, gcv_fault *fault)
-{
-    gcv_fault unused = GCV_FAULT_NONE;
-    return gcv_raw_read_attribute(gcv_bytes(text, length), length, out, fault ? fault : &unused);
-}
-
-/* Reads a color. The fault is GCV_FAULT_COLOR. */
-GCV_RETURNS((3)) gcv_read_color(const char *text, size_t length, gcv_color *GCV_RESTRICT out, gcv_fault *fault)
-{
-    gcv_fault unused = GCV_FAULT_NONE;
-    return gcv_raw_read_color(gcv_bytes(text, length), length, out, fault ? fault : &unused);
-}
-
-/* Writes the number times the factor of its suffix to `*out`. Returns GCV_OVERFLOW if the product does not fit int64_t,
- * and GCV_BAD_SUFFIX if no suffix has the number. */
-GCV_RETURNS((1, 2)) gcv_product(const gcv_integer *value, int64_t *GCV_RESTRICT out)
-{
-    return gcv_raw_product(value, out);
-}
-
-/* Values as texts. If some text reads to the value, the canonical text is written. */
-
-/* Writes k, m or g. Returns GCV_BAD_SUFFIX if no suffix has the number. */
-GCV_RETURNS((4)) gcv_show_suffix(gcv_suffix suffix, char *GCV_RESTRICT buffer, size_t capacity, size_t *size)
-{
-    char none[1] = {0};
-    return gcv_raw_show_suffix(suffix, capacity == 0 ? none : buffer, capacity, size);
-}
-
-/* Writes the number in decimal and the letter of its suffix. Returns GCV_BAD_SUFFIX if no suffix has the number. */
-GCV_RETURNS((1, 4)) gcv_show_integer(const gcv_integer *value, char *GCV_RESTRICT buffer, size_t capacity, size_t *size)
-{
-    char none[1] = {0};
-    return gcv_raw_show_integer(value, capacity == 0 ? none : buffer, capacity, size);
-}
-
-/* Writes the number in decimal. */
-GCV_RETURNS((4)) gcv_show_amount(int64_t value, char *GCV_RESTRICT buffer, size_t capacity, size_t *size)
-{
-    char none[1] = {0};
-    return gcv_raw_show_amount(value, capacity == 0 ? none : buffer, capacity, size);
-}
-
-/* Writes true for 1 and false for 0. Returns GCV_BAD_FLAG if the value is neither. */
-GCV_RETURNS((4)) gcv_show_boolean(uint32_t value, char *GCV_RESTRICT buffer, size_t capacity, size_t *size)
-{
-    char none[1] = {0};
-    return gcv_raw_show_boolean(value, capacity == 0 ? none : buffer, capacity, size);
-}
-
-/* Writes the word of the name, its number, or # and six digits. Returns GCV_BAD_NAME if no name has the struct. */
-GCV_RETURNS((1, 4)) gcv_show_name(const gcv_name *value, char *GCV_RESTRICT buffer, size_t capacity, size_t *size)
-{
-    char none[1] = {0};
-    return gcv_raw_show_name(value, capacity == 0 ? none : buffer, capacity, size);
-}
-
-/* Writes the words of the known bits, the lowest first, with one space between. */
-GCV_RETURNS((4)) gcv_show_attribute(uint32_t bits, char *GCV_RESTRICT buffer, size_t capacity, size_t *size)
-{
-    char none[1] = {0};
-    return gcv_raw_show_attribute(bits, capacity == 0 ? none : buffer, capacity, size);
-}
-
-/* Writes the foreground, the background and the attributes, if the color has them, with one space between. Returns
- * GCV_BAD_NAME if the struct of one of its names is neither all 0 nor of a name. Two sorts of colors have no text, and
- * gcv_compose returns GCV_NO_TEXT for them: a background alone is shown as a foreground, unknown bits are left out. */
-GCV_RETURNS((1, 4)) gcv_show_color(const gcv_color *value, char *GCV_RESTRICT buffer, size_t capacity, size_t *size)
-{
-    char none[1] = {0};
-    return gcv_raw_show_color(value, capacity == 0 ? none : buffer, capacity, size);
-}
-
-/* Writes the escape sequence that Git sends to a terminal for this color: its attributes, reset first, then its
- * foreground and its background. It is empty for a color that changes nothing. `\033[m` ends a color. Returns
- * GCV_BAD_NAME as gcv_show_color does. */
-GCV_RETURNS((1, 4)) gcv_escape_color(const gcv_color *value, char *GCV_RESTRICT buffer, size_t capacity, size_t *size)
-{
-    char none[1] = {0};
-    return gcv_raw_escape_color(value, capacity == 0 ? none : buffer, capacity, size);
-}
-
-/* Values as JSON, without white space: a number, true or false, or the shown text as a string. These calls allocate
- * memory for the text, and free it. They return GCV_NO_MEMORY if malloc fails. */
-
-/* Writes the letter of a suffix as a string. Returns GCV_BAD_SUFFIX if no suffix has the number. */
-GCV_RETURNS((4)) gcv_json_suffix(gcv_suffix suffix, char *GCV_RESTRICT buffer, size_t capacity, size_t *size)
-{
-    char none[1] = {0};
-    return gcv_raw_json_suffix(suffix, capacity == 0 ? none : buffer, capacity, size);
-}
-
-/* Writes the product. Returns GCV_OVERFLOW if it does not fit int64_t, GCV_BAD_SUFFIX if no suffix has the number. */
-GCV_RETURNS((1, 4)) gcv_json_integer(const gcv_integer *value, char *GCV_RESTRICT buffer, size_t capacity, size_t *size)
-{
-    char none[1] = {0};
-    return gcv_raw_json_integer(value, capacity == 0 ? none : buffer, capacity, size);
-}
-
-/* Writes true for 1 and false for 0. Returns GCV_BAD_FLAG if the value is neither. */
-GCV_RETURNS((4)) gcv_json_boolean(uint32_t value, char *GCV_RESTRICT buffer, size_t capacity, size_t *size)
-{
-    char none[1] = {0};
-    return gcv_raw_json_boolean(value, capacity == 0 ? none : buffer, capacity, size);
-}
-
-/* Writes the shown text of a name as a string. Returns GCV_BAD_NAME if no name has the struct. */
-GCV_RETURNS((1, 4)) gcv_json_name(const gcv_name *value, char *GCV_RESTRICT buffer, size_t capacity, size_t *size)
-{
-    char none[1] = {0};
-    return gcv_raw_json_name(value, capacity == 0 ? none : buffer, capacity, size);
-}
-
-/* Writes the words of the known bits, as one string. */
-GCV_RETURNS((4)) gcv_json_attribute(uint32_t bits, char *GCV_RESTRICT buffer, size_t capacity, size_t *size)
-{
-    char none[1] = {0};
-    return gcv_raw_json_attribute(bits, capacity == 0 ? none : buffer, capacity, size);
-}
-
-/* Texts of a kind. */
-
-/* Writes the canonical text of the value of a text, at most GCV_LONGEST_TEXT bytes. Returns GCV_REFUSED if the text has
- * no value of the kind (its reader tells the fault), and GCV_UNKNOWN_KIND if no kind has the number. */
-GCV_RETURNS((6)) gcv_normalize(gcv_kind kind, const char *text, size_t length, char *GCV_RESTRICT buffer,
-                               size_t capacity, size_t *size)
-{
-    char none[1] = {0};
-    return gcv_raw_normalize(kind, gcv_bytes(text, length), length, capacity == 0 ? none : buffer, capacity, size);
-}
-
-/* Writes 1 to `*out` if both texts mean the same, and otherwise 0. Returns GCV_REFUSED if one of them has no value of
- * the kind, and GCV_UNKNOWN_KIND if no kind has the number. */
-GCV_RETURNS((6)) gcv_same(gcv_kind kind, const char *first, size_t first_length, const char *second,
-                          size_t second_length, uint32_t *GCV_RESTRICT out)
-{
-    return gcv_raw_same(kind, gcv_bytes(first, first_length), first_length, gcv_bytes(second, second_length),
-                        second_length, out);
-}
-
-/* Writes to `*out` the color of the text of the first color, white space, and the text of the second. Returns
- * GCV_BAD_NAME as gcv_show_color does, GCV_NO_TEXT if one of the colors has no text (it has an unknown bit, or a
- * background alone), and GCV_TOO_MANY_NAMES if they have more than two names together. */
-GCV_RETURNS((1, 2, 3)) gcv_compose(const gcv_color *first, const gcv_color *second, gcv_color *GCV_RESTRICT out)
-{
-    return gcv_raw_compose(first, second, out);
-}
-
-/* Writes to `*out` the color `base`, but with the names that `top` has, and without each attribute whose opposite `top`
- * has: what a user's color makes of a theme's. Returns GCV_BAD_NAME as gcv_show_color does. */
-GCV_RETURNS((1, 2, 3)) gcv_over(const gcv_color *base, const gcv_color *top, gcv_color *GCV_RESTRICT out)
-{
-    return gcv_raw_over(base, top, out);
-}
-
-/* Writes to `*out` what a terminal of this depth shows for a color: red, green and blue become the nearest number of its
- * palette, and with 16 colors so does a number above 15. Returns GCV_BAD_NAME as gcv_show_color does, and GCV_BAD_DEPTH
- * if the depth has no colors. */
-GCV_RETURNS((1, 3)) gcv_reduce_color(const gcv_color *value, gcv_depth depth, gcv_color *GCV_RESTRICT out)
-{
-    return gcv_raw_reduce_color(value, depth, out);
-}
-
-/* Looks for the last entry of exactly this name, which decides. `bytes` are the names and texts of all entries, each
- * directly after the one before, and `lengths` the lengths of name, text, name, text and so on.
- *
- * After GCV_OK the text of that entry has a value of the kind, and after GCV_REFUSED it has no value. In both cases
- * `*out` is the entry, and the kind's reader at `bytes + out->start` tells the value or the fault. The call returns
- * GCV_ABSENT if no entry has the name, GCV_BAD_LENGTHS if the lengths are odd in number or do not sum to
- * `bytes_length`, and GCV_UNKNOWN_KIND if no kind has the number. */
-GCV_RETURNS((8)) gcv_lookup(gcv_kind kind, const char *bytes, size_t bytes_length, const size_t *lengths,
-                            size_t lengths_count, const char *name, size_t name_length, gcv_entry *GCV_RESTRICT out)
-{
-    size_t none[1] = {0};
-    return gcv_raw_lookup(kind, gcv_bytes(bytes, bytes_length), bytes_length, lengths_count == 0 ? none : lengths,
-                          lengths_count, gcv_bytes(name, name_length), name_length, out);
-}
-
-/* Files. */
-
-/* Appends the settings of a configuration file with this text, which decide over those before, and writes to `*out` how
- * many bytes and places they take.
- *
- * If an array has less room left than they take, the call returns GCV_SHORT_BUFFER: let `capacity` be at least `size +
- * out->size`, and `room` at least `count + out->count`, and call again. It returns GCV_BAD_LINE if Git would refuse the
- * file, and GCV_NUL at a NUL outside a comment, where Git would cut the text; then `*out` has the line, and 0 for the
- * rest. Unless it returns GCV_OK, the settings are unchanged. It allocates and frees memory. If malloc fails, it returns
- * GCV_NO_MEMORY, and if `size` is more than `capacity` or `count` more than `room`, GCV_BAD_LENGTHS; then `*out` is
- * unchanged. */
-GCV_RETURNS((1, 4)) gcv_add_file(gcv_settings *GCV_RESTRICT settings, const char *text, size_t length,
-                                 gcv_file *GCV_RESTRICT out)
-{
-    char no_bytes[1] = {0};
-    gcv_place no_places[1] = {{0, 0, 0, 0}};
-    size_t capacity = settings->capacity - settings->size;
-    size_t room = settings->room - settings->count;
-    gcv_status status = GCV_BAD_LENGTHS;
-    if (settings->size <= settings->capacity && settings->count <= settings->room) {
-        status = gcv_raw_read_file(gcv_bytes(text, length), length,
-                                   capacity == 0 ? no_bytes : settings->bytes + settings->size, capacity,
-                                   room == 0 ? no_places : settings->places + settings->count, room, out);
-    }
-    if (status == GCV_OK) {
-        size_t end = settings->count + out->count;
-        for (; settings->count < end; settings->count++) {
-            settings->places[settings->count].key += settings->size;
-            settings->places[settings->count].value += settings->size;
-        }
-        settings->size += out->size;
-    }
-    return status;
-}
-
-/* Writes the setting at `*index`, from 0, to `*out`, and adds 1 to `*index`. Returns GCV_ABSENT after the last one. */
-GCV_RETURNS((1, 2, 3)) gcv_next_setting(const gcv_settings *settings, size_t *GCV_RESTRICT index,
-                                        gcv_setting *GCV_RESTRICT out)
-{
-    const gcv_place *place;
-    if (*index >= settings->count) {
-        return GCV_ABSENT;
-    }
-    place = &settings->places[(*index)++];
-    out->key = settings->bytes + place->key;
-    out->value = place->has_value == 1 ? settings->bytes + place->value : NULL;
-    out->line = place->line;
-    return GCV_OK;
-}
-
-/* Whether this is the key that Git lists so. Case counts only between the first dot and the last one. */
-GCV_INLINE int gcv_is_key(const char *listed, const char *key)
-{
-    size_t first = 0, last = 0, at;
-    int has_dot = 0;
-    for (at = 0; key[at] != '\0'; at++) {
-        if (key[at] == '.') {
-            first = has_dot ? first : at;
-            last = at;
-            has_dot = 1;
-        }
-    }
-    for (at = 0; listed[at] != '\0'; at++) {
-        char byte = key[at];
-        if ((!has_dot || at <= first || at >= last) && byte >= 'A' && byte <= 'Z') {
-            byte = "abcdefghijklmnopqrstuvwxyz"[byte - 'A'];
-        }
-        if (byte != listed[at]) {
-            return 0;
-        }
-    }
-    return key[at] == '\0';
-}
-
-/* Writes to `*out` the last setting with this key, which decides. The key ends with NUL: "core.autoCRLF", or
- * "branch.Main.rebase", in which only the case of "Main" counts. gcv_parse_bool and similar calls read the value. To
- * know the file, keep `size` after each gcv_add_file: it is the first one whose kept size is more than
- * `out->key - bytes`. Returns GCV_ABSENT if no setting has the key. */
-GCV_RETURNS((1, 2, 3)) gcv_lookup_setting(const gcv_settings *settings, const char *key,
-                                          gcv_setting *GCV_RESTRICT out)
-{
-    size_t index = settings->count;
-    while (index > 0) {
-        if (gcv_is_key(settings->bytes + settings->places[--index].key, key)) {
-            return gcv_next_setting(settings, &index, out);
-        }
-    }
-    return GCV_ABSENT;
-}
-
-/* Files with those that they include.
- *
- * gcv_enter begins a walk, and gcv_next returns one entry after the other, in Git's order. If an entry includes a file,
- * open it and call gcv_enter: its entries come next. If there is no such file, just go on, as Git does. Git stops at an
- * entry whose `include` is GCV_NO_VALUE or GCV_NO_DIRECTORY, at GCV_BAD_LINE, GCV_NUL and GCV_TOO_DEEP, and at a file
- * that it cannot read. A caller may go on all the same. */
-
-/* Goes on in the text of a file. `file` is its name: relative paths in it are below its directory. `real_dir` is this
- * directory as an absolute path, links resolved and no / at its end, for conditions with ./ alone. The walk keeps the
- * three pointers, so the texts must stay valid and unchanged while it is in the file, which is the last one of `count`.
- * Returns GCV_TOO_DEEP if the walk is in GCV_MOST_FRAMES files already. */
-GCV_RETURNS((1)) gcv_enter(gcv_walk *GCV_RESTRICT walk, const char *file, size_t file_length, const char *real_dir,
-                           size_t real_dir_length, const char *text, size_t length)
-{
-    gcv_frame frame = {"", 0, "", 0, "", 0, "", 0, "", 0, 0, 0};
-    gcv_status status = gcv_raw_enter(&walk->count, &frame, gcv_bytes(file, file_length), file_length,
-                                      gcv_bytes(real_dir, real_dir_length), real_dir_length, gcv_bytes(text, length),
-                                      length);
-    if (status == GCV_OK) {
-        walk->frames[walk->count - 1] = frame;
-    }
-    return status;
-}
-
-/* Writes a text that may be null, and returns whether it is given. */
-GCV_INLINE uint32_t gcv_give(const char *text, size_t length, const char **to, size_t *to_length)
-{
-    *to_length = text ? length : 0;
-    *to = gcv_bytes(text, *to_length);
-    return text ? 1 : 0;
-}
-
-/* Returns what a walk knows for gcv_raw_next, which takes no null pointer. */
-GCV_INLINE gcv_raw_known gcv_give_all(const gcv_known *known)
-{
-    static const gcv_known nothing = {NULL, 0, NULL, 0, NULL, 0, NULL, 0, NULL, 0, NULL, 0, NULL, 0, 0};
-    static const gcv_text no_urls[1] = {{"", 0}};
-    const gcv_known *of = known ? known : &nothing;
-    int is_home = !of->real_home, is_git_dir = !of->real_git_dir;
-    gcv_raw_known raw;
-    raw.has_install_dir = gcv_give(of->install_dir, of->install_dir_length, &raw.install_dir, &raw.install_dir_length);
-    raw.has_home = gcv_give(of->home, of->home_length, &raw.home, &raw.home_length);
-    raw.has_real_home = gcv_give(is_home ? of->home : of->real_home, is_home ? of->home_length : of->real_home_length,
-                                 &raw.real_home, &raw.real_home_length);
-    raw.has_repository = gcv_give(of->git_dir, of->git_dir_length, &raw.git_dir, &raw.git_dir_length);
-    gcv_give(is_git_dir ? of->git_dir : of->real_git_dir, is_git_dir ? of->git_dir_length : of->real_git_dir_length,
-             &raw.real_git_dir, &raw.real_git_dir_length);
-    raw.has_branch = gcv_give(of->branch, of->branch_length, &raw.branch, &raw.branch_length);
-    raw.urls = of->urls ? of->urls : no_urls;
-    raw.urls_length = of->urls ? of->urls_length : 0;
-    raw.seeks_urls = of->seeks_urls ? 1 : 0;
-    raw.follows = known ? 1 : 0;
-    return raw;
-}
-
-/* Writes the next entry of the walk to `*out`, and its texts into the buffer: its key, its value if it has one, and the
- * name of the file that it includes if it includes one, each with a NUL. Writes null for a text that is not there.
- *
- * `out->include` is GCV_NO_INCLUDE if the entry includes no file, or if its condition does not hold: without a
- * repository no condition on it does. A null `known` means that no entry includes a file. If there is a condition
- * hasconfig:remote.*.url:, Git walks over all files with `seeks_urls` first, to get the values of all remote.NAME.url.
- * It stops at one in a file that is included on a condition. Otherwise `out->include` is GCV_NO_VALUE if there is no
- * value, and GCV_NO_DIRECTORY if the value begins with `~` and a user's name, or with a directory that is null.
- *
- * Returns GCV_ABSENT after the last entry; then the walk may enter another file. Returns GCV_BAD_LINE and GCV_NUL as
- * gcv_add_file does, and writes the file and the line to `*out`. The file ends there: the next call goes on after the
- * entry that included it. After any other status the walk is unchanged. GCV_SHORT_BUFFER means that the texts need a
- * capacity, which is written to `out->size`, and GCV_BAD_LENGTHS that the numbers in the walk are not those of a walk.
- * The call allocates and frees memory, and returns GCV_NO_MEMORY if malloc fails. */
-GCV_RETURNS((1, 5)) gcv_next(gcv_walk *GCV_RESTRICT walk, const gcv_known *known, char *GCV_RESTRICT buffer,
-                             size_t capacity, gcv_step *GCV_RESTRICT out)
-{
-    char none[1] = {0};
-    gcv_raw_known given = gcv_give_all(known);
-    gcv_raw_step step = {"", 0, 0, 0, 0, 0, 0, GCV_OK};
-    gcv_status status = GCV_BAD_LENGTHS;
-    if (walk->count <= GCV_MOST_FRAMES) {
-        status = gcv_raw_next(walk->frames, walk->count, &walk->count, &given, capacity == 0 ? none : buffer, capacity,
-                              &step);
-    }
-    if (status == GCV_OK || status == GCV_SHORT_BUFFER) {
-        out->size = step.size;
-    }
-    if (status == GCV_OK || status == GCV_BAD_LINE || status == GCV_NUL) {
-        out->file = step.name;
-        out->file_length = step.name_length;
-        out->line = step.line;
-    }
-    if (status == GCV_OK) {
-        out->key = buffer;
-        out->value = step.has_value == 1 ? buffer + step.value : NULL;
-        out->included = step.include == GCV_OK ? buffer + step.included : NULL;
-        out->include = step.include;
-    }
-    return status;
-}
-
-/* Paths. */
-
-/* Writes 1 to `*optional` if the path begins with the mark `:(optional)`, and otherwise 0. Writes to `*start` the index
- * at which the path begins after that one mark. */
-GCV_CALL GCV_NONNULL((3, 4)) void gcv_cut_mark(const char *text, size_t length, uint32_t *optional, size_t *start)
-{
-    gcv_raw_cut_mark(gcv_bytes(text, length), length, optional, start);
-}
-
-/* Writes the path that a text means. One mark is cut off first. %(prefix)/ means the install directory, ~ the home
- * directory, and ~user the home directory of that user in the passwd text.
- *
- * Returns GCV_REFUSED if the text means no path, and then `*fault` is one of the faults of paths; after any other
- * status it is unchanged. What follows the directory must be UTF-8, and so must a user's name. The directories and the
- * passwd text may be any bytes, and so the written path may be any bytes too. The call allocates nothing, and returns
- * GCV_NO_MEMORY if the path would be longer than PTRDIFF_MAX. */
-GCV_RETURNS((3, 6)) gcv_interpolate(const char *text, size_t length, const gcv_context *context,
-                                    char *GCV_RESTRICT buffer, size_t capacity, size_t *size, gcv_fault *fault)
-{
-    char none[1] = {0};
-    gcv_fault unused = GCV_FAULT_NONE;
-    size_t install_dir_length = context->install_dir ? context->install_dir_length : 0;
-    size_t home_length = context->home ? context->home_length : 0;
-    size_t passwd_length = context->passwd ? context->passwd_length : 0;
-    return gcv_raw_interpolate(gcv_bytes(text, length), length, context->install_dir ? 1 : 0,
-                               gcv_bytes(context->install_dir, install_dir_length), install_dir_length,
-                               context->home ? 1 : 0, gcv_bytes(context->home, home_length), home_length,
-                               context->passwd ? 1 : 0, gcv_bytes(context->passwd, passwd_length), passwd_length,
-                               capacity == 0 ? none : buffer, capacity, size, fault ? fault : &unused);
-}
+GCV_RETURNS((7)) gcv_remove_section(const char *text, size_t length, const char *name, size_t name_length,
+                                    char *GCV_RESTRICT buffer, size_t capacity, size_t *size, size_t *line);
 
 #ifdef __cplusplus
 }
@@ -1076,6 +541,11 @@ GCV_RETURNS((3, 6)) gcv_interpolate(const char *text, size_t length, const gcv_c
 
 /* The users of this system, if GCV_WITH_USERS is defined; a C library may need _POSIX_C_SOURCE for it. */
 #ifdef GCV_WITH_USERS
+#if defined(__cplusplus) || (defined(__STDC_VERSION__) && __STDC_VERSION__ >= 199901L)
+#define GCV_INLINE inline
+#else
+#define GCV_INLINE __inline
+#endif
 #include <pwd.h>
 #include <string.h>
 
@@ -1087,7 +557,7 @@ typedef struct gcv_user {
 } gcv_user;
 
 /* A gcv_find_home over getpwnam_r, whose state is the address of a gcv_user. */
-GCV_INLINE const char *gcv_find_user(void *state, const char *name, size_t length)
+static GCV_INLINE const char *gcv_find_user(void *state, const char *name, size_t length)
 {
 #ifdef __cplusplus
     gcv_user *user = static_cast<gcv_user *>(state);

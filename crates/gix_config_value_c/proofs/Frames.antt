@@ -10,7 +10,14 @@ use Rattle.config_file.specs.declared.walk.Frame.{Frame}
 use Rattle.gix_config_value_c.specs.declared.walk.GcvFrame.{GcvFrame}
 use Rattle.gix_config_value_c.specs.Walks.{HoldsFrame, HoldsSection}
 use Rattle.gix_config_value_c.specs.Walks.HoldsSection.{plain, within}
-use Rattle.gix_config_value_c.proofs.Rows.{zip_push}
+
+-- one more item in each of two lists
+zip_push : {A B : Type 0} (R : A → B → Type 0) (xs : List A) (ys : List B) (x : A) (y : B)
+    → AllZip R xs ys → R x y → AllZip R (xs ++ x ∷ []) (ys ++ y ∷ [])
+zip_push R [] [] x y all one = (one, tt)
+zip_push R [] (z ∷ zs) x y all one = absurd all
+zip_push R (w ∷ ws) [] x y all one = absurd all
+zip_push R (w ∷ ws) (z ∷ zs) x y all one = (all.0, zip_push R ws zs x y all.1 one)
 
 -- each frame in C holds one of the walk
 pub held_at : (frames : List GcvFrame) (old : List Frame) (i : ℕ) (d : GcvFrame) → AllZip HoldsFrame frames old

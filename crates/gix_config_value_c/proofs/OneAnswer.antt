@@ -1,7 +1,6 @@
 -- From the same input a call writes and returns the same.
-use Rattle.std.proofs.Common.{◌≡◌, ◌≢◌, ℕ, List, None, Some, refl, sym, ap, subst, ◌∙◌, arith}
+use Rattle.std.proofs.Common.{◌≡◌, ℕ, List, None, Some, refl, sym, ap, subst, ◌∙◌, arith}
 use Rattle.std.proofs.lemmas.Option.{same_Some, none-some}
-use Rattle.serde_json.specs.Data.{Data}
 use Rattle.config_text.specs.declared.errors.Fault.{Fault}
 use Rattle.config_text.specs.declared.errors.Fault.TheVariants as faults
 use Rattle.gix_config_value.specs.Amount.{AmountFault}
@@ -11,14 +10,11 @@ use Rattle.gix_config_value.specs.Refusals.{OnlyFault}
 use Rattle.gix_config_value_c.specs.declared.status.Status.{Status}
 use Rattle.gix_config_value_c.specs.declared.status.Status.TheVariants as statuses
 use Rattle.gix_config_value_c.specs.declared.structs.GcvInteger.{GcvInteger}
-use Rattle.gix_config_value_c.specs.Answers.{TellsApart, HasOneResult, HasOneAnswer, HasOneAnswerByMemory}
+use Rattle.gix_config_value_c.specs.Answers.{TellsApart, HasOneResult, HasOneAnswer}
 use Rattle.gix_config_value_c.specs.Buffers.{PutsText, AnswersText, LeavesBuffer}
 use Rattle.gix_config_value_c.specs.Buffers.PutsText.{whole, short}
 use Rattle.gix_config_value_c.specs.Buffers.AnswersText.{put, none}
 use Rattle.gix_config_value_c.specs.Faults.{numbered_text, TellsFault}
-use Rattle.gix_config_value_c.specs.Json.{PutsJson, WritesJson, WritesProduct, product_json}
-use Rattle.gix_config_value_c.specs.Json.WritesJson.{written, no_value}
-use Rattle.gix_config_value_c.specs.Json.WritesProduct.{written as product_written, overflow as product_over, bad_suffix as product_bad}
 use Rattle.gix_config_value_c.specs.Numbers.{status_number}
 use Rattle.gix_config_value_c.specs.Readers.{ReadsInto, Faults}
 use Rattle.gix_config_value_c.specs.Readers.ReadsInto.{read, refused}
@@ -82,57 +78,9 @@ shows_once struct shown bad apart c = answers_once _ _ texts reasons absent wher
   absent : (t : List ℕ) (m : ℕ) → IsShownAs struct shown c t → ¬ ((m ≡ status_number bad) × IsNoValue struct c)
   absent t m (v, is, shows) p = p.1 v is
 
--- ---- JSON
-
-pub put_has_memory : (text buffer buffer' : List ℕ) (size status : ℕ) → PutsText text buffer buffer' size status
-    → status ≢ status_number statuses.NoMemory
-put_has_memory text buffer a m s (whole fits is long ok) h = let e = sym ok ∙ h in cc
-put_has_memory text buffer a m s (short less kept long bad) h = let e = sym bad ∙ h in cc
-
-pub json_once : (json : Data) → HasOneAnswerByMemory (PutsJson json)
-json_once json buffer a b size m n s r (put t is puts) (put u also more) both =
-    puts_once t buffer a b size m n s r puts (subst (λ x. PutsText x buffer b n r) (also ∙ sym is) more)
-json_once json buffer a b size m n s r (put t is puts) (none why kept same) both =
-    absurd (put_has_memory t buffer a m s puts (both.1 why))
-json_once json buffer a b size m n s r (none why kept same) (put t is puts) both =
-    absurd (put_has_memory t buffer b n r puts (both.0 why))
-json_once json buffer a b size m n s r (none why kept same) (none also left too) both =
-    (kept ∙ sym left, same ∙ sym too, why ∙ sym also)
-
 pub left_once : (said : Status) (buffer a b : List ℕ) (size m n s r : ℕ) → LeavesBuffer said buffer a size m s
     → LeavesBuffer said buffer b size n r → (a ≡ b) × (m ≡ n) × (s ≡ r)
 left_once said buffer a b size m n s r p q = (p.0 ∙ sym q.0, p.1 ∙ sym q.1, p.2 ∙ sym q.2)
-
-pub writes_json_once : {V C : Type 0} (struct : V → C) (json : V → Data) (bad : Status) → TellsApart struct
-    → (c : C) → HasOneAnswerByMemory (WritesJson struct json bad c)
-writes_json_once struct json bad apart c buffer a b size m n s r (written v is puts) (written w also more) both =
-    json_once (json v) buffer a b size m n s r puts (subst (λ x. PutsJson (json x) buffer b size n r) (apart w v (sym also ∙ is)) more) both
-writes_json_once struct json bad apart c buffer a b size m n s r (written v is puts) (no_value never kept) both =
-    absurd (never v is)
-writes_json_once struct json bad apart c buffer a b size m n s r (no_value never kept) (written v is puts) both =
-    absurd (never v is)
-writes_json_once struct json bad apart c buffer a b size m n s r (no_value never kept) (no_value neither same) both =
-    left_once bad buffer a b size m n s r kept same
-
-pub writes_product_once : (c : GcvInteger) → HasOneAnswerByMemory (WritesProduct c)
-writes_product_once c buffer a b size m n s r (product_written v is fits puts) (product_written w also fit more) both =
-    json_once (product_json v) buffer a b size m n s r puts (subst (λ x. PutsJson (product_json x) buffer b size n r) (integers_apart w v (sym also ∙ is)) more) both
-writes_product_once c buffer a b size m n s r (product_written v is fits puts) (product_over w also over kept) both =
-    absurd (over (subst (λ x. IsInI64 (product x)) (integers_apart v w (sym is ∙ also)) fits))
-writes_product_once c buffer a b size m n s r (product_written v is fits puts) (product_bad never kept) both =
-    absurd (never v is)
-writes_product_once c buffer a b size m n s r (product_over w also over kept) (product_written v is fits puts) both =
-    absurd (over (subst (λ x. IsInI64 (product x)) (integers_apart v w (sym is ∙ also)) fits))
-writes_product_once c buffer a b size m n s r (product_over v is over kept) (product_over w also out same) both =
-    left_once statuses.Overflow buffer a b size m n s r kept same
-writes_product_once c buffer a b size m n s r (product_over v is over kept) (product_bad never same) both =
-    absurd (never v is)
-writes_product_once c buffer a b size m n s r (product_bad never kept) (product_written v is fits puts) both =
-    absurd (never v is)
-writes_product_once c buffer a b size m n s r (product_bad never kept) (product_over v is over same) both =
-    absurd (never v is)
-writes_product_once c buffer a b size m n s r (product_bad never kept) (product_bad neither same) both =
-    left_once statuses.BadSuffix buffer a b size m n s r kept same
 
 -- ---- products, and the texts of faults
 

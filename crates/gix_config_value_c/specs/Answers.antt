@@ -1,7 +1,5 @@
 -- What it means that a call has one answer, and that numbers and structs tell values apart.
-use Rattle.std.specs.Prelude.{◌≡◌, ◌↔◌, ℕ}
-use Rattle.gix_config_value_c.specs.declared.status.Status.TheVariants as statuses
-use Rattle.gix_config_value_c.specs.Numbers.{status_number}
+use Rattle.std.specs.Prelude.{◌≡◌, ℕ}
 
 -- no two values have the same number or struct in C
 abbrev pub TellsApart : {V C : Type 0} → (V → C) → Type 0
@@ -17,17 +15,3 @@ abbrev pub HasOneAnswer : {C : Type 0} → (C → C → ℕ → ℕ → ℕ → 
 HasOneAnswer {C} call = (out first second : C) (number one two status other : ℕ)
     → call out first number one status → call out second number two other
     → (first ≡ second) × (one ≡ two) × (status ≡ other)
-
--- the same for a call that takes memory, if memory is refused to both calls or to neither
-abbrev pub HasOneAnswerByMemory : {C : Type 0} → (C → C → ℕ → ℕ → ℕ → Type 0) → Type 0
-HasOneAnswerByMemory {C} call = (out first second : C) (number one two status other : ℕ)
-    → call out first number one status → call out second number two other
-    → ((status ≡ status_number statuses.NoMemory) ↔ (other ≡ status_number statuses.NoMemory))
-    → (first ≡ second) × (one ≡ two) × (status ≡ other)
-
--- the same for a call that takes memory and writes into `out` alone
-abbrev pub HasOneResultByMemory : {C : Type 0} → (C → C → ℕ → Type 0) → Type 0
-HasOneResultByMemory {C} call = (out first second : C) (status other : ℕ)
-    → call out first status → call out second other
-    → ((status ≡ status_number statuses.NoMemory) ↔ (other ≡ status_number statuses.NoMemory))
-    → (first ≡ second) × (status ≡ other)

@@ -8,8 +8,6 @@ pub mod Texts
 pub mod Colors
 pub mod Commands
 pub mod Edits
-pub mod Json
-pub mod Settings
 pub mod Files
 pub mod Paths
 pub mod Terminals

@@ -25,7 +25,7 @@ pub enum Status {
     BadName = 9,
     /// A flag is neither 0 nor 1.
     BadFlag = 10,
-    /// The lengths are not those of names and texts that fill the bytes.
+    /// The numbers of a walk are not those of one.
     BadLengths = 12,
     /// The buffer is shorter than the text.
     ShortBuffer = 13,

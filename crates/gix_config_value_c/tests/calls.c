@@ -1,4 +1,4 @@
-/* Tests each status of each call on bad input, and what it leaves alone; lookups, compositions, files, edits, fault texts. */
+/* Tests each status of each call on bad input, and what it leaves alone; compositions, files, edits, fault texts. */
 #include "guarded.h"
 #include <pthread.h>
 #include <time.h>
@@ -25,30 +25,27 @@ WRITER(show_name, gcv_name, gcv_show_name(value, buffer, capacity, size))
 WRITER(show_attribute, uint32_t, gcv_show_attribute(*value, buffer, capacity, size))
 WRITER(show_color, gcv_color, gcv_show_color(value, buffer, capacity, size))
 WRITER(escape_color, gcv_color, gcv_escape_color(value, buffer, capacity, size))
-WRITER(json_suffix, uint32_t, gcv_json_suffix(*value, buffer, capacity, size))
-WRITER(json_integer, gcv_integer, gcv_json_integer(value, buffer, capacity, size))
-WRITER(json_boolean, uint32_t, gcv_json_boolean(*value, buffer, capacity, size))
-WRITER(json_name, gcv_name, gcv_json_name(value, buffer, capacity, size))
-WRITER(json_attribute, uint32_t, gcv_json_attribute(*value, buffer, capacity, size))
 WRITER(fault_text, uint32_t, gcv_fault_text(*value, buffer, capacity, size))
 WRITER(normalize_canonical, word, gcv_normalize(value->number, value->text, strlen(value->text), buffer, capacity, size))
 WRITER(normalize_empty, uint32_t, gcv_normalize(*value, NULL, 0, buffer, capacity, size))
 
-/* The arguments of an interpolation, with the flags of the exported call. */
+/* The arguments of an interpolation. A text is not given without its flag. */
 typedef struct given {
     const char *path;
-    uint32_t flags[3];
+    int flags[3];
     const char *texts[3];
 } given;
 
 static gcv_status interpolate(const void *state, char *buffer, size_t capacity, size_t *size)
 {
     const given *of = (const given *)state;
-    char none[1] = {0};
+    const char *texts[3];
+    for (size_t at = 0; at < 3; at++) {
+        texts[at] = of->flags[at] ? of->texts[at] : NULL;
+    }
+    gcv_context context = {texts[0], strlen(of->texts[0]), texts[1], strlen(of->texts[1]), texts[2], strlen(of->texts[2])};
     gcv_fault fault = UNTOUCHED;
-    gcv_status status = gcv_raw_interpolate(of->path, strlen(of->path), of->flags[0], of->texts[0], strlen(of->texts[0]),
-                                            of->flags[1], of->texts[1], strlen(of->texts[1]), of->flags[2], of->texts[2],
-                                            strlen(of->texts[2]), capacity == 0 ? none : buffer, capacity, size, &fault);
+    gcv_status status = gcv_interpolate(of->path, strlen(of->path), &context, buffer, capacity, size, &fault);
     return (status == GCV_REFUSED) == (fault != UNTOUCHED) ? status : UNTOUCHED;
 }
 
@@ -64,15 +61,11 @@ static void bad_numbers(void)
         int64_t product = UNTOUCHED;
         count(writes_nothing(buffer_area, normalize_empty, &number, GCV_UNKNOWN_KIND), "normalize");
         count(writes_nothing(buffer_area, show_suffix, &number, GCV_BAD_SUFFIX), "show_suffix");
-        count(writes_nothing(buffer_area, json_suffix, &number, GCV_BAD_SUFFIX), "json_suffix");
         count(writes_nothing(buffer_area, show_integer, &integer, GCV_BAD_SUFFIX), "show_integer");
-        count(writes_nothing(buffer_area, json_integer, &integer, GCV_BAD_SUFFIX), "json_integer");
         count(gcv_product(&integer, &product) == GCV_BAD_SUFFIX && product == UNTOUCHED, "product");
         count(writes_nothing(buffer_area, show_boolean, &number, GCV_BAD_FLAG), "show_boolean");
-        count(writes_nothing(buffer_area, json_boolean, &number, GCV_BAD_FLAG), "json_boolean");
         if (name.tag > GCV_RGB) {
             count(writes_nothing(buffer_area, show_name, &name, GCV_BAD_NAME), "show_name");
-            count(writes_nothing(buffer_area, json_name, &name, GCV_BAD_NAME), "json_name");
             count(writes_nothing(buffer_area, show_color, &color, GCV_BAD_NAME), "show_color");
             count(writes_nothing(buffer_area, escape_color, &color, GCV_BAD_NAME), "escape_color");
         }
@@ -83,7 +76,6 @@ static void bad_numbers(void)
     uint32_t zero = 0;
     count(writes_nothing(buffer_area, normalize_empty, &zero, GCV_UNKNOWN_KIND), "normalize of kind 0");
     count(writes_nothing(buffer_area, show_suffix, &zero, GCV_BAD_SUFFIX), "show_suffix of none");
-    count(writes_nothing(buffer_area, json_suffix, &zero, GCV_BAD_SUFFIX), "json_suffix of none");
 }
 
 /* Structs with bytes that their tags do not use, and structs that represent no name. */
@@ -98,7 +90,6 @@ static void bad_names(void)
         memset(&out, PATTERN, sizeof out);
         gcv_color before = out;
         count(writes_nothing(buffer_area, show_name, &names[at], GCV_BAD_NAME), "a bad name shown");
-        count(writes_nothing(buffer_area, json_name, &names[at], GCV_BAD_NAME), "a bad name as JSON");
         if (at > 0) {
             count(writes_nothing(buffer_area, show_color, &color, GCV_BAD_NAME), "a bad color shown");
             count(gcv_compose(&color, &plain, &out) == GCV_BAD_NAME && memcmp(&out, &before, sizeof out) == 0, "compose, first");
@@ -115,14 +106,9 @@ static void shown_sets(void)
     static const struct {
         uint32_t bits;
         const char *shown;
-        const char *json;
-    } rows[] = {{0, "", "\"\""},
-                {GCV_BOLD | GCV_UL, "bold ul", "\"bold ul\""},
-                {GCV_NO_STRIKE | GCV_DIM, "dim nostrike", "\"dim nostrike\""},
-                {1, "", "\"\""}};
+    } rows[] = {{0, ""}, {GCV_BOLD | GCV_UL, "bold ul"}, {GCV_NO_STRIKE | GCV_DIM, "dim nostrike"}, {1, ""}};
     for (size_t at = 0; at < sizeof rows / sizeof rows[0]; at++) {
         count(writes(buffer_area, show_attribute, &rows[at].bits, rows[at].shown, strlen(rows[at].shown)), rows[at].shown);
-        count(writes(buffer_area, json_attribute, &rows[at].bits, rows[at].json, strlen(rows[at].json)), rows[at].json);
     }
     gcv_color beside = {{GCV_NO_NAME, 0, 0, 0, 0}, {GCV_BLUE, 0, 0, 0, 0}, GCV_BOLD};
     count(writes(buffer_area, show_color, &beside, "blue bold", 9), "a background alone is shown");
@@ -180,45 +166,6 @@ static void comparisons(void)
     count(compares(GCV_COLOR, "bold red", "red bold", 1), "one color");
 }
 
-/* Whether a lookup of the name in the entries returns this status, and finds the entry and its text at this place. */
-static int looks_up(uint32_t kind, const char *bytes, const size_t *lengths, size_t lengths_count, const char *name, gcv_status status,
-                    size_t index, size_t start, size_t length)
-{
-    gcv_entry entry = {UNTOUCHED, UNTOUCHED, UNTOUCHED};
-    HOLDS(gcv_lookup(kind, bytes, bytes ? strlen(bytes) : 0, lengths, lengths_count, name, name ? strlen(name) : 0, &entry) == status);
-    if (status != GCV_OK && status != GCV_REFUSED) {
-        index = start = length = UNTOUCHED;
-    }
-    HOLDS(entry.index == index && entry.start == start && entry.length == length);
-    return 1;
-}
-
-static void lookups(void)
-{
-    /* a=1, b=x, a=2k, the empty name with the empty text, b=yes */
-    static const char bytes[] = "a1bxa2kbyes";
-    static const size_t lengths[] = {1, 1, 1, 1, 1, 2, 0, 0, 1, 3};
-    static const size_t past[] = {1, 1, 1, 1, 1, 2, 0, 0, 1, 4};
-    static const size_t huge[] = {1, SIZE_MAX, 1, 1};
-    static const size_t wraps[] = {SIZE_MAX, 12};
-    count(looks_up(GCV_INTEGER, bytes, lengths, 10, "a", GCV_OK, 2, 5, 2), "the last one decides");
-    count(looks_up(GCV_BOOLEAN, bytes, lengths, 10, "b", GCV_OK, 4, 8, 3), "an earlier one is not read");
-    count(looks_up(GCV_INTEGER, bytes, lengths, 10, "b", GCV_REFUSED, 4, 8, 3), "refused");
-    count(looks_up(GCV_BOOLEAN, bytes, lengths, 10, "", GCV_OK, 3, 7, 0), "an empty name and text");
-    count(looks_up(GCV_BOOLEAN, bytes, lengths, 10, NULL, GCV_OK, 3, 7, 0), "a null name");
-    count(looks_up(GCV_INTEGER, bytes, lengths, 10, "c", GCV_ABSENT, 0, 0, 0), "absent");
-    count(looks_up(GCV_INTEGER, bytes, lengths, 10, "A", GCV_ABSENT, 0, 0, 0), "case counts");
-    count(looks_up(GCV_INTEGER, NULL, NULL, 0, "a", GCV_ABSENT, 0, 0, 0), "no entries");
-    count(looks_up(GCV_INTEGER, bytes, lengths, 9, "a", GCV_BAD_LENGTHS, 0, 0, 0), "an odd number");
-    count(looks_up(GCV_INTEGER, bytes, lengths, 8, "a", GCV_BAD_LENGTHS, 0, 0, 0), "bytes left over");
-    count(looks_up(GCV_INTEGER, bytes, past, 10, "a", GCV_BAD_LENGTHS, 0, 0, 0), "past the end");
-    count(looks_up(GCV_INTEGER, bytes, huge, 4, "a", GCV_BAD_LENGTHS, 0, 0, 0), "a huge length");
-    count(looks_up(GCV_INTEGER, bytes, wraps, 2, "a", GCV_BAD_LENGTHS, 0, 0, 0), "a sum that wraps");
-    count(looks_up(GCV_INTEGER, bytes, NULL, 0, "a", GCV_BAD_LENGTHS, 0, 0, 0), "bytes and no lengths");
-    count(looks_up(0, bytes, lengths, 10, "a", GCV_UNKNOWN_KIND, 0, 0, 0), "kind 0");
-    count(looks_up(8, bytes, lengths, 10, "a", GCV_UNKNOWN_KIND, 0, 0, 0), "kind 8");
-}
-
 static void contexts(void)
 {
     static const struct {
@@ -232,9 +179,6 @@ static void contexts(void)
         {{"~bob/x", {0, 0, 0}, {"", "", "bob:x:1:1:c:/b:/sh\n"}}, GCV_REFUSED, NULL},
         {{"~/x", {0, 0, 1}, {"", "/h", ""}}, GCV_REFUSED, NULL},
         {{"", {1, 1, 1}, {"", "", ""}}, GCV_REFUSED, NULL},
-        {{"x", {2, 0, 0}, {"", "", ""}}, GCV_BAD_FLAG, NULL},
-        {{"x", {0, UINT32_MAX, 0}, {"", "", ""}}, GCV_BAD_FLAG, NULL},
-        {{"x", {0, 0, 7}, {"", "", ""}}, GCV_BAD_FLAG, NULL},
         /* directories and users of any bytes, as in Latin-1, and a path whose own bytes are not UTF-8 */
         {{"/etc/x", {1, 1, 1}, {"\xff", "/J\xf6rg", "bob:x:1:1:J\xf6rg:/b:/sh\n"}}, GCV_OK, "/etc/x"},
         {{"~/x", {1, 1, 1}, {"\xff", "/home", "bob:x:1:1:J\xf6rg:/b:/sh\n"}}, GCV_OK, "/home/x"},
@@ -372,17 +316,6 @@ static void depths(void)
     count(gcv_terminal_depth(0, NULL, "xterm", "24bit") == GCV_NO_COLORS, "no terminal");
     count(gcv_terminal_depth(1, "0", "xterm", "24bit") == GCV_NO_COLORS, "NO_COLOR");
     count(gcv_terminal_depth(1, NULL, NULL, "24bit") == GCV_NO_COLORS, "no TERM");
-    uint32_t flags[4] = {1, 0, 1, 0};
-    for (size_t at = 0; at < 4; at++) {
-        uint32_t right = flags[at];
-        gcv_depth depth = GCV_ANSI256;
-        flags[at] = 2;
-        count(gcv_raw_terminal_depth(flags[0], flags[1], "", 0, flags[2], "xterm", 5, flags[3], "", 0, &depth) ==
-                      GCV_BAD_FLAG &&
-                  depth == GCV_ANSI256,
-              "a bad flag");
-        flags[at] = right;
-    }
 }
 
 /* Texts that end with NUL, and null for a key without `=`, which Git takes for true; the rest is in docs/GRAMMAR.md. */
@@ -516,57 +449,58 @@ static void words(void)
     }
 }
 
-/* Two files, what Git lists for them, and the lines that it tells. */
-static const char user[] = "[Core]\n\tBare\n[remote \"Up.Stream\"]\n\turl = \"a;b\" \\\n c ; d\n\tEmpty =\n[core]\n\tlimit = 10m\n";
-static const char own[] = "[core] limit = 0x10k\n# \n[color \"a\\\"b\"]\n\tui = bold red\n\tbare = no\n[core]\n\tbare";
-static const gcv_setting listed[] = {{"core.bare", NULL, 2},
-                                     {"remote.Up.Stream.url", "a;b  c", 5},
-                                     {"remote.Up.Stream.empty", "", 6},
-                                     {"core.limit", "10m", 8},
-                                     {"core.limit", "0x10k", 1},
-                                     {"color.a\"b.ui", "bold red", 4},
-                                     {"color.a\"b.bare", "no", 5},
-                                     {"core.bare", NULL, 7}};
+/* Files in memory, by their names. `opened` counts how often one is opened. */
+typedef struct in_memory {
+    struct {
+        const char *name, *text;
+        size_t length;
+    } files[8];
+    size_t opened;
+} in_memory;
 
-/* Adds a file whose text ends at the page, and checks the status, how many bytes and settings it has, and the line. */
-static int adds(gcv_settings *settings, const char *text, size_t length, gcv_status status, size_t size, size_t count_of, size_t line)
+static gcv_status open_in_memory(void *state, const char *name, gcv_file *out)
 {
-    gcv_settings before = *settings;
-    gcv_file file = {UNTOUCHED, UNTOUCHED, UNTOUCHED};
-    size_t added = status == GCV_OK;
-    HOLDS(gcv_add_file(settings, lent(text_area, text, length), length, &file) == status);
-    HOLDS(file.size == size && file.count == count_of && file.line == line);
-    HOLDS(settings->size == before.size + added * size && settings->count == before.count + added * count_of);
-    return is_untouched(buffer_area, settings->capacity, settings->size);
+    in_memory *of = (in_memory *)state;
+    for (size_t at = 0; at < 8 && of->files[at].name; at++) {
+        if (strcmp(of->files[at].name, name) == 0) {
+            size_t length = of->files[at].length ? of->files[at].length : strlen(of->files[at].text);
+            of->opened++;
+            out->text = (char *)malloc(length + 1);
+            memcpy(out->text, of->files[at].text, length);
+            out->length = length;
+            out->real_dir = strdup("/real");
+            return GCV_OK;
+        }
+    }
+    return strcmp(name, "denied") == 0 ? GCV_REFUSED : GCV_ABSENT;
 }
 
-/* Adds both files, in arrays with exactly the room that they need. */
-static int adds_both(gcv_settings *settings)
+/* Two files, what Git lists for them, and the lines that it tells. */
+#define USER "[Core]\n\tBare\n[remote \"Up.Stream\"]\n\turl = \"a;b\" \\\n c ; d\n\tEmpty =\n[core]\n\tlimit = 10m\n"
+#define OWN "[core] limit = 0x10k\n# \n[color \"a\\\"b\"]\n\tui = bold red\n\tbare = no\n[core]\n\tbare"
+static const gcv_setting listed[] = {{"core.bare", NULL, "user", 2},
+                                     {"remote.Up.Stream.url", "a;b  c", "user", 5},
+                                     {"remote.Up.Stream.empty", "", "user", 6},
+                                     {"core.limit", "10m", "user", 8},
+                                     {"core.limit", "0x10k", "own", 1},
+                                     {"color.a\"b.ui", "bold red", "own", 4},
+                                     {"color.a\"b.bare", "no", "own", 5},
+                                     {"core.bare", NULL, "own", 7}};
+
+/* Whether the settings are these, and each key leads to its last one. */
+static int are(const gcv_settings *settings, const gcv_setting *wanted, size_t count_of)
 {
-    size_t sizes[2] = {0, 0}, index = 0;
-    gcv_setting setting;
-    for (size_t at = 0; at < 8; at++) {
-        sizes[at / 4] += strlen(listed[at].key) + 1 + (listed[at].value ? strlen(listed[at].value) + 1 : 0);
+    HOLDS(settings->count == count_of && settings->file == NULL && settings->line == 0);
+    for (size_t at = 0; at < count_of; at++) {
+        const gcv_setting *given = &settings->list[at], *last = NULL;
+        HOLDS(strcmp(given->key, wanted[at].key) == 0 && strcmp(given->file, wanted[at].file) == 0);
+        HOLDS(given->line == wanted[at].line);
+        HOLDS(wanted[at].value ? given->value && strcmp(given->value, wanted[at].value) == 0 : !given->value);
+        for (size_t later = 0; later < count_of; later++) {
+            last = strcmp(wanted[later].key, wanted[at].key) == 0 ? &settings->list[later] : last;
+        }
+        HOLDS(gcv_find_setting(settings, given->key) == last);
     }
-    for (settings->capacity = 0; settings->capacity < sizes[0]; settings->capacity++) {
-        settings->bytes = settings->capacity == 0 ? NULL : (char *)buffer_area.end - settings->capacity;
-        HOLDS(adds(settings, user, sizeof user - 1, GCV_SHORT_BUFFER, sizes[0], 4, 0));
-    }
-    settings->capacity = sizes[0] + sizes[1];
-    settings->bytes = (char *)buffer_area.end - settings->capacity;
-    for (settings->room = 0; settings->room < 4; settings->room++) {
-        HOLDS(adds(settings, user, sizeof user - 1, GCV_SHORT_BUFFER, sizes[0], 4, 0));
-    }
-    HOLDS(adds(settings, user, sizeof user - 1, GCV_OK, sizes[0], 4, 0));
-    HOLDS(adds(settings, own, sizeof own - 1, GCV_SHORT_BUFFER, sizes[1], 4, 0));
-    settings->room = 8;
-    HOLDS(adds(settings, own, sizeof own - 1, GCV_OK, sizes[1], 4, 0));
-    while (gcv_next_setting(settings, &index, &setting) == GCV_OK) {
-        const gcv_setting *wanted = &listed[index - 1];
-        HOLDS(strcmp(setting.key, wanted->key) == 0 && setting.line == wanted->line);
-        HOLDS(wanted->value ? setting.value && strcmp(setting.value, wanted->value) == 0 : !setting.value);
-    }
-    HOLDS(index == 8);
     return 1;
 }
 
@@ -577,48 +511,168 @@ static void files(void)
         size_t length;
         gcv_status status;
         size_t line;
-    } rows[] = {{NULL, 0, GCV_OK, 0},
-                {"[core]\n\tbare = \"no\n", 19, GCV_BAD_LINE, 2},
-                {"[core]\n\n1 = 2\n", 14, GCV_BAD_LINE, 3},
-                {"[a]\nb = c\\x\n", 12, GCV_BAD_LINE, 2},
-                {"[a]\nb = c\0d\n", 12, GCV_NUL, 2}};
-    gcv_place places[8];
-    gcv_settings settings = {NULL, 0, 0, places, 0, 0};
-    gcv_setting setting = {NULL, NULL, UNTOUCHED};
+    } rows[] = {{"", 0, GCV_OK, 0},
+                {"[core]\n\tbare = \"no\n", 0, GCV_BAD_LINE, 2},
+                {"[core]\n\n1 = 2\n", 0, GCV_BAD_LINE, 3},
+                {"[a]\nb = c\\x\n", 0, GCV_BAD_LINE, 2},
+                {"[a]\nb = c\0d\n", 12, GCV_NUL, 2},
+                {"[a]\nb = 1\n[include]\n\tpath\n", 0, GCV_NO_VALUE, 4},
+                {"[include]\n\tpath = %(prefix)/x\n", 0, GCV_NO_DIRECTORY, 2},
+                {"[include]\n\tpath = denied\n", 0, GCV_REFUSED, 2},
+                {"[include]\n\tpath = row\n", 0, GCV_TOO_DEEP, 2}};
+    static const gcv_known known = {NULL, 0, NULL, 0, NULL, 0, NULL, 0, NULL, 0, NULL, 0, NULL, 0, 0};
+    static const char *const names[] = {"missing", "user", "own"}, *const row[] = {"row"};
+    static in_memory two = {{{"user", USER, 0}, {"own", OWN, 0}}, 0};
+    gcv_settings settings = GCV_NO_SETTINGS, none = GCV_NO_SETTINGS;
     gcv_color color;
     int64_t limit = 0;
     int is_bare = 0;
-    memset(buffer_area.end - buffer_area.size, PATTERN, buffer_area.size);
-    count(adds_both(&settings), "two files");
+    count(!gcv_find_setting(&settings, "core.bare"), "no settings");
+    count(gcv_read_files(&settings, names, 3, NULL, open_in_memory, &two) == GCV_OK && are(&settings, listed, 8), "two files");
     for (size_t at = 0; at < sizeof rows / sizeof rows[0]; at++) {
-        count(adds(&settings, rows[at].text, rows[at].length, rows[at].status, 0, 0, rows[at].line), "a file without settings");
+        in_memory one = {{{"row", rows[at].text, rows[at].length}}, 0};
+        count(gcv_read_files(&settings, row, 1, &known, open_in_memory, &one) == rows[at].status && settings.count == 8 &&
+                  settings.line == rows[at].line &&
+                  (rows[at].status == GCV_OK ? !settings.file : strcmp(settings.file, "row") == 0),
+              "a file that is refused, or has no settings");
+        settings.file = NULL;
+        settings.line = 0;
+        count(are(&settings, listed, 8), "the settings before are unchanged");
     }
+    static const char *const denied[] = {"denied"};
+    count(gcv_read_files(&settings, denied, 1, NULL, open_in_memory, &two) == GCV_REFUSED && settings.line == 0 &&
+              strcmp(settings.file, "denied") == 0,
+          "a first file that is not read");
     static const char *const absent[] = {"core.bar", "core.bares", "remote.up.Stream.empty", ""};
     for (size_t at = 0; at < 4; at++) {
-        count(gcv_lookup_setting(&settings, absent[at], &setting) == GCV_ABSENT && setting.line == UNTOUCHED, absent[at]);
+        count(!gcv_find_setting(&settings, absent[at]), absent[at]);
     }
-    count(gcv_lookup_setting(&settings, "CORE.Limit", &setting) == GCV_OK && gcv_parse_int64(setting.value, &limit, NULL) == GCV_OK &&
-              limit == 16384 && setting.line == 1,
+    const gcv_setting *found = gcv_find_setting(&settings, "CORE.Limit");
+    count(found && gcv_parse_int64(found->value, &limit, NULL) == GCV_OK && limit == 16384 && found->line == 1,
           "the later file decides");
-    count(gcv_lookup_setting(&settings, "core.bare", &setting) == GCV_OK && gcv_parse_bool(setting.value, &is_bare, NULL) == GCV_OK &&
-              is_bare == 1 && gcv_parse_int64(setting.value, &limit, NULL) == GCV_REFUSED,
+    found = gcv_find_setting(&settings, "core.bare");
+    count(found && gcv_parse_bool(found->value, &is_bare, NULL) == GCV_OK && is_bare == 1 &&
+              gcv_parse_int64(found->value, &limit, NULL) == GCV_REFUSED,
           "a key alone is true, and no number");
-    count(gcv_lookup_setting(&settings, "Remote.Up.Stream.Empty", &setting) == GCV_OK &&
-              gcv_parse_bool(setting.value, &is_bare, NULL) == GCV_OK && is_bare == 0,
-          "an empty value is false");
-    count(gcv_lookup_setting(&settings, "color.a\"b.ui", &setting) == GCV_OK && gcv_parse_color(setting.value, &color, NULL) == GCV_OK &&
-              color.foreground.tag == GCV_RED && color.attributes == GCV_BOLD,
+    found = gcv_find_setting(&settings, "Remote.Up.Stream.Empty");
+    count(found && gcv_parse_bool(found->value, &is_bare, NULL) == GCV_OK && is_bare == 0, "an empty value is false");
+    found = gcv_find_setting(&settings, "color.a\"b.ui");
+    count(found && gcv_parse_color(found->value, &color, NULL) == GCV_OK && color.foreground.tag == GCV_RED &&
+              color.attributes == GCV_BOLD,
           "a color of a subsection");
     static const char *const keys[][2] = {{".X.a", ".X.A"}, {"a.b", "A.B"}, {"a.B.c", "A.B.C"}, {"ab", "AB"}};
     static const char *const others[][2] = {{".X.a", ".x.a"}, {".foo.Bar.b", ".Foo.Bar.b"}, {"a.B.c", "a.b.c"}, {"a", "a.b"}};
     for (size_t at = 0; at < 4; at++) {
         count(gcv_is_key(keys[at][0], keys[at][1]) && !gcv_is_key(others[at][0], others[at][1]), keys[at][1]);
     }
-    gcv_settings wrong[] = {{NULL, 0, 1, places, 8, 0}, {NULL, 8, 9, places, 8, 0}, {NULL, 0, 0, places, 0, 1}};
-    for (size_t at = 0; at < 3; at++) {
-        gcv_file file = {UNTOUCHED, UNTOUCHED, UNTOUCHED};
-        count(gcv_add_file(&wrong[at], "[a]\nb", 5, &file) == GCV_BAD_LENGTHS && file.size == UNTOUCHED, "beyond the arrays");
+    gcv_free_settings(&settings);
+    gcv_free_settings(&settings);
+    count(memcmp(&settings, &none, sizeof none) == 0, "freed settings");
+}
+
+/* The order and the decisions are those of `git config --list --show-origin --includes` and `--get`, 2.39.5. */
+static void included_files(void)
+{
+    static const gcv_setting wanted[] = {{"include.path", "more", "main", 1}, {"a.k", "more", "more", 1},
+                                         {"include.path", "missing", "more", 2}, {"a.k", "main", "main", 2}};
+    static const gcv_setting by_urls[] = {
+        {"includeif.hasconfig:remote.*.url:**/b.path", "some", "main", 1}, {"a.k", "some", "some", 1},
+        {"includeif.hasconfig:remote.*.url:none.path", "some", "main", 2}, {"remote.o.url", "https://x/b", "main", 4}};
+    static const char *const names[] = {"main"};
+    static const gcv_known known = {NULL, 0, NULL, 0, NULL, 0, "/w/.git", 7, NULL, 0, NULL, 0, NULL, 0, 0};
+    in_memory nested = {{{"main", "[include]path=more\n[a]k=main", 0}, {"more", "[a]k=more\n[include]path=missing", 0}}, 0};
+    in_memory asking = {{{"main", "[includeIf \"hasconfig:remote.*.url:**/b\"]path=some\n"
+                                  "[includeIf \"hasconfig:remote.*.url:none\"]path=some\n[remote \"o\"]\nurl=https://x/b", 0},
+                         {"some", "[a]k=some", 0}}, 0};
+    in_memory refused = {{{"main", "[includeIf \"hasconfig:remote.*.url:x\"]path=some", 0},
+                          {"some", "[a]k=some\n[remote \"o\"]\nurl=x", 0}}, 0};
+    in_memory by_gitdir = {{{"main", "[includeIf \"gitdir:/w/\"]path=some\n[includeIf \"hasconfig:remote.*.url:x\"]path=h", 0},
+                            {"some", "[remote \"o\"]\nurl=x", 0}}, 0};
+    in_memory unasked = {{{"main", "[includeIf \"gitdir:/w/\"]path=some", 0}, {"some", "[remote \"o\"]\nurl=x", 0}}, 0};
+    gcv_settings settings = GCV_NO_SETTINGS;
+    count(gcv_read_files(&settings, names, 1, &known, open_in_memory, &nested) == GCV_OK && are(&settings, wanted, 4) &&
+              nested.opened == 2,
+          "an included file is opened once, and comes after its entry");
+    gcv_free_settings(&settings);
+    count(gcv_read_files(&settings, names, 1, NULL, open_in_memory, &nested) == GCV_OK && settings.count == 2, "no file is included");
+    gcv_free_settings(&settings);
+    count(gcv_read_files(&settings, names, 1, &known, open_in_memory, &asking) == GCV_OK && are(&settings, by_urls, 4) &&
+              asking.opened == 5,
+          "files that are included for a URL");
+    gcv_free_settings(&settings);
+    count(gcv_read_files(&settings, names, 1, &known, open_in_memory, &refused) == GCV_REFUSED && settings.line == 3 &&
+              strcmp(settings.file, "some") == 0 && settings.count == 0,
+          "a URL in a file that is included for URLs");
+    gcv_free_settings(&settings);
+    count(gcv_read_files(&settings, names, 1, &known, open_in_memory, &by_gitdir) == GCV_REFUSED && settings.line == 2 &&
+              strcmp(settings.file, "some") == 0,
+          "a URL in a file that is included on another condition");
+    gcv_free_settings(&settings);
+    count(gcv_read_files(&settings, names, 1, &known, open_in_memory, &unasked) == GCV_OK && settings.count == 2,
+          "the same without a condition that asks for URLs");
+    gcv_free_settings(&settings);
+}
+
+/* Keys that are long, or many, take memory and time in proportion. */
+static void many_settings(void)
+{
+    enum { LONG = 20000, MANY = 100000 };
+    char *text = (char *)malloc(16 * MANY), *end = text;
+    static const char *const names[] = {"row"};
+    gcv_settings settings = GCV_NO_SETTINGS;
+    end += sprintf(end, "[");
+    memset(end, 's', LONG);
+    end += LONG;
+    end += sprintf(end, "]\n");
+    for (size_t at = 0; at < LONG; at++) {
+        end += sprintf(end, "k\n");
     }
+    in_memory same = {{{"row", text, (size_t)(end - text)}}, 0};
+    count(gcv_read_files(&settings, names, 1, NULL, open_in_memory, &same) == GCV_OK && settings.count == LONG &&
+              settings.list[0].key == settings.list[LONG - 1].key,
+          "a long key is kept once");
+    gcv_free_settings(&settings);
+    end = text + sprintf(text, "[a]\n");
+    for (size_t at = 0; at < MANY; at++) {
+        end += sprintf(end, "k%zu = %zu\n", at, at);
+    }
+    in_memory many = {{{"row", text, (size_t)(end - text)}}, 0};
+    count(gcv_read_files(&settings, names, 1, NULL, open_in_memory, &many) == GCV_OK && settings.count == MANY, "many settings");
+    for (size_t at = 0; at < MANY; at += 9999) {
+        char key[32], value[32];
+        sprintf(key, "A.K%zu", at);
+        sprintf(value, "%zu", at);
+        const gcv_setting *found = gcv_find_setting(&settings, key);
+        count(found && strcmp(found->value, value) == 0, key);
+    }
+    gcv_free_settings(&settings);
+    free(text);
+}
+
+/* Nothing is known, and conditions may hold. */
+static const gcv_known nothing = {NULL, 0, NULL, 0, NULL, 0, NULL, 0, NULL, 0, NULL, 0, NULL, 1, 0};
+
+/* Files of the system. */
+static void opened_files(void)
+{
+    static const char text[] = "[include]\n\tpath = /no/such/file\n[a]\n\tb = 1\n";
+    char name[] = "/tmp/gcv_XXXXXX";
+    gcv_file file = {NULL, 0, NULL};
+    gcv_settings settings = GCV_NO_SETTINGS;
+    int made = mkstemp(name);
+    const char *names[] = {name};
+    count(made >= 0 && write(made, text, sizeof text - 1) == (ssize_t)(sizeof text - 1), "a file");
+    count(gcv_open_file(NULL, name, &file) == GCV_OK && file.length == sizeof text - 1 && memcmp(file.text, text, file.length) == 0 &&
+              file.real_dir && strcmp(file.real_dir, "/tmp") == 0,
+          "a file is opened");
+    free(file.text);
+    free(file.real_dir);
+    count(gcv_open_file(NULL, "/no/such/file", &file) == GCV_ABSENT, "no file");
+    count(gcv_open_file(NULL, "/", &file) == GCV_REFUSED, "a folder");
+    count(gcv_read_files(&settings, names, 1, &nothing, gcv_open_file, NULL) == GCV_OK && settings.count == 2, "a file is read");
+    gcv_free_settings(&settings);
+    close(made);
+    unlink(name);
 }
 
 /* A walk, what includes may refer to, and where its next step goes, and the walk after that step. */
@@ -713,7 +767,6 @@ static gcv_status enters(walked *of, const char *file, const char *text)
 }
 
 static const gcv_text remotes[] = {{"git@x:y", 7}, {"https://a/b", 11}};
-static const gcv_known nothing = {NULL, 0, NULL, 0, NULL, 0, NULL, 0, NULL, 0, NULL, 0, NULL, 1, 0};
 static const gcv_known all = {"/usr", 4, "/home/u", 7, "/w", 2, "/w/p/.git", 9, "/real/p/.git", 12, "main/x", 6, remotes, 2, 0};
 static const gcv_known kept = {NULL, 0, "/w", 2, NULL, 0, "/w/p/.git", 9, NULL, 0, NULL, 0, remotes, 1, 0};
 static const gcv_known seeking = {NULL, 0, NULL, 0, NULL, 0, NULL, 0, NULL, 0, NULL, 0, NULL, 0, 2};
@@ -793,7 +846,7 @@ static void walks(void)
     walked of = {{0}, &nothing, &step, &after};
     count(ends(&of, GCV_ABSENT, NULL, 0) && gcv_enter(&of.walk, NULL, 0, NULL, 0, NULL, 0) == GCV_OK && ends(&of, GCV_ABSENT, NULL, 0),
           "no file, and an empty one");
-    count(enters(&of, "own", own) == GCV_OK && enters(&of, "user", user) == GCV_OK, "a file before another one");
+    count(enters(&of, "own", OWN) == GCV_OK && enters(&of, "user", USER) == GCV_OK, "a file before another one");
     for (size_t at = 0; at < 8; at++) {
         const gcv_setting *wanted = &listed[at];
         count(steps(&of, at < 4 ? "user" : "own", wanted->line, wanted->key, wanted->value, GCV_NO_INCLUDE, NULL), wanted->key);
@@ -857,19 +910,6 @@ static void overwritten(void)
             count(enters(&of, "main", text) == GCV_TOO_DEEP && is_same(&of.walk, &after), "a walk that was overwritten, entered");
         }
     }
-    for (uint32_t at = 0; at < 7; at++) {
-        gcv_raw_known known = {"", 0, "", 0, "", 0, "", 0, "", 0, "", 0, remotes, 0, 0, 0, 0, 0, 0, 1, 0};
-        uint32_t *const flags[] = {&known.has_install_dir, &known.has_home, &known.has_real_home, &known.has_repository,
-                                   &known.has_branch,      &known.follows,  &known.seeks_urls};
-        gcv_raw_step raw = {"?", 1, UNTOUCHED, UNTOUCHED, UNTOUCHED, UNTOUCHED, UNTOUCHED, GCV_ABSENT};
-        gcv_raw_step before = raw;
-        char buffer[32] = "?";
-        after = made.walk;
-        *flags[at] = at + 2;
-        count(gcv_raw_next(after.frames, 1, &after.count, &known, buffer, sizeof buffer, &raw) == GCV_BAD_FLAG &&
-                  memcmp(&raw, &before, sizeof raw) == 0 && strcmp(buffer, "?") == 0 && is_same(&made.walk, &after),
-              "a bad flag of a walk");
-    }
 }
 
 /* The variables of a command: names and values in turn. */
@@ -918,12 +958,10 @@ static void commands(void)
     };
     for (size_t at = 0; at < sizeof rows / sizeof rows[0]; at++) {
         void *state = (void *)(uintptr_t)rows[at].variables;
-        size_t size = UNTOUCHED, needed = UNTOUCHED, index = 0, found = 0;
-        char text[256] = "?", bytes[256] = "";
-        gcv_place places[4];
-        gcv_settings settings = {bytes, sizeof bytes, 0, places, 4, 0};
-        gcv_setting setting = {NULL, NULL, 0};
-        gcv_file file;
+        size_t size = UNTOUCHED, needed = UNTOUCHED;
+        char text[256] = "?";
+        static const char *const names[] = {"command line"};
+        gcv_settings settings = GCV_NO_SETTINGS;
         int is_read = rows[at].status == GCV_OK;
         gcv_status counts = gcv_command_text(variable, state, NULL, 0, &needed);
         count(counts == (is_read && rows[at].settings > 0 ? GCV_SHORT_BUFFER : rows[at].status), "a command without room");
@@ -939,14 +977,14 @@ static void commands(void)
                       shorter[0] == '?',
                   "a command with one byte too little");
         }
-        count(gcv_add_file(&settings, text, size, &file) == GCV_OK && settings.count == rows[at].settings, "the lines of a command");
-        while (gcv_next_setting(&settings, &index, &setting) == GCV_OK) {
-            found++;
-        }
-        count(found == rows[at].settings &&
-                  (found == 0 || (strcmp(setting.key, rows[at].key) == 0 &&
-                                  (rows[at].value ? setting.value && strcmp(setting.value, rows[at].value) == 0 : !setting.value))),
+        in_memory line = {{{"command line", size > 0 ? text : "", size}}, 0};
+        count(gcv_read_files(&settings, names, 1, NULL, open_in_memory, &line) == GCV_OK && settings.count == rows[at].settings,
+              "the lines of a command");
+        const gcv_setting *last = settings.count > 0 ? &settings.list[settings.count - 1] : NULL;
+        count(!last || (strcmp(last->key, rows[at].key) == 0 &&
+                        (rows[at].value ? last->value && strcmp(last->value, rows[at].value) == 0 : !last->value)),
               "the last setting of a command");
+        gcv_free_settings(&settings);
     }
 }
 
@@ -1128,7 +1166,6 @@ int main(void)
     shown_sets();
     compositions();
     comparisons();
-    lookups();
     contexts();
     fault_texts();
     status_texts();
@@ -1139,6 +1176,9 @@ int main(void)
     fields();
     words();
     files();
+    included_files();
+    many_settings();
+    opened_files();
     includes();
     walks();
     depth();

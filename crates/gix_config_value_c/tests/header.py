@@ -1,9 +1,9 @@
 #!/usr/bin/env python3
 """Checks the header and what it repeats: header.py [PREFIX]. The last line is 'N passed, M failed'.
 
-The header is written by hand, and nothing proves it. So this compares it with the Rattle sources and the definitions:
-the names, order, types and offsets of the fields of each struct, the parameters of each exported call, and the number
-of each constant. The Python module includes the header, and has its own names for the faults and the attributes.
+The header and raw.h are written by hand, and nothing proves them. So this compares them with the Rattle sources and the
+definitions: the names, order, types and offsets of the fields of each struct, the parameters of each exported call, and
+the number of each constant. The Python module includes the header, and has its own names for the faults and the attributes.
 
 crates/gix_config_value_c/VERSION has the version. The header has to have the same, and so have CHANGELOG.md, the
 programs, and the library that was built into PREFIX. The name of the shared library has
@@ -16,7 +16,7 @@ import sys
 
 CRATE = pathlib.Path(__file__).resolve().parent.parent
 ROOT = CRATE.parent.parent
-HEADER, CALLS = CRATE / "include/gix_config_value.h", CRATE / "calls.c"
+HEADER, RAW, CALLS = CRATE / "include/gix_config_value.h", CRATE / "raw.h", CRATE / "calls.c"
 NUMBERS, FAULTS = CRATE / "specs/Numbers.antt", CRATE / "specs/Faults.antt"
 WORDS = ROOT / "crates/config_word"
 MODULE = ROOT / "python/_core.c"
@@ -24,9 +24,9 @@ MODULE = ROOT / "python/_core.c"
 PLACES = [
     (HEADER, r'^#define GCV_VERSION "(.*)"$'),
     (ROOT / "CHANGELOG.md", r"^## \[?([0-9][^\s\]]*)"),
-    *((ROOT / "crates" / name, r'^        \.version\("(.*)"\)$') for name in (
-        "config_check/src/main.rt", "config_value/src/arguments.rt", "config_value/src/edits.rt",
-        "config_value/src/options.rt")),
+    (ROOT / "crates/config_check/src/options.rt", r'^pub\(crate\) const VERSION: &str = "(.*)";$'),
+    *((ROOT / "crates/config_value/src" / name, r'^        \.version\("(.*)"\)$') for name in (
+        "arguments.rt", "edits.rt", "options.rt")),
 ]
 PARTS = [(HEADER, rf"^#define GCV_VERSION_{part} (\d+)$") for part in ("MAJOR", "MINOR", "PATCH")]
 # constants of the header, and where the sources have the same number
@@ -77,7 +77,7 @@ ZEROS = ("GCV_FAULT_NONE", "GCV_NO_SUFFIX", "GCV_NO_COLORS", "GCV_NO_NAME")
 OTHER_NAMES = {"GCV_FAULT_ILL_FORMED_WHOLE": "GCV_FAULT_ILL_FORMED_PATH"}
 # the types of C for those of Rattle, and their sizes
 TYPES = {"i64": "int64_t", "u32": "uint32_t", "u8": "uint8_t", "usize": "size_t"}
-TYPES |= {f"Gcv{it.title()}": f"gcv_{it}" for it in ("integer", "name", "color", "entry", "place", "file", "frame")}
+TYPES |= {f"Gcv{it.title()}": f"gcv_{it}" for it in ("integer", "name", "color", "frame")}
 TYPES |= {f"Gcv{it.title()}": f"gcv_raw_{it}" for it in ("known", "step")}
 # the enums of C are numbers of 32 bits, and a text is of chars
 NUMBERED = re.compile(r"\bgcv_(status|kind|fault|suffix|depth|tag)\b")
@@ -108,7 +108,7 @@ def numbers():
     """Each number of an enum of the header: in the header, and in each sort of file that has it."""
     for first, places in ENUMS.items():
         body = re.search(rf"^typedef GCV_ENUM\(\w+\) \{{\n(    {first} = .*?)^\}}", text_of(HEADER), re.MULTILINE | re.DOTALL)
-        listed = re.findall(r"^    (GCV_\w+) = (\d+)", body[1], re.MULTILINE) if body else BITS.findall(text_of(HEADER))
+        listed = re.findall(r"\b(GCV_\w+) = (\d+)", body[1]) if body else BITS.findall(text_of(HEADER))
         here = {name: int(number, 0) for name, number in listed}
         found = {path.suffix: {} for _, path, *_ in places}
         for beginning, path, pattern, value in places:
@@ -137,7 +137,7 @@ def fields_of(body):
 
 def structs():
     """The fields of each exported struct, in Rattle and in the header, and the offsets that C gives them."""
-    header = re.sub(r"\bchar\b", "uint8_t", text_of(HEADER))
+    header = re.sub(r"\bchar\b", "uint8_t", text_of(HEADER) + text_of(RAW))
     found = re.findall(r"^#\[repr\(C\)\]\n(?:#[^\n]*\n)*pub struct (\w+) \{\n(.*?)^\}$", sources(),
                        re.MULTILINE | re.DOTALL)
     # the structs in a struct come first
@@ -173,18 +173,18 @@ def calls():
     """The result and the parameters of each exported call, in the header and in Rattle."""
     exported = re.findall(r'^pub extern "C" fn (\w+)\((.*?)\)(?: -> (\w+))?$', sources(), re.MULTILINE | re.DOTALL)
     declared = {}
-    for result, name, words in re.findall(r"^(\w+) (gcv_raw_\w+)\((.*?)\);$", text_of(HEADER), re.MULTILINE | re.DOTALL):
+    for result, name, words in re.findall(r"^(\w+) (gcv_raw_\w+)\((.*?)\);$", text_of(RAW), re.MULTILINE | re.DOTALL):
         words = NUMBERED.sub("uint32_t", re.sub(r"\bchar\b", "uint8_t", words))
         declared[name] = result, [re.sub(r"\w+$", "", word.strip()).strip() for word in words.split(",")]
     wanted = {name: ({"u32": "gcv_status", "": "void"}[result], list(parameters(" ".join(words.split()))))
               for name, words, result in exported}
     for name in wanted | declared:
-        yield f"the header, {name}", declared.get(name), wanted.get(name)
+        yield f"raw.h, {name}", declared.get(name), wanted.get(name)
 
 
 def names():
     """Python's codes of the faults, in the order of their numbers, its attributes, and the statuses that have a text."""
-    faults = re.findall(r"^    GCV_FAULT_(\w+) = \d+", text_of(HEADER), re.MULTILINE)
+    faults = re.findall(r"\bGCV_FAULT_(\w+) = \d+", text_of(HEADER))
     listed = re.search(r"^static const char \*const codes\[\] = \{(.*?)\};$", text_of(MODULE), re.MULTILINE | re.DOTALL)
     yield "Python, codes", re.findall(r'"(\w+)"', listed[1]), ["suffix", *map(str.lower, faults[1:])]
     bits = [name.replace("GCV_", "") for name, _ in BITS.findall(text_of(HEADER))]

@@ -1,11 +1,13 @@
-/* Refuses memory to each call that takes some: one request after the other. It is linked with malloc, realloc and free
- * wrapped. */
+/* Refuses memory to each call that takes some: one request after the other. It is linked with malloc, calloc, realloc
+ * and free wrapped. */
 #include "guarded.h"
 
 void *__real_malloc(size_t size);
+void *__real_calloc(size_t count, size_t size);
 void *__real_realloc(void *block, size_t size);
 void __real_free(void *block);
 void *__wrap_malloc(size_t size);
+void *__wrap_calloc(size_t count, size_t size);
 void *__wrap_realloc(void *block, size_t size);
 void __wrap_free(void *block);
 
@@ -18,6 +20,15 @@ void *__wrap_malloc(size_t size)
     }
     blocks++;
     return __real_malloc(size);
+}
+
+void *__wrap_calloc(size_t count, size_t size)
+{
+    if (++requests == refused_at) {
+        return NULL;
+    }
+    blocks++;
+    return __real_calloc(count, size);
 }
 
 void *__wrap_realloc(void *block, size_t size)
@@ -36,38 +47,6 @@ void __wrap_free(void *block)
 }
 
 static area buffer_area;
-
-static gcv_status json_suffix(const void *state, char *buffer, size_t capacity, size_t *size)
-{
-    (void)state;
-    return gcv_json_suffix(GCV_KIBI, buffer, capacity, size);
-}
-
-static gcv_status json_integer(const void *state, char *buffer, size_t capacity, size_t *size)
-{
-    static const gcv_integer integer = {-12, GCV_MEBI};
-    (void)state;
-    return gcv_json_integer(&integer, buffer, capacity, size);
-}
-
-static gcv_status json_boolean(const void *state, char *buffer, size_t capacity, size_t *size)
-{
-    (void)state;
-    return gcv_json_boolean(1, buffer, capacity, size);
-}
-
-static gcv_status json_name(const void *state, char *buffer, size_t capacity, size_t *size)
-{
-    static const gcv_name name = {GCV_RGB, 0, 1, 2, 3};
-    (void)state;
-    return gcv_json_name(&name, buffer, capacity, size);
-}
-
-static gcv_status json_attribute(const void *state, char *buffer, size_t capacity, size_t *size)
-{
-    (void)state;
-    return gcv_json_attribute(GCV_BOLD | GCV_UL, buffer, capacity, size);
-}
 
 static gcv_status interpolate(const void *state, char *buffer, size_t capacity, size_t *size)
 {
@@ -104,21 +83,38 @@ static gcv_status normalize(const void *state, char *buffer, size_t capacity, si
     return gcv_normalize(GCV_INTEGER, "0x10k", 5, buffer, capacity, size);
 }
 
-/* Adds a file that has one key. The text is this key. */
-static gcv_status add_file(const void *state, char *buffer, size_t capacity, size_t *size)
+/* Opens a file with one key, which includes another that is not there. */
+static gcv_status open_text(void *state, const char *name, gcv_file *out)
 {
-    char bytes[] = "?.?";
-    gcv_place places[1];
-    gcv_settings settings = {bytes, sizeof bytes, 0, places, 1, 0};
-    gcv_file file = {UNTOUCHED, UNTOUCHED, UNTOUCHED};
+    static const char text[] = "[a]\nb\n[include]path=x";
     (void)state;
-    gcv_status status = gcv_add_file(&settings, "[a]\nb", 5, &file);
-    if (status != GCV_OK) {
-        return file.size == UNTOUCHED && settings.count == 0 && strcmp(bytes, "?.?") == 0 ? status : UNTOUCHED;
+    if (strcmp(name, "file") != 0) {
+        return GCV_ABSENT;
     }
-    *size = file.size - 1;
-    memcpy(buffer, bytes, capacity);
-    return status;
+    out->text = malloc(sizeof text);
+    if (!out->text) {
+        return GCV_NO_MEMORY;
+    }
+    memcpy(out->text, text, sizeof text);
+    out->length = sizeof text - 1;
+    return GCV_OK;
+}
+
+/* Reads this file. The text is its first key. */
+static gcv_status read_files(const void *state, char *buffer, size_t capacity, size_t *size)
+{
+    static const char *const names[] = {"file"};
+    static const gcv_known known = {NULL, 0, NULL, 0, NULL, 0, NULL, 0, NULL, 0, NULL, 0, NULL, 0, 0};
+    gcv_settings settings = GCV_NO_SETTINGS;
+    (void)state;
+    gcv_status status = gcv_read_files(&settings, names, 1, &known, open_text, NULL);
+    if (status == GCV_OK) {
+        *size = strlen(settings.list[0].key);
+        memcpy(buffer, settings.list[0].key, capacity);
+    }
+    int is_right = settings.count == (status == GCV_OK ? 2 : 0);
+    gcv_free_settings(&settings);
+    return is_right ? status : UNTOUCHED;
 }
 
 /* Takes the first step of a walk, at an entry that includes a file. */
@@ -199,16 +195,11 @@ int main(void)
 {
     buffer_area = new_area(4096);
     blocks = 0;
-    ASKS(json_suffix, "\"k\"", 2);
-    ASKS(json_integer, "-12582912", 1);
-    ASKS(json_boolean, "true", 1);
-    ASKS(json_name, "\"#010203\"", 2);
-    ASKS(json_attribute, "\"bold ul\"", 2);
     ASKS(interpolate, "/home/u/file", 0);
     ASKS(interpolate_with, "/home/u/file", 1);
     ASKS(read_and_show, "red bold", 0);
     ASKS(normalize, "16k", 0);
-    ASKS(add_file, "a.b", 3);
+    ASKS(read_files, "a.b", 11);
     ASKS(command, "[a]b=c\n", 10);
     ASKS(set, "[a]\n\tb = 2\n", 1);
     ASKS(replace_all, "[a]\n\tb = 3\n", 1);

@@ -333,7 +333,7 @@ fn is_told(calls: &Calls, outcome: Result<bool, HostError>) -> bool {
         Err(HostError::System(error)) => {
             calls.has_failed() && matches!(error.kind(), ErrorKind::OutOfMemory)
         }
-        Err(HostError::Variable(_)) => false,
+        Err(_) => false,
     }
 }
 

@@ -3,6 +3,7 @@ use Rattle.std.specs.Prelude.{◌≡◌, ◌≢◌, ⊤, ℕ, ◌+◌, ◌^◌, 
 use Rattle.std.specs.Prelude.{Bool, true, false}
 use Rattle.config_file.specs.declared.errors.Error as errors
 use Rattle.config_checks.specs.declared.options.Options.{Options}
+use Rattle.config_checks.specs.declared.code.Code.TheVariants as kind
 use Rattle.config_checks.specs.declared.row.Row.{Row}
 use Rattle.config_checks.specs.declared.setting.Setting.{Setting}
 use Rattle.config_checks.specs.declared.check.Counts.{Counts}
@@ -56,23 +57,26 @@ IsSaidAs rows key (Some text) meant =
 abbrev pub IsSaid : List Row → Said → Type 0
 IsSaid rows said = IsSaidAs rows said.key.items (option_map (λ t. t.items) said.reason) (option_map (λ t. t.items) said.meant)
 
--- the finding about a setting whose key is reported with these texts
-abbrev pub findings_as : Setting → Option (List ℕ) → Option (List ℕ) → List Finding
-findings_as setting None meant = []
-findings_as setting (Some text) meant = record {
+-- the finding about a setting, which this many entries precede, whose key is reported with these texts
+abbrev pub findings_as : (before : ℕ) → Setting → Option (List ℕ) → Option (List ℕ) → List Finding
+findings_as before setting None meant = []
+findings_as before setting (Some text) meant = record {
   file = setting.file.now;
   line = setting.line;
+  entry = Some before;
+  code = kind.UnknownKey;
   severity = Warning;
   key = Some setting.key.items;
   row = None;
   value = None;
   reason = text;
   fault = None;
-  suggestion = meant;
+  suggested_key = meant;
+  suggested_value = None;
 } ∷ []
 
-abbrev pub said_findings : Setting → Said → List Finding
-said_findings setting said = findings_as setting (option_map (λ t. t.items) said.reason) (option_map (λ t. t.items) said.meant)
+abbrev pub said_findings : (before : ℕ) → Setting → Said → List Finding
+said_findings before setting said = findings_as before setting (option_map (λ t. t.items) said.reason) (option_map (λ t. t.items) said.meant)
 
 abbrev pub is_some : Option (List ℕ) → Bool
 is_some None = false

@@ -1,8 +1,11 @@
-//! What `clone` returns for the types of a check.
-ghost use Rattle.config_text.specs.Orders.{IsCopied};
+//! What `clone` returns for the types of a check, and `==` for codes.
+ghost use Rattle.std.specs.Prelude.{◌≡◌};
+ghost use Rattle.config_text.specs.Orders.{Equates, IsCopied};
 
 use crate::check::Counts;
+use crate::code::Code;
 use crate::finding::Finding;
+use crate::fix::Fix;
 use crate::kind::Form;
 use crate::options::Options;
 use crate::outcome::Outcome;
@@ -22,6 +25,12 @@ pub fn rows()
     ensures bad_rows { IsCopied ⟦<BadRow as Clone>⟧.is_clone ⟦<BadRow as Clone>⟧.is_infallible }
 {}
 
+/// Codes are equal exactly if they are the same.
+pub fn codes()
+    ensures equality { Equates (◌≡◌) ⟦<Code as PartialEq>⟧.eq }
+    ensures clones { IsCopied ⟦<Code as Clone>⟧.is_clone ⟦<Code as Clone>⟧.is_infallible }
+{}
+
 /// A clone of a finding or of a part of it is the same, and never fails.
 pub fn findings()
     ensures severities { IsCopied ⟦<Severity as Clone>⟧.is_clone ⟦<Severity as Clone>⟧.is_infallible }
@@ -31,6 +40,7 @@ pub fn findings()
         ⟦<UnknownKey<'static> as Clone>⟧.is_infallible }
     ensures findings { IsCopied ⟦<Finding<'static> as Clone>⟧.is_clone
         ⟦<Finding<'static> as Clone>⟧.is_infallible }
+    ensures fixes { IsCopied ⟦<Fix<'static> as Clone>⟧.is_clone ⟦<Fix<'static> as Clone>⟧.is_infallible }
 {}
 
 /// A clone of the options or the counts of a check is the same, and never fails.

@@ -1,12 +1,15 @@
 -- Pieces of a text, each of which holds the same wherever it stands.
 use Rattle.std.specs.Prelude.{◌≡◌, ◌≢◌, ℕ, ◌+◌, Bool, true, false, List, [], ◌∷◌, ◌++◌, Option, Some, None}
-use Rattle.std.specs.Prelude.{map, ◌⊎◌, ◌↔◌, ⊤, IsTrue, MatchOption}
+use Rattle.std.specs.Prelude.{map, ◌⊎◌, ◌↔◌, ⊤, IsTrue, MatchOption, ◌≤◌, length, option_copied}
 use Rattle.std.specs.List.{AllZip}
 use Rattle.std.specs.Char.{is_ascii_alphabetic}
 use Rattle.config_file.specs.declared.entry.Parts.{Parts}
-use Rattle.config_file.specs.declared.edit.change.Found.{Found}
-use Rattle.config_file.specs.declared.edit.change.Place.{Place}
-use Rattle.config_file.specs.declared.edit.change.Places.{Places}
+use Rattle.config_file.specs.declared.edit.Change.{Change}
+use Rattle.config_file.specs.declared.edit.setting.Found.{Found}
+use Rattle.config_file.specs.declared.edit.setting.Place.{Place}
+use Rattle.config_file.specs.declared.edit.setting.Places.{Places}
+use Rattle.config_file.specs.declared.edit.setting.Replacement.{Replacement}
+use Rattle.config_file.specs.declared.edit.setting.Replacement.TheVariants as replacement
 use Rattle.config_file.specs.declared.edit.removal.Count.{Count}
 use Rattle.config_file.specs.declared.edit.removal.Count.TheVariants as count
 use Rattle.config_file.specs.declared.edit.removal.Group.{Group}
@@ -23,16 +26,17 @@ use Rattle.config_file.specs.Header.{Section, Header}
 use Rattle.config_file.specs.File.{Entry, entry_at, TakesEntry, Reads, IsFile, after_mark}
 use Rattle.config_file.specs.declared.edit.EditError.{EditError}
 use Rattle.config_file.specs.declared.edit.EditError.TheVariants as error
-use Rattle.config_file.specs.Key.{Key, IsKey, RefusesKey}
+use Rattle.config_file.specs.Key.{Key, IsKey, RefusesKey, is_name}
 use Rattle.config_file.specs.Spelling.{Names, HasNoHeader}
 use Rattle.config_file.specs.Value.{outside, SpellsValue, line_feeds}
-use Rattle.config_file.specs.Edit.{Content, content, WithoutIn, LosesSection, LosesOne, IsHeaderOf}
+use Rattle.config_file.specs.Edit.{Content, content, WithoutIn, LosesSection, LosesOne, IsHeaderOf, IsBody}
 use Rattle.config_file.specs.Edit.{IsLostTail, MayUnset, AreBlank, IsTail, IsEntry, IsEnd}
 use Rattle.config_file.specs.Edit.{LosesEntry, MayReplace, IsIn, IsOf, HasValue, Renames, Without, HasNone}
 use Rattle.config_file.specs.Edit.{HasSeveral, Replaces, Changes, ChangesOne, ChangesValue, ChangesBytes}
 use Rattle.config_file.specs.Edit.{RenamesHeader, SameEntry, NoneIn, IsLineEnd, Adds, PutsLine, entry_line}
 use Rattle.config_file.specs.Listing.{IsListedSection}
-use Rattle.config_file.specs.Reading.Spellings.{git_spelled}
+use Rattle.config_file.specs.Edit.{ChangesEach, ChangesEntry, MayChange, AreInOrder}
+use Rattle.config_file.specs.Reading.Spellings.{git_spelled, is_spellable}
 use Rattle.config_file.specs.Views.{section_of, value_of}
 
 -- read in this section and from this line on, the text has these entries, and then the reading is in this next
@@ -264,6 +268,14 @@ pub record IsReplaced (key : Key) (value text : List ℕ) (contents : List Conte
   pub single : several ≡ false → HasNone key replaces.before × ChangesBytes replaces.x.2 value text new
   pub many : several ≡ true → HasSeveral key contents
 
+-- what becomes of a text in which a key gets a value
+abbrev pub IsReplacement : Key → List ℕ → List ℕ → Replacement → Type 0
+IsReplacement key value text replacement.Unread = (contents : List Content) → ¬ (Ends None text contents)
+IsReplacement key value text replacement.Nothing =
+    (contents : List Content) × Ends None text contents × HasNone key contents
+IsReplacement key value text (replacement.Done r) =
+    (contents : List Content) × Ends None text contents × IsReplaced key value text contents r.text.items r.several
+
 -- what is left of an entry that is taken out, if one is
 abbrev pub IsLeft : Option Found → List ℕ → Type 0
 IsLeft None left = left ≡ []
@@ -452,6 +464,7 @@ pub record IsLost (key : Key) (text rest new : List ℕ) (lost : Lost) : Type 0 
   pub new_is : Holds None new now base
   pub cut : lost.comments.now ≡ comments ++ rest
   pub are_comments : (any : Option Section) → Passed any comments [] any rest
+  pub is_body : IsBody comments
   pub is_end : IsEnd lost.line_end.now
   pub loses : LosesSection key gone []
   pub without : WithoutIn key old now
@@ -479,3 +492,73 @@ pub record IsBefore (key : Key) (text rest new : List ℕ) (is_found : Bool) : T
   pub without : WithoutIn key old now
   pub changes : Changes (LosesSection key) front new
   pub untouched : is_found ≡ false → now ≡ old
+
+-- a change that can be written: the new last part is one of a key, and the new value has a spelling
+abbrev pub IsWritableName : Option (List ℕ) → Type 0
+IsWritableName None = ⊤
+IsWritableName (Some name) = is_name name ≡ true
+
+abbrev pub IsWritableValue : Option (List ℕ) → Type 0
+IsWritableValue None = ⊤
+IsWritableValue (Some value) = is_spellable value ≡ true
+
+abbrev pub IsWritable : Change → Type 0
+IsWritable change = IsWritableName (option_copied change.name) × IsWritableValue (option_copied change.value)
+
+abbrev pub AreWritable : List Change → Type 0
+AreWritable [] = ⊤
+AreWritable (change ∷ changes) = IsWritable change × AreWritable changes
+
+-- the first of the changes is of another entry
+abbrev pub AreLater : List Change → ℕ → Type 0
+AreLater [] index = ⊤
+AreLater (change ∷ changes) index = change.entry ≢ index
+
+-- in the place of the piece of an entry, these bytes are an entry of the same key with this value, or with the old one
+pub record IsValued (value : Option (List ℕ)) (parts : Parts) (piece : Piece) (put : List ℕ) : Type 0 where
+  pub raw : Option (List ℕ)
+  pub lines : ℕ
+  pub at : List ℕ
+  pub value_is : MatchOption value (raw ≡ value_of parts.value) (HasValue raw)
+  pub entry : IsEntry parts.key.now raw lines at piece.blanks.now put piece.rest.now piece.is_line
+  pub bytes : MatchOption value (put ≡ piece.bytes.now) (λ new. ChangesBytes (value_of parts.value) new piece.bytes.now put)
+
+-- the last part of a key after a change
+abbrev pub name_after : Option (List ℕ) → List ℕ → List ℕ
+name_after None key = key
+name_after (Some name) key = name
+
+-- in the place of the piece of an entry, these bytes are the entry after the change
+pub record IsChangedIn (change : Change) (parts : Parts) (piece : Piece) (put : List ℕ) : Type 0 where
+  pub raw : Option (List ℕ)
+  pub lines : ℕ
+  pub at : List ℕ
+  pub value_is : MatchOption (option_copied change.value) (raw ≡ value_of parts.value) (HasValue raw)
+  pub entry : IsEntry (name_after (option_copied change.name) parts.key.now) raw lines at
+      piece.blanks.now put piece.rest.now piece.is_line
+  pub bytes : ChangesEntry change piece.bytes.now put
+
+-- what precedes this rest of a text has become this new text: the changes that are not left are made
+pub record Changing (changes : List Change) (text rest : List ℕ) (left : List Change) (new : List ℕ) (index : ℕ) : Type 0 where
+  pub front : List ℕ
+  pub done : List Change
+  pub old : List Content
+  pub now : List Content
+  pub section : Option Section
+  pub joined : text ≡ front ++ rest
+  pub passed : Passed None front old section rest
+  pub passed_now : Passed None new now section rest
+  pub split : changes ≡ done ++ left
+  pub each : ChangesEach done old now
+  pub index_is : index ≡ length old
+  pub bytes : Changes (MayChange changes) front new
+  pub ordered : (count : ℕ) → AreInOrder 0 changes count → AreInOrder index left count
+  pub writable : AreWritable left
+  pub room : index + length rest ≤ length text
+
+-- the changes are made in the new text
+pub record IsEachChanged (changes : List Change) (text : List ℕ) (contents : List Content) (new : List ℕ) : Type 0 where
+  pub now : List Content
+  pub ends : Ends None new now
+  pub each : ChangesEach changes contents now
+  pub bytes : Changes (MayChange changes) text new

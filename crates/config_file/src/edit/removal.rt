@@ -4,8 +4,8 @@ ghost use Rattle.config_file.specs.Edit.{Content, IsEnd};
 ghost use Rattle.config_file.specs.KeyView.{key_of};
 ghost use Rattle.config_file.specs.Reading.Edits.{Ends, IsFinished, IsPushed, IsTaken, is_blank_held, one_more};
 
-use crate::edit::change::is_of;
 use crate::edit::piece::{Held, Piece, last_line_end, next_piece};
+use crate::edit::setting::is_of;
 use crate::key::Key;
 use crate::section::Section;
 use std::alloc::{AllocError, Global};

@@ -3,6 +3,7 @@ ghost use Rattle.std.specs.Prelude.{◌≡◌};
 ghost use Rattle.config_text.specs.Orders.{Equates, IsCopied};
 ghost use Rattle.config_file.specs.Include.{IsSameCondition};
 
+use crate::edit::Change;
 use crate::entry::Entry;
 use crate::errors::{Error, Fault};
 use crate::files::Content;
@@ -60,6 +61,11 @@ pub fn entries()
     ensures subsections { IsCopied ⟦<Subsection<'static> as Clone>⟧.is_clone
         ⟦<Subsection<'static> as Clone>⟧.is_infallible }
     ensures values { IsCopied ⟦<Value<'static> as Clone>⟧.is_clone ⟦<Value<'static> as Clone>⟧.is_infallible }
+{}
+
+/// A clone of a change of an entry is the same, and never fails.
+pub fn changes()
+    ensures { IsCopied ⟦<Change<'static> as Clone>⟧.is_clone ⟦<Change<'static> as Clone>⟧.is_infallible }
 {}
 
 /// A clone of what a walk knows or finds is the same, and never fails.

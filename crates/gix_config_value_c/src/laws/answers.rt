@@ -1,12 +1,9 @@
 //! Laws about what the calls return and write: from the same input a call has one answer.
 //!
 //! An answer is the status and whatever the call writes over the same old contents. Two answers from the same
-//! input are the same. Of these calls, those of JSON and of files take memory. Two of their answers
-//! are the same if memory was refused to both or to neither.
+//! input are the same.
 ghost use Rattle.std.specs.Prelude.{◌≡◌, ℕ, List, Some};
-ghost use Rattle.serde_json.specs.Data.{Data, string, boolean as truth};
 ghost use Rattle.config_text.specs.declared.errors.Fault.TheVariants as faults;
-ghost use Rattle.config_boolean.specs.declared.boolean.Boolean as boolean;
 ghost use Rattle.gix_config_value.specs.Refusals.{OnlyFault};
 ghost use Rattle.gix_config_value.specs.Suffix.{SuffixText, suffix_shown};
 ghost use Rattle.gix_config_value.specs.Integer.{IntegerText, integer_shown};
@@ -17,22 +14,16 @@ ghost use Rattle.gix_config_value.specs.Attribute.{AttributeText};
 ghost use Rattle.config_color.specs.Escape.{escape_sequence};
 ghost use Rattle.gix_config_value.specs.Color.{ColorText, color_shown};
 ghost use Rattle.gix_config_value_c.specs.declared.status.Status.TheVariants as statuses;
-ghost use Rattle.gix_config_value_c.specs.declared.files.GcvFile.{GcvFile};
-ghost use Rattle.gix_config_value_c.specs.declared.files.GcvPlace.{GcvPlace};
 ghost use Rattle.gix_config_value_c.specs.declared.structs.GcvInteger.{GcvInteger};
 ghost use Rattle.gix_config_value_c.specs.declared.structs.GcvName.{GcvName};
 ghost use Rattle.gix_config_value_c.specs.declared.structs.GcvColor.{GcvColor};
-ghost use Rattle.gix_config_value_c.specs.Answers.{HasOneResult, HasOneAnswer, HasOneAnswerByMemory};
-ghost use Rattle.gix_config_value_c.specs.Answers.{HasOneResultByMemory};
+ghost use Rattle.gix_config_value_c.specs.Answers.{HasOneResult, HasOneAnswer};
 ghost use Rattle.gix_config_value_c.specs.Buffers.{PutsText};
 ghost use Rattle.gix_config_value_c.specs.Colors.{ComposesInto, LaysOver, ReducesInto};
 ghost use Rattle.gix_config_value_c.specs.Faults.{TellsFault};
-ghost use Rattle.gix_config_value_c.specs.Files.{ReadsFile};
-ghost use Rattle.gix_config_value_c.specs.Json.{PutsJson, WritesJson, WritesProduct};
 ghost use Rattle.gix_config_value_c.specs.Numbers.{suffix_number, flag_number};
 ghost use Rattle.gix_config_value_c.specs.Paths.{CutsMark, InterpolatesInto};
 ghost use Rattle.gix_config_value_c.specs.Readers.{ReadsInto, Faults, NoFault};
-ghost use Rattle.gix_config_value_c.specs.Settings.{LooksUpInto};
 ghost use Rattle.gix_config_value_c.specs.Structs.{integer_struct, name_struct, color_struct};
 ghost use Rattle.gix_config_value_c.specs.Terminals.{TellsDepth};
 ghost use Rattle.gix_config_value_c.specs.Texts.{NormalizesInto, ComparesInto};
@@ -75,20 +66,9 @@ pub fn shown()
         → HasOneAnswer (Shows color_struct escape_sequence statuses.BadName c) }
 {}
 
-/// Each value has one JSON text, unless memory is refused to one of two calls only.
-pub fn json()
-    ensures data { (json : Data) → HasOneAnswerByMemory (PutsJson json) }
-    ensures suffixes { (n : ℕ) → HasOneAnswerByMemory (WritesJson (λ s. suffix_number (Some s))
-        (λ s. string (suffix_shown s)) statuses.BadSuffix n) }
-    ensures products { (c : GcvInteger) → HasOneAnswerByMemory (WritesProduct c) }
-    ensures booleans { (n : ℕ) → HasOneAnswerByMemory (WritesJson {V = boolean.Boolean}
-        (λ v. flag_number v.0) (λ v. truth v.0) statuses.BadFlag n) }
-    ensures names { (c : GcvName) → HasOneAnswerByMemory
-        (WritesJson name_struct (λ n. string (name_shown n)) statuses.BadName c) }
-{}
-
 /// Each of these calls has one answer: normal forms, comparisons, two colors as one, reduced colors, depths,
-/// lookups, products, the texts of faults, and paths. The answer to a path includes the buffer and the number of a fault.
+/// products, the texts of faults, and paths. The answer to a path includes the buffer and the number of a
+/// fault.
 pub fn calls()
     ensures normalizes { (number : ℕ) (t : List ℕ) → HasOneAnswer (NormalizesInto number t) }
     ensures compares { (number : ℕ) (a b : List ℕ) → HasOneResult (ComparesInto number a b) }
@@ -97,8 +77,6 @@ pub fn calls()
     ensures reduces { (c : GcvColor) (depth : ℕ) → HasOneResult (ReducesInto c depth) }
     ensures depths { (is_terminal : ℕ) (no_color term colorterm : ℕ × List ℕ)
         → HasOneResult (TellsDepth is_terminal no_color term colorterm) }
-    ensures looks_up { (number : ℕ) (bytes lengths name : List ℕ)
-        → HasOneResult (LooksUpInto number bytes lengths name) }
     ensures multiplies { (c : GcvInteger) → HasOneResult (Multiplies c) }
     ensures faults { (number : ℕ) → HasOneAnswer (TellsFault number) }
     ensures interpolates { (t : List ℕ) (install_dir home passwd : ℕ × List ℕ) → HasOneAnswer
@@ -115,11 +93,4 @@ pub fn calls()
 pub fn marks()
     ensures { (text : List ℕ) (optional other start index : ℕ) → CutsMark text optional start
         → CutsMark text other index → (optional ≡ other) × (start ≡ index) }
-{}
-
-/// A text has one answer as a file: the same keys, values and places, or the refusal of the same line.
-pub fn files()
-    ensures { (text : List ℕ) → HasOneResultByMemory
-        (λ (out out' : List ℕ × List GcvPlace × GcvFile) status.
-        ReadsFile text out.0 out'.0 out.1 out'.1 out.2 out'.2 status) }
 {}

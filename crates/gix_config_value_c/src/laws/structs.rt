@@ -4,8 +4,6 @@ ghost use Rattle.config_text.specs.Orders.{Equates, IsCopied};
 ghost use Rattle.gix_config_value_c.specs.Answers.{TellsApart};
 ghost use Rattle.gix_config_value_c.specs.Structs.{integer_struct, name_struct, part_struct, color_struct};
 
-use crate::files::{GcvFile, GcvPlace};
-use crate::settings::GcvEntry;
 use crate::status::Status;
 use crate::structs::{GcvColor, GcvInteger, GcvName};
 
@@ -35,10 +33,7 @@ pub fn colors()
     ensures clones { IsCopied ⟦<GcvColor as Clone>⟧.is_clone ⟦<GcvColor as Clone>⟧.is_infallible }
 {}
 
-/// A clone of a status, of an entry or of what is told of a file is the same, and never fails.
-pub fn answers()
-    ensures statuses { IsCopied ⟦<Status as Clone>⟧.is_clone ⟦<Status as Clone>⟧.is_infallible }
-    ensures entries { IsCopied ⟦<GcvEntry as Clone>⟧.is_clone ⟦<GcvEntry as Clone>⟧.is_infallible }
-    ensures places { IsCopied ⟦<GcvPlace as Clone>⟧.is_clone ⟦<GcvPlace as Clone>⟧.is_infallible }
-    ensures files { IsCopied ⟦<GcvFile as Clone>⟧.is_clone ⟦<GcvFile as Clone>⟧.is_infallible }
+/// A clone of a status is the same, and never fails.
+pub fn statuses()
+    ensures { IsCopied ⟦<Status as Clone>⟧.is_clone ⟦<Status as Clone>⟧.is_infallible }
 {}

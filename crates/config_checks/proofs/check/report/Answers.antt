@@ -19,12 +19,12 @@ returns-in_default-clause-ok g c =
     let reported = c.in_ok-give_said.ensures.reported in
     elim c.if-branch.branch [
       | then-branch w ↦ rw w.counts-is (rw w.with-counts.ensures (
-        said_findings setting c.in-Ok.said,
+        said_findings s.entries setting c.in-Ok.said,
         said_something rows c.args.options.now setting s text meant said (sym reported ∙ w.if-branch.true),
         c.in_ok-give_said.ensures.ok,
       ))
       | else-branch w ↦ rw w.counts-is (
-        said_findings setting c.in-Ok.said,
+        said_findings s.entries setting c.in-Ok.said,
         said_nothing rows c.args.options.now setting s text meant is said (sym reported ∙ w.if-branch.false),
         c.in_ok-give_said.ensures.ok,
       )
@@ -36,7 +36,7 @@ returns-in_ok-give_reason-in-Ok-Some-clause-ok g c =
     let reason = c.in-Ok-Some.reason in
     let s = c.args.progress.counts in
     let bad = rw c.in-Ok-Some.field-0-is at c.in-Ok-Some.ensures in (
-      reason_finding c.args.setting.now row reason ∷ [],
+      reason_finding s.entries c.args.setting.now row reason ∷ [],
       found row reason (subst (λ k. Decides (rows_of c.args.runs.now) k row) c.deref.ensures.value c.in-Some.ensures)
           (subst (λ v. HasFinding c.args.options.now.git c.args.options.now.canonical row v (Some reason)) c.value_of-value.ensures bad)
           refl

@@ -8,6 +8,6 @@ use Rattle.config_checks.proofs.json_line.json_text.Goals as goal
 
 pub returns-clause-one_line : goal.returns-clause-one_line
 returns-clause-one_line c =
-    let text : IfOk c.to_vec.result (λ t. t.items ≡ compact_text (finding_json c.args.column (finding_of c.args.finding.now))) = search rules in
+    let text : IfOk c.to_vec.result (λ t. t.items ≡ compact_text (finding_json c.args.column c.args.equal (finding_of c.args.finding.now))) = search rules in
     IfOk-weaker c.to_vec.result _ _
-    (λ t is. subst IsOneLine (sym is) (finding_one_line c.args.column (finding_of c.args.finding.now))) text
+    (λ t is. subst IsOneLine (sym is) (finding_one_line c.args.column c.args.equal (finding_of c.args.finding.now))) text

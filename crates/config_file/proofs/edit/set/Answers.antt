@@ -1,63 +1,55 @@
-use Rattle.std.proofs.Common.{sym, subst, MatchOption, map, inl, inr}
+use Rattle.std.proofs.Common.{sym, subst, inl, inr}
 use Rattle.config_file.specs.KeyView.{key_of}
-use Rattle.config_file.specs.Edit.{content, HasNone, ChangesKey, AddsKey}
-use Rattle.config_file.specs.Reading.Edits.{IsReplaced}
-use Rattle.config_file.proofs.Edits.{body_ends}
-use Rattle.config_file.proofs.EditedKeys.{contents_of, changed_key, added_key}
+use Rattle.config_file.specs.Edit.{ChangesKey, AddsKey}
+use Rattle.config_file.specs.Reading.Edits.{IsReplacement}
+use Rattle.config_file.proofs.Edits.{text_of, no_file}
+use Rattle.config_file.proofs.EditedKeys.{changed_key, added_key}
 use Rattle.config_file.proofs.edit.set.Goals as goal
 
 pub returns-then-replaced : goal.returns-then-replaced
 returns-then-replaced c =
     let key = key_of c.in_ok-key.key in
-    let (entries, is_file) = c.in_ok-check_file.ensures in
-    let contents = map content entries in
-    let body = c.split_mark.result.1.now in
-    let found = c.in_ok-replaced.ensures contents (body_ends is_file c.split_mark.ensures) in
-    let r : IsReplaced key c.args.value.now body contents c.in-Some.replaced.text.items c.in-Some.replaced.several =
-    subst (λ f. MatchOption f (HasNone key contents)
-    (λ r. IsReplaced key c.args.value.now body contents r.text.items r.several)) c.in-Some.is found in
-    (key, c.in_ok-key.ensures.0, contents, contents_of is_file, r.many c.if-replaced.true)
+    let split = c.split_mark.ensures in
+    let (contents, ends, r) =
+    subst (IsReplacement key c.args.value.now c.split_mark.result.1.now) c.in-Done.is c.in_ok-replaced.ensures in
+    (key, c.in_ok-key.ensures.0, contents, text_of split ends, r.many c.if-replaced.true)
 
-pub returns-in_ok-marked-in-Some : goal.returns-in_ok-marked-in-Some
-returns-in_ok-marked-in-Some c =
+pub returns-in_ok-marked-in-Done : goal.returns-in_ok-marked-in-Done
+returns-in_ok-marked-in-Done c =
     let key = key_of c.in_ok-key.key in
-    let (entries, is_file) = c.in_ok-check_file.ensures in
-    let contents = map content entries in
-    let body = c.split_mark.result.1.now in
     let value = c.args.value.now in
-    let found = c.in_ok-replaced.ensures contents (body_ends is_file c.split_mark.ensures) in
-    let r : IsReplaced key value body contents c.in-Some.replaced.text.items c.in-Some.replaced.several =
-    subst (λ f. MatchOption f (HasNone key contents)
-    (λ r. IsReplaced key value body contents r.text.items r.several)) c.in-Some.is found in
-    let whole = changed_key c.in-Some.replaced.several c.split_mark.ensures r c.if-replaced.false in (
+    let split = c.split_mark.ensures in
+    let (contents, ends, r) =
+    subst (IsReplacement key value c.split_mark.result.1.now) c.in-Done.is c.in_ok-replaced.ensures in
+    let whole = changed_key c.in-Done.replaced.several split r c.if-replaced.false in (
       key,
       c.in_ok-key.ensures.0,
       contents,
-      contents_of is_file,
+      text_of split ends,
       inl (subst (λ n. ChangesKey key value c.args.text.now contents n)
-          (sym c.in_ok-marked-in-Some.ensures) whole),
+          (sym c.in_ok-marked-in-Done.ensures) whole),
     )
 
-pub returns-in_ok-marked-in-None : goal.returns-in_ok-marked-in-None
-returns-in_ok-marked-in-None c =
+pub returns-in_ok-marked-in-Nothing : goal.returns-in_ok-marked-in-Nothing
+returns-in_ok-marked-in-Nothing c =
     let key = key_of c.in_ok-key.key in
-    let (entries, is_file) = c.in_ok-check_file.ensures in
-    let contents = map content entries in
-    let body = c.split_mark.result.1.now in
     let value = c.args.value.now in
-    let ends = body_ends is_file c.split_mark.ensures in
-    let none : HasNone key contents =
-    subst (λ f. MatchOption f (HasNone key contents)
-    (λ r. IsReplaced key value body contents r.text.items r.several)) c.in-None.is
-    (c.in_ok-replaced.ensures contents ends) in
-    let whole = added_key c.split_mark.ensures (c.in_ok-added-in-None.ensures contents ends) in (
+    let split = c.split_mark.ensures in
+    let (contents, ends, nothing) =
+    subst (IsReplacement key value c.split_mark.result.1.now) c.in-Nothing.is c.in_ok-replaced.ensures in
+    let whole = added_key split (c.in_ok-added-in-Nothing.ensures contents ends) in (
       key,
       c.in_ok-key.ensures.0,
       contents,
-      contents_of is_file,
+      text_of split ends,
       inr (
-        none,
+        nothing,
         subst (λ n. AddsKey key value c.args.text.now contents n)
-            (sym c.in_ok-marked-in-None.ensures) whole,
+            (sym c.in_ok-marked-in-Nothing.ensures) whole,
       ),
     )
+
+pub fault_of-requires : goal.fault_of-requires
+fault_of-requires c =
+    no_file c.split_mark.ensures
+    (subst (IsReplacement (key_of c.in_ok-key.key) c.args.value.now c.split_mark.result.1.now) c.in-Unread.is c.in_ok-replaced.ensures)

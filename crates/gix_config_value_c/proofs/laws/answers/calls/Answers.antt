@@ -2,7 +2,6 @@ use Rattle.gix_config_value_c.proofs.OneAnswer.{multiplies_once, tells_once}
 use Rattle.gix_config_value_c.proofs.OneColor.{lays_once, reduces_once, tells_depth_once}
 use Rattle.gix_config_value_c.proofs.OneComposition.{composes_once}
 use Rattle.gix_config_value_c.proofs.OneText.{normalizes_once, compares_once}
-use Rattle.gix_config_value_c.proofs.OneEntry.{looks_up_once}
 use Rattle.gix_config_value_c.proofs.OnePath.{interpolates_once}
 use Rattle.gix_config_value_c.proofs.laws.answers.calls.Goals as goal
 
@@ -23,9 +22,6 @@ returns-clause-reduces c = reduces_once c.one_reduction.ensures.color
 
 pub returns-clause-depths : goal.returns-clause-depths
 returns-clause-depths c = tells_depth_once c.one_depth.ensures
-
-pub returns-clause-looks_up : goal.returns-clause-looks_up
-returns-clause-looks_up c = looks_up_once
 
 pub returns-clause-multiplies : goal.returns-clause-multiplies
 returns-clause-multiplies c = multiplies_once

@@ -1,0 +1,582 @@
+//! A run over files, each of which is checked once, and over the files that they include.
+
+use crate::baseline::fingerprints;
+use crate::changes::{Mender, change_file, changed, is_readable};
+use crate::diff::diff_of;
+use crate::failure::{Failure, failed, tell, written};
+use crate::options::{Asked, Format, Output};
+use crate::report::{Lines, Report};
+use crate::sarif;
+use crate::source::Source;
+use bstr::BStr;
+use bumpalo::Bump;
+use config_checks::check::{Counts, Receiver, check_file};
+use config_checks::code::Code;
+use config_checks::finding::Finding;
+use config_checks::fix::Judge;
+use config_checks::outcome::Outcome;
+use config_checks::reason::Severity;
+use config_checks::row::Row;
+use config_checks::setting::Setting;
+use config_file::key::Key;
+use config_file::{Condition, Content, Entry, Files, Include, Place, Step, Walk};
+use config_host::surroundings::Followed;
+use config_host::{Disk, Surroundings, files_here};
+use std::alloc::{AllocError, Global};
+use std::collections::BTreeSet;
+use std::fmt;
+use std::io::{BufWriter, IsTerminal, Write};
+
+/// What is wrong with an include.
+#[derive(Clone, Copy)]
+struct Wrong<'w> {
+    code: Code,
+    severity: Severity,
+    why: &'w str,
+}
+
+const LOOP: Wrong<'static> = Wrong {
+    code: Code::IncludeLoop,
+    severity: Severity::Error,
+    why: "the file includes itself, at which Git stops",
+};
+
+const TOO_DEEP: Wrong<'static> = Wrong {
+    code: Code::IncludeDepth,
+    severity: Severity::Error,
+    why: "Git stops at more than ten includes, one in the other",
+};
+
+const UNKNOWN_DIRECTORY: Wrong<'static> = Wrong {
+    code: Code::IncludePath,
+    severity: Severity::Error,
+    why: "no such user or no home directory, at which Git stops",
+};
+
+const UNKNOWN_CONDITION: Wrong<'static> = Wrong {
+    code: Code::UnknownCondition,
+    severity: Severity::Warning,
+    why: "not a condition of Git: not one of: gitdir, gitdir/i, onbranch, hasconfig:remote.*.url",
+};
+
+const MISSING: Wrong<'static> = Wrong {
+    code: Code::MissingFile,
+    severity: Severity::Note,
+    why: "no such file",
+};
+
+/// The file name that means standard input.
+const STDIN: &[u8] = b"-";
+
+/// Adds the name of a file.
+fn add(names: &mut Vec<Vec<u8>>, name: Vec<u8>) -> Result<(), AllocError> {
+    match names.push(name) {
+        Ok(()) => Ok(()),
+        Err(_) => Err(AllocError),
+    }
+}
+
+/// The names of files.
+fn named(alloc: Global, names: &[&str]) -> Result<Vec<Vec<u8>>, AllocError> {
+    let mut found = Vec::new(alloc);
+    for name in names {
+        add(&mut found, name.as_bytes().to_vec(alloc)?)?;
+    }
+    Ok(found)
+}
+
+/// A run over files, each of which is checked once.
+#[derive(Drop)]
+struct Checking<'c, 't> {
+    rt: &'t HostRuntime,
+    rows: &'c [Row<'c>],
+    judge: &'c Judge<'c, 'c>,
+    asked: &'c Asked<'c, 'c>,
+    report: Report<'c>,
+    disk: Disk<'t, HostRuntime>,
+    surroundings: Surroundings<'t>,
+    /// The real names of the files that are checked, or named and checked later.
+    seen: BTreeSet<Vec<u8>>,
+    /// The files that are open: each is included by the one before.
+    open: Vec<Source<'t>>,
+    outcome: Outcome,
+    /// How many entries are changed.
+    fixed: usize,
+}
+
+/// Writes a finding about what an entry of a file that is open includes.
+fn write_include<'f>(
+    rt: &HostRuntime,
+    report: &mut Report<'_>,
+    source: &mut Source<'_>,
+    setting: &'f Setting<'f>,
+    wrong: Wrong<'f>,
+) -> Result<(), Failure<'static>> {
+    let mut lines = Lines {
+        alloc: rt.alloc(),
+        report,
+        source,
+        mender: None,
+        writer: rt.stdout(),
+    };
+    failed(lines.receive(&Finding {
+        file: setting.file,
+        line: setting.line,
+        entry: None,
+        code: wrong.code,
+        severity: wrong.severity,
+        key: Some(&setting.key),
+        row: None,
+        value: setting.value.as_deref(),
+        reason: wrong.why.as_bytes(),
+        fault: None,
+        suggested_key: None,
+        suggested_value: None,
+    }))
+}
+
+/// Whether a path that an entry includes begins at the root or in a home directory, and not in the folder of
+/// the file.
+fn is_from_root(alloc: Global, entry: &Entry<'_>) -> Result<bool, AllocError> {
+    let Some(value) = &entry.value else {
+        return Ok(false);
+    };
+    let path = value.text(alloc)?;
+    Ok(path.starts_with(b"/") || path.starts_with(b"~") || path.starts_with(b"%("))
+}
+
+impl<'c, 't> Checking<'c, 't> {
+    /// Reports a file that cannot be read.
+    fn refuse<E: fmt::Display + Drop>(&mut self, error: E) {
+        self.outcome.is_unread = true;
+        tell(
+            self.rt,
+            format!(in self.rt.alloc(); "config_check: {error}"),
+        );
+    }
+
+    /// The text of a file, or of standard input, and its place. Reports a failed read.
+    fn read(&mut self, name: &[u8]) -> Result<Option<(Place<'t>, &'t [u8])>, Failure<'static>> {
+        let found = if name == STDIN {
+            let place = Place {
+                name: STDIN,
+                real_dir: b"",
+            };
+            match self.disk.text(self.rt.stdin(), None) {
+                Ok(text) => Ok((place, text)),
+                Err(error) => Err(error),
+            }
+        } else {
+            self.disk.first(name)
+        };
+        match found {
+            Ok(found) => Ok(Some(found)),
+            Err(error) if error.is_memory() => Err(Failure::Memory(AllocError)),
+            Err(error) => {
+                self.refuse(format_args!("{}: {error}", BStr::new(name)));
+                Ok(None)
+            }
+        }
+    }
+
+    /// Checks the text of a file, which is open from now on, and adds its counts. Returns the text: if the file
+    /// is named and may be changed, that is its new one.
+    fn check(
+        &mut self,
+        name: &'t [u8],
+        text: &'t [u8],
+        is_named: bool,
+    ) -> Result<&'t [u8], Failure<'static>> {
+        let Ok(file) = str::from_utf8(name) else {
+            return Ok(text);
+        };
+        let text = match self.asked.output {
+            Output::Fixed if is_named => self.mended(file, text)?,
+            _ => text,
+        };
+        let counts = if is_named && self.asked.output == Output::Diff {
+            self.show_changes(file, text)?
+        } else {
+            self.check_text(file, text, None)?.0
+        };
+        self.outcome.add(counts);
+        match self.open.push(Source::new(name, text)) {
+            Ok(()) => Ok(text),
+            Err(_) => Err(Failure::Memory(AllocError)),
+        }
+    }
+
+    /// Checks the text of a file. Changes are looked for if there is something to look for them, which is given back.
+    fn check_text(
+        &mut self,
+        file: &'t str,
+        text: &'t [u8],
+        mender: Option<Mender<'c, 't>>,
+    ) -> Result<(Counts, Option<Mender<'c, 't>>), Failure<'static>> {
+        let alloc = self.rt.alloc();
+        let writer = written(BufWriter::new(alloc, self.rt.stdout()))?;
+        let mut source = Source::new(file.as_bytes(), text);
+        let mut lines = Lines {
+            alloc,
+            report: &mut self.report,
+            source: &mut source,
+            mender,
+            writer,
+        };
+        let checked = check_file(
+            alloc,
+            self.rows,
+            &self.asked.options,
+            file,
+            text,
+            &mut lines,
+        );
+        written(lines.flush())?;
+        let mender = lines.mender.take();
+        Ok((failed(checked)?, mender))
+    }
+
+    /// What looks for the changes of a file.
+    fn mender(&self, file: &'t str, text: &'t [u8]) -> Mender<'c, 't> {
+        Mender::new(self.rt.alloc(), self.judge, self.asked.options, file, text)
+    }
+
+    /// Makes the changes in a file, and returns its text, which is the old one if it has none or is not changed.
+    fn mended(&mut self, file: &'t str, text: &'t [u8]) -> Result<&'t [u8], Failure<'static>> {
+        if !is_readable(text) {
+            return Ok(text);
+        }
+        let mender = self.mender(file, text);
+        let (_, looked) = self.check_text(file, text, Some(mender))?;
+        let Some(mender) = looked else {
+            return Ok(text);
+        };
+        if mender.changes.is_empty() {
+            return Ok(text);
+        }
+        let name = file.as_bytes();
+        match change_file(self.rt.alloc(), &self.disk, name, text, &mender.changes) {
+            Ok(new) => {
+                self.fixed = self.fixed.saturating_add(mender.changes.len());
+                Ok(self.disk.kept(&new)?)
+            }
+            Err(error) => {
+                self.refuse(format_args!("{file}: {error}"));
+                Ok(text)
+            }
+        }
+    }
+
+    /// Checks the text of a file, and shows what would be changed in it.
+    fn show_changes(&mut self, file: &'t str, text: &'t [u8]) -> Result<Counts, Failure<'static>> {
+        if !is_readable(text) {
+            return Ok(self.check_text(file, text, None)?.0);
+        }
+        let alloc = self.rt.alloc();
+        let mender = self.mender(file, text);
+        let (counts, looked) = self.check_text(file, text, Some(mender))?;
+        let Some(mender) = looked else {
+            return Ok(counts);
+        };
+        if mender.changes.is_empty() {
+            return Ok(counts);
+        }
+        match changed(alloc, text, &mender.changes) {
+            Ok(new) => {
+                let diff = diff_of(alloc, file, text, &new, &mender.changes)?;
+                written(self.rt.stdout().write_all(&diff))?;
+            }
+            Err(error) => self.refuse(format_args!("{file}: {error}")),
+        }
+        Ok(counts)
+    }
+
+    /// Closes the files that are open after the one of this name.
+    fn close_after(&mut self, name: &[u8]) {
+        for _ in 0..self.open.len() {
+            match self.open.last() {
+                Some(source) if source.name != name => {
+                    let count = self.open.len().saturating_sub(1);
+                    self.open.truncate(count);
+                }
+                _ => break,
+            }
+        }
+    }
+
+    /// Writes a finding about what an entry includes, and counts it.
+    fn report(
+        &mut self,
+        place: Place<'t>,
+        entry: &Entry<'t>,
+        wrong: Wrong<'_>,
+    ) -> Result<(), Failure<'static>> {
+        let Ok(file) = str::from_utf8(place.name) else {
+            return Ok(());
+        };
+        let alloc = self.rt.alloc();
+        let setting = Setting::of_entry(alloc, file, entry)?;
+        self.close_after(place.name);
+        if let Some(source) = self.open.last_mut() {
+            write_include(self.rt, &mut self.report, source, &setting, wrong)?;
+        }
+        self.outcome.add(Counts {
+            findings: 1,
+            errors: u64::from(matches!(wrong.severity, Severity::Error)),
+            warnings: u64::from(matches!(wrong.severity, Severity::Warning)),
+            ..Counts::default()
+        });
+        Ok(())
+    }
+
+    /// The name by which an included file is read: below the folder of `--root`, if there is one and the path
+    /// begins at the root.
+    fn rooted(&self, entry: &Entry<'t>, name: Vec<u8>) -> Result<Vec<u8>, AllocError> {
+        let alloc = self.rt.alloc();
+        let Some(root) = self.asked.root else {
+            return Ok(name);
+        };
+        if !is_from_root(alloc, entry)? {
+            return Ok(name);
+        }
+        let mut rooted = root.as_bytes().to_vec(alloc)?;
+        rooted.extend_from_slice(&name)?;
+        Ok(rooted)
+    }
+
+    /// Whether one of the files that the walk is in has this real name.
+    fn is_within(&self, walk: &Walk<'t>, real: &[u8]) -> Result<bool, Failure<'static>> {
+        for frame in walk.frames() {
+            if self.disk.real_name(frame.place.name)?.as_slice() == real {
+                return Ok(true);
+            }
+        }
+        Ok(false)
+    }
+
+    /// Checks the file of this name, which an entry of the file at this place includes, and goes on in it.
+    /// Reports an include at which Git stops, and a missing file. Passes a file that is checked already, and
+    /// relative names of standard input.
+    fn include(
+        &mut self,
+        walk: &mut Walk<'t>,
+        place: Place<'t>,
+        entry: &Entry<'t>,
+        name: Vec<u8>,
+    ) -> Result<(), Failure<'static>> {
+        let is_stdin = place.name == STDIN && place.real_dir.is_empty();
+        if is_stdin && !name.starts_with(b"/") {
+            return Ok(());
+        }
+        let name = self.rooted(entry, name)?;
+        let real = self.disk.real_name(&name)?;
+        if self.is_within(walk, &real)? {
+            return self.report(place, entry, LOOP);
+        }
+        if self.seen.contains(&real) {
+            return Ok(());
+        }
+        match self.disk.read(self.rt.alloc(), &name)? {
+            Content::Missing => return self.report(place, entry, MISSING),
+            Content::Unreadable(why) => {
+                let wrong = Wrong {
+                    code: Code::IncludePath,
+                    severity: Severity::Error,
+                    why,
+                };
+                self.report(place, entry, wrong)?;
+            }
+            Content::Text(inner, text) => {
+                if !walk.enter(inner, text) {
+                    return self.report(place, entry, TOO_DEEP);
+                }
+                let _ = self.check(inner.name, text, false)?;
+            }
+        }
+        self.remember(real)?;
+        Ok(())
+    }
+
+    /// Reports the condition of an entry that includes a file, if Git does not know this condition.
+    fn judge_condition(
+        &mut self,
+        place: Place<'t>,
+        entry: &Entry<'t>,
+    ) -> Result<(), Failure<'static>> {
+        let key = entry.key_text(self.rt.alloc())?;
+        match Key::split(&key).and_then(|key| key.subsection()) {
+            Some(text) if Condition::parse(text) == Condition::Unknown => {
+                self.report(place, entry, UNKNOWN_CONDITION)
+            }
+            _ => Ok(()),
+        }
+    }
+
+    /// Remembers the real name of a file, and returns whether it is new.
+    fn remember(&mut self, real: Vec<u8>) -> Result<bool, Failure<'static>> {
+        match self.seen.insert(real) {
+            Ok(is_new) => Ok(is_new),
+            Err(_) => Err(Failure::Memory(AllocError)),
+        }
+    }
+
+    /// Checks a file, and the files that it includes, in the order in which a walk comes to them.
+    fn file(&mut self, name: &[u8]) -> Result<(), Failure<'static>> {
+        let Some((place, text)) = self.read(name)? else {
+            return Ok(());
+        };
+        self.open.clear();
+        let text = self.check(place.name, text, true)?;
+        if !self.asked.follows {
+            return Ok(());
+        }
+        let mut walk = Walk::new(place, text);
+        for _ in 0..u64::MAX {
+            match walk.next(self.rt.alloc(), &self.surroundings.known())? {
+                Step::Entry(place, entry, Include::Named(name)) => {
+                    self.judge_condition(place, &entry)?;
+                    self.include(&mut walk, place, &entry, name)?;
+                }
+                Step::Entry(place, entry, Include::UnknownDirectory) => {
+                    self.judge_condition(place, &entry)?;
+                    self.report(place, &entry, UNKNOWN_DIRECTORY)?;
+                }
+                Step::Ends => break,
+                _ => {}
+            }
+        }
+        Ok(())
+    }
+
+    /// The files that are named, or those that Git reads in the current folder, each once.
+    fn first_files(&mut self) -> Result<Vec<Vec<u8>>, Failure<'static>> {
+        let alloc = self.rt.alloc();
+        let found = match self.asked.files {
+            Some(names) => named(alloc, names)?,
+            None if self.asked.output == Output::Fixed => return Err(Failure::NoneNamed),
+            None => files_here(&self.disk)?,
+        };
+        let mut files = Vec::new(alloc);
+        for name in found {
+            let real = self.disk.real_name(&name)?;
+            if self.remember(real)? {
+                add(&mut files, name)?;
+            }
+        }
+        Ok(files)
+    }
+
+    /// The counts of what is reported.
+    fn reported(&self) -> Outcome {
+        let counts = self.outcome.counts;
+        let hidden = self.report.hidden.counts;
+        Outcome {
+            counts: Counts {
+                findings: counts.findings.saturating_sub(hidden.findings),
+                errors: counts.errors.saturating_sub(hidden.errors),
+                warnings: counts.warnings.saturating_sub(hidden.warnings),
+                ..counts
+            },
+            is_unread: self.outcome.is_unread,
+        }
+    }
+
+    /// The last line of standard error: the counts, and how many findings are not reported.
+    fn summary(&self) -> Result<String, AllocError> {
+        let hidden = self.report.hidden;
+        let mut line = format!(in self.rt.alloc(); "config_check: {}", self.reported().counts)?;
+        for (count, what) in [
+            (self.fixed as u64, " fixed"),
+            (hidden.ignored, " ignored"),
+            (hidden.known, " in the baseline"),
+        ] {
+            if count > 0 {
+                line.push_str(&format!(in self.rt.alloc(); ", {count}{what}")?)?;
+            }
+        }
+        Ok(line)
+    }
+
+    /// Writes what precedes the findings.
+    fn begin(&self) -> Result<(), Failure<'static>> {
+        if self.shows_findings(Format::Sarif) {
+            let text = sarif::beginning(self.rt.alloc())?;
+            written(self.rt.stdout().write_all(&text))?;
+        }
+        Ok(())
+    }
+
+    /// Whether findings are written in this format.
+    fn shows_findings(&self, format: Format) -> bool {
+        self.asked.style.format == format
+            && matches!(self.asked.output, Output::Findings | Output::Fixed)
+    }
+
+    /// Writes what follows the findings.
+    fn end(&mut self) -> Result<(), Failure<'static>> {
+        let alloc = self.rt.alloc();
+        if self.shows_findings(Format::Sarif) {
+            written(self.rt.stdout().write_all(sarif::END.as_bytes()))?;
+        }
+        if self.asked.output == Output::Statistics {
+            let text = self.report.statistics(alloc)?;
+            written(self.rt.stdout().write_all(&text))?;
+        }
+        if self.asked.is_quiet {
+            return Ok(());
+        }
+        let line = self.summary()?;
+        written(eprintln!(self.rt; "{line}"))
+    }
+
+    /// Checks all files, and returns the exit status.
+    fn all(&mut self) -> Result<u8, Failure<'static>> {
+        let files = self.first_files()?;
+        if files.is_empty() {
+            return Err(Failure::NoFile);
+        }
+        let has_stdin = files.iter().any(|name| name.as_slice() == STDIN);
+        if has_stdin && self.asked.output == Output::Fixed {
+            return Err(Failure::Unchangeable);
+        }
+        if has_stdin && self.rt.stdin().is_terminal() {
+            return Err(Failure::Terminal);
+        }
+        self.begin()?;
+        for file in &files {
+            self.file(file)?;
+        }
+        self.end()?;
+        Ok(self.reported().status(self.asked.fails_on))
+    }
+}
+
+/// Checks the files by these rows, and keeps their texts in `texts`. Returns the exit status.
+pub(crate) fn check<'m, 't>(
+    rt: &'t HostRuntime,
+    texts: &'t Bump,
+    rows: &[Row<'_>],
+    asked: &Asked<'_, 'm>,
+) -> Result<u8, Failure<'m>> {
+    let alloc = rt.alloc();
+    let baseline = match asked.baseline {
+        Some(file) => Some(fingerprints(rt, file)?),
+        None => None,
+    };
+    let judge = Judge::new(alloc, rows)?;
+    let report = Report::new(alloc, asked, baseline)?;
+    let mut checking = Checking {
+        rt,
+        rows,
+        judge: &judge,
+        asked,
+        report,
+        disk: Disk::new(rt, texts),
+        surroundings: Surroundings::new(rt, Followed::Everything)?,
+        seen: BTreeSet::new(alloc),
+        open: Vec::new(alloc),
+        outcome: Outcome::default(),
+        fixed: 0,
+    };
+    checking.all()
+}

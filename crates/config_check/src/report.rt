@@ -1,0 +1,365 @@
+//! Decides about each finding whether it is reported, mended or hidden, and writes it.
+ghost use Rattle.std.specs.Prelude.{None};
+
+use crate::annotations::push_annotation;
+use crate::causes::Cause;
+use crate::changes::Mender;
+use crate::hints::{Hint, hint_for};
+use crate::options::{Asked, Format, Ignored, Output, Style};
+use crate::sarif::push_result;
+use crate::source::{Source, Spot};
+use crate::text::{push, push_hint, push_number, push_text};
+use config_checks::check::{CheckError, Counts, Receiver};
+use config_checks::code::Code;
+use config_checks::finding::Finding;
+use config_checks::fingerprint::{fingerprint, is_known};
+use config_checks::json_line::json_text;
+use config_checks::key::covers;
+use config_checks::reason::Severity;
+use config_file::key::Key;
+use std::alloc::{AllocError, Global};
+use std::collections::{BTreeMap, BTreeSet};
+use std::io::{self, Write};
+
+/// Why findings are not reported, and how many of them.
+#[derive(Clone, Copy, Default)]
+pub(crate) struct Hidden {
+    /// The counts of those that are not reported.
+    pub(crate) counts: Counts,
+    pub(crate) ignored: u64,
+    pub(crate) known: u64,
+}
+
+impl Hidden {
+    /// Counts a finding of this severity that is not reported, since it is ignored or in the baseline.
+    fn add(&mut self, severity: Severity, is_ignored: bool) {
+        if is_ignored {
+            self.ignored = self.ignored.saturating_add(1);
+        } else {
+            self.known = self.known.saturating_add(1);
+        }
+        let counts = &mut self.counts;
+        counts.findings = counts.findings.saturating_add(1);
+        match severity {
+            Severity::Error => counts.errors = counts.errors.saturating_add(1),
+            Severity::Warning => counts.warnings = counts.warnings.saturating_add(1),
+            Severity::Note => {}
+        }
+    }
+}
+
+/// What a run reports of its findings.
+#[derive(Drop)]
+pub(crate) struct Report<'c> {
+    pub(crate) style: Style,
+    pub(crate) output: Output,
+    pub(crate) ignored: &'c [Ignored<'c>],
+    /// The fingerprints of the baseline, if there is one.
+    pub(crate) baseline: Option<BTreeSet<String>>,
+    pub(crate) hidden: Hidden,
+    /// How many findings there were by now, by their fingerprints without their counts.
+    seen: BTreeMap<String, u64>,
+    /// The same for those for which changes were collected.
+    collected: BTreeMap<String, u64>,
+    /// How many findings each code has, in the order of the codes.
+    counts: Vec<u64>,
+    is_first: bool,
+}
+
+/// How many findings a code has.
+#[derive(Clone, Copy)]
+struct Counted {
+    code: Code,
+    count: u64,
+}
+
+/// What is told of a finding beyond what the check says: its line, its reason and a value.
+#[derive(Drop)]
+struct Told {
+    line: usize,
+    reason: Vec<u8>,
+    meant: Option<Vec<u8>>,
+    /// Whether nothing else is as near as the value.
+    is_sure: bool,
+}
+
+/// What is told of a finding about an entry: what is known of its value.
+fn told_of_entry(
+    alloc: Global,
+    finding: &Finding<'_>,
+    hint: Hint<'_>,
+    line: usize,
+) -> Result<Told, AllocError> {
+    let mut reason = finding.reason.to_vec(alloc)?;
+    push_hint(&mut reason, &hint)?;
+    Ok(Told {
+        line,
+        reason,
+        is_sure: hint.is_sure,
+        meant: hint.meant,
+    })
+}
+
+/// What is told of a line that Git cannot read: the reason and the cause.
+fn reason_of_line(
+    alloc: Global,
+    finding: &Finding<'_>,
+    cause: &Cause,
+) -> Result<Vec<u8>, AllocError> {
+    let mut reason = finding.reason.to_vec(alloc)?;
+    if let Some(why) = cause.why {
+        push(&mut reason, ": ")?;
+        push(&mut reason, why)?;
+    }
+    Ok(reason)
+}
+
+/// Whether the findings with this code and key are ignored.
+fn is_ignored(ignored: &[Ignored<'_>], finding: &Finding<'_>) -> bool {
+    let key = finding.key.and_then(|key| Key::split(key));
+    ignored.iter().any(|one| match (one, &key) {
+        (Ignored::Code(code), _) => *code == finding.code,
+        (Ignored::Key(ignored), Some(key)) => covers(ignored, key),
+        (Ignored::Key(_), None) => false,
+    })
+}
+
+/// How many findings before this one have the same file, code, key and value, by what was seen so far.
+fn equals_before(
+    alloc: Global,
+    seen: &mut BTreeMap<String, u64>,
+    finding: &Finding<'_>,
+) -> Result<u64, AllocError> {
+    let same = fingerprint(alloc, 0, finding)?;
+    let count = match seen.get(&same) {
+        Some(count) => *count,
+        None => 0,
+    };
+    match seen.insert(same, count.saturating_add(1)) {
+        Ok(_) => Ok(count),
+        Err(_) => Err(AllocError),
+    }
+}
+
+impl<'c> Report<'c> {
+    /// A report without a finding so far.
+    pub(crate) fn new(
+        alloc: Global,
+        asked: &'c Asked<'_, 'c>,
+        baseline: Option<BTreeSet<String>>,
+    ) -> Result<Report<'c>, AllocError> {
+        let mut counts = Vec::new(alloc);
+        counts.resize(Code::ALL.len(), 0)?;
+        Ok(Report {
+            style: asked.style,
+            output: asked.output,
+            ignored: asked.ignored,
+            baseline,
+            hidden: Hidden::default(),
+            seen: BTreeMap::new(alloc),
+            collected: BTreeMap::new(alloc),
+            counts,
+            is_first: true,
+        })
+    }
+
+    /// Whether fingerprints are asked for.
+    fn needs_fingerprints(&self) -> bool {
+        self.baseline.is_some() || matches!(self.style.format, Format::Json | Format::Sarif)
+    }
+
+    /// Counts a finding of this code that is reported.
+    fn count(&mut self, code: Code) {
+        let Some(place) = Code::ALL.iter().position(|other| *other == code) else {
+            return;
+        };
+        if let Some(count) = self.counts.get_mut(place) {
+            *count = count.saturating_add(1);
+        }
+    }
+
+    /// The lines of `--statistics`: how many findings each code has that has one, the most first.
+    pub(crate) fn statistics(&self, alloc: Global) -> Result<Vec<u8>, AllocError> {
+        let mut all = Vec::new(alloc);
+        for (code, count) in Code::ALL.iter().zip(self.counts.iter()) {
+            all.push(Counted {
+                code: *code,
+                count: *count,
+            })?;
+        }
+        all.sort_by_key(|one| u64::MAX - one.count)?;
+        let mut text = Vec::new(alloc);
+        for one in &all {
+            if one.count > 0 {
+                push_number(&mut text, one.count as usize)?;
+                push(&mut text, "\t")?;
+                push(&mut text, one.code.name())?;
+                push(&mut text, "\n")?;
+            }
+        }
+        Ok(text)
+    }
+}
+
+/// Receives the findings of one file.
+#[derive(Drop)]
+pub(crate) struct Lines<'l, 's, 'r, 'c, W: Write> {
+    pub(crate) alloc: Global,
+    pub(crate) report: &'r mut Report<'c>,
+    pub(crate) source: &'s mut Source<'l>,
+    /// What looks for changes, if the file may be changed.
+    pub(crate) mender: Option<Mender<'c, 'l>>,
+    pub(crate) writer: W,
+}
+
+impl<W: Write> Lines<'_, '_, '_, '_, W> {
+    /// Whether a finding is in the baseline.
+    fn is_hidden(&self, finding: &Finding<'_>, equal: u64) -> Result<bool, AllocError> {
+        let Some(baseline) = &self.report.baseline else {
+            return Ok(false);
+        };
+        is_known(self.alloc, baseline, equal, finding)
+    }
+
+    /// Takes note of the change that mends a finding, if changes are looked for.
+    fn mend(&mut self, finding: &Finding<'_>) -> Result<(), AllocError> {
+        match &mut self.mender {
+            Some(mender) => mender.mend(finding),
+            None => Ok(()),
+        }
+    }
+
+    /// How many findings before this one have the same file, code, key and value, if that is asked for.
+    fn equal(&mut self, finding: &Finding<'_>) -> Result<u64, AllocError> {
+        if !self.report.needs_fingerprints() {
+            return Ok(0);
+        }
+        if self.collects() {
+            return equals_before(self.alloc, &mut self.report.collected, finding);
+        }
+        equals_before(self.alloc, &mut self.report.seen, finding)
+    }
+
+    /// The text of a finding in the format that is wanted.
+    fn shown(
+        &mut self,
+        finding: &Finding<'_>,
+        spot: &Spot<'_>,
+        equal: u64,
+    ) -> Result<Vec<u8>, AllocError> {
+        let mut out = Vec::new(self.alloc);
+        match self.report.style.format {
+            Format::Text => push_text(&mut out, self.report.style, finding, spot)?,
+            Format::Json => {
+                out.extend_from_slice(&json_text(self.alloc, spot.column, equal, finding)?)?;
+                push(&mut out, "\n")?;
+            }
+            Format::Github => push_annotation(&mut out, finding, spot)?,
+            Format::Sarif => {
+                let print = fingerprint(self.alloc, equal, finding)?;
+                push_result(&mut out, finding, spot, &print, self.report.is_first)?;
+                self.report.is_first = false;
+            }
+        }
+        Ok(out)
+    }
+
+    /// Whether changes are only collected, and nothing is counted or written.
+    fn collects(&self) -> bool {
+        self.mender.is_some() && self.report.output == Output::Fixed
+    }
+
+    /// Whether a finding is left out, as one that is ignored or in the baseline.
+    fn is_left_out(&mut self, finding: &Finding<'_>, equal: u64) -> Result<bool, AllocError> {
+        let is_known = self.is_hidden(finding, equal)?;
+        let is_ignored = is_ignored(self.report.ignored, finding);
+        if (is_ignored || is_known) && !self.collects() {
+            self.report.hidden.add(finding.severity, is_ignored);
+        }
+        Ok(is_ignored || is_known)
+    }
+
+    /// What is written about a finding, with all that is told of it: nothing if it is left out, or if changes
+    /// are collected. `is_sure` says whether nothing else is as near as the value that is suggested.
+    fn text_for(
+        &mut self,
+        finding: &Finding<'_>,
+        spot: &Spot<'_>,
+        is_sure: bool,
+    ) -> Result<Vec<u8>, AllocError> {
+        let equal = self.equal(finding)?;
+        if self.is_left_out(finding, equal)? {
+            return Ok(Vec::new(self.alloc));
+        }
+        if is_sure {
+            self.mend(finding)?;
+        }
+        if self.collects() {
+            return Ok(Vec::new(self.alloc));
+        }
+        self.report.count(finding.code);
+        match self.report.output {
+            Output::Findings | Output::Fixed => self.shown(finding, spot, equal),
+            Output::Diff | Output::Statistics => Ok(Vec::new(self.alloc)),
+        }
+    }
+
+    /// What is written about a finding of an entry.
+    fn text_for_entry(&mut self, finding: &Finding<'_>) -> Result<Vec<u8>, AllocError> {
+        let hint = hint_for(self.alloc, finding)?;
+        let spot = self.source.spot(finding, hint.wrong);
+        let told = told_of_entry(self.alloc, finding, hint, spot.number)?;
+        match &told.meant {
+            Some(meant) => {
+                let whole = Finding {
+                    line: told.line,
+                    reason: &told.reason,
+                    suggested_value: Some(meant),
+                    ..*finding
+                };
+                self.text_for(&whole, &spot, told.is_sure)
+            }
+            None => {
+                let whole = Finding {
+                    line: told.line,
+                    reason: &told.reason,
+                    ..*finding
+                };
+                self.text_for(&whole, &spot, told.is_sure)
+            }
+        }
+    }
+
+    /// What is written about a line that Git cannot read.
+    fn text_for_line(&mut self, finding: &Finding<'_>) -> Result<Vec<u8>, AllocError> {
+        let cause = Cause::of(self.source.text);
+        let spot = self.source.spot_of_cause(finding.line, &cause);
+        let reason = reason_of_line(self.alloc, finding, &cause)?;
+        let whole = Finding {
+            reason: &reason,
+            ..*finding
+        };
+        self.text_for(&whole, &spot, true)
+    }
+
+    /// Writes what is still held.
+    pub(crate) fn flush(&mut self) -> io::Result<()> {
+        self.writer.flush()
+    }
+}
+
+impl<W: Write> Receiver for Lines<'_, '_, '_, '_, W> {
+    ghost received = { λ _. None };
+
+    /// Writes what is to be written about a finding.
+    fn receive(&mut self, finding: &Finding<'_>) -> Result<(), CheckError> {
+        let text = match finding.key {
+            Some(_) => self.text_for_entry(finding),
+            None => self.text_for_line(finding),
+        };
+        match text {
+            Ok(text) => self.writer.write_all(&text).map_err(CheckError::Write),
+            Err(error) => Err(CheckError::Memory(error)),
+        }
+    }
+}

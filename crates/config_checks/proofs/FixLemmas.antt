@@ -1,0 +1,117 @@
+-- What mends a finding.
+use Rattle.std.proofs.Common.{◌≡◌, ◌↔◌, ℕ, List, reverse, Bool, true, false, IsTrue, Option, None, Some, option_map}
+use Rattle.std.proofs.Common.{refl, sym, ap, subst, ◌∙◌, if◌then◌else◌, Bor}
+use Rattle.std.proofs.lemmas.Str.{IsUtf8-from_is_utf8, is_utf8-from_IsUtf8}
+use Rattle.std.specs.Str.{IsUtf8, is_utf8}
+use Rattle.serde_json.specs.Data.{Data, null}
+use Rattle.config_file.specs.Key.{written}
+use Rattle.config_checks.specs.declared.code.Code.{Code}
+use Rattle.config_checks.specs.declared.code.Code.TheVariants.{NotAWord}
+use Rattle.config_checks.specs.declared.fix.Fix.{Fix}
+use Rattle.config_checks.specs.declared.fix.Fix.TheVariants.{Name, Value}
+use Rattle.config_checks.specs.declared.kind.SettingKind.TheVariants as kinds
+use Rattle.config_checks.specs.declared.kind.WordList.{WordList}
+use Rattle.config_checks.specs.declared.options.Options.{Options}
+use Rattle.config_checks.specs.declared.reason.Reason.{Reason}
+use Rattle.config_checks.specs.declared.row.Row.{Row}
+use Rattle.config_checks.specs.declared.setting.Setting.{Setting}
+use Rattle.config_checks.specs.declared.suggestion.UnknownKey.{UnknownKey}
+use Rattle.config_checks.specs.declared.version.Version.{Version}
+use Rattle.config_checks.specs.Findings.{Finding}
+use Rattle.config_checks.specs.Fixes.{IsClean, IsOnlyMeant, IsOnlyKey, MendsValue, IsRenamed, MendsKey, Mends}
+use Rattle.config_checks.specs.Reasons.{HasFinding, IsMeant, WordEdits}
+use Rattle.config_checks.specs.Report.{key_meant}
+use Rattle.config_checks.specs.Rows.{Decides}
+use Rattle.config_checks.specs.Settings.{value_of}
+use Rattle.config_checks.specs.Suggestions.{IsUnknownKey}
+use Rattle.config_checks.proofs.NearestLemmas.{nearest_once, no_far}
+use Rattle.config_checks.proofs.OneFinding.{finding_once}
+use Rattle.config_checks.proofs.OneKey.{row_once}
+use Rattle.config_checks.proofs.OneReport.{no_finding}
+use Rattle.config_checks.proofs.OneSuggestion.{nearest_same}
+
+-- ---- a text that is not UTF-8
+
+coded : (b : Bool) (d : Data) → ¬ (b ≡ true) → d ≡ (if b then null else d)
+coded true d other = absurd (other refl)
+coded false d other = refl
+
+pub no_text : (t : List ℕ) (d : Data) → ¬ (IsUtf8 t) → d ≡ (if is_utf8 t then null else d)
+no_text t d other = coded (is_utf8 t) d (λ h. other (IsUtf8-from_is_utf8 t h))
+
+pub is_text : (t : List ℕ) (d : Data) → IsUtf8 t → null ≡ (if is_utf8 t then null else d)
+is_text t d is = rw (is_utf8-from_IsUtf8 t is) refl
+
+-- ---- a setting without a finding
+
+pub not_both : (git : Version) (wants : Bool) (row : Row) (value : Option (List ℕ)) (reason : Reason)
+    → HasFinding git wants row value (Some reason) → ¬ (HasFinding git wants row value None)
+not_both git wants row value reason bad good = no_finding reason (finding_once git row wants value None (Some reason) good bad)
+
+module _ (rows : List Row) (options : Options) where
+  pub clean_if : (key : List ℕ) (value : Option (List ℕ)) (row : Row) (b : Bool) → Decides rows key row
+      → (IsTrue b ↔ HasFinding options.git options.canonical row value None) → IsTrue b ↔ IsClean rows options key value
+  clean_if key value row b decides is = (
+    λ yes. record { row = row; decides = decides; clean = is.0 yes },
+    λ clean. is.1 (subst (λ r. HasFinding options.git options.canonical r value None)
+        (row_once rows key clean.row row clean.decides decides) clean.clean),
+  )
+
+  module _ (setting : Setting) (code : Code) (new : List ℕ) (row : Row) (decides : Decides rows setting.key.items row) where
+    pub mends_if : (b : Bool) → HasFinding options.git options.canonical row (Some new) None
+        → (IsTrue b ↔ (code ≡ NotAWord → IsOnlyMeant row.kind (value_of setting) new))
+        → IsTrue b ↔ MendsValue rows options setting code new
+    mends_if b none is = (
+      λ yes. record { clean = record { row = row; decides = decides; clean = none }; only = is.0 yes },
+      λ mends. is.1 (subst (λ r. code ≡ NotAWord → IsOnlyMeant r.kind (value_of setting) new)
+          (row_once rows setting.key.items mends.clean.row row mends.clean.decides decides) mends.only),
+    )
+
+    pub mends_not : ¬ (HasFinding options.git options.canonical row (Some new) None) → ¬ (MendsValue rows options setting code new)
+    mends_not some mends = some (subst (λ r. HasFinding options.git options.canonical r (Some new) None)
+        (row_once rows setting.key.items mends.clean.row row mends.clean.decides decides) mends.clean.clean)
+
+-- ---- the only word that is meant
+
+module _ (list : WordList) (t word : List ℕ) (words : List (Bor (List ℕ))) (is : words ≡ reverse list.words.items) where
+  pub only_last : (last : Bor (List ℕ)) (b : Bool) → IsMeant words t (Some last) → (IsTrue b ↔ (last.now ≡ word))
+      → IsTrue b ↔ IsOnlyMeant (kinds.Word list) (Some t) word
+  only_last last b meant same = (
+    λ yes other also. ap (λ w. w.now) (nearest_once (WordEdits t) words other last
+        (subst (λ ws. IsMeant ws t (Some other)) (sym is) also) meant) ∙ same.0 yes,
+    λ only. same.1 (only last (subst (λ ws. IsMeant ws t (Some last)) is meant)),
+  )
+
+  pub only_none : IsMeant words t None → IsOnlyMeant (kinds.Word list) (Some t) word
+  only_none far other also =
+      absurd (no_far (WordEdits t) words other (subst (λ ws. IsMeant ws t (Some other)) (sym is) also) far)
+
+-- ---- the only key that is suggested
+
+pub only_key : (rows : List Row) (key suggested : List ℕ) (unknown : UnknownKey) (other : List ℕ) (b : Bool)
+    → IsUnknownKey rows key unknown → Some other ≡ key_meant unknown → (IsTrue b ↔ (other ≡ suggested))
+    → IsTrue b ↔ IsOnlyKey rows key suggested
+only_key rows key suggested unknown other b this meant same = (
+  λ h k also. ap (option_map written) (nearest_same rows key k unknown also this) ∙ sym meant ∙ ap Some (same.0 h),
+  λ only. same.1 (let both : Some other ≡ Some suggested = meant ∙ only unknown this in cc),
+)
+
+pub key_if : (rows back : List Row) (options : Options) (setting : Setting) (key : List ℕ) (b : Bool) → back ≡ reverse rows
+    → IsClean rows options key (value_of setting) → (IsTrue b ↔ IsOnlyKey back setting.key.items key)
+    → IsTrue b ↔ MendsKey rows options setting key
+key_if rows back options setting key b order clean only = (
+  λ h. record { clean = clean; only = subst (λ l. IsOnlyKey l setting.key.items key) order (only.0 h) },
+  λ mends. only.1 (subst (λ l. IsOnlyKey l setting.key.items key) (sym order) mends.only),
+)
+
+-- ---- no change
+
+pub no_name : (rows : List Row) (options : Options) (setting : Setting) (f : Finding) (key : List ℕ) (change : Fix)
+    → f.suggested_value ≡ None → f.suggested_key ≡ Some key → ((name : List ℕ) → ¬ (IsRenamed setting.key.items key name))
+    → ¬ (Mends rows options setting f change)
+no_name rows options setting f key (Value new) none some other (meant, mends) =
+    let both : None ≡ Some new.now = sym none ∙ meant in absurd (cc)
+no_name rows options setting f key (Name name) none some other (also, meant, lacks, code, renamed, mends) =
+    let both : Some also ≡ Some key = sym meant ∙ some in
+    let same : also ≡ key = cc in
+    other name.now (subst (λ k. IsRenamed setting.key.items k name.now) same renamed)

@@ -1,0 +1,308 @@
+//! Which change of an entry mends its finding.
+ghost use Rattle.std.specs.Prelude.{◌≡◌, ◌↔◌, ℕ, List, IsTrue, IfOk, MatchOption, None, Some};
+ghost use Rattle.std.specs.Prelude.{option_copied, reverse, ◌∷◌, []};
+ghost use Rattle.config_text.specs.SameWord.{SameWord};
+ghost use Rattle.config_file.specs.KeyView.{key_of};
+ghost use Rattle.config_checks.specs.declared.code.Code.TheVariants.{NotAWord};
+ghost use Rattle.config_checks.specs.declared.fix.Fix.{Fix};
+ghost use Rattle.config_checks.specs.Findings.{finding_of};
+ghost use Rattle.config_checks.specs.Fixes.{IsClean, IsOnlyMeant, IsOnlyKey};
+ghost use Rattle.config_checks.specs.Fixes.{MendsValue, IsRenamed, MendsKey, Mends};
+ghost use Rattle.config_checks.specs.Reasons.{HasFinding};
+ghost use Rattle.config_checks.specs.Rows.{rows_of, IsUnknown};
+
+use crate::code::Code;
+use crate::finding::{Finding, key_meant, value_of};
+use crate::key::is_same_word;
+use crate::kind::SettingKind;
+use crate::lookup::{row_for, runs_of};
+use crate::options::Options;
+use crate::reason::{find, nearest_word};
+use crate::row::{Row, Run};
+use crate::setting::Setting;
+use crate::suggestion::unknown_key;
+use config_file::key::Key;
+use std::alloc::{AllocError, Global};
+
+/// A change of an entry.
+///
+/// ```rust
+/// use config_checks::fix::Fix;
+/// use config_file::edit::Change;
+///
+/// let fix = Fix::Value(b"true");
+/// let change = match fix {
+///     Fix::Name(name) => Change { entry: 0, name: Some(name), value: None },
+///     Fix::Value(value) => Change { entry: 0, name: None, value: Some(value) },
+/// };
+/// assert!(rt; change.value == Some(b"true".as_slice()));
+/// ```
+#[derive(Clone, Copy)]
+pub enum Fix<'f> {
+    /// The last part of its key is this one.
+    Name(&'f [u8]),
+    /// Its value is this one.
+    Value(&'f [u8]),
+}
+
+/// The rows by which changes are judged.
+///
+/// ```rust
+/// use config_checks::fix::Judge;
+/// use config_checks::table::read_rows;
+///
+/// let mut rows = Vec::new(alloc);
+/// assert!(rt; read_rows(alloc, b"core.bare bool", &mut rows).is_ok());
+/// let judge = Judge::new(alloc, &rows)?; // `mend` asks it about each finding
+/// ```
+#[derive(Drop)]
+pub struct Judge<'r, 't> {
+    runs: Vec<Run<'r, 't>>,
+    /// The same rows from the last to the first.
+    backwards: Vec<Run<'r, 't>>,
+    ghost order: { rows_of backwards.items ≡ reverse (rows_of runs.items) },
+}
+
+/// A run of one row.
+fn run_of<'r, 't>(row: &'r Row<'t>) -> Run<'r, 't>
+    ensures { result.rows.now ≡ row.now ∷ [] }
+{
+    Run {
+        section: row.key.section(),
+        rows: std::slice::from_ref(row),
+    }
+}
+
+/// Runs of one row each, from the last row to the first.
+fn backwards<'r, 't>(alloc: Global, rows: &'r [Row<'t>]) -> Result<Vec<Run<'r, 't>>, AllocError>
+    ensures { IfOk result (λ runs. rows_of runs.items ≡ reverse rows.now) }
+{
+    let mut runs = Vec::new(alloc);
+    let mut left = rows.len();
+    'runs: while left > 0 {
+        left -= 1;
+        runs.push(run_of(&rows[left]))?;
+    }
+    Ok(runs)
+}
+
+impl<'r, 't> Judge<'r, 't> {
+    /// Judges by these rows. It fails only if memory is refused.
+    pub fn new(alloc: Global, rows: &'r [Row<'t>]) -> Result<Judge<'r, 't>, AllocError>
+        ensures { IfOk result (λ judge. rows_of judge.runs.items ≡ rows.now) }
+    {
+        Ok(Judge {
+            runs: runs_of(alloc, rows)?,
+            backwards: backwards(alloc, rows)?,
+        })
+    }
+}
+
+/// Whether nothing is found for a setting with this row and value.
+fn has_none(
+    alloc: Global,
+    options: &Options,
+    row: &Row<'_>,
+    value: Option<&[u8]>,
+) -> Result<bool, AllocError>
+    ensures { IfOk result (λ none. IsTrue none
+        ↔ HasFinding options.now.git options.now.canonical row.now (option_copied value.entry) None) }
+{
+    match find(alloc, options.git, row, value, options.canonical) {
+        Ok(None) => Ok(true),
+        Ok(Some(_)) => Ok(false),
+        Err(error) => Err(error),
+    }
+}
+
+/// Whether the words of a kind are looked through from the last to the first, and none but this one is near.
+fn is_only_meant(
+    alloc: Global,
+    kind: &SettingKind<'_>,
+    value: Option<&[u8]>,
+    word: &[u8],
+) -> Result<bool, AllocError>
+    ensures { IfOk result (λ only. IsTrue only
+        ↔ IsOnlyMeant kind.now (option_copied value.entry) word.now) }
+{
+    let (SettingKind::Word(list), Some(value)) = (kind, value) else {
+        return Ok(true);
+    };
+    let mut words = Vec::from_slice(alloc, &list.words)?;
+    words.reverse();
+    match nearest_word(alloc, &words, value)? {
+        Some(last) => Ok(last == word),
+        None => Ok(true),
+    }
+}
+
+/// Whether no other word is meant, if words are.
+fn is_only_value(
+    alloc: Global,
+    kind: &SettingKind<'_>,
+    code: Code,
+    value: Option<&[u8]>,
+    new: &[u8],
+) -> Result<bool, AllocError>
+    ensures { IfOk result (λ only. IsTrue only
+        ↔ (code ≡ NotAWord → IsOnlyMeant kind.now (option_copied value.entry) new.now)) }
+{
+    if code == Code::NotAWord {
+        is_only_meant(alloc, kind, value, new)
+    } else {
+        Ok(true)
+    }
+}
+
+/// Whether nothing is found for a setting with this value, and no other word is meant if words are.
+fn mends_value(
+    alloc: Global,
+    runs: &[Run<'_, '_>],
+    options: &Options,
+    setting: &Setting<'_>,
+    code: Code,
+    new: &[u8],
+) -> Result<bool, AllocError>
+    ensures { IfOk result (λ mends. IsTrue mends
+        ↔ MendsValue (rows_of runs.now) options.now setting.now code new.now) }
+{
+    let Some(row) = row_for(runs, &setting.key) else {
+        return Ok(false);
+    };
+    if !has_none(alloc, options, row, Some(new))? {
+        return Ok(false);
+    }
+    is_only_value(alloc, &row.kind, code, value_of(setting), new)
+}
+
+/// Whether two keys have the same section, ignoring ASCII case, and the same subsection.
+fn is_beside(key: &Key<'_>, other: &Key<'_>) -> bool
+    ensures { IsTrue result ↔ (SameWord (key_of key.now).section (key_of other.now).section
+        × ((key_of key.now).subsection ≡ (key_of other.now).subsection)) }
+{
+    is_same_word(key.section(), other.section())
+        && match (key.subsection(), other.subsection()) {
+            (None, None) => true,
+            (Some(subsection), Some(other)) => subsection == other,
+            _ => false,
+        }
+}
+
+/// The last part of another key that differs in this part alone.
+fn other_name<'k>(key: &[u8], other: &'k [u8]) -> Option<&'k [u8]>
+    ensures { MatchOption result ((name : List ℕ) → ¬ (IsRenamed key.now other.now name))
+        (λ name. IsRenamed key.now other.now name.now) }
+{
+    let key = Key::split(key)?;
+    let other = Key::split(other)?;
+    if is_beside(&key, &other) {
+        Some(other.name())
+    } else {
+        None
+    }
+}
+
+/// Whether nothing is found for a setting with this key.
+fn is_clean(
+    alloc: Global,
+    runs: &[Run<'_, '_>],
+    options: &Options,
+    key: &[u8],
+    value: Option<&[u8]>,
+) -> Result<bool, AllocError>
+    ensures { IfOk result (λ clean. IsTrue clean
+        ↔ IsClean (rows_of runs.now) options.now key.now (option_copied value.entry)) }
+{
+    match row_for(runs, key) {
+        Some(row) => has_none(alloc, options, row, value),
+        None => Ok(false),
+    }
+}
+
+/// Whether these rows suggest no other key than this one for a key that no row covers.
+fn is_only_unknown(
+    alloc: Global,
+    runs: &[Run<'_, '_>],
+    key: &[u8],
+    suggested: &[u8],
+) -> Result<bool, AllocError>
+    requires { IsUnknown (rows_of runs.now) key.now }
+    ensures { IfOk result (λ only. IsTrue only
+        ↔ IsOnlyKey (rows_of runs.now) key.now suggested.now) }
+{
+    let Some(unknown) = unknown_key(alloc, runs, key)? else {
+        return Ok(true);
+    };
+    match key_meant(alloc, &unknown)? {
+        Some(other) => Ok(other.as_slice() == suggested),
+        None => Ok(false),
+    }
+}
+
+/// The same for any key: none is suggested for one that a row covers.
+fn is_only_key(
+    alloc: Global,
+    runs: &[Run<'_, '_>],
+    key: &[u8],
+    suggested: &[u8],
+) -> Result<bool, AllocError>
+    ensures { IfOk result (λ only. IsTrue only
+        ↔ IsOnlyKey (rows_of runs.now) key.now suggested.now) }
+{
+    match row_for(runs, key) {
+        Some(_) => Ok(true),
+        None => is_only_unknown(alloc, runs, key, suggested),
+    }
+}
+
+/// Whether nothing is found for a setting with this key, and no other key is suggested.
+fn mends_key(
+    alloc: Global,
+    judge: &Judge<'_, '_>,
+    options: &Options,
+    setting: &Setting<'_>,
+    key: &[u8],
+) -> Result<bool, AllocError>
+    ensures { IfOk result (λ mends. IsTrue mends
+        ↔ MendsKey (rows_of judge.now.runs.items) options.now setting.now key.now) }
+{
+    if !is_clean(alloc, &judge.runs, options, key, value_of(setting))? {
+        return Ok(false);
+    }
+    is_only_key(alloc, &judge.backwards, &setting.key, key)
+}
+
+/// The change of a setting that its finding suggests, if the changed setting has no finding left: the value
+/// that is suggested, unless another word is as near, or the last part of the key that is suggested in place
+/// of an unknown one, if the other parts stay and no other key is as near. It fails only if memory is refused.
+pub fn mend<'f>(
+    alloc: Global,
+    judge: &Judge<'_, '_>,
+    options: &Options,
+    setting: &Setting<'_>,
+    finding: &Finding<'f>,
+) -> Result<Option<Fix<'f>>, AllocError>
+    ensures { IfOk result (λ r. MatchOption r
+        ((change : Fix)
+        → ¬ (Mends (rows_of judge.now.runs.items) options.now setting.now (finding_of finding.now) change))
+        (Mends (rows_of judge.now.runs.items) options.now setting.now (finding_of finding.now))) }
+{
+    match (finding.suggested_value, finding.suggested_key, finding.code) {
+        (Some(new), _, code) => {
+            if mends_value(alloc, &judge.runs, options, setting, code, new)? {
+                return Ok(Some(Fix::Value(new)));
+            }
+            Ok(None)
+        }
+        (None, Some(key), Code::UnknownKey) => {
+            let Some(name) = other_name(&setting.key, key) else {
+                return Ok(None);
+            };
+            if mends_key(alloc, judge, options, setting, key)? {
+                return Ok(Some(Fix::Name(name)));
+            }
+            Ok(None)
+        }
+        _ => Ok(None),
+    }
+}

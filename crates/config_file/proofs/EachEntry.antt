@@ -1,0 +1,344 @@
+-- Texts in which entries have other keys and values.
+use Rattle.std.proofs.Common.{◌≡◌, ◌≢◌, ℕ, ◌+◌, ◌<◌, ◌≤◌, Bool, true, List, [], ◌∷◌, ◌++◌, Option, Some, None}
+use Rattle.std.proofs.Common.{length, drop, refl, sym, ap, ◌∙◌, subst, append_assoc, append-nil, ◌⊎◌, arith}
+use Rattle.std.proofs.Common.{option_copied, MatchOption}
+use Rattle.std.proofs.lemmas.List.{append_cancel_left, append_cancel_right, length-append, length-drop}
+use Rattle.config_file.specs.declared.edit.Change.{Change}
+use Rattle.config_file.specs.declared.edit.piece.Held.{Held}
+use Rattle.config_file.specs.declared.edit.piece.Held.TheVariants as held
+use Rattle.config_file.specs.declared.edit.piece.Piece.{Piece}
+use Rattle.config_file.specs.declared.entry.Parts.{Parts}
+use Rattle.config_file.specs.Bytes.{BeginsWithLetter}
+use Rattle.config_file.specs.Header.{Section}
+use Rattle.config_file.specs.File.{TakesKey, TakesEntry, alone, valued}
+use Rattle.config_file.specs.Value.{TakesValue, closed, open_end}
+use Rattle.config_file.specs.Key.{is_name}
+use Rattle.config_file.specs.Edit as spec
+use Rattle.config_file.specs.Edit.{Content, Changes, ChangesEach, MayChange, AreInOrder, IsChanged, IsEntry, Has}
+use Rattle.config_file.specs.Reading.Edits.{Ends, Passed, anywhere, IsRead, IsPiece, IsSet, IsChangedIn, IsValued}
+use Rattle.config_file.specs.Reading.Edits.{AreLater, AreWritable, Changing, IsEachChanged, contents_in}
+use Rattle.config_file.specs.Reading.Edits.{section_after, name_after, content_of}
+use Rattle.config_file.specs.Views.{value_of}
+use Rattle.config_file.proofs.Added.{name_parts}
+use Rattle.config_file.proofs.Pieces.{entry_passed, made_passed, key_joined}
+use Rattle.config_file.proofs.Edits.{holds_nothing, passed_join, passed_ends, all_passed, some_left}
+use Rattle.config_file.proofs.Edits.{joined_more}
+
+-- an entry with another key
+takes_named : {text key rest : List ℕ} (name : List ℕ) → is_name name ≡ true → (t : TakesKey text key rest)
+    → TakesKey (name ++ t.spaced) name rest
+takes_named name is t =
+    record {
+      spaced = t.spaced;
+      spaces = t.spaces;
+      key_run = record { joined = refl; pass = let (b, more, name_is, letter, all) = name_parts name is in all; longest = t.key_run.longest };
+      space_run = t.space_run;
+    }
+
+begins_named : (name rest : List ℕ) → is_name name ≡ true → BeginsWithLetter (name ++ rest)
+begins_named name rest is =
+    let (b, more, name_is, letter, all) = name_parts name is in
+    (b, more ++ rest, ap (λ n. n ++ rest) name_is, letter)
+
+value_joined : {after raw rest : List ℕ} {lines : ℕ} → TakesValue after raw lines rest → after ≡ raw ++ rest
+value_joined (closed joined spells ends) = joined
+value_joined (open_end {raw = raw} spells) = sym (append-nil raw)
+
+entry_named : {text key rest : List ℕ} {value : Option (List ℕ)} {lines : ℕ} (name : List ℕ)
+    → is_name name ≡ true → TakesEntry text key value lines rest
+    → (more : List ℕ) × (text ≡ (key ++ more) ++ rest) × TakesEntry ((name ++ more) ++ rest) name value lines rest
+entry_named name is (alone {key = key} {rest = rest} t end) =
+    let spaced_is : t.spaced ≡ t.spaces ++ rest = t.space_run.joined in (
+      t.spaces,
+      key_joined rest t,
+      subst (λ x. TakesEntry x name None 0 rest)
+          (ap (λ s. name ++ s) spaced_is ∙ sym (append_assoc name t.spaces rest))
+          (alone (takes_named name is t) end),
+    )
+entry_named name is (valued {b = b} {lines = lines} {key = key} {after = after} {raw = raw} {rest = rest} t is_sign value) =
+    let more = t.spaces ++ b ∷ raw in
+    let spaced_is : t.spaced ≡ more ++ rest =
+    t.space_run.joined ∙ ap (λ a. t.spaces ++ b ∷ a) (value_joined value)
+    ∙ sym (append_assoc t.spaces (b ∷ raw) rest) in (
+      more,
+      t.key_run.joined ∙ ap (λ s. key ++ s) spaced_is ∙ sym (append_assoc key more rest),
+      subst (λ x. TakesEntry x name (Some raw) lines rest)
+          (ap (λ s. name ++ s) spaced_is ∙ sym (append_assoc name more rest))
+          (valued (takes_named name is t) is_sign value),
+    )
+
+pub named : {key at blanks bytes rest : List ℕ} {value : Option (List ℕ)} {lines : ℕ} {is_line : Bool}
+    (name : List ℕ) → is_name name ≡ true → IsEntry key value lines at blanks bytes rest is_line
+    → (more : List ℕ) × (bytes ≡ blanks ++ (key ++ more)) × IsEntry name value lines at blanks (blanks ++ (name ++ more)) rest is_line
+named {key = key} {at = at} {blanks = blanks} name is e =
+    let (more, text_is, takes) = entry_named name is e.takes in
+    let front_is : e.front ≡ key ++ more = append_cancel_right e.front (key ++ more) at text_is in (
+      more ++ e.tail,
+      e.joined ∙ ap (λ f. blanks ++ (f ++ e.tail)) front_is
+          ∙ ap (λ x. blanks ++ x) (append_assoc key more e.tail),
+      record {
+        front = name ++ more;
+        tail = e.tail;
+        begins = subst BeginsWithLetter (sym (append_assoc name more at)) (begins_named name (more ++ at) is);
+        takes = takes;
+        left = e.left;
+        is_tail = e.is_tail;
+        joined = ap (λ x. blanks ++ x) (sym (append_assoc name more e.tail));
+      },
+    )
+
+pub valued_new : {value : List ℕ} {parts : Parts} {piece : Piece} {put : List ℕ} → IsSet parts piece value put
+    → IsValued (Some value) parts piece put
+valued_new s =
+    record { raw = Some s.raw; lines = s.lines; at = s.at; value_is = s.has_value; entry = s.entry; bytes = s.bytes }
+
+pub valued_old : {parts : Parts} {piece : Piece}
+    → IsEntry parts.key.now (value_of parts.value) parts.lines parts.rest.now piece.blanks.now piece.bytes.now piece.rest.now piece.is_line
+    → IsValued None parts piece piece.bytes.now
+valued_old {parts = parts} e =
+    record { raw = value_of parts.value; lines = parts.lines; at = parts.rest.now; value_is = refl; entry = e; bytes = refl }
+
+pub named_old : {change : Change} {parts : Parts} {piece : Piece} {put : List ℕ}
+    → (e : IsEntry parts.key.now (value_of parts.value) parts.lines parts.rest.now piece.blanks.now piece.bytes.now piece.rest.now piece.is_line)
+    → option_copied change.name ≡ None → IsValued (option_copied change.value) parts piece put
+    → IsChangedIn change parts piece put
+named_old {change = change} {parts = parts} {piece = piece} {put = put} e none v =
+    record {
+      raw = v.raw;
+      lines = v.lines;
+      at = v.at;
+      value_is = v.value_is;
+      entry = rw none v.entry;
+      bytes = record {
+        key = parts.key.now;
+        value = value_of parts.value;
+        lines = parts.lines;
+        at = parts.rest.now;
+        blanks = piece.blanks.now;
+        rest = piece.rest.now;
+        is_line = piece.is_line;
+        valued = put;
+        is_entry = e;
+        is_valued = v.bytes;
+        is_named = rw none refl;
+      };
+    }
+
+pub named_new : {change : Change} {parts : Parts} {piece : Piece} {line : List ℕ} (name more : List ℕ)
+    → (e : IsEntry parts.key.now (value_of parts.value) parts.lines parts.rest.now piece.blanks.now piece.bytes.now piece.rest.now piece.is_line)
+    → option_copied change.name ≡ Some name → is_name name ≡ true
+    → IsValued (option_copied change.value) parts piece line
+    → line ≡ piece.blanks.now ++ (parts.key.now ++ more)
+    → IsChangedIn change parts piece (piece.blanks.now ++ (name ++ more))
+named_new {change = change} {parts = parts} {piece = piece} {line = line} name more e some is v line_is =
+    let (m, joined, entry) = named name is v.entry in
+    let blanks = piece.blanks.now in
+    let same : m ≡ more = append_cancel_left (blanks ++ parts.key.now) m more
+    (append_assoc blanks parts.key.now m ∙ sym joined ∙ line_is ∙ sym (append_assoc blanks parts.key.now more)) in
+    record {
+      raw = v.raw;
+      lines = v.lines;
+      at = v.at;
+      value_is = v.value_is;
+      entry = rw (some, sym same) entry;
+      bytes = record {
+        key = parts.key.now;
+        value = value_of parts.value;
+        lines = parts.lines;
+        at = parts.rest.now;
+        blanks = blanks;
+        rest = piece.rest.now;
+        is_line = piece.is_line;
+        valued = line;
+        is_entry = e;
+        is_valued = v.bytes;
+        is_named = rw some (more, line_is, refl);
+      };
+    }
+
+-- the changes that are left
+order_kept : (left : List Change) (index count : ℕ) → AreLater left index → AreInOrder index left count
+    → AreInOrder (index + 1) left count
+order_kept [] index count later order = tt
+order_kept (change ∷ more) index count later (from, below, order) =
+    let next : index + 1 ≤ change.entry = omega arith in (next, below, order)
+
+order_done : (change : Change) (more : List Change) (index count : ℕ) → change.entry ≡ index
+    → AreInOrder index (change ∷ more) count → AreInOrder (index + 1) more count
+order_done change more index count is (from, below, order) =
+    subst (λ i. AreInOrder (i + 1) more count) is order
+
+none_left : (left : List Change) (count : ℕ) → left ≢ [] → AreInOrder count left count → ⊥
+none_left [] count some order = some refl
+none_left (change ∷ more) count some (from, below, order) = omega arith
+
+pub some_after : {A : Type 0} (count : ℕ) (xs : List A) → count < length xs → drop count xs ≢ []
+some_after count xs more none =
+    let rest : length (drop count xs) ≡ 0 = ap (λ l. length l) none in
+    let size = length-drop count xs in omega arith
+
+one_longer : {A : Type 0} (xs : List A) (x : A) → length (xs ++ x ∷ []) ≡ length xs + 1
+one_longer xs x = length-append xs (x ∷ [])
+
+each_kept : {done : List Change} {old now : List Content} (h : Held) (section : Option Section)
+    → ChangesEach done old now
+    → ChangesEach done (old ++ contents_in h section) (now ++ contents_in h section)
+each_kept (held.Entry parts) section each = spec.kept (content_of section parts) each
+each_kept {done = done} {old = old} {now = now} (held.Header new) section each =
+    subst (λ o. ChangesEach done o (now ++ [])) (sym (append-nil old))
+    (subst (λ n. ChangesEach done old n) (sym (append-nil now)) each)
+each_kept {done = done} {old = old} {now = now} held.Nothing section each =
+    subst (λ o. ChangesEach done o (now ++ [])) (sym (append-nil old))
+    (subst (λ n. ChangesEach done old n) (sym (append-nil now)) each)
+each_kept {done = done} {old = old} {now = now} held.Comment section each =
+    subst (λ o. ChangesEach done o (now ++ [])) (sym (append-nil old))
+    (subst (λ n. ChangesEach done old n) (sym (append-nil now)) each)
+
+none_held : (h : Held) (section : Option Section) → ((parts : Parts) → h ≡ held.Entry parts → ⊥)
+    → contents_in h section ≡ []
+none_held (held.Entry parts) section other = absurd (other parts refl)
+none_held (held.Header new) section other = refl
+none_held held.Nothing section other = refl
+none_held held.Comment section other = refl
+
+name_is : (name : Option (List ℕ)) (key : List ℕ) → MatchOption name (name_after name key ≡ key) (λ n. name_after name key ≡ n)
+name_is None key = refl
+name_is (Some name) key = refl
+
+pub changing_begins : (changes : List Change) (text : List ℕ) → AreWritable changes
+    → Changing changes text text changes [] 0
+changing_begins changes text writable =
+    record {
+      front = [];
+      done = [];
+      old = [];
+      now = [];
+      section = None;
+      joined = refl;
+      passed = anywhere (holds_nothing None);
+      passed_now = anywhere (holds_nothing None);
+      split = refl;
+      each = spec.none;
+      index_is = refl;
+      bytes = spec.none;
+      ordered = λ count order. order;
+      writable = writable;
+      room = omega arith;
+    }
+
+-- a piece that is no entry
+pub changing_passes : {changes left : List Change} {text rest new : List ℕ} {index : ℕ} (piece : Piece)
+    → Changing changes text rest left new index → IsPiece rest piece → length piece.rest.now < length rest
+    → ((parts : Parts) → piece.held ≡ held.Entry parts → ⊥)
+    → Changing changes text piece.rest.now left (new ++ piece.bytes.now) index
+changing_passes {text = text} {rest = rest} {new = new} {index = index} piece r is shorter other =
+    let some = some_left rest piece.rest.now shorter in
+    let made = made_passed piece.held piece.blanks.now piece.is_line is.blank is.made r.section in
+    let none = none_held piece.held r.section other in
+    record {
+      front = r.front ++ piece.bytes.now;
+      done = r.done;
+      old = r.old ++ contents_in piece.held r.section;
+      now = r.now ++ contents_in piece.held r.section;
+      section = section_after piece.held r.section;
+      joined = joined_more text r.front rest piece.bytes.now piece.rest.now r.joined is.joined;
+      passed = passed_join some r.passed made;
+      passed_now = passed_join some r.passed_now made;
+      split = r.split;
+      each = each_kept piece.held r.section r.each;
+      index_is = r.index_is ∙ sym (ap (λ c. length (r.old ++ c)) none ∙ ap (λ o. length o) (append-nil r.old));
+      bytes = spec.kept piece.bytes.now r.bytes;
+      ordered = r.ordered;
+      writable = r.writable;
+      room = let room = r.room in omega arith;
+    }
+
+-- an entry that stays
+pub changing_keeps : {changes left : List Change} {text rest new : List ℕ} {index : ℕ} (piece : Piece) (parts : Parts)
+    → Changing changes text rest left new index → IsPiece rest piece → length piece.rest.now < length rest
+    → piece.held ≡ held.Entry parts → AreLater left index
+    → Changing changes text piece.rest.now left (new ++ piece.bytes.now) (index + 1)
+changing_keeps {left = left} {text = text} {rest = rest} {new = new} {index = index} piece parts r is shorter entry later =
+    let some = some_left rest piece.rest.now shorter in
+    let made = made_passed piece.held piece.blanks.now piece.is_line is.blank is.made r.section in
+    let one : contents_in piece.held r.section ≡ content_of r.section parts ∷ [] = ap (λ h. contents_in h r.section) entry in
+    record {
+      front = r.front ++ piece.bytes.now;
+      done = r.done;
+      old = r.old ++ contents_in piece.held r.section;
+      now = r.now ++ contents_in piece.held r.section;
+      section = section_after piece.held r.section;
+      joined = joined_more text r.front rest piece.bytes.now piece.rest.now r.joined is.joined;
+      passed = passed_join some r.passed made;
+      passed_now = passed_join some r.passed_now made;
+      split = r.split;
+      each = each_kept piece.held r.section r.each;
+      index_is = ap (λ i. i + 1) r.index_is
+          ∙ sym (ap (λ c. length (r.old ++ c)) one ∙ one_longer r.old (content_of r.section parts));
+      bytes = spec.kept piece.bytes.now r.bytes;
+      ordered = λ count order. order_kept left index count later (r.ordered count order);
+      writable = r.writable;
+      room = let room = r.room in omega arith;
+    }
+
+-- an entry that changes
+pub changing_changes : {changes left more : List Change} {change : Change} {text rest new put : List ℕ} {index : ℕ}
+    (piece : Piece) (parts : Parts)
+    → Changing changes text rest left new index → IsPiece rest piece → length piece.rest.now < length rest
+    → piece.held ≡ held.Entry parts → left ≡ change ∷ more → change.entry ≡ index
+    → IsChangedIn change parts piece put
+    → Changing changes text piece.rest.now more (new ++ put) (index + 1)
+changing_changes {changes = changes} {left = left} {more = more} {change = change} {text = text} {rest = rest} {new = new} {put = put} {index = index} piece parts r is shorter entry left_is due c =
+    let some = some_left rest piece.rest.now shorter in
+    let name = name_after (option_copied change.name) parts.key.now in
+    let x = content_of r.section parts in
+    let y : Content = (r.section, name, c.raw) in
+    let made : Passed r.section piece.bytes.now (x ∷ []) r.section piece.rest.now =
+    subst (λ s. Passed r.section piece.bytes.now (x ∷ []) s piece.rest.now) (ap (λ h. section_after h r.section) entry)
+    (subst (λ xs. Passed r.section piece.bytes.now xs (section_after piece.held r.section) piece.rest.now)
+    (ap (λ h. contents_in h r.section) entry)
+    (made_passed piece.held piece.blanks.now piece.is_line is.blank is.made r.section)) in
+    let made_now : Passed r.section put (y ∷ []) r.section piece.rest.now =
+    entry_passed piece.blanks.now piece.is_line is.blank c.entry r.section in
+    let split : changes ≡ r.done ++ change ∷ more = r.split ∙ ap (λ l. r.done ++ l) left_is in
+    record {
+      front = r.front ++ piece.bytes.now;
+      done = r.done ++ change ∷ [];
+      old = r.old ++ x ∷ [];
+      now = r.now ++ y ∷ [];
+      section = r.section;
+      joined = joined_more text r.front rest piece.bytes.now piece.rest.now r.joined is.joined;
+      passed = passed_join some r.passed made;
+      passed_now = passed_join some r.passed_now made_now;
+      split = split ∙ sym (append_assoc r.done (change ∷ []) more);
+      each = spec.changed change x y r.each (due ∙ r.index_is) (refl, name_is (option_copied change.name) parts.key.now, c.value_is);
+      index_is = ap (λ i. i + 1) r.index_is ∙ sym (one_longer r.old x);
+      bytes = spec.changed r.bytes (change, (r.done, more, split), c.bytes);
+      ordered = λ count order.
+          order_done change more index count due (subst (λ l. AreInOrder index l count) left_is (r.ordered count order));
+      writable = (subst AreWritable left_is r.writable).1;
+      room = let room = r.room in omega arith;
+    }
+
+-- at the end of the text
+pub each_changed : {changes left : List Change} {text rest new : List ℕ} {index : ℕ} {contents : List Content}
+    → Changing changes text rest left new index → Ends None text contents
+    → (rest ≡ []) ⊎ (¬ (IsRead rest)) → left ≡ [] → IsEachChanged changes text contents new
+each_changed {changes = changes} {text = text} {new = new} {contents = contents} r whole end none =
+    let (rest_is, text_is, contents_are) = all_passed r.joined r.passed whole end in
+    let done_is : r.done ≡ changes = sym (r.split ∙ ap (λ l. r.done ++ l) none ∙ append-nil r.done) in
+    record {
+      now = r.now;
+      ends = passed_ends rest_is r.passed_now;
+      each = subst (λ c. ChangesEach changes c r.now) contents_are
+          (subst (λ d. ChangesEach d r.old r.now) done_is r.each);
+      bytes = subst (λ t. Changes (MayChange changes) t new) (sym text_is) r.bytes;
+    }
+
+pub not_in_order : {changes left : List Change} {text rest new : List ℕ} {index : ℕ} {contents : List Content}
+    → Changing changes text rest left new index → Ends None text contents
+    → (rest ≡ []) ⊎ (¬ (IsRead rest)) → left ≢ [] → ¬ (AreInOrder 0 changes (length contents))
+not_in_order {left = left} {index = index} {contents = contents} r whole end some = λ order.
+    let (rest_is, text_is, contents_are) = all_passed r.joined r.passed whole end in
+    let count_is : length contents ≡ index = sym (r.index_is ∙ ap (λ c. length c) contents_are) in
+    none_left left index some (subst (λ n. AreInOrder index left n) count_is (r.ordered (length contents) order))

@@ -1,0 +1,168 @@
+/* The calls that are proved, which calls.c makes of the calls of the header. No pointer may be null, even if the length
+ * is 0. tests/header.py compares this file with the sources. */
+#ifndef GCV_RAW_H
+#define GCV_RAW_H
+
+#include "gix_config_value.h"
+
+/* What gcv_raw_next takes for a gcv_known. */
+typedef struct gcv_raw_known {
+    const char *install_dir;
+    size_t install_dir_length;
+    const char *home;
+    size_t home_length;
+    const char *real_home;
+    size_t real_home_length;
+    const char *git_dir;
+    size_t git_dir_length;
+    const char *real_git_dir;
+    size_t real_git_dir_length;
+    const char *branch;
+    size_t branch_length;
+    const gcv_text *urls;
+    size_t urls_length;
+    uint32_t has_install_dir;
+    uint32_t has_home;
+    uint32_t has_real_home;
+    uint32_t has_repository;
+    uint32_t has_branch;
+    uint32_t follows;
+    uint32_t seeks_urls;
+} gcv_raw_known;
+
+/* What gcv_raw_next writes. */
+typedef struct gcv_raw_step {
+    const char *name;
+    size_t name_length;
+    size_t line;
+    size_t value;
+    size_t included;
+    size_t size;
+    uint32_t has_value;
+    gcv_status include;
+} gcv_raw_step;
+
+/* The library expects this layout. */
+#define GCV_ASSERT(fact) extern const char gcv_asserted[(fact) ? 1 : -1]
+GCV_ASSERT(sizeof(gcv_status) == 4 && sizeof(gcv_kind) == 4 && sizeof(gcv_fault) == 4);
+GCV_ASSERT(offsetof(gcv_integer, value) == 0);
+GCV_ASSERT(offsetof(gcv_integer, suffix) == 8);
+GCV_ASSERT(sizeof(gcv_integer) == 16);
+GCV_ASSERT(offsetof(gcv_name, tag) == 0);
+GCV_ASSERT(offsetof(gcv_name, palette) == 4);
+GCV_ASSERT(offsetof(gcv_name, red) == 5);
+GCV_ASSERT(offsetof(gcv_name, green) == 6);
+GCV_ASSERT(offsetof(gcv_name, blue) == 7);
+GCV_ASSERT(sizeof(gcv_name) == 8);
+GCV_ASSERT(offsetof(gcv_color, foreground) == 0);
+GCV_ASSERT(offsetof(gcv_color, background) == 8);
+GCV_ASSERT(offsetof(gcv_color, attributes) == 16);
+GCV_ASSERT(sizeof(gcv_color) == 20);
+GCV_ASSERT(offsetof(gcv_frame, name) == 0);
+GCV_ASSERT(offsetof(gcv_frame, name_length) == 8);
+GCV_ASSERT(offsetof(gcv_frame, real_dir) == 16);
+GCV_ASSERT(offsetof(gcv_frame, real_dir_length) == 24);
+GCV_ASSERT(offsetof(gcv_frame, section) == 32);
+GCV_ASSERT(offsetof(gcv_frame, section_length) == 40);
+GCV_ASSERT(offsetof(gcv_frame, subsection) == 48);
+GCV_ASSERT(offsetof(gcv_frame, subsection_length) == 56);
+GCV_ASSERT(offsetof(gcv_frame, rest) == 64);
+GCV_ASSERT(offsetof(gcv_frame, rest_length) == 72);
+GCV_ASSERT(offsetof(gcv_frame, line) == 80);
+GCV_ASSERT(offsetof(gcv_frame, parts) == 88);
+GCV_ASSERT(sizeof(gcv_frame) == 96);
+GCV_ASSERT(offsetof(gcv_text, bytes) == 0);
+GCV_ASSERT(offsetof(gcv_text, length) == 8);
+GCV_ASSERT(sizeof(gcv_text) == 16);
+GCV_ASSERT(offsetof(gcv_raw_known, install_dir) == 0);
+GCV_ASSERT(offsetof(gcv_raw_known, install_dir_length) == 8);
+GCV_ASSERT(offsetof(gcv_raw_known, home) == 16);
+GCV_ASSERT(offsetof(gcv_raw_known, home_length) == 24);
+GCV_ASSERT(offsetof(gcv_raw_known, real_home) == 32);
+GCV_ASSERT(offsetof(gcv_raw_known, real_home_length) == 40);
+GCV_ASSERT(offsetof(gcv_raw_known, git_dir) == 48);
+GCV_ASSERT(offsetof(gcv_raw_known, git_dir_length) == 56);
+GCV_ASSERT(offsetof(gcv_raw_known, real_git_dir) == 64);
+GCV_ASSERT(offsetof(gcv_raw_known, real_git_dir_length) == 72);
+GCV_ASSERT(offsetof(gcv_raw_known, branch) == 80);
+GCV_ASSERT(offsetof(gcv_raw_known, branch_length) == 88);
+GCV_ASSERT(offsetof(gcv_raw_known, urls) == 96);
+GCV_ASSERT(offsetof(gcv_raw_known, urls_length) == 104);
+GCV_ASSERT(offsetof(gcv_raw_known, has_install_dir) == 112);
+GCV_ASSERT(offsetof(gcv_raw_known, has_home) == 116);
+GCV_ASSERT(offsetof(gcv_raw_known, has_real_home) == 120);
+GCV_ASSERT(offsetof(gcv_raw_known, has_repository) == 124);
+GCV_ASSERT(offsetof(gcv_raw_known, has_branch) == 128);
+GCV_ASSERT(offsetof(gcv_raw_known, follows) == 132);
+GCV_ASSERT(offsetof(gcv_raw_known, seeks_urls) == 136);
+GCV_ASSERT(sizeof(gcv_raw_known) == 144);
+GCV_ASSERT(offsetof(gcv_raw_step, name) == 0);
+GCV_ASSERT(offsetof(gcv_raw_step, name_length) == 8);
+GCV_ASSERT(offsetof(gcv_raw_step, line) == 16);
+GCV_ASSERT(offsetof(gcv_raw_step, value) == 24);
+GCV_ASSERT(offsetof(gcv_raw_step, included) == 32);
+GCV_ASSERT(offsetof(gcv_raw_step, size) == 40);
+GCV_ASSERT(offsetof(gcv_raw_step, has_value) == 48);
+GCV_ASSERT(offsetof(gcv_raw_step, include) == 52);
+GCV_ASSERT(sizeof(gcv_raw_step) == 56);
+#undef GCV_ASSERT
+
+gcv_status gcv_raw_read_suffix(const char *text, size_t length, gcv_suffix *out, gcv_fault *fault);
+gcv_status gcv_raw_read_integer(const char *text, size_t length, gcv_integer *out, gcv_fault *fault);
+gcv_status gcv_raw_read_amount(const char *text, size_t length, int64_t *out, gcv_fault *fault);
+gcv_status gcv_raw_read_boolean(const char *text, size_t length, uint32_t *out, gcv_fault *fault);
+gcv_status gcv_raw_read_name(const char *text, size_t length, gcv_name *out, gcv_fault *fault);
+gcv_status gcv_raw_read_attribute(const char *text, size_t length, uint32_t *out, gcv_fault *fault);
+gcv_status gcv_raw_read_color(const char *text, size_t length, gcv_color *out, gcv_fault *fault);
+gcv_status gcv_raw_product(const gcv_integer *value, int64_t *out);
+gcv_status gcv_raw_show_suffix(gcv_suffix suffix, char *buffer, size_t capacity, size_t *size);
+gcv_status gcv_raw_show_integer(const gcv_integer *value, char *buffer, size_t capacity, size_t *size);
+gcv_status gcv_raw_show_amount(int64_t value, char *buffer, size_t capacity, size_t *size);
+gcv_status gcv_raw_show_boolean(uint32_t value, char *buffer, size_t capacity, size_t *size);
+gcv_status gcv_raw_show_name(const gcv_name *value, char *buffer, size_t capacity, size_t *size);
+gcv_status gcv_raw_show_attribute(uint32_t bits, char *buffer, size_t capacity, size_t *size);
+gcv_status gcv_raw_show_color(const gcv_color *value, char *buffer, size_t capacity, size_t *size);
+gcv_status gcv_raw_escape_color(const gcv_color *value, char *buffer, size_t capacity, size_t *size);
+gcv_status gcv_raw_normalize(gcv_kind kind, const char *text, size_t length, char *buffer, size_t capacity,
+                             size_t *size);
+gcv_status gcv_raw_same(gcv_kind kind, const char *first, size_t first_length, const char *second, size_t second_length,
+                        uint32_t *out);
+gcv_status gcv_raw_compose(const gcv_color *first, const gcv_color *second, gcv_color *out);
+gcv_status gcv_raw_over(const gcv_color *base, const gcv_color *top, gcv_color *out);
+gcv_status gcv_raw_reduce_color(const gcv_color *value, gcv_depth depth, gcv_color *out);
+gcv_status gcv_raw_terminal_depth(uint32_t is_terminal, uint32_t has_no_color, const char *no_color,
+                                   size_t no_color_length, uint32_t has_term, const char *term, size_t term_length,
+                                   uint32_t has_colorterm, const char *colorterm, size_t colorterm_length,
+                                   gcv_depth *out);
+gcv_status gcv_raw_enter(size_t *count, gcv_frame *frame, const char *name, size_t name_length, const char *real_dir,
+                         size_t real_dir_length, const char *text, size_t length);
+gcv_status gcv_raw_next(gcv_frame *frames, size_t frames_count, size_t *count, const gcv_raw_known *known, char *buffer,
+                        size_t capacity, gcv_raw_step *out);
+gcv_status gcv_raw_command_setting(const char *key, size_t key_length, const char *value, size_t value_length,
+                                   char *buffer, size_t capacity, size_t *size);
+gcv_status gcv_raw_command_parameters(const char *parameters, size_t parameters_length, char *buffer, size_t capacity,
+                                      size_t *size);
+gcv_status gcv_raw_command_count(const char *text, size_t length, size_t *count);
+gcv_status gcv_raw_set(const char *text, size_t length, const char *key, size_t key_length, const char *value,
+                       size_t value_length, char *buffer, size_t capacity, size_t *size, size_t *line);
+gcv_status gcv_raw_replace_all(const char *text, size_t length, const char *key, size_t key_length, const char *value,
+                               size_t value_length, char *buffer, size_t capacity, size_t *size, size_t *line);
+gcv_status gcv_raw_add(const char *text, size_t length, const char *key, size_t key_length, const char *value,
+                       size_t value_length, char *buffer, size_t capacity, size_t *size, size_t *line);
+gcv_status gcv_raw_unset(const char *text, size_t length, const char *key, size_t key_length, char *buffer,
+                         size_t capacity, size_t *size, size_t *line);
+gcv_status gcv_raw_unset_all(const char *text, size_t length, const char *key, size_t key_length, char *buffer,
+                             size_t capacity, size_t *size, size_t *line);
+gcv_status gcv_raw_rename_section(const char *text, size_t length, const char *old_name, size_t old_name_length,
+                                  const char *new_name, size_t new_name_length, char *buffer, size_t capacity,
+                                  size_t *size, size_t *line);
+gcv_status gcv_raw_remove_section(const char *text, size_t length, const char *name, size_t name_length, char *buffer,
+                                  size_t capacity, size_t *size, size_t *line);
+void gcv_raw_cut_mark(const char *text, size_t length, uint32_t *optional, size_t *start);
+gcv_status gcv_raw_interpolate(const char *text, size_t length, uint32_t has_install_dir, const char *install_dir,
+                               size_t install_dir_length, uint32_t has_home, const char *home, size_t home_length,
+                               uint32_t has_passwd, const char *passwd, size_t passwd_length, char *buffer,
+                               size_t capacity, size_t *size, gcv_fault *fault);
+gcv_status gcv_raw_fault_text(gcv_fault fault, char *buffer, size_t capacity, size_t *size);
+
+#endif

@@ -1,0 +1,450 @@
+/* The settings of files: a list, its texts, and a table in which a key leads to its last setting. */
+#define _DEFAULT_SOURCE
+#include "gix_config_value.h"
+
+#include <errno.h>
+#include <stdio.h>
+#include <stdlib.h>
+#include <string.h>
+
+/* A block of texts, which stay where they are. */
+typedef struct block {
+    struct block *before;
+    size_t capacity, size;
+    char bytes[];
+} block;
+
+typedef struct gcv_memory {
+    block *texts;
+    gcv_setting *list;
+    size_t room;
+    size_t *slots; /* 0, or one more than the index of the last setting of a key */
+    size_t slots_size, indexed;
+} gcv_memory;
+
+enum { LEAST_BLOCK = 1 << 14, LEAST_LIST = 64, LONGEST_FILE = 1 << 30 };
+
+/* Where the case of a key counts: between its first dot and its last one. */
+typedef struct {
+    size_t first, last;
+    int has_dot;
+} dots;
+
+static dots dots_of(const char *key)
+{
+    dots of = {0, 0, 0};
+    for (size_t at = 0; key[at] != '\0'; at++) {
+        if (key[at] == '.') {
+            of.first = of.has_dot ? of.first : at;
+            of.last = at;
+            of.has_dot = 1;
+        }
+    }
+    return of;
+}
+
+/* The byte of a key as Git lists it. */
+static char listed_byte(const char *key, size_t at, const dots *of)
+{
+    char byte = key[at];
+    if ((!of->has_dot || at <= of->first || at >= of->last) && byte >= 'A' && byte <= 'Z') {
+        byte = "abcdefghijklmnopqrstuvwxyz"[byte - 'A'];
+    }
+    return byte;
+}
+
+int gcv_is_key(const char *listed, const char *key)
+{
+    dots of = dots_of(key);
+    size_t at = 0;
+    for (; key[at] != '\0' && listed_byte(key, at, &of) == listed[at]; at++) {
+    }
+    return key[at] == '\0' && listed[at] == '\0';
+}
+
+/* The slot of a key: that of a setting with the key, or an empty one. The sum begins with an address, so that nobody
+ * can write keys that all have one slot. */
+static size_t slot_of(const gcv_memory *memory, const char *key)
+{
+    dots of = dots_of(key);
+    uint64_t sum = 14695981039346656037u ^ (uint64_t)(uintptr_t)memory;
+    for (size_t at = 0; key[at] != '\0'; at++) {
+        sum = (sum ^ (unsigned char)listed_byte(key, at, &of)) * 1099511628211u;
+        sum ^= sum >> 29;
+    }
+    size_t slot = (size_t)sum & (memory->slots_size - 1);
+    while (memory->slots[slot] != 0 && !gcv_is_key(memory->list[memory->slots[slot] - 1].key, key)) {
+        slot = (slot + 1) & (memory->slots_size - 1);
+    }
+    return slot;
+}
+
+const gcv_setting *gcv_find_setting(const gcv_settings *settings, const char *key)
+{
+    size_t found = settings->count == 0 ? 0 : settings->memory->slots[slot_of(settings->memory, key)];
+    return found == 0 ? NULL : &settings->list[found - 1];
+}
+
+/* Puts the settings into the table that are not there yet. */
+static void fill(gcv_memory *memory, size_t count)
+{
+    for (; memory->indexed < count; memory->indexed++) {
+        memory->slots[slot_of(memory, memory->list[memory->indexed].key)] = memory->indexed + 1;
+    }
+}
+
+/* Lets the table have room for so many settings, and puts them into it. */
+static gcv_status index_all(gcv_memory *memory, size_t count)
+{
+    size_t size = memory->slots_size == 0 ? LEAST_LIST : memory->slots_size;
+    while (size / 2 < count) {
+        size *= 2;
+    }
+    if (size != memory->slots_size) {
+        size_t *slots = calloc(size, sizeof *slots);
+        if (!slots) {
+            return GCV_NO_MEMORY;
+        }
+        free(memory->slots);
+        memory->slots = slots;
+        memory->slots_size = size;
+        memory->indexed = 0;
+    }
+    fill(memory, count);
+    return GCV_OK;
+}
+
+/* Forgets the settings after so many. */
+static void forget_from(gcv_settings *settings, size_t count)
+{
+    gcv_memory *memory = settings->memory;
+    if (memory->indexed > count) {
+        memset(memory->slots, 0, memory->slots_size * sizeof *memory->slots);
+        memory->indexed = 0;
+    }
+    settings->count = count;
+    fill(memory, count);
+}
+
+/* A block with this much room, or null. */
+static block *block_with(gcv_memory *memory, size_t room)
+{
+    block *last = memory->texts;
+    if (last && last->capacity - last->size >= room) {
+        return last;
+    }
+    size_t capacity = last && last->capacity < LONGEST_FILE ? 2 * last->capacity : LEAST_BLOCK;
+    capacity = capacity < room ? room : capacity;
+    block *next = capacity > PTRDIFF_MAX - sizeof *next ? NULL : malloc(sizeof *next + capacity);
+    if (next) {
+        next->before = last;
+        next->capacity = capacity;
+        next->size = 0;
+        memory->texts = next;
+    }
+    return next;
+}
+
+/* A copy of a text with its NUL, or null. */
+static const char *kept(gcv_memory *memory, const char *text)
+{
+    size_t size = strlen(text) + 1;
+    block *room = block_with(memory, size);
+    if (!room) {
+        return NULL;
+    }
+    char *copy = memcpy(room->bytes + room->size, text, size);
+    room->size += size;
+    return copy;
+}
+
+void gcv_free_settings(gcv_settings *settings)
+{
+    static const gcv_settings none = GCV_NO_SETTINGS;
+    if (settings->memory) {
+        for (block *each = settings->memory->texts; each;) {
+            block *before = each->before;
+            free(each);
+            each = before;
+        }
+        free(settings->memory->list);
+        free(settings->memory->slots);
+        free(settings->memory);
+    }
+    *settings = none;
+}
+
+/* Reads to the end of a file. */
+static gcv_status read_all(FILE *file, gcv_file *out)
+{
+    size_t capacity = 0;
+    for (;;) {
+        if (out->length == capacity) {
+            capacity = capacity == 0 ? LEAST_BLOCK : 2 * capacity;
+            char *more = realloc(out->text, capacity);
+            if (!more) {
+                return GCV_NO_MEMORY;
+            }
+            out->text = more;
+        }
+        size_t count = fread(out->text + out->length, 1, capacity - out->length, file);
+        out->length += count;
+        if (out->length > LONGEST_FILE) {
+            return GCV_REFUSED;
+        }
+        if (count == 0) {
+            return ferror(file) ? GCV_REFUSED : GCV_OK;
+        }
+    }
+}
+
+/* The folder of a file as an absolute path without links, or null. */
+static char *real_dir_of(const char *name)
+{
+    char *real = realpath(name, NULL), *end = real ? strrchr(real, '/') : NULL;
+    if (end) {
+        *end = '\0';
+    }
+    return real;
+}
+
+gcv_status gcv_open_file(void *state, const char *name, gcv_file *out)
+{
+    FILE *file = fopen(name, "rb");
+    (void)state;
+    if (!file) {
+        return errno == ENOENT || errno == ENOTDIR ? GCV_ABSENT : GCV_REFUSED;
+    }
+    out->text = NULL;
+    out->length = 0;
+    out->real_dir = NULL;
+    gcv_status status = read_all(file, out);
+    fclose(file);
+    if (status != GCV_OK) {
+        free(out->text);
+        return status;
+    }
+    out->real_dir = real_dir_of(name);
+    return GCV_OK;
+}
+
+/* What is read. Files have memory by their depth. `conditional` is the depth of the first condition on the way to the
+ * entry, or 0. `refused` is the first URL of a remote in a file that is included on a condition. */
+typedef struct {
+    gcv_settings *settings;
+    gcv_memory *memory;
+    const gcv_known *known;
+    gcv_open *open;
+    void *state;
+    gcv_walk walk;
+    gcv_file files[GCV_MOST_FRAMES + 1];
+    size_t conditional;
+    int asks_urls;
+    const char *refused_file;
+    size_t refused_line;
+} reading;
+
+/* Goes on in a file, whose name stays where it is. */
+static gcv_status enter(reading *to, const char *name)
+{
+    gcv_file *file = &to->files[to->walk.count];
+    free(file->text);
+    free(file->real_dir);
+    memset(file, 0, sizeof *file);
+    gcv_status status = to->open(to->state, name, file);
+    if (status != GCV_OK) {
+        memset(file, 0, sizeof *file);
+        return status == GCV_ABSENT ? GCV_OK : status;
+    }
+    return gcv_enter(&to->walk, name, strlen(name), file->real_dir, file->real_dir ? strlen(file->real_dir) : 0,
+                     file->text, file->length);
+}
+
+/* Takes the next entry into a block. */
+static gcv_status next(reading *to, gcv_step *step)
+{
+    gcv_status status = GCV_SHORT_BUFFER;
+    for (size_t room = 1; status == GCV_SHORT_BUFFER; room = step->size) {
+        block *texts = block_with(to->memory, room);
+        if (!texts) {
+            return GCV_NO_MEMORY;
+        }
+        status = gcv_next(&to->walk, to->known, texts->bytes + texts->size, texts->capacity - texts->size, step);
+        texts->size += status == GCV_OK ? step->size : 0;
+    }
+    return status;
+}
+
+/* Lets an entry share the key of a setting before it, so that a long key is kept once. */
+static void share_key(gcv_memory *memory, gcv_step *step)
+{
+    size_t found = memory->slots_size == 0 ? 0 : memory->slots[slot_of(memory, step->key)];
+    size_t size = strlen(step->key) + 1;
+    if (found == 0) {
+        return;
+    }
+    char *begin = memory->texts->bytes + memory->texts->size - step->size;
+    memmove(begin, begin + size, step->size - size);
+    memory->texts->size -= size;
+    step->key = memory->list[found - 1].key;
+    step->value = step->value ? step->value - size : NULL;
+    step->included = step->included ? step->included - size : NULL;
+}
+
+/* Appends a setting to the list. */
+static gcv_status append(reading *to, const gcv_step *step)
+{
+    gcv_memory *memory = to->memory;
+    if (to->settings->count == memory->room) {
+        size_t room = memory->room == 0 ? LEAST_LIST : 2 * memory->room;
+        gcv_setting *list = room > PTRDIFF_MAX / sizeof *list ? NULL : realloc(memory->list, room * sizeof *list);
+        if (!list) {
+            return GCV_NO_MEMORY;
+        }
+        to->settings->list = memory->list = list;
+        memory->room = room;
+    }
+    gcv_setting *setting = &memory->list[to->settings->count++];
+    setting->key = step->key;
+    setting->value = step->value;
+    setting->file = step->file;
+    setting->line = step->line;
+    return index_all(memory, to->settings->count);
+}
+
+/* Whether this is the key of the URL of a remote. */
+static int is_url(const char *key)
+{
+    size_t length = strlen(key);
+    return length > 11 && memcmp(key, "remote.", 7) == 0 && strcmp(key + length - 4, ".url") == 0;
+}
+
+/* Takes an entry of a walk, and goes on in the file that it includes. */
+static gcv_status take(reading *to, gcv_step *step)
+{
+    static const char condition[] = "includeif.", asking[] = "includeif.hasconfig:remote.*.url:";
+    to->asks_urls |= strncmp(step->key, asking, sizeof asking - 1) == 0;
+    to->conditional = to->walk.count <= to->conditional ? 0 : to->conditional;
+    if (to->conditional && !to->refused_file && is_url(step->key)) {
+        to->refused_file = step->file;
+        to->refused_line = step->line;
+    }
+    share_key(to->memory, step);
+    gcv_status status = append(to, step);
+    if (status != GCV_OK || step->include == GCV_NO_INCLUDE) {
+        return status;
+    }
+    if (step->include != GCV_OK) {
+        return step->include;
+    }
+    if (!to->conditional && strncmp(step->key, condition, sizeof condition - 1) == 0) {
+        to->conditional = to->walk.count;
+    }
+    return enter(to, step->included);
+}
+
+/* Reads a file and what it includes. */
+static gcv_status read_file(reading *to, const char *name)
+{
+    gcv_step step = {"", 0, 0, NULL, NULL, NULL, GCV_OK, 0};
+    const char *own = kept(to->memory, name);
+    to->walk.count = 0;
+    to->conditional = 0;
+    gcv_status status = own ? enter(to, own) : GCV_NO_MEMORY;
+    step.file = own;
+    while (status == GCV_OK && (status = next(to, &step)) == GCV_OK) {
+        status = take(to, &step);
+    }
+    if (status != GCV_ABSENT) {
+        to->settings->file = step.file;
+        to->settings->line = step.line;
+    }
+    return status == GCV_ABSENT ? GCV_OK : status;
+}
+
+/* Reads all files. */
+static gcv_status read_all_files(reading *to, const char *const *names, size_t count)
+{
+    gcv_status status = GCV_OK;
+    for (size_t at = 0; status == GCV_OK && at < count; at++) {
+        status = read_file(to, names[at]);
+    }
+    return status;
+}
+
+/* The URLs of all remotes in the settings from this one on, which have to be freed, or null. */
+static gcv_text *urls_from(const gcv_settings *settings, size_t first, size_t *count)
+{
+    gcv_text *urls = malloc((settings->count - first + 1) * sizeof *urls);
+    *count = 0;
+    for (size_t at = first; urls && at < settings->count; at++) {
+        const gcv_setting *setting = &settings->list[at];
+        if (is_url(setting->key) && setting->value) {
+            urls[*count].bytes = setting->value;
+            urls[(*count)++].length = strlen(setting->value);
+        }
+    }
+    return urls;
+}
+
+/* Reads all files once, or, if conditions ask about URLs, once for those and once with them. */
+static gcv_status read_with_urls(reading *to, const char *const *names, size_t count)
+{
+    size_t before = to->settings->count;
+    gcv_known asked;
+    if (!to->known || to->known->urls) {
+        return read_all_files(to, names, count);
+    }
+    asked = *to->known;
+    asked.seeks_urls = 1;
+    to->known = &asked;
+    gcv_status status = read_all_files(to, names, count);
+    if (to->asks_urls && to->refused_file) {
+        to->settings->file = to->refused_file;
+        to->settings->line = to->refused_line;
+        return GCV_REFUSED;
+    }
+    if (status != GCV_OK || !to->asks_urls) {
+        return status;
+    }
+    gcv_text *urls = urls_from(to->settings, before, &asked.urls_length);
+    asked.urls = urls;
+    asked.seeks_urls = 0;
+    forget_from(to->settings, before);
+    status = urls ? read_all_files(to, names, count) : GCV_NO_MEMORY;
+    free(urls);
+    return status;
+}
+
+gcv_status gcv_read_files(gcv_settings *settings, const char *const *names, size_t count, const gcv_known *known,
+                          gcv_open *open, void *state)
+{
+    size_t before = settings->count;
+    settings->file = NULL;
+    settings->line = 0;
+    if (!settings->memory && !(settings->memory = calloc(1, sizeof *settings->memory))) {
+        return GCV_NO_MEMORY;
+    }
+    reading *to = calloc(1, sizeof *to);
+    if (!to) {
+        return GCV_NO_MEMORY;
+    }
+    to->settings = settings;
+    to->memory = settings->memory;
+    to->known = known;
+    to->open = open;
+    to->state = state;
+    gcv_status status = read_with_urls(to, names, count);
+    for (size_t at = 0; at <= GCV_MOST_FRAMES; at++) {
+        free(to->files[at].text);
+        free(to->files[at].real_dir);
+    }
+    free(to);
+    if (status == GCV_OK) {
+        settings->file = NULL;
+        settings->line = 0;
+    } else {
+        forget_from(settings, before);
+    }
+    return status;
+}
