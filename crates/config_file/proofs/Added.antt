@@ -36,7 +36,7 @@ use Rattle.config_file.specs.Reading.Edits.{IsAdded, new_line}
 use Rattle.config_file.specs.Edit.{AreBlank, IsEntry, IsTail, absent}
 use Rattle.config_file.specs.Reading.Spellings.{is_section, is_spellable, spelled_section, git_spelled}
 use Rattle.config_file.proofs.Pieces.{header_holds, entry_holds, made_passed}
-use Rattle.config_file.proofs.SpelledHeaders.{header_spelled}
+use Rattle.config_file.proofs.SpelledHeaders.{header_spelled, letter_is_key_byte}
 use Rattle.config_file.proofs.Spellings.{git_spelling}
 use Rattle.config_file.proofs.Edits.{without_in_both, holds_nothing, holds_join, holds_end, passed_holds}
 use Rattle.config_file.proofs.Edits.{passed_join, passed_ends, all_passed, some_left, joined_more}
@@ -220,9 +220,6 @@ placing_ends {key = key} {text = text} {contents = contents} {is_inside = is_ins
     }
 
 -- the line of a new entry
-letter_is_key_byte : (b : ℕ) → is_ascii_alphabetic b ≡ true → is_key_byte b ≡ true
-letter_is_key_byte b is = grind (arith, nat_tests)
-
 pub name_parts : (name : List ℕ) → is_name name ≡ true
     → (b : ℕ) × (more : List ℕ) × (name ≡ b ∷ more) × (is_ascii_alphabetic b ≡ true) × (list_all is_key_byte name ≡ true)
 name_parts [] is = absurd (true≢false (sym is))

@@ -17,9 +17,8 @@ use Rattle.config_file.specs.Reading.Edits.{IsKept, IsLost, Clearing, ClearsPiec
 use Rattle.config_file.specs.Views.{section_of}
 use Rattle.config_file.proofs.Pieces.{made_passed}
 use Rattle.config_file.proofs.Edits.{without_in_both, holds_nothing, holds_join, passed_holds, passed_join}
-use Rattle.config_file.proofs.Edits.{passed_ends, all_passed, some_left}
+use Rattle.config_file.proofs.Edits.{passed_ends, all_passed, some_left, changes_both, all_kept}
 use Rattle.config_file.proofs.Replaced.{other_after, holds_then, past_begins, past_more, end_holds}
-use Rattle.config_file.proofs.Replaced.{changes_both, all_kept}
 use Rattle.config_file.proofs.Added.{none_in_piece}
 use Rattle.config_file.proofs.Removed.{header_may_go}
 use Rattle.std.proofs.lemmas.List.{append_cancel_right}

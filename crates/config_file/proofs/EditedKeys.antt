@@ -18,7 +18,7 @@ use Rattle.config_file.specs.Reading.Edits.{IsSplit, IsReplaced, IsAdded, IsTake
 use Rattle.config_file.specs.Reading.Edits.{RefusesName}
 use Rattle.config_file.proofs.OneKey.{cut_same, not_both}
 use Rattle.config_file.proofs.Changed.{change_behind}
-use Rattle.config_file.proofs.Edits.{file_of, split_joined, changes_marked}
+use Rattle.config_file.proofs.Edits.{file_of, split_joined, changes_both, all_kept}
 
 bytes_marked : {value old new : List ℕ} (was : Option (List ℕ)) (mark : List ℕ)
     → ChangesBytes was value old new → ChangesBytes was value (mark ++ old) (mark ++ new)
@@ -69,7 +69,7 @@ replaced_key {key = key} {value = value} {mark = mark} {new = new} split r = (
   file_of split r.ends,
   r.replaces,
   subst (λ t. Changes (MayReplace key value) t (mark ++ new))
-      (sym (split_joined split)) (changes_marked mark r.changes),
+      (sym (split_joined split)) (changes_both mark mark (all_kept mark) r.changes),
 )
 
 pub added_key : {key : Key} {value text mark body new : List ℕ} {contents : List Content}
@@ -91,7 +91,7 @@ taken_key {key = key} {mark = mark} {taken = taken} split r = (
   file_of split r.ends,
   r.without,
   subst (λ t. Changes (MayUnset key) t (mark ++ taken.text.items)) (sym (split_joined split))
-      (changes_marked mark r.changes),
+      (changes_both mark mark (all_kept mark) r.changes),
 )
 
 pub one_taken : {key : Key} {text mark body : List ℕ} {contents : List Content} {taken : Taken}
@@ -102,7 +102,7 @@ one_taken {key = key} {mark = mark} {contents = contents} {taken = taken} split 
   file_of split r.ends,
   subst (λ n. Counted key contents r.now n) one r.counted,
   subst (λ t. Changes (MayUnset key) t (mark ++ taken.text.items)) (sym (split_joined split))
-      (changes_marked mark r.changes),
+      (changes_both mark mark (all_kept mark) r.changes),
 )
 
 -- a name of which no key is made names no section
@@ -118,7 +118,7 @@ pub section_removed : {text mark body new edited : List ℕ} (name : List ℕ) (
 section_removed {text = text} {mark = mark} {new = new} name entries key is_file split names r edited_is =
     let whole : Changes (LosesSection key) text (mark ++ new) =
     subst (λ t. Changes (LosesSection key) t (mark ++ new)) (sym (split_joined split))
-    (changes_marked mark r.changes) in
+    (changes_both mark mark (all_kept mark) r.changes) in
     rw edited_is (
       key,
       names,
@@ -179,5 +179,5 @@ changed_entries {changes = changes} {mark = mark} {new = new} {contents = conten
   r.now,
   file_of split r.ends,
   r.each,
-  subst (λ t. Changes (MayChange changes) t (mark ++ new)) (sym (split_joined split)) (changes_marked mark r.bytes),
+  subst (λ t. Changes (MayChange changes) t (mark ++ new)) (sym (split_joined split)) (changes_both mark mark (all_kept mark) r.bytes),
 )

@@ -405,18 +405,22 @@ pub split_joined : {text mark body : List ℕ} → IsSplit text mark body → te
 split_joined (edit.unmarked none) = refl
 split_joined (edit.marked {text = text} {body = body} is) = mark_is text body is
 
-pub changes_marked : {May : List ℕ → List ℕ → Type 0} {old new : List ℕ} (mark : List ℕ) → Changes May old new
-    → Changes May (mark ++ old) (mark ++ new)
-changes_marked {May = May} mark spec.none =
-    subst (λ m. Changes May m m) (sym (append-nil mark)) (spec.kept mark spec.none)
-changes_marked {May = May} mark (spec.kept {old = old} {new = new} bytes changes) =
-    subst (λ o. Changes May o (mark ++ (new ++ bytes))) (append_assoc mark old bytes)
-    (subst (λ n. Changes May ((mark ++ old) ++ bytes) n) (append_assoc mark new bytes)
-    (spec.kept bytes (changes_marked mark changes)))
-changes_marked {May = May} mark (spec.changed {old = old} {new = new} {gone = gone} {put = put} changes may) =
-    subst (λ o. Changes May o (mark ++ (new ++ put))) (append_assoc mark old gone)
-    (subst (λ n. Changes May ((mark ++ old) ++ gone) n) (append_assoc mark new put)
-    (spec.changed (changes_marked mark changes) may))
+pub changes_both : {May : List ℕ → List ℕ → Type 0} {c d : List ℕ} (a b : List ℕ) → Changes May a b
+    → Changes May c d → Changes May (a ++ c) (b ++ d)
+changes_both {May = May} a b first spec.none =
+    subst (λ x. Changes May x (b ++ [])) (sym (append-nil a))
+    (subst (λ y. Changes May a y) (sym (append-nil b)) first)
+changes_both {May = May} a b first (spec.kept {old = old} {new = new} bytes c) =
+    subst (λ o. Changes May o (b ++ (new ++ bytes))) (append_assoc a old bytes)
+    (subst (λ n. Changes May ((a ++ old) ++ bytes) n) (append_assoc b new bytes)
+    (spec.kept bytes (changes_both a b first c)))
+changes_both {May = May} a b first (spec.changed {old = old} {new = new} {gone = gone} {put = put} c may) =
+    subst (λ o. Changes May o (b ++ (new ++ put))) (append_assoc a old gone)
+    (subst (λ n. Changes May ((a ++ old) ++ gone) n) (append_assoc b new put)
+    (spec.changed (changes_both a b first c) may))
+
+pub all_kept : {May : List ℕ → List ℕ → Type 0} (bytes : List ℕ) → Changes May bytes bytes
+all_kept bytes = spec.kept bytes spec.none
 
 pub section_renamed : {text mark body new edited old_name new_name : List ℕ} (entries : List Entry)
     (from to : Key)
@@ -427,7 +431,7 @@ pub section_renamed : {text mark body new edited old_name new_name : List ℕ} (
 section_renamed {text = text} {mark = mark} {body = body} {new = new} entries from to is_file split names names_now (now, ends, renames, changes) edited_is =
     let whole : Changes (RenamesHeader from to) text (mark ++ new) =
     subst (λ t. Changes (RenamesHeader from to) t (mark ++ new)) (sym (split_joined split))
-    (changes_marked mark changes) in
+    (changes_both mark mark (all_kept mark) changes) in
     rw edited_is (
       map content entries,
       (entries, is_file, refl),

@@ -25,10 +25,10 @@ use Rattle.config_file.specs.Reading.Edits.{IsFinished, IsPushed, IsTaken, is_bl
 use Rattle.config_file.specs.Views.{section_of, value_of}
 use Rattle.config_file.proofs.Pieces.{made_passed}
 use Rattle.config_file.proofs.Edits.{holds_nothing, holds_join, passed_holds, passed_join, passed_ends}
-use Rattle.config_file.proofs.Edits.{all_passed, some_left}
+use Rattle.config_file.proofs.Edits.{all_passed, some_left, changes_both, all_kept}
 use Rattle.config_file.proofs.Changed.{both_blank}
 use Rattle.config_file.proofs.Replaced.{holds_then, other_after, past_begins, past_more, end_holds}
-use Rattle.config_file.proofs.Replaced.{without_both, none_in, changes_both, all_kept}
+use Rattle.config_file.proofs.Replaced.{without_both, none_in}
 
 -- how many entries have been lost
 none_before_entry : {key : Key} (before : List Content) (x : Content) → HasNone key before → IsOf key x

@@ -30,7 +30,7 @@ use Rattle.config_file.proofs.Changed.{change_in}
 use Rattle.config_file.proofs.Pieces.{entry_passed, made_passed}
 use Rattle.config_file.proofs.Edits.{holds_nothing, holds_join, holds_end, passed_holds, passed_join}
 use Rattle.config_file.proofs.Edits.{passed_ends, ends_once, not_read, some_left, joined_more}
-use Rattle.config_file.proofs.Edits.{header_listed}
+use Rattle.config_file.proofs.Edits.{header_listed, changes_both, all_kept}
 
 -- texts one after the other
 pub holds_then : {section middle next : Option Section} {rest : List ℕ} (a b : List ℕ) {xs ys : List Content}
@@ -288,23 +288,6 @@ changes_more also spec.none = spec.none
 changes_more also (spec.kept bytes c) = spec.kept bytes (changes_more also c)
 changes_more also (spec.changed {gone = gone} {put = put} c may) =
     spec.changed (changes_more also c) (also gone put may)
-
-pub changes_both : {May : List ℕ → List ℕ → Type 0} {c d : List ℕ} (a b : List ℕ) → Changes May a b
-    → Changes May c d → Changes May (a ++ c) (b ++ d)
-changes_both {May = May} a b first spec.none =
-    subst (λ x. Changes May x (b ++ [])) (sym (append-nil a))
-    (subst (λ y. Changes May a y) (sym (append-nil b)) first)
-changes_both {May = May} a b first (spec.kept {old = old} {new = new} bytes c) =
-    subst (λ o. Changes May o (b ++ (new ++ bytes))) (append_assoc a old bytes)
-    (subst (λ n. Changes May ((a ++ old) ++ bytes) n) (append_assoc b new bytes)
-    (spec.kept bytes (changes_both a b first c)))
-changes_both {May = May} a b first (spec.changed {old = old} {new = new} {gone = gone} {put = put} c may) =
-    subst (λ o. Changes May o (b ++ (new ++ put))) (append_assoc a old gone)
-    (subst (λ n. Changes May ((a ++ old) ++ gone) n) (append_assoc b new put)
-    (spec.changed (changes_both a b first c) may))
-
-pub all_kept : {May : List ℕ → List ℕ → Type 0} (bytes : List ℕ) → Changes May bytes bytes
-all_kept bytes = spec.kept bytes spec.none
 
 changes_with : {May : List ℕ → List ℕ → Type 0} {gone put : List ℕ} (front new back : List ℕ)
     → Changes May front new → Changes May gone put

@@ -94,7 +94,7 @@ header_spelled name (Some text) is =
           (closes (record { is_subsection = (text, spells); joined = append_assoc raw (34 ∷ 93 ∷ []) rest }) refl),
     )
 
-letter_is_key_byte : (b : ℕ) → is_ascii_alphabetic b ≡ true → is_key_byte b ≡ true
+pub letter_is_key_byte : (b : ℕ) → is_ascii_alphabetic b ≡ true → is_key_byte b ≡ true
 letter_is_key_byte b h = grind (arith, nat_tests)
 
 pub no_key : (key : List ℕ) → is_key key ≡ false → IsNoKey key

@@ -281,21 +281,26 @@ fn places_of<'a>(
     Ok(places(alloc, text, &mut wanted)?)
 }
 
-/// The text after a change of the entries whose values fit.
-fn changed_where(
+/// The key of a change that a pattern can narrow to some of its entries.
+fn narrowed_key(change: Change<'_>) -> Option<&str> {
+    match change {
+        Change::Set(key, _)
+        | Change::Replace(key, _)
+        | Change::Unset(key)
+        | Change::UnsetAll(key) => Some(key),
+        _ => None,
+    }
+}
+
+/// The text after a change of the entries of a key whose values fit.
+fn changed_where<'a>(
     alloc: Global,
     text: &[u8],
-    asked: &Asked<'_>,
+    key: &'a str,
+    asked: &Asked<'a>,
     value: &[u8],
 ) -> Result<Changed, Refusal> {
     let change = asked.change;
-    let (Change::Set(key, _)
-    | Change::Replace(key, _)
-    | Change::Unset(key)
-    | Change::UnsetAll(key)) = change
-    else {
-        return Err(Refusal::Pattern);
-    };
     let places = places_of(alloc, text, key, asked)?;
     if places.len() > 1 && matches!(change, Change::Set(..) | Change::Unset(_)) {
         return Err(Refusal::Edit(EditError::Several));
@@ -339,9 +344,9 @@ fn changed(
     asked: &Asked<'_>,
     value: &[u8],
 ) -> Result<Vec<u8>, Refusal> {
-    let new = match asked.pattern {
-        Some(_) => changed_where(alloc, text, asked, value)?,
-        None => Changed {
+    let new = match (asked.pattern, narrowed_key(asked.change)) {
+        (Some(_), Some(key)) => changed_where(alloc, text, key, asked, value)?,
+        _ => Changed {
             text: changed_all(alloc, text, asked.change, value)?,
             place: None,
         },
