@@ -128,7 +128,11 @@ fn run_length(text: &[u8], class: Class) -> usize
     ensures length { result ≡ prefix_len (passes class) text.now }
     ensures within { result ≤ length text.now }
 {
-    text.iter().take_while(|byte| is_in(class, **byte)).count()
+    let mut passed = 0;
+    'bytes: while passed < text.len() && is_in(class, text[passed]) {
+        passed += 1;
+    }
+    passed
 }
 
 /// The longest run of bytes of a class at the start of the text, and the rest.
