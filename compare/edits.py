@@ -1,8 +1,9 @@
 """Compares what config_value's edits leave in files with what they ask, and with Git: edits.py PROGRAM [--edits N]
 [--seed S] [--git GIT].
 
-Draws files and edits, and sequences of 50 edits. Git lists the file before and after: the entries have to be the old ones with exactly that
-change. Each line without the key has to be kept, byte for byte. Prints how often the bytes are Git's own.
+Draws files and edits, and sequences of 50 edits. Git lists the file before and after: the entries have to be the old
+ones with exactly that change. Each line without the key has to be kept, byte for byte. Prints how often the bytes are
+Git's own.
 """
 import argparse
 import collections

@@ -53,7 +53,7 @@ def rows(program):
             with FULL.open("wb") as full:
                 yield f"a full device, {given!r}", status(program, given, full), 2
         else:
-            print(f"a full device, {given!r}: skipped, since there is no {FULL}")
+            print(f"skipped: a full device, {given!r}, since there is no {FULL}")
 
 
 def main():

@@ -156,7 +156,7 @@ class Group:
         return False
 
     def skip(self, what, why):
-        self.notes.append(f"{what} skipped: {why}")
+        print(f"skipped: {what} of {self.name}, since {why}")
 
     def report(self):
         notes = "".join(f"; {note}" for note in self.notes)

@@ -299,7 +299,7 @@ def memory(tests):
     section = b"s" * 20_000
     file = tests.write(b"keys", b"[" + section + b"]\n" + b"k\n" * 20_000)
     if tests.is_checked:
-        print("memory: skipped, since a checked build takes more")
+        print("skipped: memory, of which a checked build takes more")
         return
     for words in ([], [section + b".k"]):
         command = [tests.program, "--file", file, *words]
@@ -377,7 +377,7 @@ def types(tests):
     """Values of types, beside a newer Git."""
     git = pathlib.Path(os.environ.get("NEWER_GITS", "nowhere"), "sid", "git")
     if not git.exists():
-        print("types: skipped, since NEWER_GITS names no folder with a newer Git")
+        print("skipped: values of types, since NEWER_GITS names no folder with a newer Git")
         return
     values = [(kind, value) for kind, texts in TYPED.items() for value in texts]
     tests.write(b"typed", b"[t]\n" + b"".join(b'\tk%d = "%s"\n' % (number, value.encode())
