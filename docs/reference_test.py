@@ -1,11 +1,10 @@
 #!/usr/bin/env python3
 """Builds the reference and looks at it in a browser. The last line is 'N passed, M failed'.
 
-No link may be dead, no anchor stand twice on a page, and no word of the toolchain on a headline's page lack its meaning.
-In Debian's chromium search has to find types, a word of a
-headline and then a word in its definition to unfold and fold again, rows to be filtered, what no user calls to be
-hidden, and no page to be wider than its window. Without the script a word leads to its definition. Without chromium
-these are skipped.
+No link may be dead, no anchor stand twice on a page, and no word of the toolchain on a headline's page lack its
+meaning. In Debian's chromium search has to find types, a word of a headline and then a word in its definition to
+unfold and fold again, rows to be filtered, what no user calls to be hidden, and no page to be wider than its window.
+Without the script a word leads to its definition. Without chromium these are skipped.
 """
 import collections
 import html
