@@ -3,7 +3,8 @@
   const make = (name, more) => Object.assign(document.createElement(name), more);
   document.documentElement.classList.add("js");
 
-  // an exact name comes first, then one in another case, then names that begin with or contain the text
+  // an exact name comes first, then one in another case, then names whose last part it is, in the order of the crates,
+  // and then names that begin with the text or contain it, the shortest first
   const rank = (name, low, text, lower) => name === text ? 0 : low === lower ? 1
     : low.split(/[.: ]+/).pop() === lower ? 2 : low.startsWith(lower) ? 3 : low.includes(lower) ? 4 : 9;
   const box = make("input", { type: "search", id: "search", placeholder: "Search  ( / )", ariaLabel: "Search" });
@@ -11,7 +12,7 @@
   box.addEventListener("input", () => {
     const text = box.value.trim(), lower = text.toLowerCase();
     const hits = FOUND.map(row => [rank(row[0], row[0].toLowerCase(), text, lower), row]).filter(it => it[0] < 9);
-    hits.sort((a, b) => a[0] - b[0] || a[1][0].length - b[1][0].length);
+    hits.sort((a, b) => a[0] - b[0] || (a[0] > 2) * (a[1][0].length - b[1][0].length));
     list.replaceChildren(...hits.slice(0, 40).map(([, [name, what, href]]) => {
       const link = make("a", { href });
       link.append(make("code", { textContent: name }), " ", make("small", { textContent: what }));
@@ -51,7 +52,7 @@
   });
 
   for (const table of document.querySelectorAll("table.rows")) {
-    const filter = make("input", { type: "search", id: "filter", placeholder: "Rows with", ariaLabel: "Rows with" });
+    const filter = make("input", { type: "search", id: "filter", placeholder: "Filter rows", ariaLabel: "Filter rows" });
     const rows = [...table.tBodies[0].rows].map(row => [row, row.textContent.toLowerCase()]);
     filter.addEventListener("input", () => {
       const parts = filter.value.toLowerCase().split(/\s+/);

@@ -1,9 +1,9 @@
 #!/usr/bin/env python3
 """Writes the reference, a folder of pages for a browser: python3 docs/reference.py FOLDER
 
-All is read off the sources. A claim rests on each word that its clauses cite, on those that these cite, and so on, down
-to the toolchain's library. A type of the code is a word, and the types of its fields are not followed. What the prover
-itself has, such as numbers, has no text. Lines of comments are not counted. crates/tests/pages.py uses this script too.
+A claim rests on each word that its clauses cite, on those that these cite, and so on, down to the toolchain's
+library. A type of the code is a word, and the types of its fields are not followed. What the prover itself has,
+such as numbers, has no text. Lines of comments are not counted.
 """
 import functools
 import html
@@ -17,56 +17,51 @@ import urllib.parse
 
 ROOT = pathlib.Path(__file__).resolve().parent.parent
 CRATES = ROOT / "crates"
+TOOLCHAIN = pathlib.Path(subprocess.check_output(["rt", "doc"], text=True).split("\n")[0]).parent / "rattle"
 LIBRARY = ("gix_config_value", "config_text", "config_integer", "config_boolean", "config_word", "config_color",
            "config_path", "config_file", "config_host", "config_checks")
 LISTED = (*LIBRARY, "uses")
-PAGE = (ROOT / "docs/reference.html").read_text("utf-8")
+# the parts of the pages, each a function of what is put into it
+PARTS = {name: text.strip().format for name, text in re.findall(
+    r"(?ms)^<!-- (\w+) -->\n(.*?)(?=^<!-- |\Z)", (ROOT / "docs/reference.html").read_text("utf-8"))}
 # what is public only because another crate of the repository needs it
 INNER = """begins_with_run digit_of equals equals_ignoring_case exists has_includes line_of LONGEST_NAME LONGEST_SET
     normalize_into_as prepare read_bytes read_cow read_owned read_text rgb_bytes same_as seek_urls""".split()
 # the calls whose clauses are the sentences of README: for any kind, for colors, and for settings in files
-SENTENCE = {"headline": ("config_text/src/value.meaning", "config_text/src/value.one_meaning"),
-            "joined": ("config_color/src/laws/colors.joined",), "setting": ("uses/src/setting_headline.value_of",)}
-# where the libraries are to which `lib.`, `mathlib.` and the like lead; all others are folders of the logic
-PLACES = {"mathlib": "antt/port/mathlib/src", "seplogic": "antt/port/seplogic/src", "native": "antt/lib/native/src",
-          "text": "antt/lib/native-text/src"}
+SENTENCE = {"headline": ("config_text.value.meaning", "config_text.value.one_meaning"),
+            "joined": ("config_color.laws.colors.joined",), "setting": ("uses.setting_headline.value_of",)}
 SOURCES = sorted(CRATES.glob("*/src/**/*.rt"))
 # crates whose items std passes on
 PARTS_OF_STD = ("core", "std_alloc", "std_collections", "std_heap", "std_io", "io")
 MARKS = r"(?:pub|abbrev|unfoldable|record|data|ruleset)"
-HEAD = re.compile(rf"(?:(?:{MARKS} )+(?!mod |use |{MARKS} )(\S+)"
+HEAD = re.compile(rf"(?m)(?:^(?:--|infix|#).*\n)*^(?:(?:{MARKS} )+(?!mod |use |{MARKS} )(\S+)"
                   r"|(?!use |mod |infix|module |unfolding )([^\s-]\S*)(?: \{.*?\})* : )")
-USE = re.compile(r"(?m)^(?:abbrev |unfoldable )?(pub )?(?:ghost )?use ([\w.◌]+?)(?:\.\{([^}]*)\}| as (\w+))?;?$")
+USE = re.compile(r"(?m)^ *(?:abbrev |unfoldable )?(pub )?(ghost )?use ([\w.:◌]+?)(?:(?:\.|::)\{([^}]*)\}| as (\w+))?;?$")
 # an item of code or of a type, as `rt fmt` lays it out: a head, and in braces what is inside
 ITEM = re.compile(r"(?m)(?P<doc>(?:^ *///.*\n)*)(?:^ *#\[(?:.*(?<!\])\n)*.*\]\n)*^(?P<i>(?:    ){0,2})"
                   r"(?P<head>(?:pub |impl\b|fn |trait |ghost (?!use)|const |type |mod |[A-Z]|bitflag_items).*"
                   r"(?:(?<![;{},])(?:\n(?:(?P=i) .*(?<!;))?)*\n(?P=i)(?: .*;|[^ \n].*))*)"
                   r"(?=(?P<inside>(?<=\{)\n(?:(?:(?P=i) .*)?\n)*(?P=i)\}.*)?)")
 OWNERS = ("struct", "enum", "trait", "impl", "mod", "bitflag_items")
-
-
-@functools.cache
-def library():
-    said = subprocess.run(["rt", "doc"], stdout=subprocess.PIPE, text=True, check=True).stdout
-    return pathlib.Path(said.split("\n")[0]).parent / "rattle"
-
-
-def folder_of(crate):
-    return next(folder / crate for folder in (CRATES, library()) if (folder / crate).is_dir())
+escape, lead = functools.partial(html.escape, quote=False), functools.partial(re.sub, r"(?s)(?<=\.)\s.*|\n\n.*", "")
+opened = functools.cache(lambda file: File(file))
+folder_of = functools.cache(lambda crate: next(it / crate for it in (CRATES, TOOLCHAIN) if (it / crate).is_dir()))
 
 
 @functools.cache
 def file_of(module):
     """The file of a module of definitions, by its path. A list above it may pass it on from another path."""
     above, *rest = module.split(".")
-    top = library() / PLACES.get(above, f"logic/{above.capitalize()}")
+    # a library of its own, or a folder of the logic
+    tops = (it for name in (above, f"native-{above}") for it in TOOLCHAIN.glob(f"antt/*/{name}/src"))
+    top = next(tops, TOOLCHAIN / "logic" / above.capitalize())
     if above == "Rattle":
         top, above, rest = folder_of(rest[0]) / "specs", f"Rattle.{rest[0]}.specs", rest[2:]
     files = [top.joinpath(*rest[:cut] or ["Lib"]).with_suffix(".antt") for cut in range(len(rest) + 1)]
     for cut, listed in enumerate(files[:-1]):
-        for path in opened(listed).passed if listed.exists() else ():
-            if path.split(".")[-1] == rest[cut] and path != ".".join([above, *rest[:cut + 1]]):
-                return file_of(".".join([path, *rest[cut + 1:]]))
+        path = opened(listed).modules.get(rest[cut]) if listed.exists() else None
+        if path and path != ".".join([above, *rest[:cut + 1]]):
+            return file_of(".".join([path, *rest[cut + 1:]]))
     return files[-1] if files[-1].exists() else None
 
 
@@ -79,9 +74,9 @@ class Word:
 
     def __init__(self, name, file, line, text=""):
         self.name, self.file, self.line, self.text, self.is_here = name, file, line, text, CRATES in file.parents
-        parts = file.relative_to(CRATES if self.is_here else library()).with_suffix("").parts
-        self.place = tuple(part for part in parts if part not in ("specs", "src", "lib"))
-        self.crate, self.id = parts[0], ".".join([*self.place, name])
+        parts = file.relative_to(CRATES if self.is_here else TOOLCHAIN).with_suffix("").parts
+        self.crate, self.module = parts[0], ".".join(part for part in parts if part not in ("specs", "src", "lib"))
+        self.id = f"{self.module}.{name}"
         self.href = f"words.{self.crate if self.is_here else 'toolchain'}.html#{urllib.parse.quote(self.id)}"
         self.source = f"source.{'.'.join(parts)}{file.suffix}.html#L{line}"
 
@@ -94,21 +89,21 @@ class Item(Word):
     """What a file of code declares: its head up to its body, its clauses, and what is inside."""
 
     def __init__(self, found, file, owner):
-        lines = functools.partial(found.string.count, "\n", 0)
         head = textwrap.dedent(found["i"] + found["head"])
         text = textwrap.dedent(found["doc"] + found["i"] + found["head"] + (found["inside"] or ""))
         named = re.match(r"(pub )?(?:(?:const|unsafe)\b (?=fn|trait|impl))?(\w+)!?(?: (?:mut )?(\w+))?", head)
-        super().__init__(named[3] or named[2], file, lines(found.start("head")) + 1, text)
+        super().__init__(named[3] or named[2], file, found.string.count("\n", 0, found.start("head")) + 1, text)
         self.kind, self.owner, self.inside = named[2], owner, []
+        (owner.inside if owner else []).append(self)
         if self.kind not in ("fn", "type", "const", "use", "ghost", *OWNERS):
             self.kind, self.name = "field" if head[named.end(2):][:1] == ":" else "variant", named[2]
-        self.link = f"{page_of(self.place)}#{self.name}"
+        self.link = f"{self.module}.html#{self.name}"
         self.head, self.trait = re.sub(r" ?\{\}?$", "", head).rstrip(), ""
         if self.kind == "impl":
             of = re.sub(r"^impl(<(?:[^<>]|<[^<>]*>)*>)? ", "", " ".join(self.head.split())).rpartition(" for ")
             self.trait, self.name = of[0], re.match(r"\w*", of[2])[0]
         self.is_public = named[1] or owner and (owner.trait or owner.kind in ("enum", "trait", "bitflag_items"))
-        self.cut = next((it.start() for it in re.finditer(r"(?m)^ +(requires|ensures)\b", self.head)), len(self.head))
+        self.cut = re.search(r"(?m)^ +(requires|ensures)\b|\Z", self.head).start()
 
 
 class File:
@@ -117,35 +112,28 @@ class File:
     def __init__(self, file):
         self.file, self.text = file, file.read_text("utf-8")
         self.doc = re.sub(r"(?m)^//! ?", "", re.match(r"(?://!.*\n)*", self.text)[0])
-        self.names, self.modules, self.words, self.passed = {}, {}, {}, []
+        self.names, self.modules, self.words, self.passed, self.brought = {}, {}, {}, [], {}
+        self.crate = file.relative_to(CRATES).parts[0] if CRATES in file.parents else ""
         # an import may go over several lines
-        for is_passed, path, names, alias in USE.findall(re.sub(r",\s*\n\s+", ", ", self.text)):
-            if path.startswith(("super", "crate")) or (file.suffix == ".rt" and "." not in path):
-                continue
-            for name in filter(None, re.split(r",\s*", names.strip())):
-                known, _, new = name.partition(" as ")
-                self.names[new or known] = (path, known)
-            if not names:
+        for is_passed, is_ghost, path, listed, alias in USE.findall(re.sub(r",\s*\n\s+", ", ", self.text)):
+            names = [it.partition(" as ")[::2] for it in filter(None, re.split(r",\s*", listed.strip()))]
+            if file.suffix == ".rt" and not is_ghost:
+                for known, new in names or [("", alias)]:
+                    whole = re.sub("^crate(?=::)", self.crate, f"{path}::{known}".removesuffix("::")).split("::")
+                    self.brought[new or whole[-1]] = whole, is_passed
+            elif names:
+                self.names |= {new or known: (path, known) for known, new in names}
+            elif not path.startswith(("super", "crate")):
                 self.modules[alias or path.split(".")[-1]] = path
                 self.passed += [path] * bool(is_passed)
-        if file.suffix == ".antt":
-            self.define()
-
-    def define(self):
         # definitions in a block with parameters stand further in
         text = re.sub(r"(?m)^(?:module _ .*where|mutual)\n((?:  .*\n|\n)*)",
                       lambda found: "\n" + re.sub(r"(?m)^  ", "", found[1]), self.text)
-        kept, word = [], None
-        for number, line in enumerate(text.split("\n"), 1):
-            head = HEAD.match(line)
-            if head:
-                word = self.words.setdefault(head[1] or head[2], Word(head[1] or head[2], self.file, number))
-            if re.match("--|infix|#", line) and not head:
-                kept.append(line)
-            elif not line.strip() or re.match(rf"({MARKS} )*(use|mod) ", line):
-                kept = []
-            elif word:
-                word.text, kept = "\n".join([*[word.text] * bool(word.text), *kept, line]), []
+        heads = [*HEAD.finditer(text)] if file.suffix == ".antt" else []
+        for head, after in zip(heads, [*(it.start() for it in heads[1:]), None]):
+            word = Word(head[1] or head[2], self.file, text.count("\n", 0, head.end()) + 1)
+            word = self.words.setdefault(word.name, word)
+            word.text += re.sub(rf"(?m)^(?:{MARKS} )*(?:use|mod) .*\n?", "", text[head.start():after])
         # the cases of a type lead to it
         for word in [it for it in self.words.values() if re.search(rf"(?m)^(?:{MARKS} )*data ", it.text)]:
             for names in re.findall(r"(?m)^ +(?:pub )?((?:[^\s:({]+ )+): ", word.text):
@@ -154,23 +142,19 @@ class File:
     @functools.cached_property
     def items(self):
         """The items of a file of code, and those in them, in their order."""
-        out, owners = [], {}
+        out, owners = [], []
         for found in ITEM.finditer(self.text):
-            depth = len(found["i"])
-            owner = owners.get(depth - 4)
-            if not depth or owner and owner.kind in OWNERS:
-                out.append(Item(found, self.file, owner))
-                owners = {at: it for at, it in owners.items() if at < depth} | {depth: out[-1]}
-                if owner:
-                    owner.inside.append(out[-1])
+            depth = len(found["i"]) // 4
+            if depth <= len(owners) and all(it.kind in OWNERS for it in owners[:depth]):
+                out.append(Item(found, self.file, owners[depth - 1] if depth else None))
+                owners = [*owners[:depth], out[-1]]
         return out
 
     def marks(self, text):
         """The words that a text of this file cites: where each begins and ends, and the word."""
         text, found = re.sub(r'(?m)^ *(?:--|//|#\[).*$|"[^"\n]*"', lambda it: " " * len(it[0]), text), []
         bound = {it for names in re.findall(r"[({]([^:(){}]+) :|λ ([^.]*)\.", text) for it in " ".join(names).split()}
-        if re.search(rf"(?m)^(?:{MARKS} )*record ", text):
-            bound |= set(re.findall(r"(?m)^ +(?:pub )?(\S+) : ", text))
+        bound |= set(re.findall(r"(?m)^ +(?:pub )?(\S+) : ", text))
         of = {part: name for name in {**self.names, **self.words} if name not in bound
               for part in name.split("◌") if part}
         for it in re.finditer(r"[^\s(){};,.][^\s(){};,]*", text):
@@ -179,34 +163,16 @@ class File:
                 part = part if part in of else head
                 word = self.words.get(of[part]) or looked_up(*self.names[of[part]])
             elif rest and head in self.modules and head not in bound:
-                above, _, name = rest.rpartition(".")
-                word = looked_up(".".join(filter(None, [self.modules[head], above])), name)
+                *above, name = rest.split(".")
+                word = looked_up(".".join([self.modules[head], *above]), name)
+            elif self.file.suffix == ".rt":
+                # a member of a trait, in a clause
+                name, near = (rest or head).partition(".")[0], SOURCES if head[0].isupper() else ()
+                part = f"{head}.{name}" if rest else name
+                word = next((of for file in (self.file, *near) for of in opened(file).items if of.name == name
+                             and of.kind == "ghost" and of.owner.kind == "trait"), None)
             found += [(it.start(), it.start() + len(part), word)] * bool(word)
-        # members of traits, in clauses
-        for it in re.finditer(r"(?:\b[A-Z]\w*\.)?\b([a-z]\w+)", text) if self.file.suffix == ".rt" else ():
-            files = [self.file, *(SOURCES if re.search(rf"\b[A-Z]\w*\.{it[1]}\b", text) else ())]
-            word = next((of for near in files for of in opened(near).items if of.kind == "ghost" and of.name == it[1]
-                         and of.owner.kind == "trait"), None)
-            if word and not any(place < it.end() and it.start() < end for place, end, _ in found):
-                found.append((it.start(), it.end(), word))
-        return sorted(found, key=lambda it: it[:2])
-
-    def cited(self, text):
-        return dict.fromkeys(word for *_, word in self.marks(text))
-
-
-opened, escape = functools.cache(File), functools.partial(html.escape, quote=False)
-lead = functools.partial(re.sub, r"(?s)(?<=\.)\s.*|\n\n.*", "")
-
-
-@functools.cache
-def declared(crate, path):
-    """A type, a variant or a constant of the code, by what it is declared as."""
-    name = path[-2] if path[-1] == "TheVariants" else path[-1]
-    files = (file for part in (crate, *(PARTS_OF_STD if crate == "std" else ()))
-             for file in sorted(folder_of(part).glob("src/**/*.rt"), key=lambda file: (file.stem not in path, file)))
-    return next((it for file in files if name in opened(file).text for it in opened(file).items
-                 if it.name == name and it.kind in ("struct", "enum", "trait", "type", "const")), None)
+        return found
 
 
 @functools.cache
@@ -214,26 +180,29 @@ def looked_up(module, name):
     """The word of that name that a module has or passes on, or None if it is the prover's own."""
     parts = module.split(".")
     if parts[2:4] == ["specs", "declared"]:
-        path = tuple(it for it in parts[4:] if it != "TheConstants")
-        return declared(parts[1], path if parts[-1] == "TheVariants" else (*path, name))
+        # a type, a variant or a constant of the code leads to what it is declared in
+        path = [it for it in (*parts[4:], name) if it not in ("TheVariants", "TheConstants")]
+        known = path[-2] if parts[-1] == "TheVariants" else path[-1]
+        files = (file for part in (parts[1], *PARTS_OF_STD * (parts[1] == "std")) for file in
+                 sorted(folder_of(part).glob("src/**/*.rt"), key=lambda file: (file.stem not in path, file)))
+        return next((it for file in files if known in opened(file).text for it in opened(file).items
+                     if it.name == known and it.kind in ("struct", "enum", "trait", "type", "const")), None)
     if not file_of(module):
         # the cases of a type, imported by its path
         above, _, name = module.rpartition(".")
         return looked_up(above, name) if above.count(".") > 2 and file_of(above) else None
     known = opened(file_of(module))
-    if name in known.words or name in known.names:
-        return known.words.get(name) or looked_up(*known.names[name])
-    return next((word for word in (looked_up(path, name) for path in known.passed if path != module) if word), None)
+    paths = [known.names[name]] if name in known.names else [(it, name) for it in known.passed if it != module]
+    return known.words.get(name) or next(filter(None, (looked_up(*path) for path in paths)), None)
 
 
 def closure(claims):
     """The words on which items of code rest, each after a text that cites it."""
-    todo, found = [word for claim in claims for word in opened(claim.file).cited(claim.head)], {}
-    for word in todo:
-        if word.id not in found:
-            found[word.id] = word
-            todo += opened(word.file).cited(word.text) if word.file.suffix == ".antt" else ()
-    return list(found.values())
+    words = [word for claim in claims for *_, word in opened(claim.file).marks(claim.head)]
+    for word in words:
+        more = opened(word.file).marks(word.text) if word.file.suffix == ".antt" else ()
+        words += [it for *_, it in more if it not in words]
+    return list(dict.fromkeys(words))
 
 
 def counts(claims):
@@ -243,8 +212,7 @@ def counts(claims):
 
 
 def claims_of(sentence):
-    calls = [call.rsplit(".", 1) for call in SENTENCE[sentence]]
-    return [it for file, call in calls for it in opened(CRATES / f"{file}.rt").items if it.name == call]
+    return [it for file in SOURCES for it in opened(file).items if it.id in SENTENCE[sentence]]
 
 
 def linked(text, spans):
@@ -264,77 +232,58 @@ def code(text, spans=(), kind="", mark=""):
     return f'<pre class="{kind}">{"".join(shown)}</pre>'
 
 
-def used(text, crate):
-    """What lines of code bring in: each name, and the path that it stands for."""
-    for path, names in re.findall(r"(?m)^ *(?:pub )?use ([\w: ]+?)(?:::\{([^}]*)\})?;", text):
-        for name in filter(None, re.split(r",\s*", names.strip())) if names else [path]:
-            known, _, new = name.partition(" as ")
-            whole = re.sub("^crate(?=::)", crate, f"{path}::{known}" if names else known)
-            yield new or known.split("::")[-1], tuple(whole.split("::"))
-
-
-def page_of(place):
-    return ".".join([*place, "html"])
-
-
 class Reference:
     """The pages, and what stands on them."""
 
     def __init__(self, folder):
         self.folder, self.words, self.found, self.at = folder, {}, [], {}
         # below the title and the sentence for those who read that page alone
-        self.signs = (ROOT / "docs/SIGNS.md").read_text("utf-8").split("\n\n", 2)[2]
-        told = re.split(r"\n- |(?<=\.)\s+(?=`)", self.signs.replace("\n\n", "\n- "))
-        # first by what a row explains, the fewest signs first, and then by what it names
-        self.rows = [row for cut in ("`: ", "\n\n") for row in sorted((
-            (set(re.findall(r"[^\s(){},`⟦⟧]+", it.partition(cut)[0])), " ".join(it.split()).removeprefix("- "))
-            for it in told), key=lambda row: len(row[0]))]
-        self.collect([it for file in SOURCES if file.parts[len(CRATES.parts)] in LIBRARY for it in opened(file).items])
-
-    def collect(self, items):
-        """Finds the modules with their public items, what crates pass on, and what a crate's name leads to."""
-        self.modules, self.passed, self.impls = {}, {}, {}
-        hidden = {(*it.place, it.name) for it in items if it.kind == "mod" and not it.is_public}
+        signs = (ROOT / "docs/SIGNS.md").read_text("utf-8").split("\n\n", 2)[2]
+        # what rows explain, the fewest signs first
+        self.rows = sorted(((set(re.findall(r"[^\s(){},`⟦⟧]+", it.partition("`: ")[0])), it.removeprefix("- "))
+                            for it in re.split(r"\n\n|\n- |(?<=\.)\s+(?=`)", signs)), key=lambda row: len(row[0]))
+        self.signs = self.prose(signs)
+        # the modules with their public items, what crates pass on, and what a crate's name leads to
+        self.modules = {}
+        files = [file for crate in LIBRARY for file in sorted(CRATES.glob(f"{crate}/src/**/*.rt"))]
+        items = [it for file in files for it in opened(file).items]
+        hidden = tuple(f"{it.id}." for it in items if it.kind == "mod" and not it.is_public)
+        self.passed = {(file.crate, new): (path[0], path[-1]) for file in map(opened, files)
+                       for new, (path, is_passed) in file.brought.items() if is_passed}
+        self.impls = [it for it in items if it.kind == "impl"]
         for it in items:
-            self.impls.setdefault((it.crate, it.name), []).extend([it] * (it.kind == "impl"))
-            for new, path in used(it.text, it.crate) if it.kind == "use" and it.is_public else ():
-                self.passed[it.crate, new] = path[0], path[-1]
-        for it in items:
-            is_hidden = any(it.place[:end] in hidden for end in range(len(it.place) + 1))
-            if not is_hidden or (it.crate, it.name) in self.passed.values():
-                listed = self.modules.setdefault(it.place, (opened(it.file), []))[1]
+            if not it.id.startswith(hidden) or (it.crate, it.name) in self.passed.values():
+                listed = self.modules.setdefault(it.module, (opened(it.file), []))[1]
                 if it.is_public and not (it.owner or it.kind in ("mod", "use", "impl") or it.name in INNER):
                     listed.append(it)
                     self.at[it.crate, it.name] = it.link
                     self.at |= {(it.crate, it.name, name): f"{it.link}.{name}" for name in self.members(it)}
-        self.at = {(place[0], place[-1]): page_of(place) for place in self.modules} | self.at
+        self.at = {(it.split(".")[0], it.split(".")[-1]): f"{it}.html" for it in self.modules} | self.at
+        self.leads = {f"{path}.html": lead(file.doc) for path, (file, _) in self.modules.items()}
+        self.leads |= {it.link: lead(it.doc) for _, listed in self.modules.values() for it in listed}
 
     def members(self, item):
         """The fields, variants, constants and calls that have an anchor below an item."""
-        blocks = [block for block in self.impls.get((item.crate, item.name), ()) if not block.trait]
+        blocks = [it for it in self.impls if (it.crate, it.name, it.trait) == (item.crate, item.name, "")]
         return {it.name: it for of in (item, *blocks) for it in of.inside
                 if it.kind != "ghost" and (it.is_public or it.kind == "const")}
 
     def find(self, path, file):
         """The link to what a path of code means in a file, or None."""
-        crate, parts = opened(file).items[0].crate, re.sub(r"[^\w:].*", "", path).split("::")
-        path = [*dict(used(opened(file).text, crate)).get(parts[0], parts[:1]), *parts[1:]]
-        crate, path = (path[0], path[1:]) if path[0] in LIBRARY else (crate, path)
-        for key in ((crate, *path[-2:]), (crate, *path[-1:])):
-            key = (*self.passed.get(key[:2], key[:2]), *key[2:])
-            if key in self.at:
-                return self.at[key]
-        return None
+        parts = re.sub(r"[^\w:].*", "", path).split("::")
+        path = [*opened(file).brought.get(parts[0], (parts[:1],))[0], *parts[1:]]
+        crate, path = (path[0], path[1:]) if path[0] in LIBRARY else (opened(file).crate, path)
+        keys = [(*self.passed.get(key[:2], key[:2]), *key[2:]) for key in ((crate, *path[-2:]), (crate, *path[-1:]))]
+        return next((self.at[key] for key in keys if key in self.at), None)
 
     def page(self, name, title, body):
-        text = PAGE.replace("TITLE", escape(title)).replace("BODY", body)
-        (self.folder / name).write_text(text, encoding="utf-8")
+        (self.folder / f"{name}.html").write_text(PARTS["page"](title=escape(title), body=body), encoding="utf-8")
 
-    def inline(self, text, file=None, known=()):
+    def inline(self, text, file=None):
         """A line of prose, with what its code names as links."""
         def shown(it):
             name = (it[1] or it[3] or it[4]).strip("`")
-            to = file and (not it[4] or name[:1].isupper()) and self.find(dict(known).get(name) or it[2] or name, file)
+            to = file and (not it[4] or name[:1].isupper()) and self.find(it[2] or name, file)
             inside = f"<code>{name}</code>".replace("*", "&#42;") if "`" in it[0] else name
             return f'<a href="{to}">{inside}</a>' if to else inside
 
@@ -343,171 +292,155 @@ class Reference:
 
     def prose(self, text, file=None):
         """A comment or a part of a page as prose."""
-        known, out = re.findall(r"(?m)^\[`([^`]+)`\]: (\S+)$", text), []
-        put = functools.partial(self.inline, file=file, known=known)
-        text = re.sub(r"(?m)^\[`[^`]+`\]: \S+$", "", text)
+        put, out = functools.partial(self.inline, file=file), []
+        for line, name, to in re.findall(r"(?m)^((\[`[^`]+`\]): (\S+))$", text):
+            text = text.replace(line, "").replace(name, f"{name}({to})")
         for block in re.findall(r"(?ms)^```.*?^```$|(?:^(?!```)[^\n]+\n?)+", text):
             first, *rest = re.split(r"(?m)^- ", block)
             if block.startswith("```"):
                 shown = re.sub(r"(?m)^# ", "", block.split("\n", 1)[1][:-4])
                 out.append(code(shown, self.type_spans(shown, file)))
             elif block.startswith("|"):
-                rows = [[put(cell) for cell in row.strip("| ").split(" | ")] for row in block.strip().split("\n")]
-                cells = ["".join(f"<td>{cell}</td>" for cell in row) for row in rows[:1] + rows[2:]]
-                out.append("<table>" + "".join(f"<tr>{row}</tr>" for row in cells) + "</table>")
+                rows = [row.strip("| ").split(" | ") for row in block.split("\n") if row.strip("|-")]
+                out += ["<table>", *("<tr><td>" + "<td>".join(map(put, row)) for row in rows), "</table>"]
             else:
                 out += [f"<p>{put(first)}</p>" * bool(first.strip()),
                         f"<ul>{''.join(f'<li>{put(it)}</li>' for it in rest)}</ul>" * bool(rest)]
         return "".join(out)
 
     def type_spans(self, text, file):
-        for it in re.finditer(r"(?m)(^ *)?\b(?P<path>(?:\w+::)*[A-Z]\w*(?:::\w+)?)\b", text) if file else ():
-            # a name at the start of a line is that of a variant
-            to = (it[1] is None or "::" in it["path"]) and self.find(it["path"], file)
-            if to:
-                yield it.start("path"), it.end(), f'href="{to}"'
+        found = re.finditer(r"(?m)(^ *)?\b((?:\w+::)*[A-Z]\w*(?:::\w+)?)\b", text) if file else ()
+        # a name at the start of a line is that of a variant
+        spans = ((*it.span(2), self.find(it[2], file)) for it in found if it[1] is None or "::" in it[2])
+        return [(begin, end, f'href="{to}"') for begin, end, to in spans if to]
 
     def word_spans(self, text, file, own=None):
-        for begin, end, word in opened(file).marks(text):
-            self.words[word.id] = word
-            if word is not own:
-                yield begin, end, f'class=w href="{word.href}"'
+        found = opened(file).marks(text)
+        self.words |= {word.id: word for *_, word in found}
+        return [(begin, end, f'class=w href="{word.href}"') for begin, end, word in found if word is not own]
 
+    @functools.cache
     def word(self, word):
         """A definition, with its comment, or with what docs/SIGNS.md says of a word of the toolchain."""
-        told, is_code, place = word.doc, word.file.suffix == ".rt", f"toolchain, {'/'.join(word.place)}"
-        if word.is_here:
-            place = f'<a href="{word.source}">{word.file.relative_to(CRATES)}</a>'
-        else:
-            parts = set(filter(None, word.name.split("◌")))
-            told = next((it for head, it in self.rows if parts <= head), lead(told) if is_code else told)
-        file, text = word.file if word.is_here and is_code else None, without_comments(word.text)
+        is_code, text = word.file.suffix == ".rt", without_comments(word.text)
+        told, file = word.doc.split("\n\n")[0] if is_code else word.doc, word.file if is_code else None
+        place = f'<a href="{word.source}">{word.file.relative_to(CRATES)}</a>' if word.is_here else ""
+        if not word.is_here:
+            parts, place = set(filter(None, word.name.split("◌"))), f"toolchain, {word.module.replace('.', '/')}"
+            told, file = next((it for head, it in self.rows if parts <= head), lead(told) if is_code else told), None
         spans = self.type_spans(text, file) if is_code else self.word_spans(text, word.file, word)
-        return (self.prose(told.split("\n\n")[0] if is_code else told, file) + code(text, spans)
-                + f"<p class=small>{place}</p>")
+        return self.prose(told, file) + code(text, spans) + f"<p class=small>{place}</p>"
 
     def listed(self, words):
         """Definitions, each with its name."""
-        names = [(escape(it.name).replace("◌", " ").strip(), it) for it in words]
-        return "".join(f'<div class=word id="{html.escape(it.id)}"><h3><code>{name}</code></h3>{self.word(it)}</div>'
-                       for name, it in names)
+        return "".join(PARTS["word"](id=html.escape(it.id), told=self.word(it),
+                                     name=escape(it.name).replace("◌", " ").strip()) for it in words)
 
     def head(self, item):
         """A signature, its comment, and its clauses, whose words unfold."""
         sign, clauses = item.head[:item.cut].rstrip(" ,;\n"), item.head[item.cut:].rstrip(";")
-        spans = [(begin - item.cut, end - item.cut, link) for begin, end, link in
-                 self.word_spans(item.head, item.file) if begin >= item.cut]
         return (code(sign, self.type_spans(sign, item.file)) + self.prose(item.doc, item.file)
-                + code(clauses, spans, "clauses") * bool(clauses.strip()))
+                + code(clauses, self.word_spans(clauses, item.file), "clauses") * bool(clauses.strip()))
 
     def ghosts(self, listed):
         """The members that clauses cite, but not those of an `impl` that are only proofs of laws."""
         return "".join(self.prose(it.doc, it.file) + code(text, self.word_spans(text, it.file, it), "clauses")
                        for it in listed for text in [without_comments(it.text)] if it.kind == "ghost"
-                       and not any("Laws" in word.file.parts for word in opened(it.file).cited(it.text)))
+                       and not any("Laws" in word.file.parts for *_, word in opened(it.file).marks(it.text)))
 
     def item(self, item, owner=None):
         """An item with all that belongs to it."""
-        link, rows = f"{owner.link}.{item.name}" if owner else item.link, []
-        listed, level = ((), 3) if owner else (self.members(item).values(), 2)
+        link, fields = f"{owner.link}.{item.name}" if owner else item.link, []
+        listed = () if owner else self.members(item).values()
         anchor = link.partition("#")[2]
         name = anchor.replace(".", "::")
-        self.found.append([name, f"{item.kind} of {'::'.join(item.place)}", link])
+        self.found.append([name, f"{item.kind} of {item.module.replace('.', '::')}", link])
         for it in (it for it in listed if it.kind != "fn"):
             shown = re.sub(r"^pub |[,;]$", "", " ".join(without_comments(it.text).split()))
             shown = linked(shown, self.type_spans(shown, it.file))
             self.found.append([f"{name}::{it.name}", it.kind, f"{link}.{it.name}"])
-            rows.append(f'<dt id="{anchor}.{it.name}"><code>{shown}</code></dt><dd>{self.prose(it.doc, it.file)}</dd>')
-        blocks = [it for it in self.impls.get((item.crate, item.name), ()) if it.trait and not owner]
-        return "".join([
-            f'<h{level} id="{anchor}">{name}<small>{item.kind}, <a href="{item.source}">source</a>'
-            f"</small></h{level}>{self.head(item)}<dl>{''.join(rows)}</dl>{self.ghosts(item.inside)}",
-            *(self.item(it, item) for it in listed if it.kind == "fn"),
-            *(f"<details><summary><code>{escape(' '.join(it.head.split()))}</code></summary>{self.ghosts(it.inside)}"
-              f"{''.join(self.head(of) for of in it.inside if of.kind == 'fn')}</details>" for it in blocks)])
+            fields.append(f'<dt id="{anchor}.{it.name}"><code>{shown}</code></dt>'
+                          f"<dd>{self.prose(it.doc, it.file)}</dd>")
+        blocks = [it for it in self.impls if it.trait and (it.crate, it.name, None) == (item.crate, item.name, owner)]
+        return PARTS["item"](
+            level=3 if owner else 2, anchor=anchor, name=name, kind=item.kind, source=item.source,
+            head=self.head(item), fields="".join(fields), ghosts=self.ghosts(item.inside),
+            calls="".join(self.item(it, item) for it in listed if it.kind == "fn"),
+            blocks="".join(PARTS["block"](
+                name=escape(" ".join(it.head.split())), ghosts=self.ghosts(it.inside),
+                calls="".join(self.head(of) for of in it.inside if of.kind == "fn")) for it in blocks))
 
-    def module(self, key):
+    def module(self, path):
         """The page of a module: what it has, what it passes on, and the modules below it."""
-        (of, items), name = self.modules[key], "::".join(key)
-        passed = [(self.find(new, of.file), new, "Passed on.") for crate, new in self.passed if (crate,) == key]
-        self.found += [[name, "module", page_of(key)], *([f"{name}::{new}", "passed on", to] for to, new, _ in passed)]
-        rows = [(it.link, it.name, lead(it.doc)) for it in items] + passed
-        rows += [(page_of(it), it[-1], lead(self.modules[it][0].doc)) for it in self.modules if it[:-1] == key]
-        listed = "".join(f'<dt><a href="{to}"><code>{new}</code></a></dt><dd>{self.inline(more, of.file)}</dd>'
-                         for to, new, more in rows)
-        above = f'<p class=small>in <a href="{page_of(key[:-1])}">{"::".join(key[:-1])}</a></p>'
-        self.page(page_of(key), name, "".join([above * bool(key[1:]), self.prose(of.doc, of.file), f"<dl>{listed}</dl>",
-                                               *map(self.item, items)]))
+        (of, items), name, above = self.modules[path], path.replace(".", "::"), path.rpartition(".")[0]
+        passed = [(self.find(new, of.file), new) for crate, new in self.passed if crate == path]
+        self.found.append([name, "module", f"{path}.html"])
+        self.found += [[f"{name}::{new}", "passed on", to] for to, new in passed]
+        rows = [(it.link, it.name) for it in items] + passed
+        rows += [(f"{it}.html", it[len(path) + 1:]) for it in self.modules if it.rpartition(".")[0] == path]
+        up = f'<p class=small>in <a href="{above}.html">{above.replace(".", "::")}</a></p>' * bool(above)
+        self.page(path, name, up + self.prose(of.doc, of.file) + self.overview(rows, of.file)
+                  + "".join(map(self.item, items)))
 
-    def headline(self, name, title, items):
+    def overview(self, rows, file=None):
+        """Links, each with the first sentence of what it leads to."""
+        cells = ((to, name, self.inline(self.leads[to], file)) for to, name in rows)
+        return "<dl>" + "".join(PARTS["row"](to=to, name=name, told=told) for to, name, told in cells) + "</dl>"
+
+    def headline(self, name, title, *sentences):
         """A page on which a headline stands with all that it rests on."""
+        items = [it for sentence in sentences for it in claims_of(sentence)]
         every, (own, other) = closure(items), counts(items)
         quote = re.findall(r"(?m)^(?:>.*\n)+", (ROOT / "README.md").read_text("utf-8"))[name == "setting"]
-        heads = "".join(f'<h2 id="{it.name}">{it.name}</h2>{self.head(it)}' for it in items)
-        words = [self.listed(it for it in every if it.is_here is side) for side in (True, False)]
-        body = f"""<blockquote>{self.prose(quote.replace("> ", ""))}</blockquote><p>This page rests on <b>{own} lines of
-            definitions here</b> and on {other} of the toolchain, in {len(every)} words. All of them stand below, each
-            after a text that cites it. Lines of comments are not counted. The grammar of a kind comes on top.</p>
-            {heads}<h2>The words of this repository</h2>{words[0]}<h2>The words of the toolchain</h2>{words[1]}
-            <h2>Signs</h2>{self.prose(self.signs)}"""
+        body = PARTS["headline"](
+            quote=self.prose(quote.replace("> ", "")), own=own, other=other, count=len(every), signs=self.signs,
+            heads="".join(PARTS["claim"](name=it.name, module=it.module.replace(".", "::"), source=it.source,
+                                         head=self.head(it)) for it in items),
+            here=self.listed(it for it in every if it.is_here),
+            toolchain=self.listed(it for it in every if not it.is_here))
         # each word stands on this page
-        self.page(f"{name}.html", title, re.sub(r'class=w href="[^#"]*', 'class=w href="', body))
+        self.page(name, title, re.sub(r'class=w href="[^#"]*', 'class=w href="', body))
         self.found.append([title, f"statement, on {own} lines", f"{name}.html"])
 
     def settings(self):
         """The built-in rows of `config_check`."""
-        text = (CRATES / "config_checks/src/git.rt").read_text("utf-8").partition('SETTINGS: &str = "\\\n')[2]
-        heads, rows = ("Key", "Kind", "Words", "Since", "Marks"), {}
-        for line in re.findall(r"(?m)^[^#\n].*$", re.sub(r"\\\n *", "", text.partition('\n";')[0])):
-            key, since, marked, kind, more = re.match(
-                r"(\S+)\s+(?:since=(\S+) )?((?:(?:\w+=\S+|alone|needs-value|warn) )*)(\S+) ?(.*)", line).groups("")
-            cells = zip(heads, (key, kind, more, since, marked.strip()))
-            row = "".join(f'<td data-of="{head}">{escape(cell)}</td>' for head, cell in cells)
-            rows.setdefault(key, []).append(row)
-            self.found.append([key, f"setting, {kind}", f"settings.html#{urllib.parse.quote(key)}"])
-        body = "".join(f'<tr id="{key}">{"</tr><tr>".join(of)}</tr>' for key, of in rows.items())
-        told = re.search(r"(?ms)^## The kinds\n(.*?)^## ", (ROOT / "docs/CHECKING.md").read_text("utf-8"))[1]
-        self.page("settings.html", "Settings that config_check knows", f"""<p>For a Git the first row
-            with a key decides. Without <i>since</i> a row is for Git 2.39 too.</p><details><summary>What the kinds and
-            the marks mean</summary>{self.prose(told)}</details><table class=rows><thead><tr>
-            {"".join(f"<th>{head}</th>" for head in heads)}</tr></thead><tbody>{body}</tbody></table>""")
-
-    def define(self):
-        """The pages of definitions, and what each word unfolds into."""
-        for file in (file for crate in LISTED for file in sorted((CRATES / crate / "specs").glob("*.antt"))):
-            self.words |= {it.id: it for it in opened(file).words.values()}
-        shown = {}
-        # what unfolds cites more words, until no new one comes
-        while len(shown) < len(self.words):
-            shown |= {key: self.word(word) for key, word in list(self.words.items()) if key not in shown}
-        for crate in (*LISTED, "toolchain"):
-            of = [it for _, it in sorted(self.words.items()) if it.href.startswith(f"words.{crate}.")]
-            self.page(f"words.{crate}.html", f"Definitions of {crate}", self.listed(of))
-            self.found += [[word.name, f"definition of {word.crate}", word.href] for word in of]
-        (self.folder / "data.js").write_text(
-            f"const FOUND = {json.dumps(self.found)}, WORDS = {json.dumps(shown)};", encoding="utf-8")
+        text, rows = (CRATES / "config_checks/src/git.rt").read_text("utf-8"), {}
+        text = re.sub(r"\\\n *", "", text.partition('SETTINGS: &str = "\\\n')[2].partition('\n";')[0])
+        form = r"(?m)^([^#\s]\S*) +(?:since=(\S+) )?((?:(?:\w+=\S+|alone|needs-value|warn) )*)(\S+) ?(.*)"
+        for key, since, marks, kind, words in re.findall(form, text):
+            cells = "".join(f"<td>{escape(cell)}" for cell in (key, kind, words, since, marks.strip()))
+            self.found += [[key, f"setting, {kind}", f"settings.html#{urllib.parse.quote(key)}"]] * (key not in rows)
+            rows[key] = rows[key] + f"<tr>{cells}" if key in rows else f'<tr id="{key}">{cells}'
+        kinds = re.search(r"(?ms)^## The kinds\n(.*?)^## ", (ROOT / "docs/CHECKING.md").read_text("utf-8"))[1]
+        self.page("settings", "Settings that config_check knows",
+                  PARTS["settings"](kinds=self.prose(kinds), rows="".join(rows.values())))
 
     def write(self):
         self.folder.mkdir(parents=True, exist_ok=True)
         for key in self.modules:
             self.module(key)
-        self.headline("headline", "The headline of values", claims_of("headline") + claims_of("joined"))
-        self.headline("setting", "The headline of settings", claims_of("setting"))
+        self.headline("headline", "The headline of values", "headline", "joined")
+        self.headline("setting", "The headline of settings", "setting")
         self.settings()
-        self.define()
-        crates = "".join(f"<dt><a href={crate}.html><code>{crate}</code></a></dt>"
-                         f"<dd>{self.inline(lead(self.modules[crate,][0].doc))}</dd>" for crate in LIBRARY)
-        words = "".join(f"<li><a href=words.{crate}.html>{crate}</a></li>" for crate in (*LISTED, "toolchain"))
+        for file in (file for crate in LISTED for file in sorted((CRATES / crate / "specs").glob("*.antt"))):
+            self.words |= {it.id: it for it in opened(file).words.values()}
+        # what unfolds cites more words, until no new one comes
+        shown = {}
+        while len(shown) < len(self.words):
+            shown = {key: self.word(word) for key, word in list(self.words.items())}
+        for crate in (*LISTED, "toolchain"):
+            of = [it for _, it in sorted(self.words.items()) if it.href.startswith(f"words.{crate}.")]
+            self.page(f"words.{crate}", f"Definitions of {crate}", self.listed(of))
+            self.found += [[word.name, f"definition of {word.crate}", word.href] for word in of]
+        (self.folder / "data.js").write_text(
+            f"const FOUND = {json.dumps(self.found)}, WORDS = {json.dumps(shown)};", encoding="utf-8")
         told = f"{sum(len(it[1]) for it in self.modules.values())} items, and {len(self.words)} definitions"
-        self.page("index.html", "Reference", f"""<p>All that a user of the libraries can call, with its contract, and
-            what each word of a contract means. A word of a clause unfolds below its line, down to the words of the
-            toolchain. <a href=headline.html>The headline of values</a> and <a href=setting.html>the headline of
-            settings</a> have pages of their own, with all that they rest on. These pages are as the sources were when
-            they were written: {told}.</p><dl>{crates}</dl><h2>Definitions</h2><ul class=list>{words}</ul>
-            <h2 id=signs>Signs</h2>{self.prose(self.signs)}""")
+        crates = self.overview((f"{it}.html", it) for it in LIBRARY)
+        words = "".join(f"<li><a href=words.{crate}.html>{crate}</a></li>" for crate in (*LISTED, "toolchain"))
+        self.page("index", "Reference", PARTS["index"](told=told, crates=crates, words=words, signs=self.signs))
         for file in (it for crate in LISTED for it in (CRATES / crate).glob("s*/**/*.*t*")):
             name = str(file.relative_to(CRATES))
-            self.page(f"source.{name.replace('/', '.')}.html", name, code(opened(file).text, (), "source", " id=L{}"))
+            self.page(f"source.{name.replace('/', '.')}", name, code(opened(file).text, (), "source", " id=L{}"))
         for name in ("reference.css", "reference.js"):
             (self.folder / name).write_bytes((ROOT / "docs" / name).read_bytes())
         print(told)

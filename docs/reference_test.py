@@ -1,10 +1,10 @@
 #!/usr/bin/env python3
 """Builds the reference and looks at it in a browser. The last line is 'N passed, M failed'.
 
-No link may be dead, and no anchor stand twice on a page. In Debian's chromium search has to find types, a word of a
-headline and then a word in its definition to unfold and fold again, rows to be filtered, what no user calls to be
-hidden, and no page to be wider than its window. Without the script a word leads to its definition. Without chromium
-these are skipped.
+No link may be dead, no anchor stand twice on a page, and no word of the toolchain on a headline's page lack its
+meaning. In Debian's chromium search has to find types, a word of a headline and then a word in its definition to
+unfold and fold again, rows to be filtered, what no user calls to be hidden, and no page to be wider than its window.
+Without the script a word leads to its definition. Without chromium these are skipped.
 """
 import collections
 import html
@@ -101,6 +101,10 @@ def main():
         reference.Reference(folder).write()
         faults, count = links(folder)
         results.append((f"{count} links: {faults[:20]}", not faults))
+        # of this repository's words some have a definition that says all, such as the number of a sign
+        texts = "".join((folder / f"{name}.html").read_text("utf-8") for name in ("headline", "setting"))
+        untold = set(re.findall(r"<h3><code>([^<]*)</code></h3><pre (?:(?!</div>).)*toolchain, ", texts))
+        results.append((f"words of the toolchain without a meaning: {untold}", not untold))
         public = {it.name for file in reference.SOURCES for it in reference.opened(file).items if it.is_public}
         results.append((f"hidden, but not there: {set(reference.INNER) - public}", public.issuperset(reference.INNER)))
         if not shutil.which("chromium"):

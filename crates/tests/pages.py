@@ -129,8 +129,8 @@ def spaces():
 
 def reached(text, file, seen):
     """The text of an equation, and of all definitions of its file that it cites, directly or through others."""
-    for word in reference.opened(file).cited(text):
-        if word and word.file == file and word.name not in seen and not word.text.startswith("pub data"):
+    for *_, word in reference.opened(file).marks(text):
+        if word.file == file and word.name not in seen and not word.text.startswith("pub data"):
             seen.add(word.name)
             text += "\n" + reached(reference.without_comments(word.text), file, seen)
     return text
