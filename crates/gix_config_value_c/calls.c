@@ -493,6 +493,11 @@ gcv_status gcv_remove_section(const char *text, size_t length, const char *name,
     return call_with_one(gcv_raw_remove_section, text, length, name, name_length, buffer, capacity, size, line);
 }
 
+gcv_status gcv_list_key(const char *key, size_t length, char *GCV_RESTRICT buffer, size_t capacity, size_t *size)
+{
+    return gcv_raw_list_key(bytes_of(key, length), length, room_of(buffer, capacity), capacity, size);
+}
+
 gcv_status gcv_enter(gcv_walk *GCV_RESTRICT walk, const char *file, size_t file_length, const char *real_dir,
         size_t real_dir_length, const char *text, size_t length)
 {

@@ -77,14 +77,17 @@ archive=$prefix/lib/libgix_config_value.a
 holds "the header" python3 "$tests/header.py" "$prefix"
 
 # the library exports exactly the calls that the header declares, and needs only the symbols of docs/C.md
-sed -nE '/^typedef/d; s/^(GCV_RETURNS|GCV_NONNULL|gcv_depth|const char).*[ *](gcv_[a-z0-9_]+)\(.*/\2/p' \
-    "$prefix/include/gix_config_value.h" | sort > "$work/declared"
+{
+    sed -nE '/^typedef/d; s/^(GCV_RETURNS|GCV_NONNULL|gcv_depth|const char).*[ *](gcv_[a-z0-9_]+)\(.*/\2/p' \
+        "$prefix/include/gix_config_value.h"
+    sed -n 's/^GCV_CHECKED .* gcv_edit_by_[a-z]* \(.*\);$/\1/p' "$prefix/include/gix_config_value.h" | tr -d ' ' | tr , '\n'
+} | sort > "$work/declared"
 nm -g --defined-only "$archive" | sed -n 's/.* [A-Z] //p' | sort > "$work/shown"
 holds "the archive shows the calls of the header" diff "$work/declared" "$work/shown"
 nm -D --defined-only "$prefix/lib/libgix_config_value.so" | sed -n 's/.* [A-Z] //p' | sort > "$work/shown"
 holds "the shared library shows the calls of the header" diff "$work/declared" "$work/shown"
-printf '%s\n' __errno_location calloc fclose ferror fopen fread free malloc memcmp memcpy memmove memset realloc realpath \
-    strcmp strlen strncmp strrchr > "$work/known"
+printf '%s\n' __errno_location calloc fclose ferror fopen fread free getpwnam_r malloc memchr memcmp memcpy memmove memset \
+    realloc realpath strcmp strlen strncmp strrchr > "$work/known"
 nm -u "$archive" | sed -n 's/^ *U //p' | sort -u > "$work/needed"
 holds "the archive needs no more than docs/C.md says" test -z "$(comm -13 "$work/known" "$work/needed")"
 # instructions that processors of x86-64 before 2008 do not have
@@ -156,7 +159,6 @@ if command -v git > /dev/null; then
     printf '[some]\n\tk = "of the URL"\n' > "$work/repository/.git/url"
 fi
 body() {
-    printf '#define _DEFAULT_SOURCE\n#define GCV_WITH_USERS\n'
     printf '#include <gix_config_value.h>\n#include <string.h>\nint main(void)\n{\n    char t[64] = "1";\n'
     printf '    uint32_t b = 0;\n    size_t n = 0;\n    gcv_context c;\n    gcv_color both;\n'
     printf '    memset(&c, 0, sizeof c);\n    memset(&both, 0, sizeof both);\n    return %s;\n}\n' "$1"
