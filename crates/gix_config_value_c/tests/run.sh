@@ -212,7 +212,7 @@ for compiler in gcc clang g++ clang++; do
             *) set -- -L"$prefix/lib" -lgix_config_value ;;
         esac
         by="by $compiler, $linked"
-        for example in theme check config; do
+        for example in theme check config six_settings; do
             # shellcheck disable=SC2086
             holds "$example $by" "$compiler" $language $warnings -I"$prefix/include" -o "$work/$example" \
                 "$root/examples/c/$example.c" -x none "$@"
@@ -233,6 +233,10 @@ for compiler in gcc clang g++ clang++; do
         holds "config $by, another subsection" test -z "$(HOME=$work/home "$work/config" "$work/repository/.git" remote.o.url)"
     done
 done
+
+if [ -x "$work/six_settings" ] && command -v git > /dev/null; then
+    counted "six settings, by Git" python3 "$tests/six.py" "$work/six_settings"
+fi
 
 # the Python package: a wheel by the headers of each Python from 3.9 on that is installed, tested on all of them
 # shellcheck disable=SC2317
