@@ -1185,6 +1185,52 @@ static void patterns(void)
     pthread_attr_destroy(&small);
 }
 
+/* What threads do at the same time: they look up in the same settings, and read, edit and walk over texts of their own. */
+static void *work(void *state)
+{
+    static const char *const names[] = {"user", "own"};
+    static const char old[] = "[a]\n\tb = 1\n", key[] = "A.B";
+    const gcv_settings *shared = (const gcv_settings *)state;
+    uintptr_t wrong_rounds = 0;
+    for (size_t round = 0; round < 200; round++) {
+        in_memory two = {{{"user", USER, 0}, {"own", OWN, 0}}, 0};
+        gcv_settings settings = GCV_NO_SETTINGS;
+        gcv_walk walk = {0};
+        gcv_step step;
+        char text[64], listed_key[8];
+        size_t size = 0, line = 0;
+        int is_right = gcv_find_setting(shared, "CORE.Limit") == &shared->list[4] &&
+                       gcv_read_files(&settings, names, 2, NULL, open_in_memory, &two) == GCV_OK && settings.count == 8 &&
+                       gcv_find_setting(&settings, "Core.Bare") == &settings.list[7];
+        is_right = is_right && gcv_set(old, sizeof old - 1, key, 3, "two", 3, text, sizeof text, &size, &line) == GCV_OK &&
+                   size == 13 && memcmp(text, "[a]\n\tb = two\n", size) == 0;
+        is_right = is_right && gcv_unset_all(old, sizeof old - 1, key, 3, text, sizeof text, &size, &line) == GCV_OK && size == 0;
+        is_right = is_right && gcv_list_key(key, 3, listed_key, sizeof listed_key, &size) == GCV_OK && memcmp(listed_key, "a.b", 3) == 0;
+        is_right = is_right && gcv_enter(&walk, "c", 1, NULL, 0, old, sizeof old - 1) == GCV_OK &&
+                   gcv_next(&walk, NULL, text, sizeof text, &step) == GCV_OK && strcmp(step.value, "1") == 0;
+        wrong_rounds += !is_right;
+        gcv_free_settings(&settings);
+    }
+    return (void *)wrong_rounds;
+}
+
+static void threads(void)
+{
+    static const char *const names[] = {"user", "own"};
+    in_memory two = {{{"user", USER, 0}, {"own", OWN, 0}}, 0};
+    gcv_settings shared = GCV_NO_SETTINGS;
+    pthread_t all[8];
+    count(gcv_read_files(&shared, names, 2, NULL, open_in_memory, &two) == GCV_OK, "settings that threads share");
+    for (size_t at = 0; at < 8; at++) {
+        count(pthread_create(&all[at], NULL, work, &shared) == 0, "a thread");
+    }
+    for (size_t at = 0; at < 8; at++) {
+        void *wrong_rounds = &shared;
+        count(pthread_join(all[at], &wrong_rounds) == 0 && !wrong_rounds, "calls at the same time");
+    }
+    gcv_free_settings(&shared);
+}
+
 int main(void)
 {
     buffer_area = new_area(4096);
@@ -1218,5 +1264,6 @@ int main(void)
     commands();
     edits();
     patterns();
+    threads();
     return finish();
 }

@@ -44,7 +44,8 @@ def settings(draw, keys, includes):
 def repository(draw, folder):
     """Makes a repository, the files around it and the variables for Git."""
     top, home, inner = folder / "top", folder / "home", folder / "top/.git"
-    known = {"PATH": os.environ["PATH"], "HOME": str(home), "LC_ALL": "C", "GIT_CONFIG_SYSTEM": str(folder / "system")}
+    known = {"HOME": str(home), "LC_ALL": "C", "GIT_CONFIG_SYSTEM": str(folder / "system")}
+    known |= {name: os.environ[name] for name in ("PATH", "LD_LIBRARY_PATH") if name in os.environ}
     (home / ".config/git").mkdir(parents=True)
     (folder / "xdg/git").mkdir(parents=True)
     subprocess.run(["git", "init", "-q", "-b", "main", str(top)], env=known, check=True)
