@@ -192,7 +192,7 @@ GCV_NONNULL((4)) gcv_status gcv_fault_text(gcv_fault fault, char *GCV_RESTRICT b
  * - integer: a number and its suffix, whose product need not fit int64_t; GCV_FAULT_INTEGER
  * - amount: that product; GCV_FAULT_INTEGER, and GCV_FAULT_OVERFLOW if it does not fit int64_t
  * - boolean: 1 for true and 0 for false; GCV_FAULT_BOOLEAN
- * - name: a name, whose tag is not GCV_NO_NAME; attribute: the one bit of an attribute; color: GCV_FAULT_COLOR */
+ * - name, whose tag is not GCV_NO_NAME, attribute, which is one bit, and color: GCV_FAULT_COLOR */
 GCV_RETURNS((3)) gcv_read_suffix(const char *text, size_t length, gcv_suffix *GCV_RESTRICT out, gcv_fault *fault);
 GCV_RETURNS((3)) gcv_read_integer(const char *text, size_t length, gcv_integer *GCV_RESTRICT out, gcv_fault *fault);
 GCV_RETURNS((3)) gcv_read_amount(const char *text, size_t length, int64_t *GCV_RESTRICT out, gcv_fault *fault);
@@ -223,11 +223,12 @@ GCV_RETURNS((1, 2)) gcv_product(const gcv_integer *value, int64_t *GCV_RESTRICT 
  * - color: its foreground, its background and its attributes, if it has them, with one space between. Two sorts of
  *   colors have no text, and gcv_compose returns GCV_NO_TEXT for them: a background alone is shown as a foreground, and
  *   unknown bits are left out.
- * - gcv_escape_color: the escape sequence that Git sends to a terminal for a color: its attributes, reset first, then its
- *   foreground and its background. It is empty for a color that changes nothing. `\033[m` ends a color.
- * This call and each that takes a color return GCV_BAD_NAME if one of its names is neither all 0 nor a name. */
+ * - gcv_escape_color: the escape sequence that Git sends to a terminal for a color: its attributes, reset first, then
+ *   its foreground and its background. It is empty for a color that changes nothing. `\033[m` ends a color.
+ * Each call with a color returns GCV_BAD_NAME if the struct of one of its names is neither all 0 nor of a name. */
 GCV_RETURNS((4)) gcv_show_suffix(gcv_suffix suffix, char *GCV_RESTRICT buffer, size_t capacity, size_t *size);
-GCV_RETURNS((1, 4)) gcv_show_integer(const gcv_integer *value, char *GCV_RESTRICT buffer, size_t capacity, size_t *size);
+GCV_RETURNS((1, 4)) gcv_show_integer(const gcv_integer *value, char *GCV_RESTRICT buffer, size_t capacity,
+                                     size_t *size);
 GCV_RETURNS((4)) gcv_show_amount(int64_t value, char *GCV_RESTRICT buffer, size_t capacity, size_t *size);
 GCV_RETURNS((4)) gcv_show_boolean(uint32_t value, char *GCV_RESTRICT buffer, size_t capacity, size_t *size);
 GCV_RETURNS((1, 4)) gcv_show_name(const gcv_name *value, char *GCV_RESTRICT buffer, size_t capacity, size_t *size);
@@ -280,8 +281,8 @@ GCV_NONNULL((3, 4)) void gcv_cut_mark(const char *text, size_t length, uint32_t 
  * stay valid until the path call returns, or null if there is no such user. */
 typedef const char *gcv_find_home(void *state, const char *name, size_t length);
 
-/* A gcv_find_home over the users of this system, whose state is the address of a gcv_user: the memory for one user. Each
- * thread needs its own. */
+/* A gcv_find_home over the users of this system, whose state is the address of a gcv_user: the memory for one user.
+ * Each thread needs its own. */
 typedef struct gcv_user {
     char name[256];
     char texts[16384];
@@ -289,14 +290,15 @@ typedef struct gcv_user {
 const char *gcv_find_user(void *state, const char *name, size_t length);
 
 /* Writes the path that a text means. One mark is cut off first. %(prefix)/ means the install directory, ~ the home
- * directory, and ~user the home directory of that user: that in the passwd text, or the one that `find(state, ..)`
- * finds, which is called once for ~user and for no other path. A null `find` is like a null passwd text.
+ * directory, and ~user the home directory of that user. gcv_interpolate finds users in the passwd text, and
+ * gcv_interpolate_with by `find(state, ..)`, which is called once for ~user, and for no other path. It does not read
+ * the passwd text, and a null `find` is like a null text.
  *
  * Returns GCV_REFUSED if the text means no path, and then `*fault` is one of the faults of paths; after any other
  * status it is unchanged. What follows the directory must be UTF-8, and so must a user's name. The directories and the
  * passwd text may be any bytes, and so the written path may be any bytes too. Returns GCV_NO_MEMORY if the path would
- * be longer than PTRDIFF_MAX. gcv_interpolate allocates nothing. For a path of a user gcv_interpolate_with allocates and
- * frees memory, and returns GCV_NO_MEMORY if malloc fails. */
+ * be longer than PTRDIFF_MAX. gcv_interpolate allocates nothing. For a path of a user gcv_interpolate_with allocates
+ * and frees memory, and returns GCV_NO_MEMORY if malloc fails. */
 GCV_RETURNS((3, 6)) gcv_interpolate(const char *text, size_t length, const gcv_context *context,
                                     char *GCV_RESTRICT buffer, size_t capacity, size_t *size, gcv_fault *fault);
 GCV_RETURNS((3, 8)) gcv_interpolate_with(const char *text, size_t length, const gcv_context *context,
@@ -321,7 +323,7 @@ typedef struct gcv_known {
     size_t git_dir_length;
     const char *real_git_dir; /* the same with links resolved; if null, `git_dir` */
     size_t real_git_dir_length;
-    const char *branch; /* its name without refs/heads/; null if HEAD is detached */
+    const char *branch; /* its name without refs/heads/; null if HEAD is detached, or is that of a reftable: .invalid */
     size_t branch_length;
     const gcv_text *urls; /* the URLs of all remotes, for hasconfig:; null if there is none */
     size_t urls_length;   /* how many there are */
@@ -335,7 +337,7 @@ typedef struct gcv_setting {
     const char *value;
     const char *file; /* the name of its file */
     size_t line;      /* the line of its entry, from 1 */
-    size_t source;    /* the index of the name that gcv_read_files was given for the file, or for one that includes it */
+    size_t source;    /* the index in `names` of gcv_read_files of its file, or of the one that includes it */
 } gcv_setting;
 
 /* The settings of files, in Git's order. Begin with GCV_NO_SETTINGS, and end with gcv_free_settings. */
@@ -374,8 +376,8 @@ GCV_RETURNS((1, 2, 5)) gcv_read_files(gcv_settings *settings, const char *const 
 GCV_NONNULL((1)) void gcv_free_settings(gcv_settings *settings);
 
 /* Returns the last setting with this key, which decides, or null. The key ends with NUL: "core.autoCRLF", or
- * "branch.Main.rebase", in which only the case of "Main" counts. A key of more than GCV_LONGEST_KEY bytes is found if it
- * is as Git lists it. */
+ * "branch.Main.rebase", in which only the case of "Main" counts. A key of more than GCV_LONGEST_KEY bytes is found if
+ * it is as Git lists it. */
 enum { GCV_LONGEST_KEY = 4096 };
 GCV_NONNULL((1, 2)) const gcv_setting *gcv_find_setting(const gcv_settings *settings, const char *key);
 /* Writes a key as Git lists it, whatever bytes it has. Returns GCV_NO_SECTION if it has no dot. */
@@ -465,9 +467,10 @@ GCV_RETURNS((1, 5)) gcv_command_text(gcv_get_variable *get, void *state, char *G
 
 /* Edits of the text of a configuration file: one setting changes, and each other byte stays. A key and a name of a
  * section are as Git takes them: "user.name", "branch.Main.rebase", "branch.Main". Each call writes the new text.
- * - gcv_set sets the one value of a key, as `git config KEY VALUE` does. If an entry has the key, only bytes of its value
- *   change: its indentation, the comment after it and its line end stay. Otherwise a new entry comes after the last one
- *   of its section, or in a new section at the end. If the key has the value already, the new text is the old one.
+ * - gcv_set sets the one value of a key, as `git config KEY VALUE` does. If an entry has the key, only bytes of its
+ *   value change: its indentation, the comment after it and its line end stay. Otherwise a new entry comes after the
+ *   last one of its section, or in a new section at the end. If the key has the value already, the new text is the old
+ *   one.
  * - gcv_replace_all does so also if several entries have the key: the last one gets the value, the others go with their
  *   lines.
  * - gcv_add adds an entry, where gcv_set puts a new one, whatever entries the key has.
@@ -478,12 +481,12 @@ GCV_RETURNS((1, 5)) gcv_command_text(gcv_get_variable *get, void *state, char *G
  * - gcv_remove_section takes away the sections of a name, with their headers and all that is in them. Comments directly
  *   above the next header stay.
  *
- * Returns GCV_SEVERAL if several entries have the key of gcv_set or gcv_unset, and GCV_ABSENT if there is no entry or no
- * section to take away or to rename. Returns GCV_BAD_VALUE if a value has a NUL; for a key that Git refuses
+ * Returns GCV_SEVERAL if several entries have the key of gcv_set or gcv_unset, and GCV_ABSENT if there is no entry or
+ * no section to take away or to rename. Returns GCV_BAD_VALUE if a value has a NUL; for a key that Git refuses
  * GCV_NO_SECTION, GCV_NO_KEY_NAME, GCV_BAD_KEY or GCV_KEY_LINE_FEED; and GCV_BAD_SECTION if no header can have the new
  * name, or the subsection of the key, which has a NUL then. Returns GCV_BAD_LINE and GCV_NUL as gcv_next does, and then
- * writes the line to `*line`, which otherwise is unchanged. The calls allocate and free memory, and return GCV_NO_MEMORY
- * if malloc fails. */
+ * writes the line to `*line`, which otherwise is unchanged. The calls allocate and free memory, and return
+ * GCV_NO_MEMORY if malloc fails. */
 typedef gcv_status gcv_edit_by_two(const char *text, size_t length, const char *first, size_t first_length,
                                    const char *second, size_t second_length, char *GCV_RESTRICT buffer,
                                    size_t capacity, size_t *size, size_t *line);

@@ -238,6 +238,11 @@ if [ -x "$work/six_settings" ] && command -v git > /dev/null; then
     counted "six settings, by Git" python3 "$tests/six.py" "$work/six_settings"
 fi
 
+# shellcheck disable=SC2086
+holds "a reader of includes" "${CC:-cc}" -std=c99 $warnings -I"$prefix/include" -o "$work/listed" "$tests/listed.c" \
+    "$archive"
+counted "includes in C" python3 "$root/compare/config_file.py" --reader "$work/listed"
+
 # the Python package: a wheel by the headers of each Python from 3.9 on that is installed, tested on all of them
 # shellcheck disable=SC2317
 wheel() {
@@ -273,6 +278,8 @@ for builder in $pythons; do
 done
 if [ -n "$pythons" ]; then
     counted "what Python reads in a folder" python3 "$root/compare/here.py" --places 60 --python "$work/site"
+    counted "includes in Python" python3 "$root/compare/config_file.py" --reader \
+        "python3 -I -B $tests/listed.py $work/site"
 fi
 for python in $pythons; do
     "$python" -m pip --version > /dev/null 2>&1 || continue
