@@ -265,12 +265,9 @@ gcv_depth gcv_terminal_depth(int is_terminal, const char *no_color, const char *
 
 /* What a path may refer to, as any bytes. A null pointer means that it is not given, whatever its length. */
 typedef struct gcv_context {
-    const char *install_dir; /* for %(prefix)/ */
-    size_t install_dir_length;
-    const char *home; /* for ~ */
-    size_t home_length;
-    const char *passwd; /* for ~user: a text with the lines of /etc/passwd */
-    size_t passwd_length;
+    const char *install_dir; size_t install_dir_length; /* for %(prefix)/ */
+    const char *home; size_t home_length; /* for ~ */
+    const char *passwd; size_t passwd_length; /* for ~user: a text with the lines of /etc/passwd */
 } gcv_context;
 
 /* Writes 1 to `*optional` if the path begins with the mark `:(optional)`, and otherwise 0. Writes to `*start` the index
@@ -313,18 +310,12 @@ typedef struct gcv_text {
 
 /* What includes may refer to, as any bytes. A null pointer means that it is not given, whatever its length. */
 typedef struct gcv_known {
-    const char *install_dir; /* for %(prefix)/ */
-    size_t install_dir_length;
-    const char *home; /* for ~ */
-    size_t home_length;
-    const char *real_home; /* the same with links resolved, for conditions; if null, `home` */
-    size_t real_home_length;
-    const char *git_dir; /* the absolute path of the git directory, links kept; null without a repository */
-    size_t git_dir_length;
-    const char *real_git_dir; /* the same with links resolved; if null, `git_dir` */
-    size_t real_git_dir_length;
-    const char *branch; /* its name without refs/heads/; null if HEAD is detached, or is that of a reftable: .invalid */
-    size_t branch_length;
+    const char *install_dir; size_t install_dir_length; /* for %(prefix)/ */
+    const char *home; size_t home_length; /* for ~ */
+    const char *real_home; size_t real_home_length; /* the same with links resolved, for conditions; if null, `home` */
+    const char *git_dir; size_t git_dir_length; /* its absolute path, links kept; null without a repository */
+    const char *real_git_dir; size_t real_git_dir_length; /* the same with links resolved; if null, `git_dir` */
+    const char *branch; size_t branch_length; /* without refs/heads/; null if HEAD is detached, or .invalid (reftable) */
     const gcv_text *urls; /* the URLs of all remotes, for hasconfig:; null if there is none */
     size_t urls_length;   /* how many there are */
     int seeks_urls;       /* not 0 while URLs are sought: then each hasconfig:remote.*.url: holds */
@@ -392,16 +383,11 @@ GCV_RETURNS((5)) gcv_list_key(const char *key, size_t length, char *GCV_RESTRICT
 
 /* A file of a walk, and the entries that are left of it. Only calls of the library read and write its members. */
 typedef struct gcv_frame {
-    const char *name;
-    size_t name_length;
-    const char *real_dir;
-    size_t real_dir_length;
-    const char *section;
-    size_t section_length;
-    const char *subsection;
-    size_t subsection_length;
-    const char *rest;
-    size_t rest_length;
+    const char *name; size_t name_length;
+    const char *real_dir; size_t real_dir_length;
+    const char *section; size_t section_length;
+    const char *subsection; size_t subsection_length;
+    const char *rest; size_t rest_length;
     size_t line;
     uint32_t parts;
 } gcv_frame;
@@ -418,8 +404,7 @@ typedef struct gcv_walk {
 
 /* A step of a walk: an entry. The key and the value are as in a gcv_setting. */
 typedef struct gcv_step {
-    const char *file; /* the name that gcv_enter was given for the file */
-    size_t file_length;
+    const char *file; size_t file_length; /* the name that gcv_enter was given for the file */
     size_t line; /* the line of the entry, from 1 */
     const char *key;
     const char *value;

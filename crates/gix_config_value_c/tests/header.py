@@ -145,7 +145,7 @@ def structs():
         struct, wanted = TYPES[name], list(fields_of(body))
         told = re.search(rf"^typedef struct {struct} \{{\n(.*?)^\}} {struct};$", header, re.MULTILINE | re.DOTALL)
         told = NUMBERED.sub("uint32_t", told[1] if told else "")
-        given = re.findall(r"^    (\w+ |const \w+ \*)(\w+);", told, re.MULTILINE)
+        given = re.findall(r"(?:^   |;) (\w+ |const \w+ \*)(\w+)(?=;)", told, re.MULTILINE)
         given = [(name, kind.strip()) for kind, name in given]
         yield f"the header, {struct}", given, wanted
         size, widest, offsets = 0, 1, {}
