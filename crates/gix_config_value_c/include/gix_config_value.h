@@ -315,7 +315,7 @@ typedef struct gcv_known {
     const char *real_home; size_t real_home_length; /* the same with links resolved, for conditions; if null, `home` */
     const char *git_dir; size_t git_dir_length; /* its absolute path, links kept; null without a repository */
     const char *real_git_dir; size_t real_git_dir_length; /* the same with links resolved; if null, `git_dir` */
-    const char *branch; size_t branch_length; /* without refs/heads/; null if HEAD is detached, or .invalid (reftable) */
+    const char *branch; size_t branch_length; /* without refs/heads/; null if HEAD is detached or .invalid (reftable) */
     const gcv_text *urls; /* the URLs of all remotes, for hasconfig:; null if there is none */
     size_t urls_length;   /* how many there are */
     int seeks_urls;       /* not 0 while URLs are sought: then each hasconfig:remote.*.url: holds */
