@@ -2,6 +2,7 @@
 
 python3 config_file.py PROGRAM [--seed N] [--files N] [--short] [--trees N] [--patterns N] [--seconds N]
                        [--git COMMAND]
+python3 config_file.py --reader WORDS [--seed N] [--trees N] [--git COMMAND]
 
 PROGRAM is config_value, which lists many files in one call; Git lists one in a call. Both have to give the same
 entries in the same order, and to refuse a file at the same line after the same entries. Git tells the line of an entry
@@ -16,6 +17,9 @@ other, in the repositories of STARS, and in as many folders as --patterns says, 
 conditions on a git directory and a branch with a random name. In a repository of STARS the program may take --seconds
 of a processor.
 
+WORDS call a reader that lists a file as config_value --file FILE --includes --null does, and only follows includes in
+the folders of includes.txt and in random ones. It lists nothing of what it refuses.
+
 A difference has to belong to a class of classes.OF_FILES that is expected in the version of this Git, and each class
 that is expected has to be seen. The run is the same for the same seed and numbers. The last line is 'N passed, M
 failed'. Without such a Git it says `skipped` and why, and nothing has passed.
@@ -29,6 +33,7 @@ import pathlib
 import random
 import re
 import resource
+import shlex
 import subprocess
 import sys
 import tempfile
@@ -309,13 +314,13 @@ class Folder:
         except subprocess.TimeoutExpired:
             raise Wrong(f"{self.line[:80]}: {words[0]} does not end") from None
 
-    def by_program(self, program):
-        """The entries with their files, and where the program stops: a file and a line, or None."""
-        run = self.run(program, "--file", self.main, "--includes", "--null")
+    def by_reader(self, words):
+        """The entries with their files, and where the reader stops: a file and a line, or None."""
+        run = self.run(*words, self.main)
         parts = run.stdout.split(b"\0")
         stopped = re.fullmatch(rb"(.+):(\d+): (.*)\n", run.stderr, re.DOTALL)
         if run.returncode != (REFUSED if stopped else 0) or bool(run.stderr) != bool(stopped):
-            raise Wrong(f"{self.line[:80]}: {program} ended with status {run.returncode} and {run.stderr!r}")
+            raise Wrong(f"{self.line[:80]}: {words[0]} ended with status {run.returncode} and {run.stderr!r}")
         place = stopped and (TOO_DEEP if b"too deep" in stopped[3] else (stopped[1], int(stopped[2])))
         return [(name.rsplit(b":", 1)[0], entry(data)) for name, data in zip(parts[::2], parts[1::2])], place
 
@@ -384,9 +389,11 @@ def conditions(draw):
 class Comparison:
     """What was compared: counts, and the faults."""
 
-    def __init__(self, program, git, folder):
+    def __init__(self, program, reader, git, folder):
         self.program, self.git, self.folder = program, git, folder
-        self.expected = [name for name, when in OF_FILES.items() if is_expected(when, git.running)]
+        self.words = [program.path, "--includes", "--null", "--file"] if program else reader
+        of_reader = OF_FILES if program else {name: OF_FILES[name] for name in (NUL, REFTABLE)}
+        self.expected = [name for name, when in of_reader.items() if is_expected(when, git.running)]
         self.counts = collections.Counter()
         self.faults = []
 
@@ -425,14 +432,16 @@ class Comparison:
 
     def follow(self, name, tree, difference=None):
         """Compares the entries of a folder with includes. In a class of differences Git may have more entries."""
-        ours, other = tree.by_program(self.program.path), tree.by_git()
+        ours, other = tree.by_reader(self.words), tree.by_git()
+        if not self.program and other[1] is not None:
+            other = [], other[1]
         if ours != other and difference and is_part(ours[0], other[0]):
             self.counts[difference] += 1
         elif ours != other:
             self.faults.append((tree.line[:200], ours, other))
         else:
             self.counts[name] += 1
-            if other[1] is None:
+            if self.program and other[1] is None:
                 ours, other = tree.values(self.program.path)
                 self.counts["values"] += ours == other
                 if ours != other:
@@ -459,7 +468,7 @@ class Comparison:
             tree.head("ref:", f"refs/heads/{star.branch}")
             began = processor_seconds()
             try:
-                holds = has_hit(tree.by_program(self.program.path))
+                holds = has_hit(tree.by_reader(self.words))
             except Wrong as wrong:
                 holds = wrong
             taken = processor_seconds() - began
@@ -483,14 +492,16 @@ class Comparison:
 def compare(arguments, folder):
     git = Git(arguments.git, folder)
     print(f"{git.said}, seed {arguments.seed}")
-    comparison = Comparison(Program(arguments.program, folder), git, folder)
-    texts = files(arguments)
+    program = Program(arguments.program, folder) if arguments.program else None
+    comparison = Comparison(program, arguments.reader, git, folder)
+    texts = files(arguments) if program else []
     for at in range(0, len(texts), BATCH):
         comparison.ask(texts[at:at + BATCH])
     comparison.follow_trees(folder / "includes")
     comparison.follow_files(arguments, folder / "trees")
-    comparison.follow_stars(arguments.seconds, folder / "stars")
-    comparison.follow_drawn(arguments, folder / "drawn")
+    if program:
+        comparison.follow_stars(arguments.seconds, folder / "stars")
+        comparison.follow_drawn(arguments, folder / "drawn")
     for name, count in comparison.counts.items():
         print(f"{count:>7,} {name}")
     for text, listed, other in comparison.faults[:SHOWN]:
@@ -503,7 +514,8 @@ def compare(arguments, folder):
 
 def main():
     arguments = argparse.ArgumentParser()
-    arguments.add_argument("program")
+    arguments.add_argument("program", nargs="?")
+    arguments.add_argument("--reader", type=shlex.split)
     arguments.add_argument("--seed", type=int, default=1)
     arguments.add_argument("--files", type=int, default=1000)
     arguments.add_argument("--short", action="store_true")
@@ -512,6 +524,8 @@ def main():
     arguments.add_argument("--seconds", type=float, default=0.1)
     arguments.add_argument("--git", default="git")
     arguments = arguments.parse_args()
+    if bool(arguments.program) == bool(arguments.reader):
+        sys.exit("either a program or a reader")
     with tempfile.TemporaryDirectory() as folder:
         return counted(lambda: compare(arguments, pathlib.Path(folder)))
 

@@ -76,21 +76,18 @@ static size_t last_with(const Entries *self, const char *key, size_t length)
     return self->keys == 0 ? 0 : *slot_of(self, key, hash_of(self->state, key, length));
 }
 
-/* Returns 1 more than the index of the last entry with a key, or 0. The case of its section and of its last part does
- * not count. What is no str is no key. */
+/* Returns 1 more than the index of the last entry with a key, or 0. The key need not be as Git lists it. What is no str
+ * is no key. */
 static size_t found(const Entries *self, PyObject *given)
 {
     PyObject *bytes = PyUnicode_Check(given) ? bytes_of(given) : NULL;
-    char *key = bytes ? PyBytes_AsString(bytes) : NULL;
+    const char *key = bytes ? PyBytes_AsString(bytes) : NULL;
     size_t length = bytes ? (size_t)PyBytes_Size(bytes) : 0, at = 0;
     if (bytes && strlen(key) == length && (at = last_with(self, key, length)) == 0) {
-        PyObject *listed = PyBytes_FromStringAndSize(key, (Py_ssize_t)length);
-        char *text = listed ? PyBytes_AsString(listed) : NULL, *dot = strrchr(key, '.');
-        size_t first = strcspn(key, "."), last = dot ? (size_t)(dot - key) : 0;
-        for (size_t place = 0; listed && place < length; place++)
-            if ((place < first || place > last) && text[place] >= 'A' && text[place] <= 'Z')
-                text[place] = (char)(text[place] + 'a' - 'A');
-        at = listed ? last_with(self, text, length) : 0;
+        PyObject *listed = PyBytes_FromStringAndSize(NULL, (Py_ssize_t)length);
+        char *text = listed ? PyBytes_AsString(listed) : NULL;
+        if (listed && gcv_list_key(key, length, text, length, &length) == GCV_OK)
+            at = last_with(self, text, length);
         Py_XDECREF(listed);
     }
     Py_XDECREF(bytes);

@@ -419,17 +419,8 @@ gcv_status gcv_command_text(gcv_get_variable *get, void *state, char *GCV_RESTRI
     return status;
 }
 
-/* A proved edit of a text by a key and a value, or by two names of sections. */
-typedef gcv_status edit_by_two(const char *text, size_t length, const char *first, size_t first_length,
-                               const char *second, size_t second_length, char *buffer, size_t capacity, size_t *size,
-                               size_t *line);
-
-/* A proved edit of a text by a key, or by the name of a section. */
-typedef gcv_status edit_by_one(const char *text, size_t length, const char *name, size_t name_length, char *buffer,
-                               size_t capacity, size_t *size, size_t *line);
-
-/* Calls an edit, which takes no null pointer. */
-static gcv_status call_with_two(edit_by_two *edit, const char *text, size_t length, const char *first,
+/* Call a proved edit, which takes no null pointer. */
+static gcv_status call_with_two(gcv_edit_by_two *edit, const char *text, size_t length, const char *first,
                                 size_t first_length, const char *second, size_t second_length, char *buffer,
                                 size_t capacity, size_t *size, size_t *line)
 {
@@ -439,8 +430,7 @@ static gcv_status call_with_two(edit_by_two *edit, const char *text, size_t leng
                 line ? line : &unused);
 }
 
-/* Calls an edit, which takes no null pointer. */
-static gcv_status call_with_one(edit_by_one *edit, const char *text, size_t length, const char *name,
+static gcv_status call_with_one(gcv_edit_by_one *edit, const char *text, size_t length, const char *name,
                                 size_t name_length, char *buffer, size_t capacity, size_t *size, size_t *line)
 {
     size_t unused = 0;
@@ -493,13 +483,18 @@ gcv_status gcv_remove_section(const char *text, size_t length, const char *name,
     return call_with_one(gcv_raw_remove_section, text, length, name, name_length, buffer, capacity, size, line);
 }
 
+gcv_status gcv_list_key(const char *key, size_t length, char *GCV_RESTRICT buffer, size_t capacity, size_t *size)
+{
+    return gcv_raw_list_key(bytes_of(key, length), length, room_of(buffer, capacity), capacity, size);
+}
+
 gcv_status gcv_enter(gcv_walk *GCV_RESTRICT walk, const char *file, size_t file_length, const char *real_dir,
-        size_t real_dir_length, const char *text, size_t length)
+                     size_t real_dir_length, const char *text, size_t length)
 {
     gcv_frame frame = {"", 0, "", 0, "", 0, "", 0, "", 0, 0, 0};
     gcv_status status = gcv_raw_enter(&walk->count, &frame, bytes_of(file, file_length), file_length,
-        bytes_of(real_dir, real_dir_length), real_dir_length, bytes_of(text, length),
-        length);
+                                      bytes_of(real_dir, real_dir_length), real_dir_length, bytes_of(text, length),
+                                      length);
     if (status == GCV_OK) {
         walk->frames[walk->count - 1] = frame;
     }
@@ -530,14 +525,14 @@ static gcv_raw_known given_of(const gcv_known *known)
 }
 
 gcv_status gcv_next(gcv_walk *GCV_RESTRICT walk, const gcv_known *known, char *GCV_RESTRICT buffer,
-        size_t capacity, gcv_step *GCV_RESTRICT out)
+                    size_t capacity, gcv_step *GCV_RESTRICT out)
 {
     gcv_raw_known given = given_of(known);
     gcv_raw_step step = {"", 0, 0, 0, 0, 0, 0, GCV_OK};
     gcv_status status = GCV_BAD_LENGTHS;
     if (walk->count <= GCV_MOST_FRAMES) {
         status = gcv_raw_next(walk->frames, walk->count, &walk->count, &given, room_of(buffer, capacity), capacity,
-        &step);
+                              &step);
     }
     if (status == GCV_OK || status == GCV_SHORT_BUFFER) {
         out->size = step.size;

@@ -138,6 +138,7 @@ gcv_status gcv_raw_enter(size_t *count, gcv_frame *frame, const char *name, size
                          size_t real_dir_length, const char *text, size_t length);
 gcv_status gcv_raw_next(gcv_frame *frames, size_t frames_count, size_t *count, const gcv_raw_known *known, char *buffer,
                         size_t capacity, gcv_raw_step *out);
+gcv_status gcv_raw_list_key(const char *key, size_t length, char *buffer, size_t capacity, size_t *size);
 gcv_status gcv_raw_command_setting(const char *key, size_t key_length, const char *value, size_t value_length,
                                    char *buffer, size_t capacity, size_t *size);
 gcv_status gcv_raw_command_parameters(const char *parameters, size_t parameters_length, char *buffer, size_t capacity,

@@ -14,66 +14,28 @@ typedef struct block {
     char bytes[];
 } block;
 
+/* `slots` has 0, or one more than the index of the last setting with a key. */
 typedef struct gcv_memory {
     block *texts;
     gcv_setting *list;
     size_t room;
-    size_t *slots; /* 0, or one more than the index of the last setting of a key */
-    size_t slots_size, indexed;
+    size_t *slots;
+    size_t slots_size;
 } gcv_memory;
 
 enum { LEAST_BLOCK = 1 << 14, LEAST_LIST = 64, LONGEST_FILE = 1 << 30 };
-
-/* Where the case of a key counts: between its first dot and its last one. */
-typedef struct {
-    size_t first, last;
-    int has_dot;
-} dots;
-
-static dots dots_of(const char *key)
-{
-    dots of = {0, 0, 0};
-    for (size_t at = 0; key[at] != '\0'; at++) {
-        if (key[at] == '.') {
-            of.first = of.has_dot ? of.first : at;
-            of.last = at;
-            of.has_dot = 1;
-        }
-    }
-    return of;
-}
-
-/* The byte of a key as Git lists it. */
-static char listed_byte(const char *key, size_t at, const dots *of)
-{
-    char byte = key[at];
-    if ((!of->has_dot || at <= of->first || at >= of->last) && byte >= 'A' && byte <= 'Z') {
-        byte = "abcdefghijklmnopqrstuvwxyz"[byte - 'A'];
-    }
-    return byte;
-}
-
-int gcv_is_key(const char *listed, const char *key)
-{
-    dots of = dots_of(key);
-    size_t at = 0;
-    for (; key[at] != '\0' && listed_byte(key, at, &of) == listed[at]; at++) {
-    }
-    return key[at] == '\0' && listed[at] == '\0';
-}
 
 /* The slot of a key: that of a setting with the key, or an empty one. The sum begins with an address, so that nobody
  * can write keys that all have one slot. */
 static size_t slot_of(const gcv_memory *memory, const char *key)
 {
-    dots of = dots_of(key);
     uint64_t sum = 14695981039346656037u ^ (uint64_t)(uintptr_t)memory;
-    for (size_t at = 0; key[at] != '\0'; at++) {
-        sum = (sum ^ (unsigned char)listed_byte(key, at, &of)) * 1099511628211u;
+    for (const char *at = key; *at != '\0'; at++) {
+        sum = (sum ^ (unsigned char)*at) * 1099511628211u;
         sum ^= sum >> 29;
     }
     size_t slot = (size_t)sum & (memory->slots_size - 1);
-    while (memory->slots[slot] != 0 && !gcv_is_key(memory->list[memory->slots[slot] - 1].key, key)) {
+    while (memory->slots[slot] != 0 && strcmp(memory->list[memory->slots[slot] - 1].key, key) != 0) {
         slot = (slot + 1) & (memory->slots_size - 1);
     }
     return slot;
@@ -81,49 +43,47 @@ static size_t slot_of(const gcv_memory *memory, const char *key)
 
 const gcv_setting *gcv_find_setting(const gcv_settings *settings, const char *key)
 {
-    size_t found = settings->count == 0 ? 0 : settings->memory->slots[slot_of(settings->memory, key)];
+    char listed[GCV_LONGEST_KEY + 1];
+    size_t size = 0;
+    if (settings->count == 0) {
+        return NULL;
+    }
+    if (gcv_list_key(key, strlen(key), listed, GCV_LONGEST_KEY, &size) == GCV_OK) {
+        listed[size] = '\0';
+        key = listed;
+    }
+    size_t found = settings->memory->slots[slot_of(settings->memory, key)];
     return found == 0 ? NULL : &settings->list[found - 1];
 }
 
-/* Puts the settings into the table that are not there yet. */
-static void fill(gcv_memory *memory, size_t count)
+/* Lets the keys of the first settings, and no others, lead to their last ones. */
+static void index_first(gcv_memory *memory, size_t count)
 {
-    for (; memory->indexed < count; memory->indexed++) {
-        memory->slots[slot_of(memory, memory->list[memory->indexed].key)] = memory->indexed + 1;
+    memset(memory->slots, 0, memory->slots_size * sizeof *memory->slots);
+    for (size_t at = 0; at < count; at++) {
+        memory->slots[slot_of(memory, memory->list[at].key)] = at + 1;
     }
 }
 
-/* Lets the table have room for so many settings, and puts them into it. */
-static gcv_status index_all(gcv_memory *memory, size_t count)
+/* Makes room for one more setting. */
+static gcv_status make_room(gcv_memory *memory, size_t count)
 {
-    size_t size = memory->slots_size == 0 ? LEAST_LIST : memory->slots_size;
-    while (size / 2 < count) {
-        size *= 2;
+    if (count < memory->room) {
+        return GCV_OK;
     }
-    if (size != memory->slots_size) {
-        size_t *slots = calloc(size, sizeof *slots);
-        if (!slots) {
-            return GCV_NO_MEMORY;
-        }
-        free(memory->slots);
-        memory->slots = slots;
-        memory->slots_size = size;
-        memory->indexed = 0;
+    size_t room = count == 0 ? LEAST_LIST : 2 * count;
+    gcv_setting *list = room > PTRDIFF_MAX / sizeof *list ? NULL : realloc(memory->list, room * sizeof *list);
+    memory->list = list ? list : memory->list;
+    size_t *slots = list ? calloc(2 * room, sizeof *slots) : NULL;
+    if (!slots) {
+        return GCV_NO_MEMORY;
     }
-    fill(memory, count);
+    free(memory->slots);
+    memory->slots = slots;
+    memory->slots_size = 2 * room;
+    memory->room = room;
+    index_first(memory, count);
     return GCV_OK;
-}
-
-/* Forgets the settings after so many. */
-static void forget_from(gcv_settings *settings, size_t count)
-{
-    gcv_memory *memory = settings->memory;
-    if (memory->indexed > count) {
-        memset(memory->slots, 0, memory->slots_size * sizeof *memory->slots);
-        memory->indexed = 0;
-    }
-    settings->count = count;
-    fill(memory, count);
 }
 
 /* A block with this much room, or null. */
@@ -143,6 +103,15 @@ static block *block_with(gcv_memory *memory, size_t room)
         memory->texts = next;
     }
     return next;
+}
+
+/* Forgets the settings after so many. */
+static void forget_from(gcv_settings *settings, size_t count)
+{
+    if (settings->count > count) {
+        index_first(settings->memory, count);
+    }
+    settings->count = count;
 }
 
 /* A copy of a text with its NUL, or null. */
@@ -236,6 +205,7 @@ typedef struct {
     const gcv_known *known;
     gcv_open *open;
     void *state;
+    size_t source;
     gcv_walk walk;
     gcv_file files[GCV_MOST_FRAMES + 1];
     size_t conditional;
@@ -275,41 +245,36 @@ static gcv_status next(reading *to, gcv_step *step)
     return status;
 }
 
-/* Lets an entry share the key of a setting before it, so that a long key is kept once. */
-static void share_key(gcv_memory *memory, gcv_step *step)
+/* Takes the key away from the texts of an entry, which has that of a setting instead, so that it is kept once. */
+static void share_key(block *texts, gcv_step *step, const char *key)
 {
-    size_t found = memory->slots_size == 0 ? 0 : memory->slots[slot_of(memory, step->key)];
-    size_t size = strlen(step->key) + 1;
-    if (found == 0) {
-        return;
-    }
-    char *begin = memory->texts->bytes + memory->texts->size - step->size;
+    size_t size = strlen(key) + 1;
+    char *begin = texts->bytes + texts->size - step->size;
     memmove(begin, begin + size, step->size - size);
-    memory->texts->size -= size;
-    step->key = memory->list[found - 1].key;
+    texts->size -= size;
+    step->key = key;
     step->value = step->value ? step->value - size : NULL;
     step->included = step->included ? step->included - size : NULL;
 }
 
 /* Appends a setting to the list. */
-static gcv_status append(reading *to, const gcv_step *step)
+static gcv_status append(reading *to, gcv_step *step)
 {
     gcv_memory *memory = to->memory;
-    if (to->settings->count == memory->room) {
-        size_t room = memory->room == 0 ? LEAST_LIST : 2 * memory->room;
-        gcv_setting *list = room > PTRDIFF_MAX / sizeof *list ? NULL : realloc(memory->list, room * sizeof *list);
-        if (!list) {
-            return GCV_NO_MEMORY;
-        }
-        to->settings->list = memory->list = list;
-        memory->room = room;
+    gcv_settings *settings = to->settings;
+    gcv_status status = make_room(memory, settings->count);
+    settings->list = memory->list;
+    if (status != GCV_OK) {
+        return status;
     }
-    gcv_setting *setting = &memory->list[to->settings->count++];
-    setting->key = step->key;
-    setting->value = step->value;
-    setting->file = step->file;
-    setting->line = step->line;
-    return index_all(memory, to->settings->count);
+    size_t *slot = &memory->slots[slot_of(memory, step->key)];
+    if (*slot != 0) {
+        share_key(memory->texts, step, memory->list[*slot - 1].key);
+    }
+    gcv_setting setting = {step->key, step->value, step->file, step->line, to->source};
+    memory->list[settings->count++] = setting;
+    *slot = settings->count;
+    return GCV_OK;
 }
 
 /* Whether this is the key of the URL of a remote. */
@@ -329,7 +294,6 @@ static gcv_status take(reading *to, gcv_step *step)
         to->refused_file = step->file;
         to->refused_line = step->line;
     }
-    share_key(to->memory, step);
     gcv_status status = append(to, step);
     if (status != GCV_OK || step->include == GCV_NO_INCLUDE) {
         return status;
@@ -366,8 +330,8 @@ static gcv_status read_file(reading *to, const char *name)
 static gcv_status read_all_files(reading *to, const char *const *names, size_t count)
 {
     gcv_status status = GCV_OK;
-    for (size_t at = 0; status == GCV_OK && at < count; at++) {
-        status = read_file(to, names[at]);
+    for (to->source = 0; status == GCV_OK && to->source < count; to->source++) {
+        status = read_file(to, names[to->source]);
     }
     return status;
 }

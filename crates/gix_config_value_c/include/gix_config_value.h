@@ -56,41 +56,33 @@ extern "C" {
 /* The statuses that calls return. */
 typedef GCV_ENUM(gcv_status) {
     GCV_OK = 0,
-    GCV_REFUSED = 1,           /* a text has no value or means no path (see the fault), or a file is not read */
-    GCV_OVERFLOW = 2,          /* the product of an integer does not fit int64_t */
-    GCV_NO_TEXT = 3,           /* one of the colors has no text */
-    GCV_TOO_MANY_NAMES = 4,    /* the two colors have more than two names together */
-    GCV_ABSENT = 5,            /* no entry has the key, no section the name, no entry is left, or no file is there */
-    GCV_UNKNOWN_KIND = 6,      /* the number is not that of a kind */
-    GCV_UNKNOWN_FAULT = 7,     /* the number is not that of a fault */
-    GCV_BAD_SUFFIX = 8,        /* the number is not that of a suffix */
-    GCV_BAD_NAME = 9,          /* the struct is not that of a name */
-    GCV_BAD_FLAG = 10,         /* a flag is neither 0 nor 1 */
-    /* 11 is no status */
-    GCV_BAD_LENGTHS = 12,      /* the numbers in a walk are not those of one */
-    GCV_SHORT_BUFFER = 13,     /* the buffer is shorter than the text */
-    GCV_NO_MEMORY = 14,        /* malloc failed, or a path would be longer than memory can be */
-    GCV_BAD_LINE = 15,         /* a line of a file is invalid */
-    GCV_NUL = 16,              /* a file has a NUL outside a comment, or a setting of a command has one */
-    GCV_NO_INCLUDE = 17,       /* the entry includes no file */
-    GCV_NO_VALUE = 18,         /* the entry includes a file, but has no value */
-    GCV_NO_DIRECTORY = 19,     /* the path of an include begins with a user's name, or a directory that is null */
-    GCV_TOO_DEEP = 20,         /* the file is more than ten includes deep */
-    GCV_BAD_DEPTH = 21,        /* the number is not that of a depth with colors */
-    GCV_BAD_COUNT = 22,        /* GIT_CONFIG_COUNT is no number */
-    GCV_TOO_MANY_SETTINGS = 23,/* GIT_CONFIG_COUNT is larger than 2147483647 */
-    GCV_MISSING_KEY = 24,      /* a GIT_CONFIG_KEY_n is not set */
-    GCV_MISSING_VALUE = 25,    /* a GIT_CONFIG_VALUE_n is not set */
-    GCV_BAD_PARAMETERS = 26,   /* GIT_CONFIG_PARAMETERS has something else than quoted texts, = and white space */
-    GCV_NO_KEY = 27,           /* a text of GIT_CONFIG_PARAMETERS is empty, or begins with = */
-    GCV_EMPTY_KEY = 28,        /* the key of a setting of a command is empty */
-    GCV_NO_SECTION = 29,       /* the key has no section */
-    GCV_NO_KEY_NAME = 30,      /* the key ends with a dot */
-    GCV_BAD_KEY = 31,          /* the key has a byte that is not allowed there */
-    GCV_KEY_LINE_FEED = 32,    /* the key has a line feed */
-    GCV_BAD_VALUE = 33,        /* the value has a NUL, which no file can hold */
-    GCV_BAD_SECTION = 34,      /* no header can have the section */
-    GCV_SEVERAL = 35           /* several entries have the key */
+    GCV_REFUSED = 1,        /* a text has no value or means no path (see the fault), or a file is not read */
+    GCV_OVERFLOW = 2,       /* the product of an integer does not fit int64_t */
+    GCV_NO_TEXT = 3,        /* one of the colors has no text */
+    GCV_TOO_MANY_NAMES = 4, /* the two colors have more than two names together */
+    GCV_ABSENT = 5,         /* no entry has the key, no section the name, no entry is left, or no file is there */
+    /* a number or a struct is not that of a kind, of a fault, of a suffix, of a name, of a flag, which is 0 or 1, of a
+     * walk, or of a depth with colors; 11 is no status */
+    GCV_UNKNOWN_KIND = 6, GCV_UNKNOWN_FAULT = 7, GCV_BAD_SUFFIX = 8, GCV_BAD_NAME = 9, GCV_BAD_FLAG = 10,
+    GCV_BAD_LENGTHS = 12, GCV_BAD_DEPTH = 21,
+    GCV_SHORT_BUFFER = 13,  /* the buffer is shorter than the text */
+    GCV_NO_MEMORY = 14,     /* malloc failed, or a path would be longer than memory can be */
+    GCV_BAD_LINE = 15,      /* a line of a file is invalid */
+    GCV_NUL = 16,           /* a file has a NUL outside a comment, or a setting of a command has one */
+    GCV_NO_INCLUDE = 17,    /* the entry includes no file */
+    GCV_NO_VALUE = 18,      /* the entry includes a file, but has no value */
+    GCV_NO_DIRECTORY = 19,  /* the path of an include begins with a user's name, or a directory that is null */
+    GCV_TOO_DEEP = 20,      /* the file is more than ten includes deep */
+    /* GIT_CONFIG_COUNT is no number, or larger than 2147483647; a GIT_CONFIG_KEY_n or a GIT_CONFIG_VALUE_n is not set;
+     * GIT_CONFIG_PARAMETERS has something else than quoted texts, = and white space, or a text that is empty or begins
+     * with =; the key of a setting of a command is empty */
+    GCV_BAD_COUNT = 22, GCV_TOO_MANY_SETTINGS = 23, GCV_MISSING_KEY = 24, GCV_MISSING_VALUE = 25,
+    GCV_BAD_PARAMETERS = 26, GCV_NO_KEY = 27, GCV_EMPTY_KEY = 28,
+    /* a key has no section, ends with a dot, has a byte that is not allowed there, or has a line feed */
+    GCV_NO_SECTION = 29, GCV_NO_KEY_NAME = 30, GCV_BAD_KEY = 31, GCV_KEY_LINE_FEED = 32,
+    GCV_BAD_VALUE = 33,     /* the value has a NUL, which no file can hold */
+    GCV_BAD_SECTION = 34,   /* no header can have the section */
+    GCV_SEVERAL = 35        /* several entries have the key */
 } gcv_status;
 
 /* The kinds of values. */
@@ -186,32 +178,27 @@ typedef struct gcv_color {
 /* The library is built for 64 bits, and for enums of 32 bits: a compiler that differs reports an error. */
 extern const char gcv_is_for_this_compiler[sizeof(size_t) == 8 && sizeof(gcv_status) == 4 ? 1 : -1];
 
-/* Returns the version of the library, as a text that ends with NUL. */
+/* The version of the library, and the text of a status, which is "unknown status" if no status has the number. NUL ends
+ * both. */
 const char *gcv_version(void);
-
-/* Returns the text of a status, which ends with NUL: "unknown status" if no status has the number. */
 const char *gcv_status_text(gcv_status status);
 
 /* Writes the text of a fault, at most GCV_LONGEST_TEXT bytes. Returns GCV_UNKNOWN_FAULT if no fault has the number. */
 GCV_NONNULL((4)) gcv_status gcv_fault_text(gcv_fault fault, char *GCV_RESTRICT buffer, size_t capacity, size_t *size);
 
 /* Readers. Each writes the value of the text to `*out`. If the text has no value, it writes the fault to `*fault`
- * instead, and returns GCV_REFUSED. The other one is unchanged. */
-
-/* Reads GCV_KIBI, GCV_MEBI or GCV_GIBI. The fault is GCV_FAULT_NONE. */
+ * instead, and returns GCV_REFUSED. The other one is unchanged. What they read, and their faults:
+ * - suffix: GCV_KIBI, GCV_MEBI or GCV_GIBI; GCV_FAULT_NONE
+ * - integer: a number and its suffix, whose product need not fit int64_t; GCV_FAULT_INTEGER
+ * - amount: that product; GCV_FAULT_INTEGER, and GCV_FAULT_OVERFLOW if it does not fit int64_t
+ * - boolean: 1 for true and 0 for false; GCV_FAULT_BOOLEAN
+ * - name, whose tag is not GCV_NO_NAME, attribute, which is one bit, and color: GCV_FAULT_COLOR */
 GCV_RETURNS((3)) gcv_read_suffix(const char *text, size_t length, gcv_suffix *GCV_RESTRICT out, gcv_fault *fault);
-/* Reads a number and its suffix, whose product need not fit int64_t. The fault is GCV_FAULT_INTEGER. */
 GCV_RETURNS((3)) gcv_read_integer(const char *text, size_t length, gcv_integer *GCV_RESTRICT out, gcv_fault *fault);
-/* Reads the product of a number and its suffix. The fault is GCV_FAULT_INTEGER if the text is no integer, and
- * GCV_FAULT_OVERFLOW if the product does not fit int64_t. */
 GCV_RETURNS((3)) gcv_read_amount(const char *text, size_t length, int64_t *GCV_RESTRICT out, gcv_fault *fault);
-/* Reads 1 for true and 0 for false. The fault is GCV_FAULT_BOOLEAN. */
 GCV_RETURNS((3)) gcv_read_boolean(const char *text, size_t length, uint32_t *GCV_RESTRICT out, gcv_fault *fault);
-/* Reads a name, whose tag is not GCV_NO_NAME. The fault is GCV_FAULT_COLOR. */
 GCV_RETURNS((3)) gcv_read_name(const char *text, size_t length, gcv_name *GCV_RESTRICT out, gcv_fault *fault);
-/* Reads the one bit of an attribute. The fault is GCV_FAULT_COLOR. */
 GCV_RETURNS((3)) gcv_read_attribute(const char *text, size_t length, uint32_t *GCV_RESTRICT out, gcv_fault *fault);
-/* Reads a color. The fault is GCV_FAULT_COLOR. */
 GCV_RETURNS((3)) gcv_read_color(const char *text, size_t length, gcv_color *GCV_RESTRICT out, gcv_fault *fault);
 
 /* Readers of texts that end with NUL, as a callback over a configuration gets them. A null text means a key without
@@ -226,56 +213,46 @@ GCV_RETURNS((2)) gcv_parse_color(const char *text, gcv_color *GCV_RESTRICT out, 
  * and GCV_BAD_SUFFIX if no suffix has the number. */
 GCV_RETURNS((1, 2)) gcv_product(const gcv_integer *value, int64_t *GCV_RESTRICT out);
 
-/* Values as texts. If some text reads to the value, the canonical text is written. */
-
-/* Writes k, m or g. Returns GCV_BAD_SUFFIX if no suffix has the number. */
+/* Values as texts. If some text reads to the value, the canonical text is written. Also:
+ * - suffix: k, m or g; integer: the number in decimal, and the letter of its suffix. They return GCV_BAD_SUFFIX if no
+ *   suffix has the number.
+ * - amount: the number in decimal
+ * - boolean: true for 1 and false for 0. It returns GCV_BAD_FLAG if the value is neither.
+ * - name: its word, its number, or # and six digits. It returns GCV_BAD_NAME if no name has the struct.
+ * - attribute: the words of the known bits, the lowest first, with one space between
+ * - color: its foreground, its background and its attributes, if it has them, with one space between. Two sorts of
+ *   colors have no text, and gcv_compose returns GCV_NO_TEXT for them: a background alone is shown as a foreground, and
+ *   unknown bits are left out.
+ * - gcv_escape_color: the escape sequence that Git sends to a terminal for a color: its attributes, reset first, then
+ *   its foreground and its background. It is empty for a color that changes nothing. `\033[m` ends a color.
+ * Each call with a color returns GCV_BAD_NAME if the struct of one of its names is neither all 0 nor of a name. */
 GCV_RETURNS((4)) gcv_show_suffix(gcv_suffix suffix, char *GCV_RESTRICT buffer, size_t capacity, size_t *size);
-/* Writes the number in decimal and the letter of its suffix. Returns GCV_BAD_SUFFIX if no suffix has the number. */
 GCV_RETURNS((1, 4)) gcv_show_integer(const gcv_integer *value, char *GCV_RESTRICT buffer, size_t capacity,
                                      size_t *size);
-/* Writes the number in decimal. */
 GCV_RETURNS((4)) gcv_show_amount(int64_t value, char *GCV_RESTRICT buffer, size_t capacity, size_t *size);
-/* Writes true for 1 and false for 0. Returns GCV_BAD_FLAG if the value is neither. */
 GCV_RETURNS((4)) gcv_show_boolean(uint32_t value, char *GCV_RESTRICT buffer, size_t capacity, size_t *size);
-/* Writes the word of the name, its number, or # and six digits. Returns GCV_BAD_NAME if no name has the struct. */
 GCV_RETURNS((1, 4)) gcv_show_name(const gcv_name *value, char *GCV_RESTRICT buffer, size_t capacity, size_t *size);
-/* Writes the words of the known bits, the lowest first, with one space between. */
 GCV_RETURNS((4)) gcv_show_attribute(uint32_t bits, char *GCV_RESTRICT buffer, size_t capacity, size_t *size);
-/* Writes the foreground, the background and the attributes, if the color has them, with one space between. Returns
- * GCV_BAD_NAME if the struct of one of its names is neither all 0 nor of a name. Two sorts of colors have no text, and
- * gcv_compose returns GCV_NO_TEXT for them: a background alone is shown as a foreground, unknown bits are left out. */
 GCV_RETURNS((1, 4)) gcv_show_color(const gcv_color *value, char *GCV_RESTRICT buffer, size_t capacity, size_t *size);
-/* Writes the escape sequence that Git sends to a terminal for this color: its attributes, reset first, then its
- * foreground and its background. It is empty for a color that changes nothing. `\033[m` ends a color. Returns
- * GCV_BAD_NAME as gcv_show_color does. */
 GCV_RETURNS((1, 4)) gcv_escape_color(const gcv_color *value, char *GCV_RESTRICT buffer, size_t capacity, size_t *size);
 
-/* Texts of a kind. */
-
-/* Writes the canonical text of the value of a text, at most GCV_LONGEST_TEXT bytes. Returns GCV_REFUSED if the text has
- * no value of the kind (its reader tells the fault), and GCV_UNKNOWN_KIND if no kind has the number. */
+/* Texts of a kind. gcv_normalize writes the canonical text of the value of a text, at most GCV_LONGEST_TEXT bytes.
+ * gcv_same writes 1 to `*out` if both texts mean the same, and otherwise 0. They return GCV_REFUSED if a text has no
+ * value of the kind (its reader tells the fault), and GCV_UNKNOWN_KIND if no kind has the number. */
 GCV_RETURNS((6)) gcv_normalize(gcv_kind kind, const char *text, size_t length, char *GCV_RESTRICT buffer,
                                size_t capacity, size_t *size);
-
-/* Writes 1 to `*out` if both texts mean the same, and otherwise 0. Returns GCV_REFUSED if one of them has no value of
- * the kind, and GCV_UNKNOWN_KIND if no kind has the number. */
 GCV_RETURNS((6)) gcv_same(gcv_kind kind, const char *first, size_t first_length, const char *second,
                           size_t second_length, uint32_t *GCV_RESTRICT out);
 
-/* Colors. */
-
-/* Writes to `*out` the color of the text of the first color, white space, and the text of the second. Returns
- * GCV_BAD_NAME as gcv_show_color does, GCV_NO_TEXT if one of the colors has no text (it has an unknown bit, or a
- * background alone), and GCV_TOO_MANY_NAMES if they have more than two names together. */
+/* Colors. Each call writes one to `*out`:
+ * - gcv_compose: that of the text of the first color, white space, and the text of the second. It returns GCV_NO_TEXT
+ *   if a color has no text, and GCV_TOO_MANY_NAMES if they have more than two names together.
+ * - gcv_over: `base`, but with the names that `top` has, and without each attribute whose opposite `top` has: what a
+ *   user's color makes of a theme's
+ * - gcv_reduce_color: what a terminal of this depth shows for a color. Red, green and blue become the nearest number of
+ *   its palette, and with 16 colors so does a number above 15. It returns GCV_BAD_DEPTH if the depth has no colors. */
 GCV_RETURNS((1, 2, 3)) gcv_compose(const gcv_color *first, const gcv_color *second, gcv_color *GCV_RESTRICT out);
-
-/* Writes to `*out` the color `base`, but with the names that `top` has, and without each attribute whose opposite `top`
- * has: what a user's color makes of a theme's. Returns GCV_BAD_NAME as gcv_show_color does. */
 GCV_RETURNS((1, 2, 3)) gcv_over(const gcv_color *base, const gcv_color *top, gcv_color *GCV_RESTRICT out);
-
-/* Writes to `*out` what a terminal of this depth shows for a color: red, green and blue become the nearest number of
- * its palette, and with 16 colors so does a number above 15. Returns GCV_BAD_NAME as gcv_show_color does, and
- * GCV_BAD_DEPTH if the depth has no colors. */
 GCV_RETURNS((1, 3)) gcv_reduce_color(const gcv_color *value, gcv_depth depth, gcv_color *GCV_RESTRICT out);
 
 /* Returns how many colors a program writes with, from whether its output is a terminal and from the variables NO_COLOR,
@@ -286,44 +263,44 @@ GCV_RETURNS((1, 3)) gcv_reduce_color(const gcv_color *value, gcv_depth depth, gc
  * - any other terminal: GCV_ANSI16 */
 gcv_depth gcv_terminal_depth(int is_terminal, const char *no_color, const char *term, const char *colorterm);
 
-/* Paths. */
-
 /* What a path may refer to, as any bytes. A null pointer means that it is not given, whatever its length. */
 typedef struct gcv_context {
-    const char *install_dir; /* for %(prefix)/ */
-    size_t install_dir_length;
-    const char *home; /* for ~ */
-    size_t home_length;
-    const char *passwd; /* for ~user: a text with the lines of /etc/passwd */
-    size_t passwd_length;
+    const char *install_dir; size_t install_dir_length; /* for %(prefix)/ */
+    const char *home; size_t home_length; /* for ~ */
+    const char *passwd; size_t passwd_length; /* for ~user: a text with the lines of /etc/passwd */
 } gcv_context;
 
 /* Writes 1 to `*optional` if the path begins with the mark `:(optional)`, and otherwise 0. Writes to `*start` the index
  * at which the path begins after that one mark. */
 GCV_NONNULL((3, 4)) void gcv_cut_mark(const char *text, size_t length, uint32_t *optional, size_t *start);
 
-/* Writes the path that a text means. One mark is cut off first. %(prefix)/ means the install directory, ~ the home
- * directory, and ~user the home directory of that user in the passwd text.
- *
- * Returns GCV_REFUSED if the text means no path, and then `*fault` is one of the faults of paths; after any other
- * status it is unchanged. What follows the directory must be UTF-8, and so must a user's name. The directories and the
- * passwd text may be any bytes, and so the written path may be any bytes too. The call allocates nothing, and returns
- * GCV_NO_MEMORY if the path would be longer than PTRDIFF_MAX. */
-GCV_RETURNS((3, 6)) gcv_interpolate(const char *text, size_t length, const gcv_context *context,
-                                    char *GCV_RESTRICT buffer, size_t capacity, size_t *size, gcv_fault *fault);
-
 /* Finds a user, whose name is UTF-8 and need not end with NUL. Returns the home directory, which ends with NUL and must
  * stay valid until the path call returns, or null if there is no such user. */
 typedef const char *gcv_find_home(void *state, const char *name, size_t length);
 
-/* Does what gcv_interpolate does, but `find(state, ..)` finds users, and the passwd text is not read. It is called once
- * for ~user, and for no other path; a null `find` is like a null passwd text. For a path of a user the call allocates
+/* A gcv_find_home over the users of this system, whose state is the address of a gcv_user: the memory for one user.
+ * Each thread needs its own. */
+typedef struct gcv_user {
+    char name[256];
+    char texts[16384];
+} gcv_user;
+const char *gcv_find_user(void *state, const char *name, size_t length);
+
+/* Writes the path that a text means. One mark is cut off first. %(prefix)/ means the install directory, ~ the home
+ * directory, and ~user the home directory of that user. gcv_interpolate finds users in the passwd text, and
+ * gcv_interpolate_with by `find(state, ..)`, which is called once for ~user, and for no other path. It does not read
+ * the passwd text, and a null `find` is like a null text.
+ *
+ * Returns GCV_REFUSED if the text means no path, and then `*fault` is one of the faults of paths; after any other
+ * status it is unchanged. What follows the directory must be UTF-8, and so must a user's name. The directories and the
+ * passwd text may be any bytes, and so the written path may be any bytes too. Returns GCV_NO_MEMORY if the path would
+ * be longer than PTRDIFF_MAX. gcv_interpolate allocates nothing. For a path of a user gcv_interpolate_with allocates
  * and frees memory, and returns GCV_NO_MEMORY if malloc fails. */
+GCV_RETURNS((3, 6)) gcv_interpolate(const char *text, size_t length, const gcv_context *context,
+                                    char *GCV_RESTRICT buffer, size_t capacity, size_t *size, gcv_fault *fault);
 GCV_RETURNS((3, 8)) gcv_interpolate_with(const char *text, size_t length, const gcv_context *context,
                                          gcv_find_home *find, void *state, char *GCV_RESTRICT buffer, size_t capacity,
                                          size_t *size, gcv_fault *fault);
-
-/* The settings of files. */
 
 /* The bytes of a text, for an array of texts. The pointer is not null, even if the length is 0. */
 typedef struct gcv_text {
@@ -333,18 +310,12 @@ typedef struct gcv_text {
 
 /* What includes may refer to, as any bytes. A null pointer means that it is not given, whatever its length. */
 typedef struct gcv_known {
-    const char *install_dir; /* for %(prefix)/ */
-    size_t install_dir_length;
-    const char *home; /* for ~ */
-    size_t home_length;
-    const char *real_home; /* the same with links resolved, for conditions; if null, `home` */
-    size_t real_home_length;
-    const char *git_dir; /* the absolute path of the git directory, links kept; null without a repository */
-    size_t git_dir_length;
-    const char *real_git_dir; /* the same with links resolved; if null, `git_dir` */
-    size_t real_git_dir_length;
-    const char *branch; /* its name without refs/heads/; null if HEAD is detached */
-    size_t branch_length;
+    const char *install_dir; size_t install_dir_length; /* for %(prefix)/ */
+    const char *home; size_t home_length; /* for ~ */
+    const char *real_home; size_t real_home_length; /* the same with links resolved, for conditions; if null, `home` */
+    const char *git_dir; size_t git_dir_length; /* its absolute path, links kept; null without a repository */
+    const char *real_git_dir; size_t real_git_dir_length; /* the same with links resolved; if null, `git_dir` */
+    const char *branch; size_t branch_length; /* without refs/heads/; null if HEAD is detached or .invalid (reftable) */
     const gcv_text *urls; /* the URLs of all remotes, for hasconfig:; null if there is none */
     size_t urls_length;   /* how many there are */
     int seeks_urls;       /* not 0 while URLs are sought: then each hasconfig:remote.*.url: holds */
@@ -357,6 +328,7 @@ typedef struct gcv_setting {
     const char *value;
     const char *file; /* the name of its file */
     size_t line;      /* the line of its entry, from 1 */
+    size_t source;    /* the index in `names` of gcv_read_files of its file, or of the one that includes it */
 } gcv_setting;
 
 /* The settings of files, in Git's order. Begin with GCV_NO_SETTINGS, and end with gcv_free_settings. */
@@ -376,11 +348,10 @@ typedef struct gcv_file {
     char *real_dir; /* its folder as an absolute path without links, which NUL ends, for conditions with ./, or null */
 } gcv_file;
 
-/* Opens a file, whose name ends with NUL. Returns GCV_OK, GCV_ABSENT if it is not there, or why to stop. */
+/* Opens a file, whose name ends with NUL. Returns GCV_OK, GCV_ABSENT if it is not there, or why to stop. gcv_open_file
+ * opens those of the system, and needs no state. It returns GCV_REFUSED for a file that cannot be read, or that is
+ * longer than 1 GiB. */
 typedef gcv_status gcv_open(void *state, const char *name, gcv_file *out);
-
-/* A gcv_open of the files of the system, which needs no state. It returns GCV_REFUSED for a file that cannot be read,
- * or that is longer than 1 GiB. */
 GCV_RETURNS((2, 3)) gcv_open_file(void *state, const char *name, gcv_file *out);
 
 /* Adds the settings of these files in order, each with what it includes, as Git reads them. The names end with NUL. A
@@ -389,19 +360,19 @@ GCV_RETURNS((2, 3)) gcv_open_file(void *state, const char *name, gcv_file *out);
  *
  * The call stops where Git stops, and adds nothing then: at GCV_BAD_LINE and GCV_NUL; at an include with GCV_NO_VALUE,
  * GCV_NO_DIRECTORY or GCV_TOO_DEEP; at a status of `open`; and, if conditions ask about URLs, with GCV_REFUSED at the
- * URL of a remote in a file that is included on a condition. It allocates memory, and returns GCV_NO_MEMORY if malloc fails. */
+ * URL of a remote in a file that is included on a condition. It returns GCV_NO_MEMORY if malloc fails. */
 GCV_RETURNS((1, 2, 5)) gcv_read_files(gcv_settings *settings, const char *const *names, size_t count,
                                       const gcv_known *known, gcv_open *open, void *state);
-
-/* Returns the last setting with this key, which decides, or null. The key ends with NUL: "core.autoCRLF", or
- * "branch.Main.rebase", in which only the case of "Main" counts. */
-GCV_NONNULL((1, 2)) const gcv_setting *gcv_find_setting(const gcv_settings *settings, const char *key);
-
-/* Whether this is the key that Git lists so. Case counts only between the first dot and the last one. */
-GCV_NONNULL((1, 2)) int gcv_is_key(const char *listed, const char *key);
-
 /* Frees the memory of settings, which are GCV_NO_SETTINGS then. */
 GCV_NONNULL((1)) void gcv_free_settings(gcv_settings *settings);
+
+/* Returns the last setting with this key, which decides, or null. The key ends with NUL: "core.autoCRLF", or
+ * "branch.Main.rebase", in which only the case of "Main" counts. A key of more than GCV_LONGEST_KEY bytes is found if
+ * it is as Git lists it. */
+enum { GCV_LONGEST_KEY = 4096 };
+GCV_NONNULL((1, 2)) const gcv_setting *gcv_find_setting(const gcv_settings *settings, const char *key);
+/* Writes a key as Git lists it, whatever bytes it has. Returns GCV_NO_SECTION if it has no dot. */
+GCV_RETURNS((5)) gcv_list_key(const char *key, size_t length, char *GCV_RESTRICT buffer, size_t capacity, size_t *size);
 
 /* A walk over files, one entry at a time: gcv_read_files without memory of the library.
  *
@@ -412,16 +383,11 @@ GCV_NONNULL((1)) void gcv_free_settings(gcv_settings *settings);
 
 /* A file of a walk, and the entries that are left of it. Only calls of the library read and write its members. */
 typedef struct gcv_frame {
-    const char *name;
-    size_t name_length;
-    const char *real_dir;
-    size_t real_dir_length;
-    const char *section;
-    size_t section_length;
-    const char *subsection;
-    size_t subsection_length;
-    const char *rest;
-    size_t rest_length;
+    const char *name; size_t name_length;
+    const char *real_dir; size_t real_dir_length;
+    const char *section; size_t section_length;
+    const char *subsection; size_t subsection_length;
+    const char *rest; size_t rest_length;
     size_t line;
     uint32_t parts;
 } gcv_frame;
@@ -429,8 +395,8 @@ typedef struct gcv_frame {
 /* The most files that a walk is in: a file, and ten that are included, each by the one before. */
 enum { GCV_MOST_FRAMES = 11 };
 
-/* A walk over the entries of a file and of the files that it includes. Start with `count` 0: the other members are read
- * only after gcv_enter has written them. A copy of a walk goes on from the same place. */
+/* A walk. Start with `count` 0: the other members are read only after gcv_enter has written them. A copy of a walk goes
+ * on from the same place. */
 typedef struct gcv_walk {
     size_t count; /* how many files it is in */
     gcv_frame frames[GCV_MOST_FRAMES];
@@ -438,8 +404,7 @@ typedef struct gcv_walk {
 
 /* A step of a walk: an entry. The key and the value are as in a gcv_setting. */
 typedef struct gcv_step {
-    const char *file; /* the name that gcv_enter was given for the file */
-    size_t file_length;
+    const char *file; size_t file_length; /* the name that gcv_enter was given for the file */
     size_t line; /* the line of the entry, from 1 */
     const char *key;
     const char *value;
@@ -473,107 +438,49 @@ GCV_RETURNS((1)) gcv_enter(gcv_walk *GCV_RESTRICT walk, const char *file, size_t
 GCV_RETURNS((1, 5)) gcv_next(gcv_walk *GCV_RESTRICT walk, const gcv_known *known, char *GCV_RESTRICT buffer,
                              size_t capacity, gcv_step *GCV_RESTRICT out);
 
-/* Finds an environment variable. Returns its value, which ends with NUL and must stay valid until the call returns, or
- * null if it is not set. */
-typedef const char *gcv_get_variable(void *state, const char *name);
-
 /* Writes the settings of a command as the text of a configuration file: those of GIT_CONFIG_COUNT, and those of
  * GIT_CONFIG_PARAMETERS, in which `git -c` hands them on. `get(state, ..)` finds these variables, and GIT_CONFIG_KEY_n
- * and GIT_CONFIG_VALUE_n. Git reads that text last, and calls the file `command line`. It is in no folder: give a walk
- * the real directory "\0" of length 1, and open none of what it includes unless the name begins with `/`.
+ * and GIT_CONFIG_VALUE_n: it returns a value, which ends with NUL and must stay valid until the call returns, or null.
+ * Git reads that text last, and calls the file `command line`. It is in no folder: give a walk the real directory "\0"
+ * of length 1, and open none of what it includes unless the name begins with `/`.
  *
  * Returns the status of the first setting that Git refuses: GCV_BAD_COUNT to GCV_KEY_LINE_FEED. It asks for each
  * variable twice, allocates and frees memory, and returns GCV_NO_MEMORY if malloc fails: then bytes may be written. */
+typedef const char *gcv_get_variable(void *state, const char *name);
 GCV_RETURNS((1, 5)) gcv_command_text(gcv_get_variable *get, void *state, char *GCV_RESTRICT buffer, size_t capacity,
                                      size_t *size);
 
 /* Edits of the text of a configuration file: one setting changes, and each other byte stays. A key and a name of a
- * section are as Git takes them: "user.name", "branch.Main.rebase", "branch.Main". Each call writes the new text to the
- * buffer.
+ * section are as Git takes them: "user.name", "branch.Main.rebase", "branch.Main". Each call writes the new text.
+ * - gcv_set sets the one value of a key, as `git config KEY VALUE` does. If an entry has the key, only bytes of its
+ *   value change: its indentation, the comment after it and its line end stay. Otherwise a new entry comes after the
+ *   last one of its section, or in a new section at the end. If the key has the value already, the new text is the old
+ *   one.
+ * - gcv_replace_all does so also if several entries have the key: the last one gets the value, the others go with their
+ *   lines.
+ * - gcv_add adds an entry, where gcv_set puts a new one, whatever entries the key has.
+ * - gcv_unset takes away the entry of a key, with its line and the comment on it. A header before it on the line stays.
+ *   But the header goes too if its section has neither an entry nor a comment left, and no comment comes before it.
+ * - gcv_unset_all does so with all entries of a key.
+ * - gcv_rename_section gives the sections of a name, `first`, another one, `second`.
+ * - gcv_remove_section takes away the sections of a name, with their headers and all that is in them. Comments directly
+ *   above the next header stay.
  *
- * Returns GCV_BAD_LINE and GCV_NUL as gcv_next does, and writes the line to `*line`, which otherwise is unchanged.
- * For a key that Git refuses, a call with a key returns GCV_NO_SECTION, GCV_NO_KEY_NAME, GCV_BAD_KEY or
- * GCV_KEY_LINE_FEED, and GCV_BAD_SECTION if its subsection has a NUL. The calls allocate and free memory, and return
+ * Returns GCV_SEVERAL if several entries have the key of gcv_set or gcv_unset, and GCV_ABSENT if there is no entry or
+ * no section to take away or to rename. Returns GCV_BAD_VALUE if a value has a NUL; for a key that Git refuses
+ * GCV_NO_SECTION, GCV_NO_KEY_NAME, GCV_BAD_KEY or GCV_KEY_LINE_FEED; and GCV_BAD_SECTION if no header can have the new
+ * name, or the subsection of the key, which has a NUL then. Returns GCV_BAD_LINE and GCV_NUL as gcv_next does, and then
+ * writes the line to `*line`, which otherwise is unchanged. The calls allocate and free memory, and return
  * GCV_NO_MEMORY if malloc fails. */
-
-/* Sets the one value of a key, as `git config KEY VALUE` does. If an entry has the key, only bytes of its value change:
- * its indentation, the comment after it and its line end stay. Otherwise a new entry comes after the last one of its
- * section, or in a new section at the end. If the key has the value already, the new text is the old one.
- *
- * Returns GCV_SEVERAL if several entries have the key, and GCV_BAD_VALUE if the value has a NUL. */
-GCV_RETURNS((9)) gcv_set(const char *text, size_t length, const char *key, size_t key_length, const char *value,
-                         size_t value_length, char *GCV_RESTRICT buffer, size_t capacity, size_t *size, size_t *line);
-
-/* Does what gcv_set does, also if several entries have the key: the last one gets the value, and the others go with
- * their lines. Returns GCV_BAD_VALUE as gcv_set does. */
-GCV_RETURNS((9)) gcv_replace_all(const char *text, size_t length, const char *key, size_t key_length,
-                                 const char *value, size_t value_length, char *GCV_RESTRICT buffer, size_t capacity,
-                                 size_t *size, size_t *line);
-
-/* Adds an entry, where gcv_set puts a new one, whatever entries the key has. Returns GCV_BAD_VALUE as gcv_set does. */
-GCV_RETURNS((9)) gcv_add(const char *text, size_t length, const char *key, size_t key_length, const char *value,
-                         size_t value_length, char *GCV_RESTRICT buffer, size_t capacity, size_t *size, size_t *line);
-
-/* Takes away the entry of a key, with its line and the comment on it. A header before it on the line stays. But the
- * header goes too if its section has neither an entry nor a comment left, and no comment comes before the header.
- * Returns GCV_ABSENT if no entry has the key, and GCV_SEVERAL if several have it. */
-GCV_RETURNS((7)) gcv_unset(const char *text, size_t length, const char *key, size_t key_length,
-                           char *GCV_RESTRICT buffer, size_t capacity, size_t *size, size_t *line);
-
-/* Does what gcv_unset does, with all entries of a key. Returns GCV_ABSENT if there is none. */
-GCV_RETURNS((7)) gcv_unset_all(const char *text, size_t length, const char *key, size_t key_length,
-                               char *GCV_RESTRICT buffer, size_t capacity, size_t *size, size_t *line);
-
-/* Gives the sections of the old name the new one. Returns GCV_BAD_SECTION if no header can have the new name, and
- * GCV_ABSENT if no section has the old one. */
-GCV_RETURNS((9)) gcv_rename_section(const char *text, size_t length, const char *old_name, size_t old_name_length,
-                                    const char *new_name, size_t new_name_length, char *GCV_RESTRICT buffer,
-                                    size_t capacity, size_t *size, size_t *line);
-
-/* Takes away the sections of a name, with their headers and all that is in them. Comments directly above the next
- * header stay. Returns GCV_ABSENT if no section has the name. */
-GCV_RETURNS((7)) gcv_remove_section(const char *text, size_t length, const char *name, size_t name_length,
-                                    char *GCV_RESTRICT buffer, size_t capacity, size_t *size, size_t *line);
+typedef gcv_status gcv_edit_by_two(const char *text, size_t length, const char *first, size_t first_length,
+                                   const char *second, size_t second_length, char *GCV_RESTRICT buffer,
+                                   size_t capacity, size_t *size, size_t *line);
+typedef gcv_status gcv_edit_by_one(const char *text, size_t length, const char *name, size_t name_length,
+                                   char *GCV_RESTRICT buffer, size_t capacity, size_t *size, size_t *line);
+GCV_CHECKED GCV_NONNULL((9)) gcv_edit_by_two gcv_set, gcv_replace_all, gcv_add, gcv_rename_section;
+GCV_CHECKED GCV_NONNULL((7)) gcv_edit_by_one gcv_unset, gcv_unset_all, gcv_remove_section;
 
 #ifdef __cplusplus
-}
-#endif
-
-/* The users of this system, if GCV_WITH_USERS is defined; a C library may need _POSIX_C_SOURCE for it. */
-#ifdef GCV_WITH_USERS
-#if defined(__cplusplus) || (defined(__STDC_VERSION__) && __STDC_VERSION__ >= 199901L)
-#define GCV_INLINE inline
-#else
-#define GCV_INLINE __inline
-#endif
-#include <pwd.h>
-#include <string.h>
-
-/* The memory for one user that is looked up. Each thread needs its own. */
-typedef struct gcv_user {
-    struct passwd entry;
-    char name[256];
-    char texts[16384];
-} gcv_user;
-
-/* A gcv_find_home over getpwnam_r, whose state is the address of a gcv_user. */
-static GCV_INLINE const char *gcv_find_user(void *state, const char *name, size_t length)
-{
-#ifdef __cplusplus
-    gcv_user *user = static_cast<gcv_user *>(state);
-#else
-    gcv_user *user = (gcv_user *)state;
-#endif
-    struct passwd *found = NULL;
-    if (length >= sizeof user->name || memchr(name, '\0', length) != NULL) {
-        return NULL;
-    }
-    memcpy(user->name, name, length);
-    user->name[length] = '\0';
-    if (getpwnam_r(user->name, &user->entry, user->texts, sizeof user->texts, &found) != 0 || found == NULL) {
-        return NULL;
-    }
-    return found->pw_dir;
 }
 #endif
 

@@ -11,6 +11,7 @@ mod commands;
 mod edits;
 mod faults;
 mod files;
+mod keys;
 pub mod laws;
 mod numbers;
 mod paths;

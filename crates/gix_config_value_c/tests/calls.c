@@ -1,6 +1,7 @@
 /* Tests each status of each call on bad input, and what it leaves alone; compositions, files, edits, fault texts. */
 #include "guarded.h"
 #include <pthread.h>
+#include <pwd.h>
 #include <time.h>
 
 static area buffer_area, text_area, name_area, dir_area, walk_area;
@@ -26,6 +27,7 @@ WRITER(show_attribute, uint32_t, gcv_show_attribute(*value, buffer, capacity, si
 WRITER(show_color, gcv_color, gcv_show_color(value, buffer, capacity, size))
 WRITER(escape_color, gcv_color, gcv_escape_color(value, buffer, capacity, size))
 WRITER(fault_text, uint32_t, gcv_fault_text(*value, buffer, capacity, size))
+WRITER(list_key, char, gcv_list_key(value, strlen(value), buffer, capacity, size))
 WRITER(normalize_canonical, word, gcv_normalize(value->number, value->text, strlen(value->text), buffer, capacity, size))
 WRITER(normalize_empty, uint32_t, gcv_normalize(*value, NULL, 0, buffer, capacity, size))
 
@@ -478,14 +480,14 @@ static gcv_status open_in_memory(void *state, const char *name, gcv_file *out)
 /* Two files, what Git lists for them, and the lines that it tells. */
 #define USER "[Core]\n\tBare\n[remote \"Up.Stream\"]\n\turl = \"a;b\" \\\n c ; d\n\tEmpty =\n[core]\n\tlimit = 10m\n"
 #define OWN "[core] limit = 0x10k\n# \n[color \"a\\\"b\"]\n\tui = bold red\n\tbare = no\n[core]\n\tbare"
-static const gcv_setting listed[] = {{"core.bare", NULL, "user", 2},
-                                     {"remote.Up.Stream.url", "a;b  c", "user", 5},
-                                     {"remote.Up.Stream.empty", "", "user", 6},
-                                     {"core.limit", "10m", "user", 8},
-                                     {"core.limit", "0x10k", "own", 1},
-                                     {"color.a\"b.ui", "bold red", "own", 4},
-                                     {"color.a\"b.bare", "no", "own", 5},
-                                     {"core.bare", NULL, "own", 7}};
+static const gcv_setting listed[] = {{"core.bare", NULL, "user", 2, 1},
+                                     {"remote.Up.Stream.url", "a;b  c", "user", 5, 1},
+                                     {"remote.Up.Stream.empty", "", "user", 6, 1},
+                                     {"core.limit", "10m", "user", 8, 1},
+                                     {"core.limit", "0x10k", "own", 1, 2},
+                                     {"color.a\"b.ui", "bold red", "own", 4, 2},
+                                     {"color.a\"b.bare", "no", "own", 5, 2},
+                                     {"core.bare", NULL, "own", 7, 2}};
 
 /* Whether the settings are these, and each key leads to its last one. */
 static int are(const gcv_settings *settings, const gcv_setting *wanted, size_t count_of)
@@ -494,7 +496,7 @@ static int are(const gcv_settings *settings, const gcv_setting *wanted, size_t c
     for (size_t at = 0; at < count_of; at++) {
         const gcv_setting *given = &settings->list[at], *last = NULL;
         HOLDS(strcmp(given->key, wanted[at].key) == 0 && strcmp(given->file, wanted[at].file) == 0);
-        HOLDS(given->line == wanted[at].line);
+        HOLDS(given->line == wanted[at].line && given->source == wanted[at].source);
         HOLDS(wanted[at].value ? given->value && strcmp(given->value, wanted[at].value) == 0 : !given->value);
         for (size_t later = 0; later < count_of; later++) {
             last = strcmp(wanted[later].key, wanted[at].key) == 0 ? &settings->list[later] : last;
@@ -560,24 +562,53 @@ static void files(void)
     count(found && gcv_parse_color(found->value, &color, NULL) == GCV_OK && color.foreground.tag == GCV_RED &&
               color.attributes == GCV_BOLD,
           "a color of a subsection");
-    static const char *const keys[][2] = {{".X.a", ".X.A"}, {"a.b", "A.B"}, {"a.B.c", "A.B.C"}, {"ab", "AB"}};
-    static const char *const others[][2] = {{".X.a", ".x.a"}, {".foo.Bar.b", ".Foo.Bar.b"}, {"a.B.c", "a.b.c"}, {"a", "a.b"}};
-    for (size_t at = 0; at < 4; at++) {
-        count(gcv_is_key(keys[at][0], keys[at][1]) && !gcv_is_key(others[at][0], others[at][1]), keys[at][1]);
-    }
     gcv_free_settings(&settings);
     gcv_free_settings(&settings);
     count(memcmp(&settings, &none, sizeof none) == 0, "freed settings");
 }
 
+/* Keys as Git lists them, and a key that is found only as it is listed, since it is too long. */
+static void listed_keys(void)
+{
+    static const char *const keys[][2] = {{"A.B", "a.b"}, {".X.A", ".X.a"}, {"A.B.C", "a.B.c"}, {"A.B.C.D", "a.B.C.d"}, {".A", ".a"},
+                                          {"A.", "a."}, {".", "."}, {".Foo.Bar.B", ".Foo.Bar.b"}, {"\xc3\x89.\xff", "\xc3\x89.\xff"}};
+    static char text[GCV_LONGEST_KEY + 16], key[GCV_LONGEST_KEY + 16];
+    static const char *const names[] = {"row"};
+    gcv_settings settings = GCV_NO_SETTINGS;
+    for (size_t at = 0; at < sizeof keys / sizeof keys[0]; at++) {
+        count(writes(buffer_area, list_key, keys[at][0], keys[at][1], strlen(keys[at][1])), keys[at][0]);
+    }
+    count(writes_nothing(buffer_area, list_key, "ab", GCV_NO_SECTION) && writes_nothing(buffer_area, list_key, "", GCV_NO_SECTION),
+          "a key without a dot");
+    for (size_t longer = 0; longer < 2; longer++) {
+        size_t length = GCV_LONGEST_KEY - 2 + longer;
+        memset(key, 'k', length);
+        sprintf(key + length, ".K");
+        sprintf(text, "[%.*s]\nk\n", (int)length, key);
+        in_memory one = {{{"row", text, 0}}, 0};
+        count(gcv_read_files(&settings, names, 1, NULL, open_in_memory, &one) == GCV_OK &&
+                  !gcv_find_setting(&settings, key) == (longer == 1),
+              "a long key");
+        key[length + 1] = 'k';
+        count(gcv_find_setting(&settings, key) == settings.list, "a long key, as it is listed");
+        gcv_free_settings(&settings);
+    }
+    in_memory bare = {{{"row", "k\n[ \"X\"]\na\n", 0}}, 0};
+    count(gcv_read_files(&settings, names, 1, NULL, open_in_memory, &bare) == GCV_OK && settings.count == 2 &&
+              gcv_find_setting(&settings, "k") == settings.list && !gcv_find_setting(&settings, "K") &&
+              gcv_find_setting(&settings, ".X.A") == settings.list + 1 && !gcv_find_setting(&settings, ".x.a"),
+          "a key without a section, and one that begins with a dot");
+    gcv_free_settings(&settings);
+}
+
 /* The order and the decisions are those of `git config --list --show-origin --includes` and `--get`, 2.39.5. */
 static void included_files(void)
 {
-    static const gcv_setting wanted[] = {{"include.path", "more", "main", 1}, {"a.k", "more", "more", 1},
-                                         {"include.path", "missing", "more", 2}, {"a.k", "main", "main", 2}};
+    static const gcv_setting wanted[] = {{"include.path", "more", "main", 1, 0}, {"a.k", "more", "more", 1, 0},
+                                         {"include.path", "missing", "more", 2, 0}, {"a.k", "main", "main", 2, 0}};
     static const gcv_setting by_urls[] = {
-        {"includeif.hasconfig:remote.*.url:**/b.path", "some", "main", 1}, {"a.k", "some", "some", 1},
-        {"includeif.hasconfig:remote.*.url:none.path", "some", "main", 2}, {"remote.o.url", "https://x/b", "main", 4}};
+        {"includeif.hasconfig:remote.*.url:**/b.path", "some", "main", 1, 0}, {"a.k", "some", "some", 1, 0},
+        {"includeif.hasconfig:remote.*.url:none.path", "some", "main", 2, 0}, {"remote.o.url", "https://x/b", "main", 4, 0}};
     static const char *const names[] = {"main"};
     static const gcv_known known = {NULL, 0, NULL, 0, NULL, 0, "/w/.git", 7, NULL, 0, NULL, 0, NULL, 0, 0};
     in_memory nested = {{{"main", "[include]path=more\n[a]k=main", 0}, {"more", "[a]k=more\n[include]path=missing", 0}}, 0};
@@ -1154,6 +1185,52 @@ static void patterns(void)
     pthread_attr_destroy(&small);
 }
 
+/* What threads do at the same time: they look up in the same settings, and read, edit and walk over texts of their own. */
+static void *work(void *state)
+{
+    static const char *const names[] = {"user", "own"};
+    static const char old[] = "[a]\n\tb = 1\n", key[] = "A.B";
+    const gcv_settings *shared = (const gcv_settings *)state;
+    uintptr_t wrong_rounds = 0;
+    for (size_t round = 0; round < 200; round++) {
+        in_memory two = {{{"user", USER, 0}, {"own", OWN, 0}}, 0};
+        gcv_settings settings = GCV_NO_SETTINGS;
+        gcv_walk walk = {0};
+        gcv_step step;
+        char text[64], listed_key[8];
+        size_t size = 0, line = 0;
+        int is_right = gcv_find_setting(shared, "CORE.Limit") == &shared->list[4] &&
+                       gcv_read_files(&settings, names, 2, NULL, open_in_memory, &two) == GCV_OK && settings.count == 8 &&
+                       gcv_find_setting(&settings, "Core.Bare") == &settings.list[7];
+        is_right = is_right && gcv_set(old, sizeof old - 1, key, 3, "two", 3, text, sizeof text, &size, &line) == GCV_OK &&
+                   size == 13 && memcmp(text, "[a]\n\tb = two\n", size) == 0;
+        is_right = is_right && gcv_unset_all(old, sizeof old - 1, key, 3, text, sizeof text, &size, &line) == GCV_OK && size == 0;
+        is_right = is_right && gcv_list_key(key, 3, listed_key, sizeof listed_key, &size) == GCV_OK && memcmp(listed_key, "a.b", 3) == 0;
+        is_right = is_right && gcv_enter(&walk, "c", 1, NULL, 0, old, sizeof old - 1) == GCV_OK &&
+                   gcv_next(&walk, NULL, text, sizeof text, &step) == GCV_OK && strcmp(step.value, "1") == 0;
+        wrong_rounds += !is_right;
+        gcv_free_settings(&settings);
+    }
+    return (void *)wrong_rounds;
+}
+
+static void threads(void)
+{
+    static const char *const names[] = {"user", "own"};
+    in_memory two = {{{"user", USER, 0}, {"own", OWN, 0}}, 0};
+    gcv_settings shared = GCV_NO_SETTINGS;
+    pthread_t all[8];
+    count(gcv_read_files(&shared, names, 2, NULL, open_in_memory, &two) == GCV_OK, "settings that threads share");
+    for (size_t at = 0; at < 8; at++) {
+        count(pthread_create(&all[at], NULL, work, &shared) == 0, "a thread");
+    }
+    for (size_t at = 0; at < 8; at++) {
+        void *wrong_rounds = &shared;
+        count(pthread_join(all[at], &wrong_rounds) == 0 && !wrong_rounds, "calls at the same time");
+    }
+    gcv_free_settings(&shared);
+}
+
 int main(void)
 {
     buffer_area = new_area(4096);
@@ -1176,6 +1253,7 @@ int main(void)
     fields();
     words();
     files();
+    listed_keys();
     included_files();
     many_settings();
     opened_files();
@@ -1186,5 +1264,6 @@ int main(void)
     commands();
     edits();
     patterns();
+    threads();
     return finish();
 }

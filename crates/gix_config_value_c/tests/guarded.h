@@ -3,7 +3,6 @@
 #define GUARDED_H
 
 #define _DEFAULT_SOURCE
-#define GCV_WITH_USERS
 #include <gix_config_value.h>
 #include <stdio.h>
 #include <stdlib.h>

@@ -145,7 +145,7 @@ def structs():
         struct, wanted = TYPES[name], list(fields_of(body))
         told = re.search(rf"^typedef struct {struct} \{{\n(.*?)^\}} {struct};$", header, re.MULTILINE | re.DOTALL)
         told = NUMBERED.sub("uint32_t", told[1] if told else "")
-        given = re.findall(r"^    (\w+ |const \w+ \*)(\w+);", told, re.MULTILINE)
+        given = re.findall(r"(?:^   |;) (\w+ |const \w+ \*)(\w+)(?=;)", told, re.MULTILINE)
         given = [(name, kind.strip()) for kind, name in given]
         yield f"the header, {struct}", given, wanted
         size, widest, offsets = 0, 1, {}
@@ -190,8 +190,9 @@ def names():
     bits = [name.replace("GCV_", "") for name, _ in BITS.findall(text_of(HEADER))]
     yield "Python, attributes", re.findall(r'\{"(\w+)", GCV_\1\}', text_of(MODULE)), bits
     # each status has a text of its own
-    statuses = re.findall(r"^    (GCV_\w+) = \d", text_of(HEADER).split("} gcv_status;")[0], re.MULTILINE)
-    yield "the texts of statuses", re.findall(r"^    case (GCV_\w+):$", text_of(CALLS), re.MULTILINE), statuses
+    statuses = re.findall(r"\b(GCV_\w+) = \d", text_of(HEADER).split("} gcv_status;")[0])
+    texts = re.findall(r"^    case (GCV_\w+):$", text_of(CALLS), re.MULTILINE)
+    yield "the texts of statuses", sorted(texts), sorted(statuses)
 
 
 def built(prefix, version):

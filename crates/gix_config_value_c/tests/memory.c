@@ -83,6 +83,12 @@ static gcv_status normalize(const void *state, char *buffer, size_t capacity, si
     return gcv_normalize(GCV_INTEGER, "0x10k", 5, buffer, capacity, size);
 }
 
+static gcv_status list_key(const void *state, char *buffer, size_t capacity, size_t *size)
+{
+    (void)state;
+    return gcv_list_key("A.B.C", 5, buffer, capacity, size);
+}
+
 /* Opens a file with one key, which includes another that is not there. */
 static gcv_status open_text(void *state, const char *name, gcv_file *out)
 {
@@ -199,6 +205,7 @@ int main(void)
     ASKS(interpolate_with, "/home/u/file", 1);
     ASKS(read_and_show, "red bold", 0);
     ASKS(normalize, "16k", 0);
+    ASKS(list_key, "a.B.c", 0);
     ASKS(read_files, "a.b", 11);
     ASKS(command, "[a]b=c\n", 10);
     ASKS(set, "[a]\n\tb = 2\n", 1);

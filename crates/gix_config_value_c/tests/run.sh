@@ -77,16 +77,20 @@ archive=$prefix/lib/libgix_config_value.a
 holds "the header" python3 "$tests/header.py" "$prefix"
 
 # the library exports exactly the calls that the header declares, and needs only the symbols of docs/C.md
-sed -nE '/^typedef/d; s/^(GCV_RETURNS|GCV_NONNULL|gcv_depth|const char).*[ *](gcv_[a-z0-9_]+)\(.*/\2/p' \
-    "$prefix/include/gix_config_value.h" | sort > "$work/declared"
+{
+    sed -nE '/^typedef/d; s/^(GCV_RETURNS|GCV_NONNULL|gcv_depth|const char).*[ *](gcv_[a-z0-9_]+)\(.*/\2/p' \
+        "$prefix/include/gix_config_value.h"
+    sed -n 's/^GCV_CHECKED .* gcv_edit_by_[a-z]* \(.*\);$/\1/p' "$prefix/include/gix_config_value.h" | tr -d ' ' | tr , '\n'
+} | sort > "$work/declared"
 nm -g --defined-only "$archive" | sed -n 's/.* [A-Z] //p' | sort > "$work/shown"
 holds "the archive shows the calls of the header" diff "$work/declared" "$work/shown"
 nm -D --defined-only "$prefix/lib/libgix_config_value.so" | sed -n 's/.* [A-Z] //p' | sort > "$work/shown"
 holds "the shared library shows the calls of the header" diff "$work/declared" "$work/shown"
-printf '%s\n' __errno_location calloc fclose ferror fopen fread free malloc memcmp memcpy memmove memset realloc realpath \
-    strcmp strlen strncmp strrchr > "$work/known"
+printf '%s\n' __errno_location calloc fclose ferror fopen fread free getpwnam_r malloc memchr memcmp memcpy memmove memset \
+    realloc realpath strcmp strlen strncmp strrchr > "$work/known"
 nm -u "$archive" | sed -n 's/^ *U //p' | sort -u > "$work/needed"
 holds "the archive needs no more than docs/C.md says" test -z "$(comm -13 "$work/known" "$work/needed")"
+holds "the shared library is small" test "$(wc -c < "$prefix/lib/libgix_config_value.so")" -lt 250000
 # instructions that processors of x86-64 before 2008 do not have
 objdump -d --no-show-raw-insn "$archive" | cut -f 2 | cut -d ' ' -f 1 | sort -u | grep -E \
     '^(v|pabs|palign|pshufb|phadd|psign|pinsr[bdq]|pextr[bdq]|pmov[sz]x|ptest|pmulld|pcmp(eq|gt)q|pblend|popcnt|crc32|round)' \
@@ -156,7 +160,6 @@ if command -v git > /dev/null; then
     printf '[some]\n\tk = "of the URL"\n' > "$work/repository/.git/url"
 fi
 body() {
-    printf '#define _DEFAULT_SOURCE\n#define GCV_WITH_USERS\n'
     printf '#include <gix_config_value.h>\n#include <string.h>\nint main(void)\n{\n    char t[64] = "1";\n'
     printf '    uint32_t b = 0;\n    size_t n = 0;\n    gcv_context c;\n    gcv_color both;\n'
     printf '    memset(&c, 0, sizeof c);\n    memset(&both, 0, sizeof both);\n    return %s;\n}\n' "$1"
@@ -210,7 +213,7 @@ for compiler in gcc clang g++ clang++; do
             *) set -- -L"$prefix/lib" -lgix_config_value ;;
         esac
         by="by $compiler, $linked"
-        for example in theme check config; do
+        for example in theme check config six_settings; do
             # shellcheck disable=SC2086
             holds "$example $by" "$compiler" $language $warnings -I"$prefix/include" -o "$work/$example" \
                 "$root/examples/c/$example.c" -x none "$@"
@@ -231,6 +234,15 @@ for compiler in gcc clang g++ clang++; do
         holds "config $by, another subsection" test -z "$(HOME=$work/home "$work/config" "$work/repository/.git" remote.o.url)"
     done
 done
+
+if [ -x "$work/six_settings" ] && command -v git > /dev/null; then
+    counted "six settings, by Git" python3 "$tests/six.py" "$work/six_settings"
+fi
+
+# shellcheck disable=SC2086
+holds "a reader of includes" "${CC:-cc}" -std=c99 $warnings -I"$prefix/include" -o "$work/listed" "$tests/listed.c" \
+    "$archive"
+counted "includes in C" python3 "$root/compare/config_file.py" --reader "$work/listed"
 
 # the Python package: a wheel by the headers of each Python from 3.9 on that is installed, tested on all of them
 # shellcheck disable=SC2317
@@ -267,6 +279,8 @@ for builder in $pythons; do
 done
 if [ -n "$pythons" ]; then
     counted "what Python reads in a folder" python3 "$root/compare/here.py" --places 60 --python "$work/site"
+    counted "includes in Python" python3 "$root/compare/config_file.py" --reader \
+        "python3 -I -B $tests/listed.py $work/site"
 fi
 for python in $pythons; do
     "$python" -m pip --version > /dev/null 2>&1 || continue

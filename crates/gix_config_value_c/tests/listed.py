@@ -1,0 +1,17 @@
+"""Lists a file and what it includes by the Python package, for compare/config_file.py: listed.py FOLDER FILE
+
+FOLDER has the package. Conditions are about the repository here.
+"""
+import os
+import sys
+
+sys.path.insert(0, sys.argv[1])
+from gix_config_value import InvalidFile, read  # noqa: E402
+
+try:
+    for entry in read(sys.argv[2], includes=True, repository=".").entries:
+        text = entry.key if entry.text is None else f"{entry.key}\n{entry.text}"
+        sys.stdout.buffer.write(os.fsencode(f"{entry.file}:{entry.line}\0{text}\0"))
+except InvalidFile as error:
+    sys.stderr.buffer.write(os.fsencode(f"{error.file}:{error.line}: {error.code.replace('_', ' ')}\n"))
+    sys.exit(128)
