@@ -1,15 +1,16 @@
 //! The rows of a run: those of files, and the built-in ones.
 
 use crate::failure::Failure;
+use bstr::BStr;
 use bumpalo::Bump;
 use config_checks::git::SETTINGS;
-use config_checks::reason::outside;
+use config_checks::reason::{nearest_word, outside};
 use config_checks::row::Row;
-use config_checks::table::read_rows;
+use config_checks::table::{BadRow, RowFault, read_rows};
 use config_checks::version::Version;
 use config_host::repository::find;
 use config_host::{Disk, ReadError};
-use std::alloc::Global;
+use std::alloc::{AllocError, Global};
 use std::fs;
 use std::io::ErrorKind;
 
@@ -19,6 +20,37 @@ const MARK: &[u8] = b"\xef\xbb\xbf";
 /// The file of rows at the top of a repository.
 const SHARED: &str = ".gitconfig-check";
 
+/// The names of kinds, of which the nearest one is suggested.
+const KINDS: &[&[u8]] = &[
+    b"text",
+    b"bool",
+    b"int",
+    b"bool-or-int",
+    b"color",
+    b"word",
+    b"word-any-case",
+    b"bool-or-word",
+    b"bool-or-word-any-case",
+    b"int-or-word",
+    b"int-or-word-any-case",
+    b"words",
+    b"words-any-case",
+    b"date",
+    b"date-any-case",
+    b"sort-key",
+    b"sort-key-any-case",
+];
+
+/// Why a line is not a row, and the name of the nearest kind, if it has another name that is near.
+fn why(alloc: Global, fault: RowFault<'_>) -> Result<String, AllocError> {
+    if let RowFault::UnknownKind(name) = fault {
+        if let Some(kind) = nearest_word(alloc, KINDS, name)? {
+            return format!(in alloc; "{fault}; did you mean {}?", BStr::new(kind));
+        }
+    }
+    format!(in alloc; "{fault}")
+}
+
 /// Appends the rows of a text, after a byte order mark if it has one.
 fn add_rows<'m, 't>(
     alloc: Global,
@@ -27,7 +59,20 @@ fn add_rows<'m, 't>(
     rows: &mut Vec<Row<'t>>,
 ) -> Result<(), Failure<'m>> {
     let text = text.strip_prefix(MARK).unwrap_or(text);
-    read_rows(alloc, text, rows).map_err(|bad| Failure::Row { file, bad })
+    match read_rows(alloc, text, rows) {
+        Ok(()) => Ok(()),
+        Err(
+            BadRow {
+                fault: RowFault::Memory(error),
+                ..
+            },
+        ) => Err(Failure::Memory(error)),
+        Err(bad) => Err(Failure::Row {
+            file,
+            line: bad.line,
+            why: why(alloc, bad.fault)?,
+        }),
+    }
 }
 
 /// Appends the rows of a file, whose text is kept.

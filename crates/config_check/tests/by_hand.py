@@ -12,7 +12,7 @@ from plain_reader import beginning, cut, finding, key_of, named, shown
 ROWS = 10_000
 # the built-in rows
 TABLE = pathlib.Path(__file__).resolve().parents[2] / "config_checks/src/git.rt"
-BUILT_IN = plain_reader.rows_of(re.sub(rb"\\\n *", b"", TABLE.read_bytes().split(b'"\\\n', 1)[1].split(b'";')[0]))
+BUILT_IN = plain_reader.rows_of(re.sub(rb"\\\n *", b"", TABLE.read_bytes().split(b'"\\\n', 1)[1].split(b'";')[0]).replace(b"\\\\", b"\\"))
 # the members of rows.JSON, and what stands there for the byte \xff
 MEMBERS = ("line", "severity", "key", "value", "reason", "code", "suggested_key", "suggested_value")
 REPLACED = "\ufffd".encode()

@@ -6,6 +6,7 @@ import base64
 import collections
 import functools
 import hashlib
+import itertools
 import re
 import sys
 
@@ -154,7 +155,8 @@ def bounds(words):
         return BITS_32[0], BITS_32[-1]
     found = [integer(word) for word in words]
     is_right = len(found) == 2 and all(one is not None and product(*one) in BITS_64 for one in found)
-    return tuple(product(*one) for one in found) if is_right else None
+    numbers = tuple(product(*one) for one in found) if is_right else None
+    return numbers if numbers and numbers[0] <= numbers[1] else None
 
 
 def of_int(words, text):
@@ -365,8 +367,9 @@ def key_of(text):
 
 
 def fields_of(line):
-    """The fields of a line, which spaces, tabs and CRs separate."""
-    return [field for field in re.split(rb"[ \t\r]", line) if field]
+    """The fields of a line, which spaces, tabs and CRs separate, up to one that begins with `#`; each without a backslash in front."""
+    fields = [field for field in re.split(rb"[ \t\r]", line) if field]
+    return [field.removeprefix(b"\\") for field in itertools.takewhile(lambda field: not field.startswith(b"#"), fields)]
 
 
 def version(text):
@@ -404,7 +407,7 @@ def rows_of(text):
     rows = []
     for number, line in enumerate(text.split(b"\n"), 1):
         fields = fields_of(line)
-        if fields and not fields[0].startswith(b"#"):
+        if fields:
             if row_of(fields) is None:
                 raise BadRow(number)
             rows.append(row_of(fields))

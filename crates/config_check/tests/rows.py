@@ -20,8 +20,9 @@ test.bool-or-word-any-case bool-or-word-any-case always Never kilo
 test.int-or-word int-or-word auto 0x80000000
 test.words words one Two -three tab=* l*
 test.words-any-case words-any-case one tab=*
-test.date date-any-case now ja* \\
+test.date date-any-case now ja* \\\\  # two backslashes are the word of one
 test.sort-key sort-key name date
+test.hash word a#b \\# \\#c # no-word \\d
 
 # marks
 mark.alone alone text
@@ -150,6 +151,7 @@ ACCEPTED = [
     (b"test.words", [b"", b" ", b",,", b"one", b"one,Two", b"Two one", b"-three\tone\nTwo\rone,", b"tab=", b"tab=8,one",
                      b"l", b"lll"]),
     (b"test.words-any-case", [b"", b"ONE,Tab=Ab", b"tAB="]),
+    (b"test.hash", [b"a#b", b"#", b"#c"]),
     (b"test.date", [b"now", b"NOW", b"x.now.y", b"7", b"x7y", b"January", b"in ja", b"\\", b"no-NOW"]),
     (b"test.sort-key", [b"name", b"-name", b"version:name", b"-v:*name", b"*date", b"name:short", b"date:", b"version:v:date"]),
     (b"mark.alone", [None, b"", b"x"]),
@@ -194,6 +196,7 @@ REPORTED = [
     (b"test.words", NOT_WORDS, [b"one;Two", b"one,two", b"tab", b"tab+*", b"TAB=1", b"L", b"xl"]),
     (b"test.words-any-case", b"error: not a list of: one, tab=*", [b"one-tab="]),
     (b"test.date", NO_VALUE, [None]),
+    (b"test.hash", b"error: not one of: a#b, #, #c", [b"", b"\\\\#", b"no-word", b"\\\\d"]),
     (b"test.date", NO_DATE, [b"", b"j", b"nowadays", b"xja", b" ", b"\xc3\xa9"]),
     (b"test.sort-key", NO_VALUE, [None]),
     (b"test.sort-key", NO_SORT_KEY, [b"", b"-", b"--name", b"*-name", b"-:name", b"v:version:name", b"name,date",
@@ -424,30 +427,31 @@ OWN_ROWS = [
 ]
 
 # why a line is not a row
-NO_DOT, NO_KIND, NO_SUCH_KIND, NO_WORDS, WORDS, BOUNDS = (
-    b"no dot in the key", b"no kind after the key", b"no such kind", b"no words after the kind",
-    b"words after a kind without words", b"the bounds are not two integers")
+NO_DOT, NO_KIND, NO_SUCH_KIND, NO_WORDS, WORDS, BOUNDS, NOT_IN_ORDER = (
+    b"no dot in the key", b"no kind after the key", b"no such kind: ", b"no words after the kind",
+    b"a word after a kind without words: ", b"the bounds are not two integers", b"the first bound is greater than the second")
 NO_VERSION = b"no version after since= or until="
 # texts of settings with such a line, its number, and why it is not a row
 BAD_ROWS = [
     (b"nodot bool\n", 1, NO_DOT), (b"test.x\n", 1, NO_KIND), (b"test.x \n", 1, NO_KIND), (b"nodot\n", 1, NO_DOT),
     (b"test.x,bool\n", 1, NO_KIND), (b"nodot boolean\n", 1, NO_DOT), (b"test.x\x0bbool\n", 1, NO_KIND),
-    (b"test.x boolean\n", 1, NO_SUCH_KIND), (b"test.x BOOL\n", 1, NO_SUCH_KIND), (b"test.x bool-or\n", 1, NO_SUCH_KIND),
-    (b"test.x int,\n", 1, NO_SUCH_KIND), (b"test.x bool yes\n", 1, WORDS), (b"test.x int 1\n", 1, BOUNDS),
+    (b"test.x boolean\n", 1, NO_SUCH_KIND + b"boolean"), (b"test.x BOOL\n", 1, NO_SUCH_KIND + b"BOOL; did you mean bool?"), (b"test.x bool-or\n", 1, NO_SUCH_KIND + b"bool-or"),
+    (b"test.x int,\n", 1, NO_SUCH_KIND + b"int,; did you mean int?"), (b"test.x bool yes\n", 1, WORDS + b"yes"), (b"test.x int 1\n", 1, BOUNDS),
     (b"test.x int 1 2 3\n", 1, BOUNDS), (b"test.x int 1 two\n", 1, BOUNDS), (b"test.x int one 2\n", 1, BOUNDS),
-    (b"test.x text text\n", 1, WORDS), (b"test.x alone\n", 1, NO_KIND), (b"test.x needs-value warn\n", 1, NO_KIND),
-    (b"test.x warn alone bool\n", 1, NO_SUCH_KIND), (b"test.x alone needs-value bool\n", 1, NO_SUCH_KIND),
+    (b"test.x text \\#b text\n", 1, WORDS + b"#b"), (b"test.x int 64 4\n", 1, NOT_IN_ORDER), (b"test.x int 1k 1023 # c\n", 1, NOT_IN_ORDER), (b"test.x alone\n", 1, NO_KIND), (b"test.x needs-value warn\n", 1, NO_KIND),
+    (b"test.x warn alone bool\n", 1, NO_SUCH_KIND + b"alone"), (b"test.x alone needs-value bool\n", 1, NO_SUCH_KIND + b"needs-value"),
     (b"test.x since=2 bool\n", 1, NO_VERSION), (b"test.x since=2.1 until= bool\n", 1, NO_VERSION),
-    (b"test.x until=2.1 since=2.0 bool\n", 1, NO_SUCH_KIND), (b"test.x since=2.x\n", 1, NO_VERSION),
-    (b"test.x size\n", 1, NO_SUCH_KIND), (b"test.x sort-key\n", 1, NO_WORDS), (b"test.x text-any-case\n", 1, NO_SUCH_KIND), (b"test.x # bool\n", 1, NO_SUCH_KIND), (b"test.x word\n", 1, NO_WORDS),
+    (b"test.x until=2.1 since=2.0 bool\n", 1, NO_SUCH_KIND + b"since=2.0"), (b"test.x since=2.x\n", 1, NO_VERSION),
+    (b"test.x size\n", 1, NO_SUCH_KIND + b"size"), (b"test.x wrod a\n", 1, NO_SUCH_KIND + b"wrod; did you mean word?"), (b"test.x sort-key\n", 1, NO_WORDS), (b"test.x text-any-case\n", 1, NO_SUCH_KIND + b"text-any-case"), (b"test.x \\\\bool\n", 1, NO_SUCH_KIND + b"\\\\bool"), (b"test.x # bool\n", 1, NO_KIND), (b"test.x word #a\n", 1, NO_WORDS), (b"test.x word\n", 1, NO_WORDS),
     (b"test.x word-any-case\n", 1, NO_WORDS), (b"test.x bool-or-word \n", 1, NO_WORDS),
     (b"test.x bool-or-word-any-case\n", 1, NO_WORDS), (b"test.x bool\nnodot bool", 2, NO_DOT),
-    (b"# first\n\ntest.x bool\n\ntest.y bool\ttrue\ntest.z none\n", 5, WORDS),
+    (b"# first\n\ntest.x bool\n\ntest.y bool\ttrue\ntest.z none\n", 5, WORDS + b"true"),
 ]
 
 # other texts of settings, which are valid
 GOOD_ROWS = [b"", b"\n", b"\n\n", b"#\n", b"# nodot bool", b"#nodot bool\n\n", b"test.x bool",
-             b"test.x\t \tword  a\t\tb\n", b"test.x alone\twarn int -1 0x10k\n", b"test.x int 2 1", b" \t \n\r\n", b"  # a comment\n", b"  test.x bool\r\n"]
+             b"test.x\t \tword  a\t\tb\n", b"test.x alone\twarn int -1 0x10k\n", b"test.x int 1 1", b"test.x bool # a comment", b"test.x bool #", b"test.x int 1 2 #3",
+             b" \t \n\r\n", b"  # a comment\n", b"  test.x bool\r\n"]
 
 # files, the output for them, and the numbers of entries, judged entries, unknown keys and findings
 FILES = [

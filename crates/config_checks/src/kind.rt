@@ -100,7 +100,7 @@ fn has_digit(text: &[u8]) -> bool
 }
 
 /// A text without this prefix, or the whole text if it does not begin with the prefix.
-fn without_front<'a>(text: &'a [u8], front: &[u8]) -> &'a [u8]
+pub(crate) fn without_front<'a>(text: &'a [u8], front: &[u8]) -> &'a [u8]
     ensures { result.now ≡ without_front front.now text.now }
 {
     if text.starts_with(front) {
