@@ -2,7 +2,6 @@
 
 use config_checks::check::CheckError;
 use config_checks::finding::push_shown;
-use config_checks::table::BadRow;
 use config_host::{ArgumentError, HostError, ReadError};
 use std::alloc::{AllocError, Global};
 use std::io::{self, ErrorKind, Write};
@@ -16,13 +15,23 @@ pub(crate) enum Failure<'m> {
     #[error("cannot read the arguments: {0}")]
     Arguments(ArgumentError),
     #[error("cannot read {file}: {error}")]
-    File { file: &'m str, error: io::Error },
-    #[error("{file}:{}: {}", .bad.line, .bad.fault)]
-    Row { file: &'m str, bad: BadRow },
+    File {
+        file: &'m str,
+        error: io::Error,
+    },
+    #[error("{file}:{line}: {why}")]
+    Row {
+        file: &'m str,
+        line: usize,
+        why: String,
+    },
     #[error("cannot read .gitconfig-check: {0}")]
     Shared(ReadError),
     #[error("{file}:{line}: not a finding of --format json")]
-    Baseline { file: &'m str, line: usize },
+    Baseline {
+        file: &'m str,
+        line: usize,
+    },
     #[error("not a version of Git, as 2.39 is: {0}")]
     Version(&'m str),
     #[error("neither a code nor a key: {0}")]

@@ -1,5 +1,5 @@
 -- Numbers are booleans.
-use Rattle.std.proofs.Common.{◌≡◌, ◌≢◌, ◌↔◌, ℕ, zero, suc, pos, negsuc, ℤ, inl, inr, List, Bool, true, false, None, refl}
+use Rattle.std.proofs.Common.{◌≢◌, ◌↔◌, ℕ, zero, suc, pos, negsuc, ℤ, inl, inr, List, Bool, true, false, None, refl}
 use Rattle.std.specs.Prelude.{IsTrue}
 use Rattle.std.proofs.lemmas.Bool.{false≢true}
 use Rattle.config_text.specs.Value.{IsAccepted}

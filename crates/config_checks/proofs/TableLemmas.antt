@@ -1,26 +1,27 @@
 -- The rows of a text, line by line.
 use Rattle.std.proofs.Common.{◌≡◌, ◌<◌, ◌+◌, ◌++◌, ℕ, List, [], ◌∷◌, length, map, take, drop, get_or, Bor}
-use Rattle.std.proofs.Common.{Bool, false}
+use Rattle.std.proofs.Common.{Bool, true, false, cond, All, suc}
 use Rattle.std.proofs.Common.{refl, sym, ap, subst, ◌∙◌, take-append-drop}
 use Rattle.std.proofs.lemmas.List.{at_drop_more, length-map}
 use mathlib.Core.List.{map-append}
 use denote.Param.Members.{Mut}
 use Rattle.std.specs.Fn.{CalledAt}
-use Rattle.std.specs.List.{slice_split}
+use Rattle.std.specs.List.{slice_split, take_while}
+use Rattle.std.proofs.lemmas.List.Sums.{take_while-cons}
 use Rattle.std.specs.Iterator.{Yields}
 use Rattle.std.specs.Slice.Iter.{split_steps, split_rest, split_done, split_callee}
 use Rattle.std.proofs.lemmas.Iterator.{YieldsList}
 use Rattle.std.proofs.lemmas.Iterator.Splits.{YieldsList-from_slice_split}
 use Rattle.std.proofs.lemmas.Iterator.Consumers.{YieldsList-at}
-use Rattle.std.proofs.Common.{Option, arith}
+use Rattle.std.proofs.Common.{arith}
 use Rattle.config_file.specs.Key.{Key, IsCut}
 use Rattle.config_checks.specs.declared.row.Row.{Row}
 use Rattle.config_checks.specs.declared.table.RowFault.{RowFault}
-use Rattle.config_checks.specs.declared.table.RowFault.TheVariants.{NoKind, NoKey, UnknownKind, NoWords, Words, Bounds}
-use Rattle.config_checks.specs.declared.table.RowFault.TheVariants.{NoVersion, Memory}
+use Rattle.config_checks.specs.declared.table.RowFault.TheVariants.{NoKind, NoKey, UnknownKind, NoWords, Words, Bounds, NotInOrder}
+use Rattle.config_checks.specs.declared.table.RowFault.TheVariants.{NoVersion, Unwanted, Memory}
 use Rattle.config_checks.specs.declared.table.BadRow.{BadRow}
 use Rattle.config_checks.specs.declared.table.Marks.{Marks}
-use Rattle.config_checks.specs.Rows.{lines_of, fields_of, IsNoRow, HasMarks, HasBadVersion, IsBadKind, IsBadRow, IsBadLine, AddsRow, AddsRows}
+use Rattle.config_checks.specs.Rows.{lines_of, fields_of, is_no_comment, HasMarks, HasBadVersion, IsBadKind, IsBadRow, IsBadLine, AddsRow, AddsRows}
 
 -- a `for` over the parts of a text takes them in order
 pub parts_of : {F : Type 0} {g : Mut F (Bor ℕ × Unit {0}) Bool} {f : F} (s u t : _) (taken : List (Bor (List ℕ)))
@@ -31,7 +32,7 @@ pub parts_of : {F : Type 0} {g : Mut F (Bor ℕ × Unit {0}) Bool} {f : F} (s u 
 parts_of {g = g} s u t taken yields is test text rest done closure tests =
     YieldsList-at is (YieldsList-from_slice_split g test text rest done closure tests)
 
-abbrev now : List (Bor (List ℕ)) → List (List ℕ)
+abbrev pub now : List (Bor (List ℕ)) → List (List ℕ)
 now = map (λ line. line.now)
 
 one_more : (lines : List (List ℕ)) (line : List ℕ) (a b c : List Row) → AddsRows lines a b → AddsRow line b c
@@ -47,6 +48,17 @@ more_rows lines line a b c so_far adds =
     subst (λ all. AddsRows all a c) (sym (map-append (λ line. line.now) lines (line ∷ [])))
     (one_more (now lines) line.now a b c so_far adds)
 
+-- the texts are those before a place, that at the place, and those behind it
+parts_at : (all : List (List ℕ)) (before : List (Bor (List ℕ))) (here : Bor (List ℕ))
+    → now before ≡ take (length before) all
+    → (length before < length all) × (here.now ≡ get_or all (length before) here.now)
+    → all ≡ now before ++ here.now ∷ drop (length before + 1) all
+parts_at all before here first at =
+    let count = length before in
+    let from_here : drop count all ≡ here.now ∷ drop (count + 1) all =
+    at_drop_more (λ l. l) all count here.now at.0 ∙ ap (λ l. l ∷ drop (count + 1) all) (sym at.1) in
+    sym (take-append-drop count all) ∙ ap (λ l. l ++ drop count all) (sym first) ∙ ap (λ l. now before ++ l) from_here
+
 -- the line after these lines is the first bad line
 pub bad_line : (text : List ℕ) (lines : List (Bor (List ℕ))) (line : Bor (List ℕ)) (bad : BadRow) (rows rows' : List Row)
     → now lines ≡ take (length lines) (lines_of text)
@@ -54,18 +66,11 @@ pub bad_line : (text : List ℕ) (lines : List (Bor (List ℕ))) (line : Bor (Li
     → bad.line ≡ length lines + 1 → AddsRows (now lines) rows rows' → IsBadRow (fields_of line.now) bad.fault
     → IsBadLine text rows rows' bad
 bad_line text lines line bad rows rows' before here numbered added fault =
-    let count = length lines in
-    let from_here : drop count (lines_of text) ≡ line.now ∷ drop (count + 1) (lines_of text) =
-    at_drop_more (λ l. l) (lines_of text) count line.now here.0
-    ∙ ap (λ l. l ∷ drop (count + 1) (lines_of text)) (sym here.1) in
     record {
       before = now lines;
       line = line.now;
-      behind = drop (count + 1) (lines_of text);
-      parts =
-          sym (take-append-drop count (lines_of text))
-          ∙ ap (λ l. l ++ drop count (lines_of text)) (sym before)
-          ∙ ap (λ l. now lines ++ l) from_here;
+      behind = drop (length lines + 1) (lines_of text);
+      parts = parts_at (lines_of text) lines line before here;
       numbered = numbered ∙ ap (λ n. n + 1) (sym (length-map lines (λ line. line.now)));
       added = added;
       fault = fault;
@@ -73,33 +78,60 @@ bad_line text lines line bad rows rows' before here numbered added fault =
 
 -- the fields have a key and marks, but what follows is a bad kind
 pub bad_kind : (fields marked : List (List ℕ)) (key name : List ℕ) (words : List (List ℕ)) (k : Key) (m : Marks)
-    (fault : RowFault) → ¬ (IsNoRow fields) → fields ≡ key ∷ marked → IsCut key k
-    → HasMarks marked m (name ∷ words) → IsBadKind name words fault → IsBadRow fields fault
-bad_kind fields marked key name words k m NoKind row parts is marks bad = absurd bad
-bad_kind fields marked key name words k m NoKey row parts is marks bad = absurd bad
-bad_kind fields marked key name words k m NoVersion row parts is marks bad = absurd bad
-bad_kind fields marked key name words k m UnknownKind row parts is marks bad =
-    (row, (key, marked, parts, (k, is), m, name, words, marks, bad))
-bad_kind fields marked key name words k m NoWords row parts is marks bad =
-    (row, (key, marked, parts, (k, is), m, name, words, marks, bad))
-bad_kind fields marked key name words k m Words row parts is marks bad =
-    (row, (key, marked, parts, (k, is), m, name, words, marks, bad))
-bad_kind fields marked key name words k m Bounds row parts is marks bad =
-    (row, (key, marked, parts, (k, is), m, name, words, marks, bad))
-bad_kind fields marked key name words k m (Memory e) row parts is marks bad = tt
+    (fault : RowFault) → fields ≡ key ∷ marked → IsCut key k → HasMarks marked m (name ∷ words)
+    → IsBadKind name words fault → IsBadRow fields fault
+bad_kind fields marked key name words k m NoKind parts is marks bad = absurd bad
+bad_kind fields marked key name words k m NoKey parts is marks bad = absurd bad
+bad_kind fields marked key name words k m NoVersion parts is marks bad = absurd bad
+bad_kind fields marked key name words k m Unwanted parts is marks bad = absurd bad
+bad_kind fields marked key name words k m (UnknownKind shown) parts is marks bad =
+    (key, marked, parts, (k, is), m, name, words, marks, bad)
+bad_kind fields marked key name words k m NoWords parts is marks bad =
+    (key, marked, parts, (k, is), m, name, words, marks, bad)
+bad_kind fields marked key name words k m (Words word) parts is marks bad =
+    (key, marked, parts, (k, is), m, name, words, marks, bad)
+bad_kind fields marked key name words k m Bounds parts is marks bad =
+    (key, marked, parts, (k, is), m, name, words, marks, bad)
+bad_kind fields marked key name words k m NotInOrder parts is marks bad =
+    (key, marked, parts, (k, is), m, name, words, marks, bad)
+bad_kind fields marked key name words k m (Memory e) parts is marks bad = tt
 
 -- the fields have a key, but a bad version follows it
-pub bad_version : (fields marked : List (List ℕ)) (key : List ℕ) (k : Key) (fault : RowFault) → ¬ (IsNoRow fields)
-    → fields ≡ key ∷ marked → IsCut key k → (fault ≡ NoVersion) × HasBadVersion marked → IsBadRow fields fault
-bad_version fields marked key k fault row parts is bad =
-    subst (IsBadRow fields) (sym bad.0) (row, (key, marked, parts, (k, is), bad.1))
+pub bad_version : (fields marked : List (List ℕ)) (key : List ℕ) (k : Key) (fault : RowFault) → fields ≡ key ∷ marked
+    → IsCut key k → (fault ≡ NoVersion) × HasBadVersion marked → IsBadRow fields fault
+bad_version fields marked key k fault parts is bad =
+    subst (IsBadRow fields) (sym bad.0) (key, marked, parts, (k, is), bad.1)
 
-no_words : (words : List (Bor (List ℕ))) → length words ≡ 0 → words ≡ []
-no_words [] none = refl
-no_words (word ∷ words) none = absurd (omega (arith, none))
+-- ---- fields, up to a comment
 
--- the words are exactly two
-pub two_words : (words rest more : List (Bor (List ℕ))) (a b : Bor (List ℕ)) → words ≡ a ∷ rest → rest ≡ b ∷ more
-    → length more ≡ 0 → now words ≡ a.now ∷ b.now ∷ []
-two_words words rest more a b first second none =
-    ap now (first ∙ ap (λ l. a ∷ l) (second ∙ ap (λ l. b ∷ l) (no_words more none)))
+-- the piece begins no comment
+abbrev pub IsNoComment : List ℕ → Type 0
+IsNoComment piece = is_no_comment piece ≡ true
+
+-- the pieces before a comment are those that count
+pub up_to_comment : (pieces rest : List (List ℕ)) (piece : List ℕ) → All IsNoComment pieces
+    → is_no_comment piece ≡ false → take_while is_no_comment (pieces ++ piece ∷ rest) ≡ pieces
+up_to_comment [] rest piece before comment =
+    take_while-cons is_no_comment piece rest
+    ∙ ap (λ b. cond b (piece ∷ take_while is_no_comment rest) []) comment
+up_to_comment (first ∷ pieces) rest piece before comment =
+    take_while-cons is_no_comment first (pieces ++ piece ∷ rest)
+    ∙ ap (λ b. cond b (first ∷ take_while is_no_comment (pieces ++ piece ∷ rest)) []) (before 0 first (omega arith))
+    ∙ ap (λ l. first ∷ l) (up_to_comment pieces rest piece (λ k d inside. before (suc k) d (omega (arith, inside))) comment)
+
+-- the piece after these pieces begins a comment
+pub comment_ends : (all : List (List ℕ)) (pieces : List (Bor (List ℕ))) (piece : Bor (List ℕ))
+    → now pieces ≡ take (length pieces) all
+    → (length pieces < length all) × (piece.now ≡ get_or all (length pieces) piece.now)
+    → All IsNoComment (now pieces) → is_no_comment piece.now ≡ false → take_while is_no_comment all ≡ now pieces
+comment_ends all pieces piece first here before comment =
+    ap (take_while is_no_comment) (parts_at all pieces piece first here)
+    ∙ up_to_comment (now pieces) (drop (length pieces + 1) all) piece.now before comment
+
+-- without a comment all pieces count
+pub without_comment : (pieces : List (List ℕ)) → All IsNoComment pieces → take_while is_no_comment pieces ≡ pieces
+without_comment [] before = refl
+without_comment (first ∷ pieces) before =
+    take_while-cons is_no_comment first pieces
+    ∙ ap (λ b. cond b (first ∷ take_while is_no_comment pieces) []) (before 0 first (omega arith))
+    ∙ ap (λ l. first ∷ l) (without_comment pieces (λ k d inside. before (suc k) d (omega (arith, inside))))

@@ -1,7 +1,8 @@
 -- Rows: which row decides about a key, and how rows are written.
-use Rattle.std.specs.Prelude.{◌≡◌, ◌≢◌, ◌⊎◌, ℕ, ◌+◌, ◌<◌, ◌==◌, ◌||◌, Bool, true, false, List, [], ◌∷◌, ◌++◌}
+use Rattle.std.specs.Prelude.{◌≡◌, ◌≢◌, ◌⊎◌, ℕ, ◌+◌, ◌<◌, ◌≤ℤ◌, ◌<ℤ◌, ◌==◌, ◌||◌, Bool, true, false, List, [], ◌∷◌, ◌++◌}
 use Rattle.std.specs.Prelude.{length, take, map, flat_map, codes, Option, None, Some, slice_index_or, All, option_copied}
-use Rattle.std.specs.List.{slice_split, list_all}
+use Rattle.std.specs.Prelude.{nat_eq, if◌then◌else◌}
+use Rattle.std.specs.List.{slice_split, list_all, starts_with, take_while}
 use Rattle.gix_config_value.specs.Amount.{AmountText}
 use Rattle.config_integer.specs.declared.amount.Amount.{Amount}
 use Rattle.config_checks.specs.declared.kind.Form.{Form}
@@ -16,12 +17,12 @@ use Rattle.config_checks.specs.declared.table.RowFault.{RowFault}
 use Rattle.config_checks.specs.declared.table.BadRow.{BadRow}
 use Rattle.config_checks.specs.declared.table.Marks.{Marks}
 use Rattle.config_checks.specs.declared.version.Version.{Version}
-use Rattle.config_checks.specs.declared.table.RowFault.TheVariants.{NoKind, NoKey, UnknownKind, NoWords, Bounds, NoVersion}
-use Rattle.config_checks.specs.declared.table.RowFault.TheVariants.{Words, Memory}
+use Rattle.config_checks.specs.declared.table.RowFault.TheVariants.{NoKind, NoKey, UnknownKind, NoWords, Bounds, NotInOrder}
+use Rattle.config_checks.specs.declared.table.RowFault.TheVariants.{Words, NoVersion, Unwanted, Memory}
 use Rattle.config_checks.specs.Keys.{Covers}
 use Rattle.config_checks.specs.Versions.{IsVersion}
-use Rattle.config_checks.specs.Kinds.{takes_true}
-use Rattle.config_checks.specs.Reasons.{least_int, greatest_int}
+use Rattle.config_checks.specs.Kinds.{takes_true, without_front}
+use Rattle.config_checks.specs.Reasons.{least_int, greatest_int, HasReason}
 
 -- the rows of these runs
 abbrev pub rows_of : List Run → List Row
@@ -55,19 +56,22 @@ IsUnknown rows t = (list_all is_no_dot t ≡ true) ⊎ ((key : Key) × IsCut t k
 abbrev pub is_blank : ℕ → Bool
 is_blank b = (b == 32) || (b == 9) || (b == 13)
 
--- the piece as a field, or no field if the piece is empty
+-- a backslash, after which a field may begin with any byte
+abbrev pub escape : List ℕ
+escape = 0x5C ∷ []
+
+-- the field of a piece, which lacks a backslash at the start of the piece, or no field if the piece is empty
 abbrev pub field_if_some : List ℕ → List (List ℕ)
 field_if_some [] = []
-field_if_some (b ∷ bs) = (b ∷ bs) ∷ []
+field_if_some (b ∷ bs) = without_front escape (b ∷ bs) ∷ []
 
--- the fields of a line: its pieces between blanks, without empty ones
+-- the piece does not begin with `#`, which begins a comment
+abbrev pub is_no_comment : List ℕ → Bool
+is_no_comment piece = if starts_with nat_eq piece (codes "#") then false else true
+
+-- the fields of a line: its pieces between blanks, up to a comment, without empty ones
 abbrev pub fields_of : List ℕ → List (List ℕ)
-fields_of line = flat_map field_if_some (slice_split is_blank line)
-
--- the fields of a blank line or of a comment
-abbrev pub IsNoRow : List (List ℕ) → Type 0
-IsNoRow [] = Unit {0}
-IsNoRow (field ∷ fields) = (rest : List ℕ) × (field ≡ codes "#" ++ rest)
+fields_of line = flat_map field_if_some (take_while is_no_comment (slice_split is_blank line))
 
 -- the rest of the first field after this text, if the field begins with it, and the fields after that one
 abbrev pub CutsText : List (List ℕ) → List ℕ → Option (List ℕ) → List (List ℕ) → Type 0
@@ -97,10 +101,10 @@ CutsAlone fields (Some alone) rest = fields ≡ alone_mark alone ∷ rest
 CutsAlone fields None rest =
     (rest ≡ fields) × ((alone : Bool) (more : List (List ℕ)) → fields ≢ alone_mark alone ∷ more)
 
--- whether the fields begin with the mark `warn`, and the fields after it
-abbrev pub CutsWarn : List (List ℕ) → Bool → List (List ℕ) → Type 0
-CutsWarn fields true rest = fields ≡ codes "warn" ∷ rest
-CutsWarn fields false rest = (rest ≡ fields) × ((more : List (List ℕ)) → fields ≢ codes "warn" ∷ more)
+-- whether the fields begin with this mark, and the fields after it
+abbrev pub CutsMark : List (List ℕ) → List ℕ → Bool → List (List ℕ) → Type 0
+CutsMark fields mark true rest = fields ≡ mark ∷ rest
+CutsMark fields mark false rest = (rest ≡ fields) × ((more : List (List ℕ)) → fields ≢ mark ∷ more)
 
 -- the marks of a row, in this order, and the fields after them
 pub record HasMarks (fields : List (List ℕ)) (marks : Marks) (rest : List (List ℕ)) : Type 0 where
@@ -110,9 +114,13 @@ pub record HasMarks (fields : List (List ℕ)) (marks : Marks) (rest : List (Lis
   pub until : CutsVersion after_since (codes "until=") marks.until after_until
   pub after_instead : List (List ℕ)
   pub instead : CutsText after_until (codes "instead=") (option_copied marks.instead) after_instead
+  pub after_wanted : List (List ℕ)
+  pub wanted : CutsText after_instead (codes "is=") (option_copied marks.wanted) after_wanted
+  pub after_must : List (List ℕ)
+  pub must : CutsMark after_wanted (codes "must") marks.must after_must
   pub after_alone : List (List ℕ)
-  pub alone : CutsAlone after_instead marks.alone after_alone
-  pub goes_on : CutsWarn after_alone marks.goes_on rest
+  pub alone : CutsAlone after_must marks.alone after_alone
+  pub goes_on : CutsMark after_alone (codes "warn") marks.goes_on rest
 
 -- no version follows `since=`, or `until=` after what may be a version since
 abbrev pub HasBadVersion : List (List ℕ) → Type 0
@@ -141,10 +149,15 @@ abbrev pub words_name : (ignores_case : Bool) → Form → List ℕ
 words_name true form = form_name form ++ codes "-any-case"
 words_name false form = form_name form
 
--- the bounds of `int`: the range of 32 bits if there are no words, or the numbers of two integer texts
+-- the numbers of two integer texts
+abbrev pub AreNumbers : List (List ℕ) → (low high : Amount) → Type 0
+AreNumbers words low high =
+    (l : List ℕ) × (h : List ℕ) × (words ≡ l ∷ h ∷ []) × AmountText l low × AmountText h high
+
+-- the bounds of `int`: the range of 32 bits if there are no words, or two numbers in order
 pub data IsBounds (words : List (List ℕ)) (low high : Amount) : Type 0 where
   of_32_bits : words ≡ [] → low ≡ least_int → high ≡ greatest_int → IsBounds words low high
-  these : (l h : List ℕ) → words ≡ l ∷ h ∷ [] → AmountText l low → AmountText h high → IsBounds words low high
+  these : AreNumbers words low high → low.0 ≤ℤ high.0 → IsBounds words low high
 
 -- the kind that has this name, followed by these words
 abbrev pub IsKind : List ℕ → List (List ℕ) → SettingKind → Type 0
@@ -165,9 +178,8 @@ abbrev pub is_right_alone : Option Bool → SettingKind → Bool
 is_right_alone (Some alone) kind = alone
 is_right_alone None kind = takes_true kind
 
--- the fields are this row: a key, marks if there are any, the name of a kind, and words
-pub record IsRow (fields : List (List ℕ)) (row : Row) : Type 0 where
-  pub is_row : ¬ (IsNoRow fields)
+-- the fields spell this row: a key, marks if there are any, the name of a kind, and words
+pub record SpellsRow (fields : List (List ℕ)) (row : Row) : Type 0 where
   pub key : List ℕ
   pub marked : List (List ℕ)
   pub marks : Marks
@@ -180,44 +192,56 @@ pub record IsRow (fields : List (List ℕ)) (row : Row) : Type 0 where
   pub since : row.since ≡ marks.since
   pub until : row.until ≡ marks.until
   pub instead : row.instead ≡ marks.instead
+  pub wanted : row.wanted ≡ marks.wanted
+  pub must : row.must ≡ marks.must
   pub takes_no_value : row.takes_no_value ≡ is_right_alone marks.alone row.kind
   pub goes_on : row.goes_on ≡ marks.goes_on
 
+-- the kind of the row takes the value that the row wants, if it wants one
+abbrev pub TakesWanted : Row → Type 0
+TakesWanted row = (wanted : List ℕ) → option_copied row.wanted ≡ Some wanted → HasReason row (Some wanted) None
+
+-- the fields are this row
+abbrev pub IsRow : List (List ℕ) → Row → Type 0
+IsRow fields row = SpellsRow fields row × TakesWanted row
+
 -- why no kind has this name and these words, or that memory ran out
 abbrev pub IsBadKind : List ℕ → List (List ℕ) → RowFault → Type 0
-IsBadKind name words UnknownKind = IsNoKind name
+IsBadKind name words (UnknownKind shown) = (shown.now ≡ name) × IsNoKind name
 IsBadKind name words NoWords =
     (words ≡ []) × (ignores_case : Bool) × (form : Form) × (words_name ignores_case form ≡ name)
-IsBadKind name words Words = (words ≢ []) × ((kind : SettingKind) × (plain_name kind ≡ Some name))
-IsBadKind name words Bounds = (name ≡ codes "int") × ((low high : Amount) → ¬ (IsBounds words low high))
+IsBadKind name words (Words word) =
+    ((rest : List (List ℕ)) × (words ≡ word.now ∷ rest)) × ((kind : SettingKind) × (plain_name kind ≡ Some name))
+IsBadKind name words Bounds = (name ≡ codes "int") × (words ≢ []) × ((low high : Amount) → ¬ (AreNumbers words low high))
+IsBadKind name words NotInOrder =
+    (name ≡ codes "int") × (low : Amount) × (high : Amount) × AreNumbers words low high × (high.0 <ℤ low.0)
 IsBadKind name words (Memory e) = Unit {0}
 IsBadKind name words _ = ⊥
 
--- what is wrong first: the key has no dot, a version is missing, no kind follows, or no kind has the name and the words
-abbrev pub HasRowFault : List (List ℕ) → RowFault → Type 0
-HasRowFault fields NoKey =
-    (key : List ℕ) × (marked : List (List ℕ)) × (fields ≡ key ∷ marked) × (list_all is_no_dot key ≡ true)
-HasRowFault fields NoKind = (key : List ℕ) × (marked : List (List ℕ)) × (fields ≡ key ∷ marked)
-    × ((k : Key) × IsCut key k) × ((marks : Marks) × HasMarks marked marks [])
-HasRowFault fields NoVersion = (key : List ℕ) × (marked : List (List ℕ)) × (fields ≡ key ∷ marked)
-    × ((k : Key) × IsCut key k) × HasBadVersion marked
-HasRowFault fields fault = (key : List ℕ) × (marked : List (List ℕ)) × (fields ≡ key ∷ marked)
-    × ((k : Key) × IsCut key k) × (marks : Marks) × (name : List ℕ) × (words : List (List ℕ))
-    × HasMarks marked marks (name ∷ words) × IsBadKind name words fault
-
--- why these fields are neither a row nor a comment nor a blank line, or that memory ran out
+-- Why these fields are neither a row nor those of a blank line, or that memory ran out. The key has no dot, a version is
+-- missing, no kind follows, no kind has the name and the words, or the kind takes no value such as the row wants: the
+-- first of these.
 abbrev pub IsBadRow : List (List ℕ) → RowFault → Type 0
 IsBadRow fields (Memory e) = Unit {0}
-IsBadRow fields fault = ¬ (IsNoRow fields) × HasRowFault fields fault
+IsBadRow fields Unwanted = (row : Row) × SpellsRow fields row × ¬ (TakesWanted row)
+IsBadRow fields NoKey =
+    (key : List ℕ) × (marked : List (List ℕ)) × (fields ≡ key ∷ marked) × (list_all is_no_dot key ≡ true)
+IsBadRow fields NoKind = (key : List ℕ) × (marked : List (List ℕ)) × (fields ≡ key ∷ marked)
+    × ((k : Key) × IsCut key k) × ((marks : Marks) × HasMarks marked marks [])
+IsBadRow fields NoVersion = (key : List ℕ) × (marked : List (List ℕ)) × (fields ≡ key ∷ marked)
+    × ((k : Key) × IsCut key k) × HasBadVersion marked
+IsBadRow fields fault = (key : List ℕ) × (marked : List (List ℕ)) × (fields ≡ key ∷ marked)
+    × ((k : Key) × IsCut key k) × (marks : Marks) × (name : List ℕ) × (words : List (List ℕ))
+    × HasMarks marked marks (name ∷ words) × IsBadKind name words fault
 
 -- the lines of a text, which line feeds separate
 abbrev pub lines_of : List ℕ → List (List ℕ)
 lines_of text = slice_split (λ b. b == 10) text
 
--- the line adds nothing if it is blank or a comment, and otherwise its row
+-- the line adds nothing if it has no fields, since it is blank or a comment, and otherwise its row
 abbrev pub AddsRow : List ℕ → List Row → List Row → Type 0
 AddsRow line rows rows' =
-    (IsNoRow (fields_of line) × (rows' ≡ rows))
+    ((fields_of line ≡ []) × (rows' ≡ rows))
     ⊎ ((row : Row) × IsRow (fields_of line) row × (rows' ≡ rows ++ row ∷ []))
 
 -- the lines add their rows, in order

@@ -1,5 +1,5 @@
 -- Versions of Git, and the rows that hold for one.
-use Rattle.std.specs.Prelude.{◌≡◌, ◌⊎◌, ◌<ℤ◌, ℕ, List, Option, None, Some, unwrap_or}
+use Rattle.std.specs.Prelude.{◌≡◌, ◌⊎◌, ◌<ℤ◌, ℕ, List, Some, unwrap_or}
 use Rattle.gix_config_value.specs.Amount.{AmountText}
 use Rattle.config_file.specs.Key.{Key, IsCut}
 use Rattle.config_checks.specs.declared.version.Version.{Version}

@@ -245,7 +245,7 @@ color.transport.rejected            color
 color.ui                            bool-or-word-any-case always never auto
 color.blame.highlightRecent         warn words-any-case normal default black red green yellow blue \
     magenta cyan white bright* bold dim italic ul blink reverse strike reset no* -1 0* 1* 2* 3* 4* 5* 6* 7* \
-    8* 9* #* sec* min* hour* day* week* month* year* ago now yesterday noon midnight tea never last jan* \
+    8* 9* \\#* sec* min* hour* day* week* month* year* ago now yesterday noon midnight tea never last jan* \
     feb* mar* apr* may jun* jul* aug* sep* oct* nov* dec* sun* mon* tue* wed* thu* fri* sat*
 # commit
 commit.cleanup                      word strip whitespace verbatim scissors default
@@ -567,7 +567,7 @@ log.initialDecorationSet            warn word all
 log.excludeDecoration               text
 log.graphColors                     warn words-any-case normal default black red green yellow blue \
     magenta cyan white bright* bold dim italic ul blink reverse strike reset no* -1 0* 1* 2* 3* 4* 5* 6* 7* \
-    8* 9* #*
+    8* 9* \\#*
 # lsrefs
 lsrefs.unborn                       word advertise allow ignore
 # mailinfo

@@ -100,7 +100,7 @@ fn has_digit(text: &[u8]) -> bool
 }
 
 /// A text without this prefix, or the whole text if it does not begin with the prefix.
-fn without_front<'a>(text: &'a [u8], front: &[u8]) -> &'a [u8]
+pub(crate) fn without_front<'a>(text: &'a [u8], front: &[u8]) -> &'a [u8]
     ensures { result.now ≡ without_front front.now text.now }
 {
     if text.starts_with(front) {
@@ -169,7 +169,7 @@ impl Form {
 
 impl<'t> WordList<'t> {
     /// Whether a word and a text are the same, ignoring ASCII case if this list does.
-    fn is_same(&self, word: &[u8], text: &[u8]) -> bool
+    pub(crate) fn is_same(&self, word: &[u8], text: &[u8]) -> bool
         ensures { IsTrue result ↔ IsSame self.now.ignores_case word.now text.now }
     {
         if self.ignores_case {

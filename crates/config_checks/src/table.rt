@@ -1,20 +1,21 @@
 //! Reads rows from text, in which each line is a row, a comment or blank.
-ghost use Rattle.std.specs.Prelude.{◌≡◌, ◌≢◌, Bool, Some, [], map, IfOk, IfErr, OnOk, OnErr, MatchOption};
-ghost use Rattle.std.specs.Prelude.{option_copied};
+ghost use Rattle.std.specs.Prelude.{◌≡◌, ◌≢◌, ◌↔◌, IsTrue, Bool, Some, [], map, IfOk, IfErr, OnOk, OnErr, MatchOption};
+ghost use Rattle.std.specs.Prelude.{option_copied, codes};
 ghost use Rattle.config_checks.specs.declared.kind.SettingKind as kinds;
 ghost use Rattle.config_checks.specs.declared.kind.Form as forms;
 ghost use Rattle.config_checks.specs.Rows.{fields_of, is_blank, plain_name, form_name, words_name, lines_of};
-ghost use Rattle.config_checks.specs.Rows.{CutsText, CutsVersion, LacksVersion, CutsAlone, CutsWarn};
-ghost use Rattle.config_checks.specs.Rows.{HasMarks, HasBadVersion, IsBounds};
+ghost use Rattle.config_checks.specs.Rows.{CutsText, CutsVersion, LacksVersion, CutsAlone, CutsMark};
+ghost use Rattle.config_checks.specs.Rows.{HasMarks, HasBadVersion, AreNumbers, IsBounds};
 ghost use Rattle.config_checks.specs.declared.table.RowFault.TheVariants.{NoVersion};
 ghost use Rattle.config_integer.specs.declared.amount.Amount.{Amount};
-ghost use Rattle.config_checks.specs.Rows.{IsNoRow, IsRow, IsKind, IsBadKind, IsBadRow};
+ghost use Rattle.config_checks.specs.Rows.{SpellsRow, TakesWanted, IsRow, IsKind, IsBadKind, IsBadRow};
 ghost use Rattle.config_checks.specs.Rows.{AddsRow, AddsRows, IsBadLine};
 
-use crate::kind::{Form, SettingKind, WordList};
-use crate::reason::{GREATEST_INT, LEAST_INT};
+use crate::kind::{Form, SettingKind, WordList, without_front};
+use crate::reason::{GREATEST_INT, LEAST_INT, judge};
 use crate::row::Row;
 use crate::version::Version;
+use bstr::BStr;
 use config_file::key::Key;
 use gix_config_value::canonical::TryRead;
 use gix_config_value::integer::Amount;
@@ -30,7 +31,7 @@ use thiserror::Error;
 /// assert!(rt; matches!(read_row(alloc, b"# a comment"), Ok(None)));
 /// ```
 #[derive(Clone, Copy, Debug, Error)]
-pub enum RowFault {
+pub enum RowFault<'t> {
     /// It has no kind after its key and its marks.
     #[error("no kind after the key")]
     NoKind,
@@ -38,20 +39,26 @@ pub enum RowFault {
     #[error("no dot in the key")]
     NoKey,
     /// No kind has the name after its key and its marks.
-    #[error("no such kind")]
-    UnknownKind,
+    #[error("no such kind: {}", BStr::new(.0))]
+    UnknownKind(&'t [u8]),
     /// Its kind needs words, but no word follows it.
     #[error("no words after the kind")]
     NoWords,
-    /// It has words after a kind that takes no words.
-    #[error("words after a kind without words")]
-    Words,
+    /// It has this word after a kind that takes no words.
+    #[error("a word after a kind without words: {}", BStr::new(.0))]
+    Words(&'t [u8]),
     /// After `since=` or `until=` it has something other than a version.
     #[error("no version after since= or until=")]
     NoVersion,
     /// After `int` it has something other than two integer texts.
     #[error("the bounds are not two integers")]
     Bounds,
+    /// The first integer after `int` is greater than the second.
+    #[error("the first bound is greater than the second")]
+    NotInOrder,
+    /// Its kind does not take the value after `is=`.
+    #[error("the kind does not take the value after is=")]
+    Unwanted,
     /// There was no memory to hold the row.
     #[error("no memory")]
     Memory(AllocError),
@@ -65,14 +72,14 @@ pub enum RowFault {
 /// let mut rows = Vec::new(alloc);
 /// let bad = read_rows(alloc, b"a.b text\na.c boolean\n", &mut rows).err();
 /// let text = format!(in alloc; "{}", bad.expect(&rt, "the second line is no row").fault)?;
-/// assert_eq!(rt; text.as_str(), "no such kind");
+/// assert_eq!(rt; text.as_str(), "no such kind: boolean");
 /// ```
 #[derive(Clone, Copy, Debug)]
-pub struct BadRow {
+pub struct BadRow<'t> {
     /// The number of the line, from 1.
     pub line: usize,
     /// Why it is not a row.
-    pub fault: RowFault,
+    pub fault: RowFault<'t>,
 }
 
 /// Whether a byte separates fields.
@@ -82,14 +89,18 @@ fn is_blank(byte: u8) -> bool
     byte == b' ' || byte == b'\t' || byte == b'\r'
 }
 
-/// The fields of a line, which are separated by blanks.
+/// The fields of a line, which are separated by blanks, up to a field that begins with `#`. A backslash at the
+/// start of a field is left out.
 fn fields_of<'t>(alloc: Global, line: &'t [u8]) -> Result<Vec<&'t [u8]>, AllocError>
     ensures { IfOk result (λ v. map (λ field. field.now) v.items ≡ fields_of line.now) }
 {
     let mut fields = Vec::new(alloc);
     for field in line.split(|byte| is_blank(*byte)) {
+        if field.starts_with(b"#") {
+            return Ok(fields);
+        }
         if !field.is_empty() {
-            fields.push(field)?;
+            fields.push(without_front(field, b"\\"))?;
         }
     }
     Ok(fields)
@@ -101,6 +112,8 @@ struct Marks<'t> {
     since: Option<Version>,
     until: Option<Version>,
     instead: Option<&'t [u8]>,
+    wanted: Option<&'t [u8]>,
+    must: bool,
     alone: Option<bool>,
     goes_on: bool,
 }
@@ -124,7 +137,7 @@ fn cut_text<'f, 't>(fields: &'f [&'t [u8]], front: &[u8]) -> (Option<&'t [u8]>, 
 fn cut_version<'f, 't>(
     fields: &'f [&'t [u8]],
     front: &[u8],
-) -> Result<(Option<Version>, &'f [&'t [u8]]), RowFault>
+) -> Result<(Option<Version>, &'f [&'t [u8]]), RowFault<'t>>
     ensures cut { IfOk result (λ cut. CutsVersion (map (λ field. field.now) fields.now) front.now cut.0
         (map (λ field. field.now) cut.1.now)) }
     ensures refused { IfErr result (λ fault. (fault ≡ NoVersion)
@@ -152,19 +165,22 @@ fn cut_alone<'f, 't>(fields: &'f [&'t [u8]]) -> (Option<bool>, &'f [&'t [u8]])
     }
 }
 
-/// Whether the fields begin with the mark `warn`, and the fields after the mark.
-fn cut_warn<'f, 't>(fields: &'f [&'t [u8]]) -> (bool, &'f [&'t [u8]])
-    ensures { CutsWarn (map (λ field. field.now) fields.now) result.0
+/// Whether the fields begin with this mark, and the fields after the mark.
+fn cut_mark<'f, 't>(fields: &'f [&'t [u8]], mark: &[u8]) -> (bool, &'f [&'t [u8]])
+    ensures { CutsMark (map (λ field. field.now) fields.now) mark.now result.0
         (map (λ field. field.now) result.1.now) }
 {
-    match fields.split_first() {
-        Some((field, rest)) if *field == b"warn".as_slice() => (true, rest),
-        _ => (false, fields),
+    let Some((field, rest)) = fields.split_first() else {
+        return (false, fields);
+    };
+    if *field == mark {
+        return (true, rest);
     }
+    (false, fields)
 }
 
 /// The marks of a row, in their order, and the fields after them.
-fn cut_marks<'f, 't>(fields: &'f [&'t [u8]]) -> Result<(Marks<'t>, &'f [&'t [u8]]), RowFault>
+fn cut_marks<'f, 't>(fields: &'f [&'t [u8]]) -> Result<(Marks<'t>, &'f [&'t [u8]]), RowFault<'t>>
     ensures marks { IfOk result (λ cut. HasMarks (map (λ field. field.now) fields.now) cut.0
         (map (λ field. field.now) cut.1.now)) }
     ensures refused { IfErr result (λ fault. (fault ≡ NoVersion)
@@ -173,13 +189,17 @@ fn cut_marks<'f, 't>(fields: &'f [&'t [u8]]) -> Result<(Marks<'t>, &'f [&'t [u8]
     let (since, rest) = cut_version(fields, b"since=")?;
     let (until, rest) = cut_version(rest, b"until=")?;
     let (instead, rest) = cut_text(rest, b"instead=");
+    let (wanted, rest) = cut_text(rest, b"is=");
+    let (must, rest) = cut_mark(rest, b"must");
     let (alone, rest) = cut_alone(rest);
-    let (goes_on, rest) = cut_warn(rest);
+    let (goes_on, rest) = cut_mark(rest, b"warn");
     Ok((
         Marks {
             since,
             until,
             instead,
+            wanted,
+            must,
             alone,
             goes_on,
         },
@@ -238,15 +258,14 @@ fn words_kind(name: &[u8]) -> Option<(bool, Form)>
     }
 }
 
-/// The bounds of `int` by the words after it: two integer texts, or the range of 32 bits if there are no
-/// words. `None` for any other words.
-fn bounds_of(words: &[&[u8]]) -> Option<(Amount, Amount)>
+/// The numbers of two words. `None` if there are not two, or one is no integer text.
+fn numbers_of(words: &[&[u8]]) -> Option<(Amount, Amount)>
     ensures { MatchOption result
-        ((low high : Amount) → ¬ (IsBounds (map (λ word. word.now) words.now) low high))
-        (λ bounds. IsBounds (map (λ word. word.now) words.now) bounds.0 bounds.1) }
+        ((low high : Amount) → ¬ (AreNumbers (map (λ word. word.now) words.now) low high))
+        (λ bounds. AreNumbers (map (λ word. word.now) words.now) bounds.0 bounds.1) }
 {
     let Some((low, rest)) = words.split_first() else {
-        return Some((LEAST_INT, GREATEST_INT));
+        return None;
     };
     let Some((high, rest)) = rest.split_first() else {
         return None;
@@ -260,50 +279,73 @@ fn bounds_of(words: &[&[u8]]) -> Option<(Amount, Amount)>
     }
 }
 
+/// The bounds of `int` by the words after it: two numbers in order, or the range of 32 bits if there are no
+/// words.
+fn bounds_of(words: &[&[u8]]) -> Result<(Amount, Amount), RowFault<'static>>
+    ensures bounds { IfOk result
+        (λ bounds. IsBounds (map (λ word. word.now) words.now) bounds.0 bounds.1) }
+    ensures refused { IfErr result (IsBadKind (codes "int") (map (λ word. word.now) words.now)) }
+{
+    if words.is_empty() {
+        return Ok((LEAST_INT, GREATEST_INT));
+    }
+    let Some((low, high)) = numbers_of(words) else {
+        return Err(RowFault::Bounds);
+    };
+    if low.0 > high.0 {
+        return Err(RowFault::NotInOrder);
+    }
+    Ok((low, high))
+}
+
 /// The kind with this name and these words after it, or why there is no such kind.
-fn kind_of<'t>(alloc: Global, name: &[u8], words: &[&'t [u8]]) -> Result<SettingKind<'t>, RowFault>
+fn kind_of<'t>(
+    alloc: Global,
+    name: &'t [u8],
+    words: &[&'t [u8]],
+) -> Result<SettingKind<'t>, RowFault<'t>>
     ensures kind { IfOk result (IsKind name.now (map (λ word. word.now) words.now)) }
     ensures refused { IfErr result (IsBadKind name.now (map (λ word. word.now) words.now)) }
 {
     if let Some(kind) = plain_kind(name) {
-        if !words.is_empty() {
-            return Err(RowFault::Words);
+        if let Some((word, _)) = words.split_first() {
+            return Err(RowFault::Words(word));
         }
         return Ok(kind);
     }
     if name == b"int".as_slice() {
-        let Some((low, high)) = bounds_of(words) else {
-            return Err(RowFault::Bounds);
-        };
+        let (low, high) = bounds_of(words)?;
         return Ok(SettingKind::Int { low, high });
     }
     let Some((ignores_case, form)) = words_kind(name) else {
-        return Err(RowFault::UnknownKind);
+        return Err(RowFault::UnknownKind(name));
     };
     if words.is_empty() {
         return Err(RowFault::NoWords);
     }
-    Ok(SettingKind::Word(WordList {
-        words: Vec::from_slice(alloc, words).map_err(RowFault::Memory)?,
-        ignores_case,
-        form,
-    }))
+    match Vec::from_slice(alloc, words) {
+        Ok(words) => Ok(SettingKind::Word(WordList {
+            words,
+            ignores_case,
+            form,
+        })),
+        Err(error) => Err(RowFault::Memory(error)),
+    }
 }
 
-/// Reads the row on a line. Returns `None` if the line is blank or a comment, and an error if it is not a
-/// row, or if memory runs out.
-pub fn read_row<'t>(alloc: Global, line: &'t [u8]) -> Result<Option<Row<'t>>, RowFault>
+/// The row that a line spells, whether or not its kind takes the value that it wants.
+fn spelled_row<'t>(alloc: Global, line: &'t [u8]) -> Result<Option<Row<'t>>, RowFault<'t>>
     ensures row { IfOk result
-        (λ r. MatchOption r (IsNoRow (fields_of line.now)) (IsRow (fields_of line.now))) }
+        (λ r. MatchOption r (fields_of line.now ≡ []) (SpellsRow (fields_of line.now))) }
     ensures refused { IfErr result (IsBadRow (fields_of line.now)) }
 {
-    let fields = fields_of(alloc, line).map_err(RowFault::Memory)?;
+    let fields = match fields_of(alloc, line) {
+        Ok(fields) => fields,
+        Err(error) => return Err(RowFault::Memory(error)),
+    };
     let Some((key, marked)) = fields.split_first() else {
         return Ok(None);
     };
-    if key.starts_with(b"#") {
-        return Ok(None);
-    }
     let Some(key) = Key::split(key) else {
         return Err(RowFault::NoKey);
     };
@@ -317,14 +359,47 @@ pub fn read_row<'t>(alloc: Global, line: &'t [u8]) -> Result<Option<Row<'t>>, Ro
         since: marks.since,
         until: marks.until,
         instead: marks.instead,
+        wanted: marks.wanted,
+        must: marks.must,
         takes_no_value: marks.alone.unwrap_or(kind.takes_true()),
         goes_on: marks.goes_on,
         kind,
     }))
 }
 
+/// Whether the kind of a row takes the value that the row wants, if it wants one.
+fn takes_wanted(alloc: Global, row: &Row<'_>) -> Result<bool, AllocError>
+    ensures { IfOk result (λ takes. IsTrue takes ↔ TakesWanted row.now) }
+{
+    let Some(wanted) = row.wanted else {
+        return Ok(true);
+    };
+    match judge(alloc, row, Some(wanted)) {
+        Ok(None) => Ok(true),
+        Ok(Some(_)) => Ok(false),
+        Err(error) => Err(error),
+    }
+}
+
+/// Reads the row on a line. Returns `None` if the line is blank or a comment, and an error if it is not a
+/// row, or if memory runs out.
+pub fn read_row<'t>(alloc: Global, line: &'t [u8]) -> Result<Option<Row<'t>>, RowFault<'t>>
+    ensures row { IfOk result
+        (λ r. MatchOption r (fields_of line.now ≡ []) (IsRow (fields_of line.now))) }
+    ensures refused { IfErr result (IsBadRow (fields_of line.now)) }
+{
+    let Some(row) = spelled_row(alloc, line)? else {
+        return Ok(None);
+    };
+    match takes_wanted(alloc, &row) {
+        Ok(true) => Ok(Some(row)),
+        Ok(false) => Err(RowFault::Unwanted),
+        Err(error) => Err(RowFault::Memory(error)),
+    }
+}
+
 /// Appends the row on a line, if the line has one.
-fn push_row<'t>(alloc: Global, rows: &mut Vec<Row<'t>>, line: &'t [u8]) -> Result<(), RowFault>
+fn push_row<'t>(alloc: Global, rows: &mut Vec<Row<'t>>, line: &'t [u8]) -> Result<(), RowFault<'t>>
     ensures adds { OnOk result (AddsRow line.now rows.old.items rows.new.items) }
     ensures refused { IfErr result (IsBadRow (fields_of line.now)) }
     ensures kept { OnErr result (rows.new.items ≡ rows.old.items) }
@@ -340,7 +415,11 @@ fn push_row<'t>(alloc: Global, rows: &mut Vec<Row<'t>>, line: &'t [u8]) -> Resul
 
 /// Appends the rows of a text, in the order of its lines, and skips blank lines and comments. If another line
 /// is not a row, or memory runs out, only the rows of the lines before it are appended.
-pub fn read_rows<'t>(alloc: Global, text: &'t [u8], rows: &mut Vec<Row<'t>>) -> Result<(), BadRow>
+pub fn read_rows<'t>(
+    alloc: Global,
+    text: &'t [u8],
+    rows: &mut Vec<Row<'t>>,
+) -> Result<(), BadRow<'t>>
     ensures adds { OnOk result (AddsRows (lines_of text.now) rows.old.items rows.new.items) }
     ensures refused { IfErr result (IsBadLine text.now rows.old.items rows.new.items) }
 {

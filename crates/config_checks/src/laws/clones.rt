@@ -21,8 +21,8 @@ pub fn rows()
     ensures versions { IsCopied ⟦<Version as Clone>⟧.is_clone ⟦<Version as Clone>⟧.is_infallible }
     ensures runs { IsCopied ⟦<Run<'static, 'static> as Clone>⟧.is_clone
         ⟦<Run<'static, 'static> as Clone>⟧.is_infallible }
-    ensures faults { IsCopied ⟦<RowFault as Clone>⟧.is_clone ⟦<RowFault as Clone>⟧.is_infallible }
-    ensures bad_rows { IsCopied ⟦<BadRow as Clone>⟧.is_clone ⟦<BadRow as Clone>⟧.is_infallible }
+    ensures faults { IsCopied ⟦<RowFault<'static> as Clone>⟧.is_clone ⟦<RowFault<'static> as Clone>⟧.is_infallible }
+    ensures bad_rows { IsCopied ⟦<BadRow<'static> as Clone>⟧.is_clone ⟦<BadRow<'static> as Clone>⟧.is_infallible }
 {}
 
 /// Codes are equal exactly if they are the same.
