@@ -2,8 +2,8 @@
 """Writes the reference, a folder of pages for a browser: python3 docs/reference.py FOLDER
 
 A claim rests on each word that its clauses cite, on those that these cite, and so on, down to the toolchain's
-library. A type of the code is a word, and the types of its fields are not followed. What the prover itself has,
-such as numbers, has no text. Lines of comments are not counted.
+library. A type of the code is a word, and the types of its fields are not followed. What the prover itself
+has, such as numbers, has no text. Lines of comments are not counted.
 """
 import functools
 import html
@@ -13,13 +13,13 @@ import re
 import subprocess
 import sys
 import textwrap
-import urllib.parse
+from urllib.parse import quote
 
 ROOT = pathlib.Path(__file__).resolve().parent.parent
 CRATES = ROOT / "crates"
 TOOLCHAIN = pathlib.Path(subprocess.check_output(["rt", "doc"], text=True).split("\n")[0]).parent / "rattle"
-LIBRARY = ("gix_config_value", "config_text", "config_integer", "config_boolean", "config_word", "config_color",
-           "config_path", "config_file", "config_host", "config_checks")
+LIBRARY = ("gix_config_value", "config_text", "config_integer", "config_boolean", "config_word",
+           "config_color", "config_path", "config_file", "config_host", "config_checks")
 LISTED = (*LIBRARY, "uses")
 # the parts of the pages, each a function of what is put into it
 PARTS = {name: text.strip().format for name, text in re.findall(
@@ -31,21 +31,20 @@ INNER = """begins_with_run digit_of equals equals_ignoring_case exists has_inclu
 SENTENCE = {"headline": ("config_text.value.meaning", "config_text.value.one_meaning"),
             "joined": ("config_color.laws.colors.joined",), "setting": ("uses.setting_headline.value_of",)}
 SOURCES = sorted(CRATES.glob("*/src/**/*.rt"))
-# crates whose items std passes on
-PARTS_OF_STD = ("core", "std_alloc", "std_collections", "std_heap", "std_io", "io")
+PARTS_OF_STD = ("core", "std_alloc", "std_collections", "std_heap", "std_io", "io")  # std passes them on
 MARKS = r"(?:pub|abbrev|unfoldable|record|data|ruleset)"
 HEAD = re.compile(rf"(?m)(?:^(?:--|infix|#).*\n)*^(?:(?:{MARKS} )+(?!mod |use |{MARKS} )(\S+)"
                   r"|(?!use |mod |infix|module |unfolding )([^\s-]\S*)(?: \{.*?\})* : )")
-USE = re.compile(r"(?m)^ *(?:abbrev |unfoldable )?(pub )?(ghost )?use ([\w.:◌]+?)(?:(?:\.|::)\{([^}]*)\}| as (\w+))?;?$")
+USE = re.compile(r"(?m)^ *(?:\w+ )??(pub )?(ghost )?use ([\w.:◌]+?)(?:(?:\.|::)\{([^}]*)\}| as (\w+))?;?$")
 # an item of code or of a type, as `rt fmt` lays it out: a head, and in braces what is inside
 ITEM = re.compile(r"(?m)(?P<doc>(?:^ *///.*\n)*)(?:^ *#\[(?:.*(?<!\])\n)*.*\]\n)*^(?P<i>(?:    ){0,2})"
                   r"(?P<head>(?:pub |impl\b|fn |trait |ghost (?!use)|const |type |mod |[A-Z]|bitflag_items).*"
                   r"(?:(?<![;{},])(?:\n(?:(?P=i) .*(?<!;))?)*\n(?P=i)(?: .*;|[^ \n].*))*)"
                   r"(?=(?P<inside>(?<=\{)\n(?:(?:(?P=i) .*)?\n)*(?P=i)\}.*)?)")
 OWNERS = ("struct", "enum", "trait", "impl", "mod", "bitflag_items")
-escape, lead = functools.partial(html.escape, quote=False), functools.partial(re.sub, r"(?s)(?<=\.)\s.*|\n\n.*", "")
-opened = functools.cache(lambda file: File(file))
-folder_of = functools.cache(lambda crate: next(it / crate for it in (CRATES, TOOLCHAIN) if (it / crate).is_dir()))
+escape, opened = functools.partial(html.escape, quote=False), functools.cache(lambda file: File(file))
+lead = functools.partial(re.sub, r"(?s)(?<=\.)\s.*|\n\n.*", "")
+folder_of = functools.cache(lambda it: next(filter(pathlib.Path.is_dir, (CRATES / it, TOOLCHAIN / it))))
 
 
 @functools.cache
@@ -66,18 +65,18 @@ def file_of(module):
 
 
 def without_comments(text):
-    return "\n".join(line for line in text.split("\n") if line.strip() and not re.match(r" *(--|//|#\[)", line))
+    return "\n".join(line for line in text.split("\n") if not re.match(r"\s*(--|//|#\[|$)", line))
 
 
 class Word:
     """A definition, with its text and the comment above it, and where it is."""
 
     def __init__(self, name, file, line, text=""):
-        self.name, self.file, self.line, self.text, self.is_here = name, file, line, text, CRATES in file.parents
+        self.name, self.file, self.text, self.is_here = name, file, text, CRATES in file.parents
         parts = file.relative_to(CRATES if self.is_here else TOOLCHAIN).with_suffix("").parts
-        self.crate, self.module = parts[0], ".".join(part for part in parts if part not in ("specs", "src", "lib"))
+        self.crate, self.module = parts[0], ".".join(it for it in parts if it not in ("specs", "src", "lib"))
         self.id = f"{self.module}.{name}"
-        self.href = f"words.{self.crate if self.is_here else 'toolchain'}.html#{urllib.parse.quote(self.id)}"
+        self.href = f"words.{self.crate if self.is_here else 'toolchain'}.html#{quote(self.id)}"
         self.source = f"source.{'.'.join(parts)}{file.suffix}.html#L{line}"
 
     @property
@@ -92,17 +91,17 @@ class Item(Word):
         head = textwrap.dedent(found["i"] + found["head"])
         text = textwrap.dedent(found["doc"] + found["i"] + found["head"] + (found["inside"] or ""))
         named = re.match(r"(pub )?(?:(?:const|unsafe)\b (?=fn|trait|impl))?(\w+)!?(?: (?:mut )?(\w+))?", head)
-        super().__init__(named[3] or named[2], file, found.string.count("\n", 0, found.start("head")) + 1, text)
+        super().__init__(named[3] or named[2], file, found.string.count("\n", 0, found.start(3)) + 1, text)
         self.kind, self.owner, self.inside = named[2], owner, []
         (owner.inside if owner else []).append(self)
         if self.kind not in ("fn", "type", "const", "use", "ghost", *OWNERS):
             self.kind, self.name = "field" if head[named.end(2):][:1] == ":" else "variant", named[2]
-        self.link = f"{self.module}.html#{self.name}"
         self.head, self.trait = re.sub(r" ?\{\}?$", "", head).rstrip(), ""
         if self.kind == "impl":
-            of = re.sub(r"^impl(<(?:[^<>]|<[^<>]*>)*>)? ", "", " ".join(self.head.split())).rpartition(" for ")
+            of = re.sub(r"^impl(<([^<>]|<[^<>]*>)*>)? ", "", " ".join(self.head.split())).rpartition(" for ")
             self.trait, self.name = of[0], re.match(r"\w*", of[2])[0]
-        self.is_public = named[1] or owner and (owner.trait or owner.kind in ("enum", "trait", "bitflag_items"))
+        self.key, self.link = (self.crate, self.name), f"{self.module}.html#{self.name}"
+        self.is_public = named[1] or owner and (owner.trait or owner.kind not in ("struct", "impl", "mod"))
         self.cut = re.search(r"(?m)^ +(requires|ensures)\b|\Z", self.head).start()
 
 
@@ -119,7 +118,7 @@ class File:
             names = [it.partition(" as ")[::2] for it in filter(None, re.split(r",\s*", listed.strip()))]
             if file.suffix == ".rt" and not is_ghost:
                 for known, new in names or [("", alias)]:
-                    whole = re.sub("^crate(?=::)", self.crate, f"{path}::{known}".removesuffix("::")).split("::")
+                    whole = re.sub(r"^crate\b", self.crate, f"{path}::{known}".removesuffix("::")).split("::")
                     self.brought[new or whole[-1]] = whole, is_passed
             elif names:
                 self.names |= {new or known: (path, known) for known, new in names}
@@ -153,7 +152,7 @@ class File:
     def marks(self, text):
         """The words that a text of this file cites: where each begins and ends, and the word."""
         text, found = re.sub(r'(?m)^ *(?:--|//|#\[).*$|"[^"\n]*"', lambda it: " " * len(it[0]), text), []
-        bound = {it for names in re.findall(r"[({]([^:(){}]+) :|λ ([^.]*)\.", text) for it in " ".join(names).split()}
+        bound = set(" ".join(map(" ".join, re.findall(r"[({]([^:(){}]+) :|λ ([^.]*)\.", text))).split())
         bound |= set(re.findall(r"(?m)^ +(?:pub )?(\S+) : ", text))
         of = {part: name for name in {**self.names, **self.words} if name not in bound
               for part in name.split("◌") if part}
@@ -192,8 +191,8 @@ def looked_up(module, name):
         above, _, name = module.rpartition(".")
         return looked_up(above, name) if above.count(".") > 2 and file_of(above) else None
     known = opened(file_of(module))
-    paths = [known.names[name]] if name in known.names else [(it, name) for it in known.passed if it != module]
-    return known.words.get(name) or next(filter(None, (looked_up(*path) for path in paths)), None)
+    more = [known.names[name]] if name in known.names else [(it, name) for it in known.passed if it != module]
+    return known.words.get(name) or next(filter(None, (looked_up(*path) for path in more)), None)
 
 
 def closure(claims):
@@ -240,8 +239,9 @@ class Reference:
         # below the title and the sentence for those who read that page alone
         signs = (ROOT / "docs/SIGNS.md").read_text("utf-8").split("\n\n", 2)[2]
         # what rows explain, the fewest signs first
-        self.rows = sorted(((set(re.findall(r"[^\s(){},`⟦⟧]+", it.partition("`: ")[0])), it.removeprefix("- "))
-                            for it in re.split(r"\n\n|\n- |(?<=\.)\s+(?=`)", signs)), key=lambda row: len(row[0]))
+        told = re.split(r"\n\n(?:- )?|(?:\A|\n)- |(?<=\.)\s+(?=`)", signs)
+        heads = [set(re.findall(r"[^\s(){},`⟦⟧]+", it.partition("`: ")[0])) for it in told]
+        self.rows = sorted(zip(heads, told), key=lambda row: len(row[0]))
         self.signs = self.prose(signs)
         # the modules with their public items, what crates pass on, and what a crate's name leads to
         self.modules = {}
@@ -252,11 +252,11 @@ class Reference:
                        for new, (path, is_passed) in file.brought.items() if is_passed}
         self.impls = [it for it in items if it.kind == "impl"]
         for it in items:
-            if not it.id.startswith(hidden) or (it.crate, it.name) in self.passed.values():
+            if not it.id.startswith(hidden) or it.key in self.passed.values():
                 listed = self.modules.setdefault(it.module, (opened(it.file), []))[1]
                 if it.is_public and not (it.owner or it.kind in ("mod", "use", "impl") or it.name in INNER):
                     listed.append(it)
-                    self.at[it.crate, it.name] = it.link
+                    self.at[it.key] = it.link
                     self.at |= {(it.crate, it.name, name): f"{it.link}.{name}" for name in self.members(it)}
         self.at = {(it.split(".")[0], it.split(".")[-1]): f"{it}.html" for it in self.modules} | self.at
         self.leads = {f"{path}.html": lead(file.doc) for path, (file, _) in self.modules.items()}
@@ -264,30 +264,30 @@ class Reference:
 
     def members(self, item):
         """The fields, variants, constants and calls that have an anchor below an item."""
-        blocks = [it for it in self.impls if (it.crate, it.name, it.trait) == (item.crate, item.name, "")]
+        blocks = [it for it in self.impls if (it.key, it.trait) == (item.key, "")]
         return {it.name: it for of in (item, *blocks) for it in of.inside
                 if it.kind != "ghost" and (it.is_public or it.kind == "const")}
 
     def find(self, path, file):
         """The link to what a path of code means in a file, or None."""
-        parts = re.sub(r"[^\w:].*", "", path).split("::")
-        path = [*opened(file).brought.get(parts[0], (parts[:1],))[0], *parts[1:]]
+        first, *rest = re.sub(r"[^\w:].*", "", path).split("::")
+        path = [*opened(file).brought.get(first, ([first],))[0], *rest]
         crate, path = (path[0], path[1:]) if path[0] in LIBRARY else (opened(file).crate, path)
-        keys = [(*self.passed.get(key[:2], key[:2]), *key[2:]) for key in ((crate, *path[-2:]), (crate, *path[-1:]))]
-        return next((self.at[key] for key in keys if key in self.at), None)
+        how = [(*self.passed.get(it[:2], it[:2]), *it[2:]) for it in ((crate, *path[-2:]), (crate, path[-1]))]
+        return next((self.at[it] for it in how if it in self.at), None)
 
     def page(self, name, title, body):
-        (self.folder / f"{name}.html").write_text(PARTS["page"](title=escape(title), body=body), encoding="utf-8")
+        (self.folder / f"{name}.html").write_text(PARTS["page"](title=escape(title), body=body), "utf-8")
 
     def inline(self, text, file=None):
         """A line of prose, with what its code names as links."""
-        def shown(it):
+        def put(it):
             name = (it[1] or it[3] or it[4]).strip("`")
             to = file and (not it[4] or name[:1].isupper()) and self.find(it[2] or name, file)
             inside = f"<code>{name}</code>".replace("*", "&#42;") if "`" in it[0] else name
             return f'<a href="{to}">{inside}</a>' if to else inside
 
-        text = re.sub(r"\[([^\]]+)\]\((.*?)\)|\[`([^`]+)`\]|`+ ?(.+?) ?`+", shown, escape(" ".join(text.split())))
+        text = re.sub(r"\[([^\]]+)\]\((.*?)\)|\[`([^`]+)`\]|`+ ?(.+?) ?`+", put, escape(" ".join(text.split())))
         return re.sub(r"\*(\w+)\*", r"<i>\1</i>", re.sub(r"\*\*(.+?)\*\*", r"<b>\1</b>", text))
 
     def prose(self, text, file=None):
@@ -322,13 +322,13 @@ class Reference:
     @functools.cache
     def word(self, word):
         """A definition, with its comment, or with what docs/SIGNS.md says of a word of the toolchain."""
-        is_code, text = word.file.suffix == ".rt", without_comments(word.text)
-        told, file = word.doc.split("\n\n")[0] if is_code else word.doc, word.file if is_code else None
+        is_rt, text = word.file.suffix == ".rt", without_comments(word.text)
+        told, file = word.doc.split("\n\n")[0] if is_rt else word.doc, word.file if is_rt else None
         place = f'<a href="{word.source}">{word.file.relative_to(CRATES)}</a>' if word.is_here else ""
         if not word.is_here:
-            parts, place = set(filter(None, word.name.split("◌"))), f"toolchain, {word.module.replace('.', '/')}"
-            told, file = next((it for head, it in self.rows if parts <= head), lead(told) if is_code else told), None
-        spans = self.type_spans(text, file) if is_code else self.word_spans(text, word.file, word)
+            own, place = set(word.name.split("◌")) - {""}, f"toolchain, {word.module.replace('.', '/')}"
+            told, file = next((it for of, it in self.rows if own <= of), lead(told) if is_rt else told), None
+        spans = self.type_spans(text, file) if is_rt else self.word_spans(text, word.file, word)
         return self.prose(told, file) + code(text, spans) + f"<p class=small>{place}</p>"
 
     def listed(self, words):
@@ -361,7 +361,7 @@ class Reference:
             self.found.append([f"{name}::{it.name}", it.kind, f"{link}.{it.name}"])
             fields.append(f'<dt id="{anchor}.{it.name}"><code>{shown}</code></dt>'
                           f"<dd>{self.prose(it.doc, it.file)}</dd>")
-        blocks = [it for it in self.impls if it.trait and (it.crate, it.name, None) == (item.crate, item.name, owner)]
+        blocks = [it for it in self.impls if it.trait and (it.key, None) == (item.key, owner)]
         return PARTS["item"](
             level=3 if owner else 2, anchor=anchor, name=name, kind=item.kind, source=item.source,
             head=self.head(item), fields="".join(fields), ghosts=self.ghosts(item.inside),
@@ -384,19 +384,19 @@ class Reference:
 
     def overview(self, rows, file=None):
         """Links, each with the first sentence of what it leads to."""
-        cells = ((to, name, self.inline(self.leads[to], file)) for to, name in rows)
-        return "<dl>" + "".join(PARTS["row"](to=to, name=name, told=told) for to, name, told in cells) + "</dl>"
+        rows = (PARTS["row"](to=to, name=name, told=self.inline(self.leads[to], file)) for to, name in rows)
+        return f"<dl>{''.join(rows)}</dl>"
 
     def headline(self, name, title, *sentences):
         """A page on which a headline stands with all that it rests on."""
         items = [it for sentence in sentences for it in claims_of(sentence)]
         every, (own, other) = closure(items), counts(items)
-        quote = re.findall(r"(?m)^(?:>.*\n)+", (ROOT / "README.md").read_text("utf-8"))[name == "setting"]
+        said = re.findall(r"(?m)^(?:>.*\n)+", (ROOT / "README.md").read_text("utf-8"))[name == "setting"]
         body = PARTS["headline"](
-            quote=self.prose(quote.replace("> ", "")), own=own, other=other, count=len(every), signs=self.signs,
+            quote=self.prose(said.replace("> ", "")), own=own, other=other, count=len(every),
             heads="".join(PARTS["claim"](name=it.name, module=it.module.replace(".", "::"), source=it.source,
                                          head=self.head(it)) for it in items),
-            here=self.listed(it for it in every if it.is_here),
+            signs=self.signs, here=self.listed(it for it in every if it.is_here),
             toolchain=self.listed(it for it in every if not it.is_here))
         # each word stands on this page
         self.page(name, title, re.sub(r'class=w href="[^#"]*', 'class=w href="', body))
@@ -409,7 +409,7 @@ class Reference:
         form = r"(?m)^([^#\s]\S*) +(?:since=(\S+) )?((?:(?:\w+=\S+|alone|needs-value|warn) )*)(\S+) ?(.*)"
         for key, since, marks, kind, words in re.findall(form, text):
             cells = "".join(f"<td>{escape(cell)}" for cell in (key, kind, words, since, marks.strip()))
-            self.found += [[key, f"setting, {kind}", f"settings.html#{urllib.parse.quote(key)}"]] * (key not in rows)
+            self.found += [[key, f"setting, {kind}", f"settings.html#{quote(key)}"]] * (key not in rows)
             rows[key] = rows[key] + f"<tr>{cells}" if key in rows else f'<tr id="{key}">{cells}'
         kinds = re.search(r"(?ms)^## The kinds\n(.*?)^## ", (ROOT / "docs/CHECKING.md").read_text("utf-8"))[1]
         self.page("settings", "Settings that config_check knows",
@@ -432,15 +432,15 @@ class Reference:
             of = [it for _, it in sorted(self.words.items()) if it.href.startswith(f"words.{crate}.")]
             self.page(f"words.{crate}", f"Definitions of {crate}", self.listed(of))
             self.found += [[word.name, f"definition of {word.crate}", word.href] for word in of]
-        (self.folder / "data.js").write_text(
-            f"const FOUND = {json.dumps(self.found)}, WORDS = {json.dumps(shown)};", encoding="utf-8")
+        data = f"const FOUND = {json.dumps(self.found)}, WORDS = {json.dumps(shown)};"
+        (self.folder / "data.js").write_text(data, "utf-8")
         told = f"{sum(len(it[1]) for it in self.modules.values())} items, and {len(self.words)} definitions"
         crates = self.overview((f"{it}.html", it) for it in LIBRARY)
-        words = "".join(f"<li><a href=words.{crate}.html>{crate}</a></li>" for crate in (*LISTED, "toolchain"))
-        self.page("index", "Reference", PARTS["index"](told=told, crates=crates, words=words, signs=self.signs))
+        words = "".join(f"<li><a href=words.{it}.html>{it}</a></li>" for it in (*LISTED, "toolchain"))
+        self.page("index", "Reference", PARTS["top"](told=told, crates=crates, words=words, signs=self.signs))
         for file in (it for crate in LISTED for it in (CRATES / crate).glob("s*/**/*.*t*")):
-            name = str(file.relative_to(CRATES))
-            self.page(f"source.{name.replace('/', '.')}", name, code(opened(file).text, (), "source", " id=L{}"))
+            at = str(file.relative_to(CRATES))
+            self.page(f"source.{at.replace('/', '.')}", at, code(opened(file).text, (), "source", " id=L{}"))
         for name in ("reference.css", "reference.js"):
             (self.folder / name).write_bytes((ROOT / "docs" / name).read_bytes())
         print(told)
