@@ -6,20 +6,22 @@ use crate::diff::diff_of;
 use crate::failure::{Failure, failed, tell, written};
 use crate::options::{Asked, Format, Output};
 use crate::report::{Lines, Report};
+use crate::rows::{Must, Rows};
 use crate::sarif;
 use crate::source::Source;
 use bstr::BStr;
 use bumpalo::Bump;
 use config_checks::check::{Counts, Receiver, check_file};
 use config_checks::code::Code;
-use config_checks::finding::Finding;
+use config_checks::finding::{Finding, key_text};
 use config_checks::fix::Judge;
+use config_checks::key::covers;
 use config_checks::outcome::Outcome;
 use config_checks::reason::Severity;
 use config_checks::row::Row;
 use config_checks::setting::Setting;
 use config_file::key::Key;
-use config_file::{Condition, Content, Entry, Files, Include, Place, Step, Walk};
+use config_file::{Condition, Content, Entries, Entry, Files, Include, Place, Step, Walk};
 use config_host::surroundings::Followed;
 use config_host::{Disk, Surroundings, files_here};
 use std::alloc::{AllocError, Global};
@@ -91,6 +93,8 @@ struct Checking<'c, 't> {
     rt: &'t HostRuntime,
     rows: &'c [Row<'c>],
     judge: &'c Judge<'c, 'c>,
+    /// The settings that rows ask for.
+    musts: Vec<Must<'c, 'c>>,
     asked: &'c Asked<'c, 'c>,
     report: Report<'c>,
     disk: Disk<'t, HostRuntime>,
@@ -129,6 +133,38 @@ fn write_include<'f>(
         row: None,
         value: setting.value.as_deref(),
         reason: wrong.why.as_bytes(),
+        fault: None,
+        suggested_key: None,
+        suggested_value: None,
+    }))
+}
+
+/// Writes that no file has a setting that a row asks for.
+fn write_missing(
+    rt: &HostRuntime,
+    report: &mut Report<'_>,
+    must: &Must<'_, '_>,
+) -> Result<(), Failure<'static>> {
+    let alloc = rt.alloc();
+    let mut source = Source::new(must.file.as_bytes(), must.text);
+    let key = key_text(alloc, &must.key)?;
+    let mut lines = Lines {
+        alloc,
+        report,
+        source: &mut source,
+        mender: None,
+        writer: rt.stdout(),
+    };
+    failed(lines.receive(&Finding {
+        file: must.file,
+        line: must.line,
+        entry: None,
+        code: Code::MissingSetting,
+        severity: Severity::Error,
+        key: Some(&key),
+        row: Some(must.key),
+        value: None,
+        reason: b"no file has this setting, which the row asks for",
         fault: None,
         suggested_key: None,
         suggested_value: None,
@@ -200,10 +236,49 @@ impl<'c, 't> Checking<'c, 't> {
             self.check_text(file, text, None)?.0
         };
         self.outcome.add(counts);
+        self.meet(text)?;
         match self.open.push(Source::new(name, text)) {
             Ok(()) => Ok(text),
             Err(_) => Err(Failure::Memory(AllocError)),
         }
+    }
+
+    /// Takes note of the settings of a file that rows ask for.
+    fn meet(&mut self, text: &[u8]) -> Result<(), AllocError> {
+        if self.musts.is_empty() {
+            return Ok(());
+        }
+        for entry in Entries::new(text) {
+            let Ok(entry) = entry else {
+                break;
+            };
+            let key = entry.key_text(self.rt.alloc())?;
+            let Some(key) = Key::split(&key) else {
+                continue;
+            };
+            for must in self.musts.iter_mut() {
+                if covers(&must.key, &key) {
+                    must.is_met = true;
+                }
+            }
+        }
+        Ok(())
+    }
+
+    /// Reports the settings that rows ask for and no file has.
+    fn report_missing(&mut self) -> Result<(), Failure<'static>> {
+        for must in &self.musts {
+            if must.is_met {
+                continue;
+            }
+            write_missing(self.rt, &mut self.report, must)?;
+            self.outcome.add(Counts {
+                findings: 1,
+                errors: 1,
+                ..Counts::default()
+            });
+        }
+        Ok(())
     }
 
     /// Checks the text of a file. Changes are looked for if there is something to look for them, which is given back.
@@ -546,6 +621,7 @@ impl<'c, 't> Checking<'c, 't> {
         for file in &files {
             self.file(file)?;
         }
+        self.report_missing()?;
         self.end()?;
         Ok(self.reported().status(self.asked.fails_on))
     }
@@ -555,20 +631,22 @@ impl<'c, 't> Checking<'c, 't> {
 pub(crate) fn check<'m, 't>(
     rt: &'t HostRuntime,
     texts: &'t Bump,
-    rows: &[Row<'_>],
+    all: Rows<'m, '_>,
     asked: &Asked<'_, 'm>,
 ) -> Result<u8, Failure<'m>> {
     let alloc = rt.alloc();
+    let Rows { rows, musts } = all;
     let baseline = match asked.baseline {
         Some(file) => Some(fingerprints(rt, file)?),
         None => None,
     };
-    let judge = Judge::new(alloc, rows)?;
+    let judge = Judge::new(alloc, &rows)?;
     let report = Report::new(alloc, asked, baseline)?;
     let mut checking = Checking {
         rt,
-        rows,
+        rows: &rows,
         judge: &judge,
+        musts,
         asked,
         report,
         disk: Disk::new(rt, texts),

@@ -13,7 +13,9 @@ pub(crate) fn meaning(code: Code) -> &'static str {
         Code::BadColor => "the value is no color",
         Code::OutOfRange => "the value is a number that the setting does not take",
         Code::NotAWord => "the value is none of the words that the setting takes",
+        Code::OtherValue => "the value means something other than the row asks for",
         Code::NoValue => "the setting has no value, and needs one",
+        Code::MissingSetting => "no file has a setting that a row asks for",
         Code::UnknownKey => "no setting has the key",
         Code::TooNew => "only a newer Git reads the setting",
         Code::Gone => "Git no longer reads the setting",
@@ -45,7 +47,15 @@ fn example(code: Code) -> (&'static str, &'static str) {
             "[push]\n\tdefault = simplest\n",
             "[push]\n\tdefault = simple\n",
         ),
+        Code::OtherValue => (
+            "# with a row `transfer.fsckObjects is=true bool`\n[transfer]\n\tfsckObjects = no\n",
+            "[transfer]\n\tfsckObjects = yes\n",
+        ),
         Code::NoValue => ("[core]\n\teditor\n", "[core]\n\teditor = vi\n"),
+        Code::MissingSetting => (
+            "# with a row `user.email must text`\n[user]\n\tname = A\n",
+            "[user]\n\tname = A\n\temail = a@example.org\n",
+        ),
         Code::UnknownKey => ("[pull]\n\trebas = true\n", "[pull]\n\trebase = true\n"),
         Code::TooNew => (
             "# with --git 2.39\n[pull]\n\tautoStash = true\n",

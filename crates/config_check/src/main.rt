@@ -47,7 +47,7 @@ fn run_in<'m, 't>(
         asked.options.git,
         matches.get_strs("settings").unwrap_or(&[]),
     )?;
-    check(rt, texts, &rows, &asked)
+    check(rt, texts, rows, &asked)
 }
 
 /// The same, with memory for what is read.

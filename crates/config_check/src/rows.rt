@@ -6,8 +6,9 @@ use bumpalo::Bump;
 use config_checks::git::SETTINGS;
 use config_checks::reason::{nearest_word, outside};
 use config_checks::row::Row;
-use config_checks::table::{BadRow, RowFault, read_rows};
+use config_checks::table::{BadRow, RowFault, read_row, read_rows};
 use config_checks::version::Version;
+use config_file::key::Key;
 use config_host::repository::find;
 use config_host::{Disk, ReadError};
 use std::alloc::{AllocError, Global};
@@ -51,15 +52,74 @@ fn why(alloc: Global, fault: RowFault<'_>) -> Result<String, AllocError> {
     format!(in alloc; "{fault}")
 }
 
+/// A setting that one of the files has to have, since a row asks for it.
+#[derive(Clone, Copy)]
+pub(crate) struct Must<'m, 't> {
+    /// The file of the row, and its text.
+    pub(crate) file: &'m str,
+    pub(crate) text: &'t [u8],
+    /// The line of the row.
+    pub(crate) line: usize,
+    /// The key of the row.
+    pub(crate) key: Key<'t>,
+    /// Whether a file has it.
+    pub(crate) is_met: bool,
+}
+
+/// The rows of a run.
+#[derive(Drop)]
+pub(crate) struct Rows<'m, 't> {
+    /// All rows, those that hold for this Git first.
+    pub(crate) rows: Vec<Row<'t>>,
+    /// The settings that rows for this Git ask for, in the order of the rows.
+    pub(crate) musts: Vec<Must<'m, 't>>,
+}
+
+/// Appends the settings that the rows of a text ask for, if these hold for this Git.
+fn add_musts<'m, 't>(
+    alloc: Global,
+    file: &'m str,
+    text: &'t [u8],
+    git: Version,
+    musts: &mut Vec<Must<'m, 't>>,
+) -> Result<(), Failure<'m>> {
+    let mut number: usize = 0;
+    for line in text.split(|byte| *byte == b'\n') {
+        number = number.saturating_add(1);
+        let Ok(Some(row)) = read_row(alloc, line) else {
+            continue;
+        };
+        if !row.must || outside(&row, git).is_some() {
+            continue;
+        }
+        let must = Must {
+            file,
+            text,
+            line: number,
+            key: row.key,
+            is_met: false,
+        };
+        if musts.push(must).is_err() {
+            return Err(Failure::Memory(AllocError));
+        }
+    }
+    Ok(())
+}
+
 /// Appends the rows of a text, after a byte order mark if it has one.
 fn add_rows<'m, 't>(
     alloc: Global,
     file: &'m str,
     text: &'t [u8],
-    rows: &mut Vec<Row<'t>>,
+    git: Version,
+    all: &mut Rows<'m, 't>,
 ) -> Result<(), Failure<'m>> {
     let text = text.strip_prefix(MARK).unwrap_or(text);
-    match read_rows(alloc, text, rows) {
+    let before = all.rows.len();
+    match read_rows(alloc, text, &mut all.rows) {
+        Ok(()) if all.rows.iter().skip(before).any(|row| row.must) => {
+            add_musts(alloc, file, text, git, &mut all.musts)
+        }
         Ok(()) => Ok(()),
         Err(
             BadRow {
@@ -80,11 +140,12 @@ fn add_file<'m, 't>(
     rt: &'t HostRuntime,
     texts: &'t Bump,
     file: &'m str,
-    rows: &mut Vec<Row<'t>>,
+    git: Version,
+    all: &mut Rows<'m, 't>,
 ) -> Result<(), Failure<'m>> {
     let bytes = fs::read(rt, file).map_err(|error| Failure::File { file, error })?;
     let text = Disk::new(rt, texts).kept(&bytes)?;
-    add_rows(rt.alloc(), file, text, rows)
+    add_rows(rt.alloc(), file, text, git, all)
 }
 
 /// The text of the file of rows at the top of the repository of the current folder, if it is there.
@@ -113,21 +174,25 @@ pub(crate) fn all_rows<'m, 't>(
     texts: &'t Bump,
     git: Version,
     files: &[&'m str],
-) -> Result<Vec<Row<'t>>, Failure<'m>> {
+) -> Result<Rows<'m, 't>, Failure<'m>> {
     let alloc = rt.alloc();
-    let mut rows = Vec::new(alloc);
+    let mut all = Rows {
+        rows: Vec::new(alloc),
+        musts: Vec::new(alloc),
+    };
     for file in files {
-        add_file(rt, texts, file, &mut rows)?;
+        add_file(rt, texts, file, git, &mut all)?;
     }
     if let Some(text) = shared_text(rt, texts)? {
-        add_rows(alloc, SHARED, text, &mut rows)?;
+        add_rows(alloc, SHARED, text, git, &mut all)?;
     }
     add_rows(
         alloc,
         "the built-in settings",
         SETTINGS.as_bytes(),
-        &mut rows,
+        git,
+        &mut all,
     )?;
-    rows.sort_by_key(|row| outside(row, git).is_some())?;
-    Ok(rows)
+    all.rows.sort_by_key(|row| outside(row, git).is_some())?;
+    Ok(all)
 }

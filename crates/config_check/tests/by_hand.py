@@ -201,6 +201,28 @@ def settings_files(group, program):
         group.expect(["--settings", file], Ended(2, b"", CANNOT), with_errors_cut(came, CANNOT))
 
 
+def musts(group, program):
+    """Settings that one of the files has to have."""
+    rows_file = program.settings(b"# mine\nuser.email must text # whose\n remote.*.url must text\n"
+                                 b"core.bare since=2.99 must bool\nuser.name must text\n")
+    user, remote, both = (program.settings(text) for text in (
+        b"[user] name\nemail = a\n", b"[remote \"x\"]\nurl = y\n", b"[user \"x\"] email = b\n[user] name = c\n[remote \"x\"] url=y\n"))
+    whole = program.settings(b"[include] path = %s\n[includeIf \"gitdir:/none/\"] path = %s\n" % (user.encode(), remote.encode()))
+    cut_off = program.settings(b"[user] email = a\n[user\nname = b\n")
+    lines = {place: b"%s:%d:%d: error: %s: no file has this setting, which the row asks for [missing-setting]\n" % (
+        rows_file.encode(), *place, key) for place, key in {(2, 1): b"user.email", (3, 2): b"remote.*.url", (5, 1): b"user.name"}.items()}
+    no_value = b"%s:1:8: error: user.name: no value [no-value]\n" % user.encode()
+    unread = b"%s:2: error: Git cannot read this line, and reads nothing of the file\n" % cut_off.encode()
+    for files, output, counts in [
+            ([user, remote], no_value, (3, 3, 0, 1)), ([remote, user], no_value, (3, 3, 0, 1)), ([whole], no_value, (5, 5, 0, 1)),
+            ([user], no_value + lines[3, 2], (2, 2, 0, 2)), ([remote], lines[2, 1] + lines[5, 1], (1, 1, 0, 2)),
+            ([cut_off], unread + lines[3, 2] + lines[5, 1], (1, 1, 0, 3)),
+            (["/dev/null"], b"".join(lines.values()), (0, 0, 0, 3))]:
+        group.expect(files, ended(output, counts), without_cause(program.run(["--settings", rows_file, *files])))
+    came = program.run(["--settings", rows_file, both])
+    group.expect(both, (1, lines[2, 1]), (came.status, b"".join(line for line in came.output.splitlines(True) if b"missing" in line)))
+
+
 def wrong_and_other_arguments(group, program):
     for more in rows.WRONG_ARGUMENTS:
         came = program.run(more, b"")
@@ -223,5 +245,5 @@ def wrong_and_other_arguments(group, program):
 
 
 def check(group, program):
-    for part in (values, escapes, keys, files, as_json, fail_on, built_in, settings_files, wrong_and_other_arguments):
+    for part in (values, escapes, keys, files, as_json, fail_on, built_in, settings_files, musts, wrong_and_other_arguments):
         part(group, program)

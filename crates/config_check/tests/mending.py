@@ -112,6 +112,11 @@ def one_by_one(group, program):
         came = program.run(["--fix", "c"], cwd=folder)
         group.expect("an include that is mended", (1, b"[include]\n\tpath = d\n\tpath = d\n", 1),
                      (came.status, (folder / "c").read_bytes(), came.output.count(b"\n")))
+        (folder / "rows").write_bytes(b"a.b is=true bool\na.c is=off bool\na.d is=1k int\n")
+        (folder / "c").write_bytes(b"[a]\n\tb = no ; x\n\tb = yes\n\tc\n\td = 1023\n\td = 1024\n\td = x\n")
+        came = program.run(["--fix", "--settings", "rows", "c"], cwd=folder)
+        group.expect("values that rows ask for", (1, b"[a]\n\tb = true ; x\n\tb = yes\n\tc = off\n\td = 1k\n\td = 1024\n\td = x\n", b" 1 finding, 3 fixed\n"),
+                     (came.status, (folder / "c").read_bytes(), came.errors[-20:]))
         (folder / "c").write_bytes(b"[core]\n\tbare = ture\n\tbare = x\n\tbare = x\n")
         (folder / "known").write_bytes(program.run(["--format", "json", "c"], cwd=folder).output.splitlines(True)[1])
         came = program.run(["--fix", "--baseline", "known", "c"], cwd=folder)

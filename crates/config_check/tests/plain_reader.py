@@ -21,7 +21,7 @@ NUL = b"a NUL byte outside a comment"
 
 # a key, cut at its first and at its last dot; if it has only one dot, there is no middle
 Key = collections.namedtuple("Key", "first middle last")
-Row = collections.namedtuple("Row", "key since until instead alone warns kind words text")
+Row = collections.namedtuple("Row", "key since until instead wanted must alone warns kind words text")
 # the Git by whose rows values are judged if none is named
 NEWEST = (2, 55)
 
@@ -344,14 +344,36 @@ def reason(row, value, canonical):
     return found
 
 
+def meaning(row, value):
+    """The type and the value that a right text has: a number or, for other texts that the kind takes, a boolean, a color or a text."""
+    found = value_by(row, value)
+    return type(found), found
+
+
+def value_by(row, value):
+    form = row.kind.removesuffix(ANY_CASE)
+    if row.kind in WITH_WORDS and matching(row.words, value, row.kind.endswith(ANY_CASE)) is not None:
+        return value.lower() if row.kind.endswith(ANY_CASE) else value
+    if form in (b"int", b"bool-or-int", b"int-or-word") and integer(value) is not None:
+        return product(*integer(value))
+    if form in (b"bool", b"bool-or-int", b"bool-or-word"):
+        return boolean(value)
+    return color(value) if form == b"color" else value
+
+
 def wrong(row, value, canonical):
     """The severity and the reason of a value that is wrong or not canonical; None for other values."""
+    other = (b"warning: " if row.warns else b"error: ") + b"has to be " + shown(row.wanted or b"")
     if value is None:
-        return None if row.alone else b"error: no value"
+        if not row.alone:
+            return b"error: no value"
+        return None if row.wanted is None or meaning(row, b"true") == meaning(row, row.wanted) else other
     try:
         spelling = of_words(row.kind, row.words, value) if row.kind in WITH_WORDS else KINDS[row.kind](row.words, value)
     except Refused as refused:
         return (b"warning: " if row.warns else b"error: ") + refused.args[0]
+    if row.wanted is not None and meaning(row, value) != meaning(row, row.wanted):
+        return other
     if not canonical or spelling == value:
         return None
     return b"note: should be " + (shown(spelling) if row.kind in WITH_WORDS else spelling)
@@ -383,12 +405,14 @@ def row_of(fields):
     """The row with these fields; None if they are not a row."""
     text, *rest = fields
     marks = {}
-    for mark in (b"since=", b"until=", b"instead="):
+    for mark in (b"since=", b"until=", b"instead=", b"is="):
         if rest and rest[0].startswith(mark):
             marks[mark] = rest.pop(0).removeprefix(mark)
     versions = [version(marks[mark]) if mark in marks else None for mark in (b"since=", b"until=")]
     if any(mark in marks and one is None for mark, one in zip((b"since=", b"until="), versions)):
         return None
+    must = rest[:1] == [b"must"]
+    rest = rest[1:] if must else rest
     alone = {b"alone": True, b"needs-value": False}.get(rest[0]) if rest else None
     rest = rest if alone is None else rest[1:]
     warns = rest[:1] == [b"warn"]
@@ -399,7 +423,11 @@ def row_of(fields):
     if kind not in KINDS and kind not in WITH_WORDS:
         return None
     is_row = bounds(words) is not None if kind == b"int" else bool(words) == (kind in WITH_WORDS)
-    return Row(key_of(text), *versions, marks.get(b"instead="), kind in RIGHT_ALONE if alone is None else alone, warns, kind, words, text) if is_row else None
+    if not is_row:
+        return None
+    row = Row(key_of(text), *versions, marks.get(b"instead="), marks.get(b"is="), must, kind in RIGHT_ALONE if alone is None else alone,
+              warns, kind, words, text)
+    return row if row.wanted is None or wrong(row, row.wanted, False) is None else None
 
 
 def rows_of(text):
@@ -679,7 +707,7 @@ CODES = {
     BOOLEAN_FAULT: "bad-boolean", INTEGER_FAULT: "bad-integer", COLOR_FAULT: "bad-color", OVERFLOW_FAULT: "out-of-range",
     b"out of range: ": "out-of-range", b"not ": "not-a-word", b"no value": "no-value", b"unknown key": "unknown-key",
     b"Git reads it only since ": "too-new", b"Git reads it only before ": "gone", b"deprecated: use ": "deprecated",
-    b"should be ": "not-canonical", b"Git cannot read this line": "invalid-line", b"a NUL byte ": "invalid-line",
+    b"should be ": "not-canonical", b"has to be ": "other-value", b"Git cannot read this line": "invalid-line", b"a NUL byte ": "invalid-line",
 }
 
 

@@ -35,6 +35,16 @@ mark.until until=2.55 bool
 mark.reached since=2.55 until=2.55.1 warn int 1 9
 mark.reached since=2.3 until=3.0 int
 mark.instead instead=mark.since bool
+want.bool is=true bool
+want.off is=off bool
+want.int is=1k int
+want.bool-or-int is=1 bool-or-int
+want.color is=#fff color
+want.text is=true alone text
+want.word is=Two word-any-case one Two
+want.bool-or-word is=off bool-or-word off auto
+want.int-or-word is=0x10 warn int-or-word auto
+want.words is=a,b words a b
 
 # words that are boolean texts too
 both.bytes bool-or-word yes 1 auto
@@ -155,6 +165,10 @@ ACCEPTED = [
     (b"test.date", [b"now", b"NOW", b"x.now.y", b"7", b"x7y", b"January", b"in ja", b"\\", b"no-NOW"]),
     (b"test.sort-key", [b"name", b"-name", b"version:name", b"-v:*name", b"*date", b"name:short", b"date:", b"version:v:date"]),
     (b"mark.alone", [None, b"", b"x"]),
+    (b"want.bool", [None, b"true", b"yes", b"1", b"On", b"2k"]), (b"want.off", [b"no", b"", b"0"]),
+    (b"want.int", [b"1k", b"1024", b"0x400", b"+1K"]), (b"want.bool-or-int", [b"1", b"01"]),
+    (b"want.color", [b"#fff", b" #FFF ", b"#ffffff"]), (b"want.text", [None, b"true"]), (b"want.word", [b"Two", b"tWO"]),
+    (b"want.bool-or-word", [b"off"]), (b"want.int-or-word", [b"16", b"020"]), (b"want.words", [b"a,b"]),
     (b"mark.needs", [b"", b"yes"]),
     (b"mark.warn", [b"-1", b"0", b"16k"]),
     (b"mark.both", [None, b"one"]),
@@ -202,6 +216,12 @@ REPORTED = [
     (b"test.sort-key", NO_SORT_KEY, [b"", b"-", b"--name", b"*-name", b"-:name", b"v:version:name", b"name,date",
                                      b"versionname"]),
     (b"mark.needs", NO_VALUE, [None]),
+    (b"want.bool", b"error: has to be true", [b"no", b"0", b""]), (b"want.bool", BOOLEAN_FAULT, [b"x"]),
+    (b"want.off", b"error: has to be off", [None, b"yes", b"1"]), (b"want.int", b"error: has to be 1k", [b"1", b"1m"]),
+    (b"want.int", NO_VALUE, [None]), (b"want.bool-or-int", b"error: has to be 1", [None, b"true", b"yes", b"2", b"0", b"no"]),
+    (b"want.color", b"error: has to be #fff", [b"red", b"#fffffe", b""]), (b"want.text", b"error: has to be true", [b"", b"True", b"yes"]),
+    (b"want.word", b"error: has to be Two", [b"one"]), (b"want.bool-or-word", b"error: has to be off", [None, b"auto", b"no", b"false", b"0"]),
+    (b"want.int-or-word", b"warning: has to be 0x10", [b"auto", b"1"]), (b"want.words", b"error: has to be a,b", [b"b,a", b"a", b"a b"]),
     (b"mark.needs", BOOLEAN_FAULT, [b"x"]),
     (b"mark.warn", NO_VALUE, [None]),
     (b"mark.warn", b"warning: out of range: not from -1 to 16384", [b"-2", b"17k"]),
@@ -431,6 +451,7 @@ NO_DOT, NO_KIND, NO_SUCH_KIND, NO_WORDS, WORDS, BOUNDS, NOT_IN_ORDER = (
     b"no dot in the key", b"no kind after the key", b"no such kind: ", b"no words after the kind",
     b"a word after a kind without words: ", b"the bounds are not two integers", b"the first bound is greater than the second")
 NO_VERSION = b"no version after since= or until="
+UNWANTED = b"the kind does not take the value after is="
 # texts of settings with such a line, its number, and why it is not a row
 BAD_ROWS = [
     (b"nodot bool\n", 1, NO_DOT), (b"test.x\n", 1, NO_KIND), (b"test.x \n", 1, NO_KIND), (b"nodot\n", 1, NO_DOT),
@@ -440,7 +461,8 @@ BAD_ROWS = [
     (b"test.x int 1 2 3\n", 1, BOUNDS), (b"test.x int 1 two\n", 1, BOUNDS), (b"test.x int one 2\n", 1, BOUNDS),
     (b"test.x text \\#b text\n", 1, WORDS + b"#b"), (b"test.x int 64 4\n", 1, NOT_IN_ORDER), (b"test.x int 1k 1023 # c\n", 1, NOT_IN_ORDER), (b"test.x alone\n", 1, NO_KIND), (b"test.x needs-value warn\n", 1, NO_KIND),
     (b"test.x warn alone bool\n", 1, NO_SUCH_KIND + b"alone"), (b"test.x alone needs-value bool\n", 1, NO_SUCH_KIND + b"needs-value"),
-    (b"test.x since=2 bool\n", 1, NO_VERSION), (b"test.x since=2.1 until= bool\n", 1, NO_VERSION),
+    (b"test.x is=maybe bool\n", 1, UNWANTED), (b"test.x is= word a\n", 1, UNWANTED), (b"test.x is=3 must int 4 64\n", 1, UNWANTED),
+    (b"test.x must is=1 int\n", 1, NO_SUCH_KIND + b"is=1"), (b"test.x since=2 bool\n", 1, NO_VERSION), (b"test.x since=2.1 until= bool\n", 1, NO_VERSION),
     (b"test.x until=2.1 since=2.0 bool\n", 1, NO_SUCH_KIND + b"since=2.0"), (b"test.x since=2.x\n", 1, NO_VERSION),
     (b"test.x size\n", 1, NO_SUCH_KIND + b"size"), (b"test.x wrod a\n", 1, NO_SUCH_KIND + b"wrod; did you mean word?"), (b"test.x sort-key\n", 1, NO_WORDS), (b"test.x text-any-case\n", 1, NO_SUCH_KIND + b"text-any-case"), (b"test.x \\\\bool\n", 1, NO_SUCH_KIND + b"\\\\bool"), (b"test.x # bool\n", 1, NO_KIND), (b"test.x word #a\n", 1, NO_WORDS), (b"test.x word\n", 1, NO_WORDS),
     (b"test.x word-any-case\n", 1, NO_WORDS), (b"test.x bool-or-word \n", 1, NO_WORDS),

@@ -1,7 +1,7 @@
 -- A setting has at most one reason, and at most one finding.
 use Rattle.std.proofs.Common.{◌≡◌, ℕ, inl, inr, ◌<◌, List, Bool, true, false}
 use Rattle.std.proofs.Common.{Option, None, Some, refl, sym, ap, subst, ◌∙◌, arith}
-use Rattle.std.proofs.Common.{get_or, Bor}
+use Rattle.std.proofs.Common.{get_or, Bor, codes}
 use Rattle.std.proofs.lemmas.List.{get_or-take, get_or_default, length-take}
 use Rattle.config_text.specs.declared.errors.Fault.{Fault}
 use Rattle.config_text.specs.declared.errors.Fault.TheVariants as faults
@@ -22,11 +22,12 @@ use Rattle.config_checks.specs.declared.kind.SettingKind.{SettingKind}
 use Rattle.config_checks.specs.declared.kind.SettingKind.TheVariants as kinds
 use Rattle.config_checks.specs.declared.row.Row.{Row}
 use Rattle.config_checks.specs.declared.reason.Reason.{Reason}
-use Rattle.config_checks.specs.declared.reason.Reason.TheVariants.{NoValue, Refused, OutOfRange, NoWord, NotCanonical}
+use Rattle.config_checks.specs.declared.reason.Reason.TheVariants.{NoValue, Refused, OutOfRange, NoWord, IsNot, NotCanonical}
 use Rattle.config_checks.specs.declared.reason.Reason.TheVariants.{TooNew, Gone, Deprecated, OtherCase}
 use Rattle.config_checks.specs.Kinds.{IsWord, IsFirstWord}
 use Rattle.config_checks.specs.Reasons.{IsJudged, IsWithin, IsJudgedWithin, IsJudgedBool, IsJudgedByWords}
-use Rattle.config_checks.specs.Reasons.{WordEdits, IsMeant, IsJudgedText, HasReason}
+use Rattle.config_checks.specs.Reasons.{WordEdits, IsMeant, IsJudgedText, IsComparedTo, IsJudgedAlone, IsJudgedByRow, HasReason}
+use Rattle.config_checks.specs.Reasons.IsJudgedByRow.{refused, taken}
 use Rattle.config_checks.specs.Reasons.{IsRespelled, IsRespelledAs, IsRespelledByForm, IsRespelledByWords}
 use Rattle.config_checks.specs.Reasons.{HasSpelling, IsOutside, IsRemarkBy}
 use Rattle.config_checks.specs.Reasons.HasFinding.{outside, wrong, right}
@@ -104,6 +105,22 @@ same_finding a = refl
 as_same : (a b : Option Reason) → a ≡ b → IsSameFinding a b
 as_same a b same = subst (IsSameFinding a) same (same_finding a)
 
+-- a finding is not the same as no finding
+none_with : (a : Reason) → ¬ (IsSameFinding (Some a) None)
+none_with NoValue same = absurd (cc)
+none_with (Refused f) same = absurd (cc)
+none_with (OutOfRange l h) same = absurd (cc)
+none_with (NoWord l v) same = absurd (cc)
+none_with (IsNot w) same = absurd (cc)
+none_with (TooNew v) same = absurd (cc)
+none_with (Gone v) same = absurd (cc)
+none_with (Deprecated w) same = absurd (cc)
+none_with (NotCanonical c) same = absurd (cc)
+none_with (OtherCase w) same = absurd (cc)
+
+none_before : (a : Reason) → ¬ (IsSameFinding None (Some a))
+none_before a same = absurd (cc)
+
 -- ---- words
 
 meant_once : (words : List (Bor (List ℕ))) (t : List ℕ) (v w : Option (Bor (List ℕ))) → IsMeant words t v → IsMeant words t w
@@ -142,10 +159,41 @@ text_judged_once kinds.Color t a b p q =
     as_same a b (judged_once ColorText (OnlyFault faults.Color) t (always_once faults.Color t) a b p q)
 text_judged_once (kinds.Word list) t a b p q = words_once list t a b p q
 
+comparison_once : (wanted : Option (Bor (List ℕ))) (kind : SettingKind) (t : List ℕ) (a b : Option Reason)
+    → IsComparedTo wanted kind t a → IsComparedTo wanted kind t b → a ≡ b
+comparison_once None kind t a b p q = p ∙ sym q
+comparison_once (Some wanted) kind t None None p q = refl
+comparison_once (Some wanted) kind t None (Some (IsNot w)) p q = absurd (q.1 p)
+comparison_once (Some wanted) kind t None (Some _) p q = absurd q
+comparison_once (Some wanted) kind t (Some (IsNot v)) None p q = absurd (p.1 q)
+comparison_once (Some wanted) kind t (Some (IsNot v)) (Some (IsNot w)) p q = ap (λ x. Some (IsNot x)) (p.0 ∙ sym q.0)
+comparison_once (Some wanted) kind t (Some (IsNot v)) (Some _) p q = absurd q
+comparison_once (Some wanted) kind t (Some _) b p q = absurd p
+
+alone_once : (takes : Bool) (row : Row) (a b : Option Reason) → IsJudgedAlone takes row a → IsJudgedAlone takes row b → a ≡ b
+alone_once true row a b p q = comparison_once row.wanted row.kind (codes "true") a b p q
+alone_once false row a b p q = p ∙ sym q
+
+row_judged_once : (row : Row) (t : List ℕ) (a b : Option Reason) → IsJudgedByRow row t a → IsJudgedByRow row t b
+    → IsSameFinding a b
+row_judged_once row t a b (refused r p is) (refused s q also) =
+    subst (λ x. IsSameFinding x b) (sym is)
+    (subst (IsSameFinding (Some r)) (sym also) (text_judged_once row.kind t (Some r) (Some s) p q))
+row_judged_once row t a b (refused r p is) (taken q compared) =
+    absurd (none_with r (text_judged_once row.kind t (Some r) None p q))
+row_judged_once row t a b (taken p compared) (refused s q also) =
+    absurd (none_before s (text_judged_once row.kind t None (Some s) p q))
+row_judged_once row t a b (taken p compared) (taken q also) =
+    as_same a b (comparison_once row.wanted row.kind t a b compared also)
+
 pub reason_once : (row : Row) (value : Option (List ℕ)) (a b : Option Reason) → HasReason row value a
     → HasReason row value b → IsSameFinding a b
-reason_once row None a b p q = as_same a b (p ∙ sym q)
-reason_once row (Some t) a b p q = text_judged_once row.kind t a b p q
+reason_once row None a b p q = as_same a b (alone_once row.takes_no_value row a b p q)
+reason_once row (Some t) a b p q = row_judged_once row t a b p q
+
+pub reason_or_none : (row : Row) (value : Option (List ℕ)) (r : Reason) → HasReason row value (Some r)
+    → ¬ (HasReason row value None)
+reason_or_none row value r p q = none_with r (reason_once row value (Some r) None p q)
 
 -- ---- how an accepted text is spelled
 
@@ -231,21 +279,6 @@ spelling_once kinds.Color (Some t) a b p q =
 spelling_once (kinds.Word list) (Some t) a b p q = respelled_words_once list t a b p q
 
 -- ---- the finding
-
--- a finding is not the same as no finding
-none_with : (a : Reason) → ¬ (IsSameFinding (Some a) None)
-none_with NoValue same = absurd (cc)
-none_with (Refused f) same = absurd (cc)
-none_with (OutOfRange l h) same = absurd (cc)
-none_with (NoWord l v) same = absurd (cc)
-none_with (TooNew v) same = absurd (cc)
-none_with (Gone v) same = absurd (cc)
-none_with (Deprecated w) same = absurd (cc)
-none_with (NotCanonical c) same = absurd (cc)
-none_with (OtherCase w) same = absurd (cc)
-
-none_before : (a : Reason) → ¬ (IsSameFinding None (Some a))
-none_before a same = absurd (cc)
 
 remark_once : (instead : Option (Bor (List ℕ))) (wants : Bool) (kind : SettingKind) (value : Option (List ℕ)) (a b : Option Reason)
     → IsRemarkBy instead wants kind value a → IsRemarkBy instead wants kind value b → IsSameFinding a b

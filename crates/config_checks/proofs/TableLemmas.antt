@@ -18,7 +18,7 @@ use Rattle.config_file.specs.Key.{Key, IsCut}
 use Rattle.config_checks.specs.declared.row.Row.{Row}
 use Rattle.config_checks.specs.declared.table.RowFault.{RowFault}
 use Rattle.config_checks.specs.declared.table.RowFault.TheVariants.{NoKind, NoKey, UnknownKind, NoWords, Words, Bounds, NotInOrder}
-use Rattle.config_checks.specs.declared.table.RowFault.TheVariants.{NoVersion, Memory}
+use Rattle.config_checks.specs.declared.table.RowFault.TheVariants.{NoVersion, Unwanted, Memory}
 use Rattle.config_checks.specs.declared.table.BadRow.{BadRow}
 use Rattle.config_checks.specs.declared.table.Marks.{Marks}
 use Rattle.config_checks.specs.Rows.{lines_of, fields_of, is_no_comment, HasMarks, HasBadVersion, IsBadKind, IsBadRow, IsBadLine, AddsRow, AddsRows}
@@ -83,6 +83,7 @@ pub bad_kind : (fields marked : List (List ℕ)) (key name : List ℕ) (words : 
 bad_kind fields marked key name words k m NoKind parts is marks bad = absurd bad
 bad_kind fields marked key name words k m NoKey parts is marks bad = absurd bad
 bad_kind fields marked key name words k m NoVersion parts is marks bad = absurd bad
+bad_kind fields marked key name words k m Unwanted parts is marks bad = absurd bad
 bad_kind fields marked key name words k m (UnknownKind shown) parts is marks bad =
     (key, marked, parts, (k, is), m, name, words, marks, bad)
 bad_kind fields marked key name words k m NoWords parts is marks bad =

@@ -1,6 +1,6 @@
 -- What is wrong with the value of a setting, or with a key alone, according to its row.
 use Rattle.std.specs.Prelude.{◌≡◌, ◌≢◌, ◌⊎◌, ℕ, pos, negsuc, ◌≤ℤ◌, List, Bool, true, false}
-use Rattle.std.specs.Prelude.{Option, None, Some, if◌then◌else◌, ◌<◌, length}
+use Rattle.std.specs.Prelude.{Option, None, Some, if◌then◌else◌, ◌<◌, length, codes}
 use denote.Ref.{Bor}
 use Rattle.config_text.specs.declared.errors.Fault.{Fault}
 use Rattle.config_text.specs.declared.errors.Fault.TheVariants as faults
@@ -19,11 +19,11 @@ use Rattle.config_checks.specs.declared.kind.SettingKind.{SettingKind}
 use Rattle.config_checks.specs.declared.kind.SettingKind.TheVariants as kinds
 use Rattle.config_checks.specs.declared.row.Row.{Row}
 use Rattle.config_checks.specs.declared.reason.Reason.{Reason}
-use Rattle.config_checks.specs.declared.reason.Reason.TheVariants.{NoValue, Refused, OutOfRange, NoWord}
+use Rattle.config_checks.specs.declared.reason.Reason.TheVariants.{NoValue, Refused, OutOfRange, NoWord, IsNot}
 use Rattle.config_checks.specs.declared.reason.Reason.TheVariants.{TooNew, Gone, Deprecated, NotCanonical, OtherCase}
 use Rattle.config_checks.specs.declared.reason.Severity.{Severity}
 use Rattle.config_checks.specs.declared.reason.Severity.TheVariants.{Error, Warning, Note}
-use Rattle.config_checks.specs.Kinds.{IsPattern, HasWord, IsNoWord, IsFirstWord, AreWords, HasDate, IsSortKey}
+use Rattle.config_checks.specs.Kinds.{IsPattern, IsSame, HasWord, IsNoWord, IsFirstWord, AreWords, HasDate, IsSortKey}
 use Rattle.config_checks.specs.Nearest.{FewEdits, AreFar, IsNearest}
 use Rattle.config_checks.specs.declared.version.Version.{Version}
 use Rattle.config_checks.specs.Versions.{IsBefore, IsTooNew, IsOf}
@@ -108,9 +108,54 @@ IsJudgedText kinds.BoolOrInt t r = IsJudgedBool t r
 IsJudgedText kinds.Color t r = IsJudged ColorText (OnlyFault faults.Color) t r
 IsJudgedText (kinds.Word list) t r = IsJudgedByWords list t r
 
+-- the grammar gives both texts the same value
+abbrev pub HaveSameValue : {V : Type 0} → (List ℕ → V → Type 0) → List ℕ → List ℕ → Type 0
+HaveSameValue {V} grammar t u = (v : V) × grammar t v × grammar u v
+
+-- both texts are the same number or, if neither is a number, the same boolean
+abbrev pub AreSameBoolOrInt : List ℕ → List ℕ → Type 0
+AreSameBoolOrInt t u = HaveSameValue AmountText t u
+    ⊎ ((¬ (IsAccepted AmountText t) × ¬ (IsAccepted AmountText u)) × HaveSameValue BooleanText t u)
+
+abbrev pub AreSameByForm : Form → List ℕ → List ℕ → Type 0
+AreSameByForm forms.BoolOrWord t u = HaveSameValue BooleanText t u
+AreSameByForm forms.IntOrWord t u = HaveSameValue AmountText t u
+AreSameByForm _ t u = ⊥
+
+-- the two are the same text by the list, or neither is a word, and they are the same boolean or number by its form
+abbrev pub AreSameByWords : WordList → List ℕ → List ℕ → Type 0
+AreSameByWords list t u = IsSame list.ignores_case t u
+    ⊎ ((¬ (HasWord list t) × ¬ (HasWord list u)) × AreSameByForm list.form t u)
+
+-- two values of a kind mean the same
+abbrev pub MeanSame : SettingKind → List ℕ → List ℕ → Type 0
+MeanSame kinds.Text t u = t ≡ u
+MeanSame kinds.Bool t u = HaveSameValue BooleanText t u
+MeanSame (kinds.Int low high) t u = HaveSameValue AmountText t u
+MeanSame kinds.BoolOrInt t u = AreSameBoolOrInt t u
+MeanSame kinds.Color t u = HaveSameValue ColorText t u
+MeanSame (kinds.Word list) t u = AreSameByWords list t u
+
+-- a value that its kind takes has to mean what the row wants, if it wants one meaning
+abbrev pub IsComparedTo : Option (Bor (List ℕ)) → SettingKind → List ℕ → Option Reason → Type 0
+IsComparedTo None kind t r = r ≡ None
+IsComparedTo (Some wanted) kind t None = MeanSame kind t wanted.now
+IsComparedTo (Some wanted) kind t (Some (IsNot w)) = (w ≡ wanted) × ¬ (MeanSame kind t wanted.now)
+IsComparedTo (Some wanted) kind t (Some _) = ⊥
+
+-- why a value is wrong by its row: its kind does not take it, or the row wants another one
+pub data IsJudgedByRow (row : Row) (t : List ℕ) (r : Option Reason) : Type 0 where
+  refused : (reason : Reason) → IsJudgedText row.kind t (Some reason) → r ≡ Some reason → IsJudgedByRow row t r
+  taken : IsJudgedText row.kind t None → IsComparedTo row.wanted row.kind t r → IsJudgedByRow row t r
+
+-- a key alone is wrong if it needs a value; otherwise it means `true`
+abbrev pub IsJudgedAlone : (takes_no_value : Bool) → Row → Option Reason → Type 0
+IsJudgedAlone true row r = IsComparedTo row.wanted row.kind (codes "true") r
+IsJudgedAlone false row r = r ≡ Some NoValue
+
 abbrev pub HasReason : Row → Option (List ℕ) → Option Reason → Type 0
-HasReason row None r = r ≡ (if row.takes_no_value then None else Some NoValue)
-HasReason row (Some t) r = IsJudgedText row.kind t r
+HasReason row None r = IsJudgedAlone row.takes_no_value row r
+HasReason row (Some t) r = IsJudgedByRow row t r
 
 -- A missing value is an error. What only a newer Git reads is a note, as is another spelling. What Git no longer reads
 -- is a warning, as is a deprecated setting. A wrong value is a warning if Git continues after it, and otherwise an error.

@@ -18,7 +18,7 @@ use Rattle.config_checks.specs.declared.code.Code.TheVariants as kind
 use Rattle.config_checks.specs.declared.row.Row.{Row}
 use Rattle.config_checks.specs.declared.setting.Setting.{Setting}
 use Rattle.config_checks.specs.declared.reason.Reason.{Reason}
-use Rattle.config_checks.specs.declared.reason.Reason.TheVariants.{Refused, NoWord, Deprecated, NotCanonical, OtherCase}
+use Rattle.config_checks.specs.declared.reason.Reason.TheVariants.{Refused, NoWord, IsNot, Deprecated, NotCanonical, OtherCase}
 use Rattle.config_checks.specs.declared.reason.Severity.{Severity}
 use Rattle.config_checks.specs.declared.reason.Severity.TheVariants.{Error, Warning, Note}
 use Rattle.config_checks.specs.declared.suggestion.UnknownKey.{UnknownKey}
@@ -35,6 +35,7 @@ use Rattle.config_checks.specs.Suggestions.{IsPassed, IsUnknownKey, nearest_of, 
 -- the value that is suggested, if there is one
 abbrev pub value_meant : Reason → Option (List ℕ)
 value_meant (NoWord list meant) = option_copied meant
+value_meant (IsNot wanted) = Some wanted.now
 value_meant (NotCanonical canonical) = Some canonical.bytes
 value_meant (OtherCase word) = Some word.now
 value_meant _ = None

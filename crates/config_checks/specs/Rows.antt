@@ -18,11 +18,11 @@ use Rattle.config_checks.specs.declared.table.BadRow.{BadRow}
 use Rattle.config_checks.specs.declared.table.Marks.{Marks}
 use Rattle.config_checks.specs.declared.version.Version.{Version}
 use Rattle.config_checks.specs.declared.table.RowFault.TheVariants.{NoKind, NoKey, UnknownKind, NoWords, Bounds, NotInOrder}
-use Rattle.config_checks.specs.declared.table.RowFault.TheVariants.{Words, NoVersion, Memory}
+use Rattle.config_checks.specs.declared.table.RowFault.TheVariants.{Words, NoVersion, Unwanted, Memory}
 use Rattle.config_checks.specs.Keys.{Covers}
 use Rattle.config_checks.specs.Versions.{IsVersion}
 use Rattle.config_checks.specs.Kinds.{takes_true, without_front}
-use Rattle.config_checks.specs.Reasons.{least_int, greatest_int}
+use Rattle.config_checks.specs.Reasons.{least_int, greatest_int, HasReason}
 
 -- the rows of these runs
 abbrev pub rows_of : List Run → List Row
@@ -101,10 +101,10 @@ CutsAlone fields (Some alone) rest = fields ≡ alone_mark alone ∷ rest
 CutsAlone fields None rest =
     (rest ≡ fields) × ((alone : Bool) (more : List (List ℕ)) → fields ≢ alone_mark alone ∷ more)
 
--- whether the fields begin with the mark `warn`, and the fields after it
-abbrev pub CutsWarn : List (List ℕ) → Bool → List (List ℕ) → Type 0
-CutsWarn fields true rest = fields ≡ codes "warn" ∷ rest
-CutsWarn fields false rest = (rest ≡ fields) × ((more : List (List ℕ)) → fields ≢ codes "warn" ∷ more)
+-- whether the fields begin with this mark, and the fields after it
+abbrev pub CutsMark : List (List ℕ) → List ℕ → Bool → List (List ℕ) → Type 0
+CutsMark fields mark true rest = fields ≡ mark ∷ rest
+CutsMark fields mark false rest = (rest ≡ fields) × ((more : List (List ℕ)) → fields ≢ mark ∷ more)
 
 -- the marks of a row, in this order, and the fields after them
 pub record HasMarks (fields : List (List ℕ)) (marks : Marks) (rest : List (List ℕ)) : Type 0 where
@@ -114,9 +114,13 @@ pub record HasMarks (fields : List (List ℕ)) (marks : Marks) (rest : List (Lis
   pub until : CutsVersion after_since (codes "until=") marks.until after_until
   pub after_instead : List (List ℕ)
   pub instead : CutsText after_until (codes "instead=") (option_copied marks.instead) after_instead
+  pub after_wanted : List (List ℕ)
+  pub wanted : CutsText after_instead (codes "is=") (option_copied marks.wanted) after_wanted
+  pub after_must : List (List ℕ)
+  pub must : CutsMark after_wanted (codes "must") marks.must after_must
   pub after_alone : List (List ℕ)
-  pub alone : CutsAlone after_instead marks.alone after_alone
-  pub goes_on : CutsWarn after_alone marks.goes_on rest
+  pub alone : CutsAlone after_must marks.alone after_alone
+  pub goes_on : CutsMark after_alone (codes "warn") marks.goes_on rest
 
 -- no version follows `since=`, or `until=` after what may be a version since
 abbrev pub HasBadVersion : List (List ℕ) → Type 0
@@ -174,8 +178,8 @@ abbrev pub is_right_alone : Option Bool → SettingKind → Bool
 is_right_alone (Some alone) kind = alone
 is_right_alone None kind = takes_true kind
 
--- the fields are this row: a key, marks if there are any, the name of a kind, and words
-pub record IsRow (fields : List (List ℕ)) (row : Row) : Type 0 where
+-- the fields spell this row: a key, marks if there are any, the name of a kind, and words
+pub record SpellsRow (fields : List (List ℕ)) (row : Row) : Type 0 where
   pub key : List ℕ
   pub marked : List (List ℕ)
   pub marks : Marks
@@ -188,8 +192,18 @@ pub record IsRow (fields : List (List ℕ)) (row : Row) : Type 0 where
   pub since : row.since ≡ marks.since
   pub until : row.until ≡ marks.until
   pub instead : row.instead ≡ marks.instead
+  pub wanted : row.wanted ≡ marks.wanted
+  pub must : row.must ≡ marks.must
   pub takes_no_value : row.takes_no_value ≡ is_right_alone marks.alone row.kind
   pub goes_on : row.goes_on ≡ marks.goes_on
+
+-- the kind of the row takes the value that the row wants, if it wants one
+abbrev pub TakesWanted : Row → Type 0
+TakesWanted row = (wanted : List ℕ) → option_copied row.wanted ≡ Some wanted → HasReason row (Some wanted) None
+
+-- the fields are this row
+abbrev pub IsRow : List (List ℕ) → Row → Type 0
+IsRow fields row = SpellsRow fields row × TakesWanted row
 
 -- why no kind has this name and these words, or that memory ran out
 abbrev pub IsBadKind : List ℕ → List (List ℕ) → RowFault → Type 0
@@ -205,9 +219,11 @@ IsBadKind name words (Memory e) = Unit {0}
 IsBadKind name words _ = ⊥
 
 -- Why these fields are neither a row nor those of a blank line, or that memory ran out. The key has no dot, a version is
--- missing, no kind follows, or no kind has the name and the words: the first of these.
+-- missing, no kind follows, no kind has the name and the words, or the kind takes no value such as the row wants: the
+-- first of these.
 abbrev pub IsBadRow : List (List ℕ) → RowFault → Type 0
 IsBadRow fields (Memory e) = Unit {0}
+IsBadRow fields Unwanted = (row : Row) × SpellsRow fields row × ¬ (TakesWanted row)
 IsBadRow fields NoKey =
     (key : List ℕ) × (marked : List (List ℕ)) × (fields ≡ key ∷ marked) × (list_all is_no_dot key ≡ true)
 IsBadRow fields NoKind = (key : List ℕ) × (marked : List (List ℕ)) × (fields ≡ key ∷ marked)

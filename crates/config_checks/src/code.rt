@@ -24,8 +24,12 @@ pub enum Code {
     OutOfRange,
     /// The value is none of the words of the row, nor what else its kind takes.
     NotAWord,
+    /// The value means something other than the row asks for.
+    OtherValue,
     /// The setting has no value, and needs one.
     NoValue,
+    /// No file has a setting that a row asks for.
+    MissingSetting,
     /// No row has the key.
     UnknownKey,
     /// Only a newer Git reads the setting.
@@ -58,7 +62,9 @@ impl Code {
         Code::BadColor,
         Code::OutOfRange,
         Code::NotAWord,
+        Code::OtherValue,
         Code::NoValue,
+        Code::MissingSetting,
         Code::UnknownKey,
         Code::TooNew,
         Code::Gone,
@@ -82,7 +88,9 @@ impl Code {
             Code::BadColor => "bad-color",
             Code::OutOfRange => "out-of-range",
             Code::NotAWord => "not-a-word",
+            Code::OtherValue => "other-value",
             Code::NoValue => "no-value",
+            Code::MissingSetting => "missing-setting",
             Code::UnknownKey => "unknown-key",
             Code::TooNew => "too-new",
             Code::Gone => "gone",
@@ -120,6 +128,7 @@ impl Reason<'_, '_> {
             Reason::Refused(fault) => code_of_fault(*fault),
             Reason::OutOfRange { .. } => Code::OutOfRange,
             Reason::NoWord { .. } => Code::NotAWord,
+            Reason::IsNot(_) => Code::OtherValue,
             Reason::TooNew(_) => Code::TooNew,
             Reason::Gone(_) => Code::Gone,
             Reason::Deprecated(_) => Code::Deprecated,

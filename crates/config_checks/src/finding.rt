@@ -245,6 +245,7 @@ pub fn push_reason(out: &mut Vec<u8>, reason: &Reason<'_, '_>) -> Result<(), All
         Reason::Refused(fault) => out.extend_from_slice(fault.text().as_bytes()),
         Reason::OutOfRange { low, high } => push_range(out, *low, *high),
         Reason::NoWord { list, meant } => push_no_word(out, list, *meant),
+        Reason::IsNot(wanted) => push_word(out, "has to be ", wanted),
         Reason::TooNew(since) => push_version(out, "Git reads it only since ", *since),
         Reason::Gone(until) => push_version(out, "Git reads it only before ", *until),
         Reason::Deprecated(word) => push_word(out, "deprecated: use ", word),
@@ -327,6 +328,7 @@ pub(crate) fn value_meant<'r>(reason: &'r Reason<'_, '_>) -> Option<&'r [u8]>
 {
     match reason {
         Reason::NoWord { meant, .. } => *meant,
+        Reason::IsNot(wanted) => Some(wanted),
         Reason::NotCanonical(canonical) => Some(canonical.as_str().as_bytes()),
         Reason::OtherCase(word) => Some(word),
         _ => None,
@@ -355,8 +357,8 @@ pub(crate) fn fault_of(reason: &Reason<'_, '_>) -> Option<gix_config_value::Faul
     }
 }
 
-/// The text of a key.
-fn key_text(alloc: Global, key: &Key<'_>) -> Result<Vec<u8>, AllocError>
+/// The text of a key. It fails only if memory is refused.
+pub fn key_text(alloc: Global, key: &Key<'_>) -> Result<Vec<u8>, AllocError>
     ensures { IfOk result (λ t. t.items ≡ written (key_of key.now)) }
 {
     let mut text = Vec::new(alloc);

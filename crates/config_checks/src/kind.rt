@@ -169,7 +169,7 @@ impl Form {
 
 impl<'t> WordList<'t> {
     /// Whether a word and a text are the same, ignoring ASCII case if this list does.
-    fn is_same(&self, word: &[u8], text: &[u8]) -> bool
+    pub(crate) fn is_same(&self, word: &[u8], text: &[u8]) -> bool
         ensures { IsTrue result ↔ IsSame self.now.ignores_case word.now text.now }
     {
         if self.ignores_case {

@@ -7,7 +7,10 @@ ghost use Rattle.gix_config_value.specs.Boolean.{BooleanText, CanonicalBoolean};
 ghost use Rattle.config_checks.specs.Reasons.{IsWithin, IsJudged, IsJudgedWithin, IsJudgedBool, IsInt};
 ghost use Rattle.config_checks.specs.Reasons.{WordEdits, IsMeant, IsJudgedByWords, IsTakenByForm, IsTaken};
 ghost use Rattle.config_checks.specs.Reasons.{IsJudgedText};
+ghost use Rattle.config_checks.specs.Reasons.{HaveSameValue, AreSameBoolOrInt, AreSameByForm, AreSameByWords};
+ghost use Rattle.config_checks.specs.Reasons.{MeanSame, IsComparedTo};
 ghost use Rattle.config_checks.specs.Reasons.{HasReason, HasSpelling, IsOutside, IsRemark, HasFinding};
+ghost use Rattle.gix_config_value.specs.Amount.{AmountText};
 ghost use Rattle.config_checks.specs.Reasons.{severity_of};
 ghost use Rattle.config_checks.specs.Versions.{IsTooNew, IsOf};
 ghost use Rattle.config_checks.specs.Reasons.{IsRespelled, IsRespelledBoolOrInt, IsRespelledAs};
@@ -20,6 +23,7 @@ use crate::kind::{Form, SettingKind, WordList, pattern_front};
 use crate::row::Row;
 use crate::version::Version;
 use bstr::BStr;
+use config_text::value::same_as;
 use gix_config_value::canonical::{CanonicalText, Kind, TryRead, Value, normalize};
 use gix_config_value::integer::Amount;
 use gix_config_value::{Boolean, Color, Fault};
@@ -55,6 +59,8 @@ pub enum Reason<'r, 't> {
         list: &'r WordList<'t>,
         meant: Option<&'t [u8]>,
     },
+    /// Its value is right by its kind, but does not mean this, which its row asks for.
+    IsNot(&'t [u8]),
     /// Its row is for Git from this version on, which is newer.
     TooNew(Version),
     /// Its row is for Git before this version.
@@ -247,12 +253,87 @@ fn text_reason<'r, 't>(
     }
 }
 
+/// Whether a type reads two texts as the same value.
+fn have_same_value<V: Value>(text: &[u8], other: &[u8]) -> bool
+    ensures { IsTrue result ↔ HaveSameValue V.grammar text.now other.now }
+{
+    same_as::<V>(BStr::new(text), BStr::new(other)).unwrap_or(false)
+}
+
+/// Whether a text is an integer text.
+fn is_number(text: &[u8]) -> bool
+    ensures { IsTrue result ↔ IsAccepted AmountText text.now }
+{
+    match Amount::try_read(text) {
+        Ok(_) => true,
+        Err(_) => false,
+    }
+}
+
+/// Whether two texts are the same number or, if neither is a number, the same boolean.
+fn are_same_bool_or_int(text: &[u8], other: &[u8]) -> bool
+    ensures { IsTrue result ↔ AreSameBoolOrInt text.now other.now }
+{
+    if have_same_value::<Amount>(text, other) {
+        return true;
+    }
+    if is_number(text) || is_number(other) {
+        return false;
+    }
+    have_same_value::<Boolean>(text, other)
+}
+
+/// Whether two texts are the same boolean or number, if the form takes such texts.
+fn are_same_by_form(form: Form, text: &[u8], other: &[u8]) -> bool
+    ensures { IsTrue result ↔ AreSameByForm form text.now other.now }
+{
+    match form {
+        Form::BoolOrWord => have_same_value::<Boolean>(text, other),
+        Form::IntOrWord => have_same_value::<Amount>(text, other),
+        _ => false,
+    }
+}
+
+/// Whether two texts mean the same by a list of words.
+fn are_same_by_words(list: &WordList<'_>, text: &[u8], other: &[u8]) -> bool
+    ensures { IsTrue result ↔ AreSameByWords list.now text.now other.now }
+{
+    list.is_same(text, other)
+        || (!list.has(text) && !list.has(other) && are_same_by_form(list.form, text, other))
+}
+
+/// Whether two values of a kind mean the same.
+fn mean_same(kind: &SettingKind<'_>, text: &[u8], other: &[u8]) -> bool
+    ensures { IsTrue result ↔ MeanSame kind.now text.now other.now }
+{
+    match kind {
+        SettingKind::Text => text == other,
+        SettingKind::Bool => have_same_value::<Boolean>(text, other),
+        SettingKind::Int { .. } => have_same_value::<Amount>(text, other),
+        SettingKind::BoolOrInt => are_same_bool_or_int(text, other),
+        SettingKind::Color => have_same_value::<Color>(text, other),
+        SettingKind::Word(list) => are_same_by_words(list, text, other),
+    }
+}
+
+/// That a value, which its kind takes, does not mean what its row wants. `None` if it does, or if the row
+/// wants nothing.
+fn compared<'r, 't>(row: &Row<'t>, text: &[u8]) -> Option<Reason<'r, 't>>
+    ensures { IsComparedTo row.now.wanted row.now.kind text.now result }
+{
+    let wanted = row.wanted?;
+    if mean_same(&row.kind, text, wanted) {
+        return None;
+    }
+    Some(Reason::IsNot(wanted))
+}
+
 /// Why a key alone is wrong by its row, or `None` if the row allows it.
 fn no_value_reason<'r, 't>(row: &Row<'t>) -> Option<Reason<'r, 't>>
     ensures { HasReason row.now None result }
 {
     if row.takes_no_value {
-        return None;
+        return compared(row, b"true");
     }
     Some(Reason::NoValue)
 }
@@ -266,9 +347,13 @@ pub fn judge<'r, 't>(
 ) -> Result<Option<Reason<'r, 't>>, AllocError>
     ensures { IfOk result (HasReason row.now (option_copied value.entry)) }
 {
-    match value {
-        Some(text) => text_reason(alloc, &row.kind, text),
-        None => Ok(no_value_reason(row)),
+    let Some(text) = value else {
+        return Ok(no_value_reason(row));
+    };
+    match text_reason(alloc, &row.kind, text) {
+        Ok(Some(reason)) => Ok(Some(reason)),
+        Ok(None) => Ok(compared(row, text)),
+        Err(error) => Err(error),
     }
 }
 

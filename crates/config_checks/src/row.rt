@@ -26,6 +26,10 @@ pub struct Row<'t> {
     pub until: Option<Version>,
     /// What to use instead, if Git calls these settings deprecated.
     pub instead: Option<&'t [u8]>,
+    /// What the value has to mean, if the row asks for one meaning.
+    pub wanted: Option<&'t [u8]>,
+    /// Whether one of the files has to have such a setting.
+    pub must: bool,
     /// Whether a key alone, which has no value, is right.
     pub takes_no_value: bool,
     /// Whether Git continues after a wrong value, since it only warns about the value or ignores it.

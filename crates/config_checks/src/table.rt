@@ -1,18 +1,18 @@
 //! Reads rows from text, in which each line is a row, a comment or blank.
-ghost use Rattle.std.specs.Prelude.{◌≡◌, ◌≢◌, Bool, Some, [], map, IfOk, IfErr, OnOk, OnErr, MatchOption};
+ghost use Rattle.std.specs.Prelude.{◌≡◌, ◌≢◌, ◌↔◌, IsTrue, Bool, Some, [], map, IfOk, IfErr, OnOk, OnErr, MatchOption};
 ghost use Rattle.std.specs.Prelude.{option_copied, codes};
 ghost use Rattle.config_checks.specs.declared.kind.SettingKind as kinds;
 ghost use Rattle.config_checks.specs.declared.kind.Form as forms;
 ghost use Rattle.config_checks.specs.Rows.{fields_of, is_blank, plain_name, form_name, words_name, lines_of};
-ghost use Rattle.config_checks.specs.Rows.{CutsText, CutsVersion, LacksVersion, CutsAlone, CutsWarn};
+ghost use Rattle.config_checks.specs.Rows.{CutsText, CutsVersion, LacksVersion, CutsAlone, CutsMark};
 ghost use Rattle.config_checks.specs.Rows.{HasMarks, HasBadVersion, AreNumbers, IsBounds};
 ghost use Rattle.config_checks.specs.declared.table.RowFault.TheVariants.{NoVersion};
 ghost use Rattle.config_integer.specs.declared.amount.Amount.{Amount};
-ghost use Rattle.config_checks.specs.Rows.{IsRow, IsKind, IsBadKind, IsBadRow};
+ghost use Rattle.config_checks.specs.Rows.{SpellsRow, TakesWanted, IsRow, IsKind, IsBadKind, IsBadRow};
 ghost use Rattle.config_checks.specs.Rows.{AddsRow, AddsRows, IsBadLine};
 
 use crate::kind::{Form, SettingKind, WordList, without_front};
-use crate::reason::{GREATEST_INT, LEAST_INT};
+use crate::reason::{GREATEST_INT, LEAST_INT, judge};
 use crate::row::Row;
 use crate::version::Version;
 use bstr::BStr;
@@ -56,6 +56,9 @@ pub enum RowFault<'t> {
     /// The first integer after `int` is greater than the second.
     #[error("the first bound is greater than the second")]
     NotInOrder,
+    /// Its kind does not take the value after `is=`.
+    #[error("the kind does not take the value after is=")]
+    Unwanted,
     /// There was no memory to hold the row.
     #[error("no memory")]
     Memory(AllocError),
@@ -109,6 +112,8 @@ struct Marks<'t> {
     since: Option<Version>,
     until: Option<Version>,
     instead: Option<&'t [u8]>,
+    wanted: Option<&'t [u8]>,
+    must: bool,
     alone: Option<bool>,
     goes_on: bool,
 }
@@ -160,15 +165,18 @@ fn cut_alone<'f, 't>(fields: &'f [&'t [u8]]) -> (Option<bool>, &'f [&'t [u8]])
     }
 }
 
-/// Whether the fields begin with the mark `warn`, and the fields after the mark.
-fn cut_warn<'f, 't>(fields: &'f [&'t [u8]]) -> (bool, &'f [&'t [u8]])
-    ensures { CutsWarn (map (λ field. field.now) fields.now) result.0
+/// Whether the fields begin with this mark, and the fields after the mark.
+fn cut_mark<'f, 't>(fields: &'f [&'t [u8]], mark: &[u8]) -> (bool, &'f [&'t [u8]])
+    ensures { CutsMark (map (λ field. field.now) fields.now) mark.now result.0
         (map (λ field. field.now) result.1.now) }
 {
-    match fields.split_first() {
-        Some((field, rest)) if *field == b"warn".as_slice() => (true, rest),
-        _ => (false, fields),
+    let Some((field, rest)) = fields.split_first() else {
+        return (false, fields);
+    };
+    if *field == mark {
+        return (true, rest);
     }
+    (false, fields)
 }
 
 /// The marks of a row, in their order, and the fields after them.
@@ -181,13 +189,17 @@ fn cut_marks<'f, 't>(fields: &'f [&'t [u8]]) -> Result<(Marks<'t>, &'f [&'t [u8]
     let (since, rest) = cut_version(fields, b"since=")?;
     let (until, rest) = cut_version(rest, b"until=")?;
     let (instead, rest) = cut_text(rest, b"instead=");
+    let (wanted, rest) = cut_text(rest, b"is=");
+    let (must, rest) = cut_mark(rest, b"must");
     let (alone, rest) = cut_alone(rest);
-    let (goes_on, rest) = cut_warn(rest);
+    let (goes_on, rest) = cut_mark(rest, b"warn");
     Ok((
         Marks {
             since,
             until,
             instead,
+            wanted,
+            must,
             alone,
             goes_on,
         },
@@ -321,11 +333,10 @@ fn kind_of<'t>(
     }
 }
 
-/// Reads the row on a line. Returns `None` if the line is blank or a comment, and an error if it is not a
-/// row, or if memory runs out.
-pub fn read_row<'t>(alloc: Global, line: &'t [u8]) -> Result<Option<Row<'t>>, RowFault<'t>>
+/// The row that a line spells, whether or not its kind takes the value that it wants.
+fn spelled_row<'t>(alloc: Global, line: &'t [u8]) -> Result<Option<Row<'t>>, RowFault<'t>>
     ensures row { IfOk result
-        (λ r. MatchOption r (fields_of line.now ≡ []) (IsRow (fields_of line.now))) }
+        (λ r. MatchOption r (fields_of line.now ≡ []) (SpellsRow (fields_of line.now))) }
     ensures refused { IfErr result (IsBadRow (fields_of line.now)) }
 {
     let fields = match fields_of(alloc, line) {
@@ -348,10 +359,43 @@ pub fn read_row<'t>(alloc: Global, line: &'t [u8]) -> Result<Option<Row<'t>>, Ro
         since: marks.since,
         until: marks.until,
         instead: marks.instead,
+        wanted: marks.wanted,
+        must: marks.must,
         takes_no_value: marks.alone.unwrap_or(kind.takes_true()),
         goes_on: marks.goes_on,
         kind,
     }))
+}
+
+/// Whether the kind of a row takes the value that the row wants, if it wants one.
+fn takes_wanted(alloc: Global, row: &Row<'_>) -> Result<bool, AllocError>
+    ensures { IfOk result (λ takes. IsTrue takes ↔ TakesWanted row.now) }
+{
+    let Some(wanted) = row.wanted else {
+        return Ok(true);
+    };
+    match judge(alloc, row, Some(wanted)) {
+        Ok(None) => Ok(true),
+        Ok(Some(_)) => Ok(false),
+        Err(error) => Err(error),
+    }
+}
+
+/// Reads the row on a line. Returns `None` if the line is blank or a comment, and an error if it is not a
+/// row, or if memory runs out.
+pub fn read_row<'t>(alloc: Global, line: &'t [u8]) -> Result<Option<Row<'t>>, RowFault<'t>>
+    ensures row { IfOk result
+        (λ r. MatchOption r (fields_of line.now ≡ []) (IsRow (fields_of line.now))) }
+    ensures refused { IfErr result (IsBadRow (fields_of line.now)) }
+{
+    let Some(row) = spelled_row(alloc, line)? else {
+        return Ok(None);
+    };
+    match takes_wanted(alloc, &row) {
+        Ok(true) => Ok(Some(row)),
+        Ok(false) => Err(RowFault::Unwanted),
+        Err(error) => Err(RowFault::Memory(error)),
+    }
 }
 
 /// Appends the row on a line, if the line has one.
