@@ -140,10 +140,10 @@ fn write_include<'f>(
 }
 
 /// Writes that no file has a setting that a row asks for.
-fn write_missing(
+fn write_missing<'f>(
     rt: &HostRuntime,
     report: &mut Report<'_>,
-    must: &Must<'_, '_>,
+    must: &'f Must<'f, 'f>,
 ) -> Result<(), Failure<'static>> {
     let alloc = rt.alloc();
     let mut source = Source::new(must.file.as_bytes(), must.text);
