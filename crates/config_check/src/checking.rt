@@ -139,19 +139,18 @@ fn write_include<'f>(
     }))
 }
 
-/// Writes that no file has a setting that a row asks for.
+/// Writes that no file has a setting that a row asks for, whose key has this text.
 fn write_missing<'f>(
     rt: &HostRuntime,
     report: &mut Report<'_>,
+    source: &mut Source<'_>,
     must: &'f Must<'f, 'f>,
+    key: &'f [u8],
 ) -> Result<(), Failure<'static>> {
-    let alloc = rt.alloc();
-    let mut source = Source::new(must.file.as_bytes(), must.text);
-    let key = key_text(alloc, &must.key)?;
     let mut lines = Lines {
-        alloc,
+        alloc: rt.alloc(),
         report,
-        source: &mut source,
+        source,
         mender: None,
         writer: rt.stdout(),
     };
@@ -161,7 +160,7 @@ fn write_missing<'f>(
         entry: None,
         code: Code::MissingSetting,
         severity: Severity::Error,
-        key: Some(&key),
+        key: Some(key),
         row: Some(must.key),
         value: None,
         reason: b"no file has this setting, which the row asks for",
@@ -271,7 +270,9 @@ impl<'c, 't> Checking<'c, 't> {
             if must.is_met {
                 continue;
             }
-            write_missing(self.rt, &mut self.report, must)?;
+            let key = key_text(self.rt.alloc(), &must.key)?;
+            let mut source = Source::new(must.file.as_bytes(), must.text);
+            write_missing(self.rt, &mut self.report, &mut source, must, &key)?;
             self.outcome.add(Counts {
                 findings: 1,
                 errors: 1,
