@@ -7,6 +7,7 @@ Git's own.
 """
 import argparse
 import collections
+import os
 import pathlib
 import random
 import re
@@ -120,6 +121,12 @@ def is_right(word, arguments, before, after):
     return after == others[:at] + [(key, value)] + others[at:]
 
 
+def is_cut_from(line, other):
+    """Whether a line is another one, out of which at most one piece is cut."""
+    front = len(os.path.commonprefix((line, other)))
+    return len(line) <= len(other) and other.endswith(line[front:])
+
+
 def keeps(word, arguments, old, new):
     """Whether each line that has neither the key nor, where headers may go, a header is kept, in order."""
     name = arguments[0].rpartition(".")[2].lower().encode()
@@ -127,7 +134,8 @@ def keeps(word, arguments, old, new):
     rest = iter(new.replace(b"\r\n", b"\n").split(b"\n"))
     if word == "remove-section":
         rest = iter(old.replace(b"\r\n", b"\n").split(b"\n"))
-        return all(any(line.strip() in other for other in rest) for line in new.replace(b"\r\n", b"\n").split(b"\n"))
+        lines = new.replace(b"\r\n", b"\n").split(b"\n")
+        return all(any(is_cut_from(line.strip(), other.strip()) for other in rest) for line in lines)
     lines = old.replace(b"\r\n", b"\n").split(b"\n")
     whole = [line for front, line in zip([b"", *lines], lines) if not front.endswith(b"\\") and not line.endswith(b"\\")]
     kept = [line for line in whole if line and name not in line.lower() and b"[" not in line]
