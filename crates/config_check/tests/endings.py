@@ -3,6 +3,7 @@ import os
 import pathlib
 import pty
 import resource
+import select
 import tempfile
 
 import rows
@@ -30,6 +31,10 @@ def closed_pipe(group, program, how):
     for data in (FINDING, FINDING * MANY):
         reader, writer = os.pipe()
         os.close(reader)
+        # a process that another thread starts has a copy of the reader until it runs its program
+        waiting = select.poll()
+        waiting.register(writer, 0)
+        waiting.poll()
         came = program.run(how, data, stdout=writer)
         os.close(writer)
         group.expect("a pipe that nothing reads", Ended(2, None, b""), came)
