@@ -51,7 +51,10 @@ def codes_of(program, text):
                 (folder / f"f{number}").write_text(f"[include]\n\tpath = f{number + 1}\n")
             (folder / "f12").write_text("")
         (folder / "a").write_text(text)
-        how = [word for line in text.splitlines() if line.startswith("# with ") for word in line.removeprefix("# with ").split()]
+        row = re.match("# with a row `(.*)`\n", text)
+        (folder / "rows").write_text(row[1] if row else "")
+        how = ["--settings", "rows"] if row else [
+            word for line in text.splitlines() if line.startswith("# with ") for word in line.removeprefix("# with ").split()]
         came = program.run(["--format", "json", *how, "a"], cwd=folder, env=os.environ | {"HOME": name})
         return [json.loads(line)["code"] for line in came.output.splitlines()]
 

@@ -756,7 +756,7 @@ def findings(rows, data, canonical=False):
 
 # JSON
 
-SUGGESTION = re.compile(rb"(?:note: should be|warning: deprecated: use) (.*)|.*; did you mean (.*)\?", re.DOTALL)
+SUGGESTION = re.compile(rb"(?:note: should be|(?:error|warning): has to be|warning: deprecated: use) (.*)|.*; did you mean (.*)\?", re.DOTALL)
 SHOWN = re.compile(rb"\\(?:\\|x(..))")
 
 

@@ -464,7 +464,7 @@ BAD_ROWS = [
     (b"test.x is=maybe bool\n", 1, UNWANTED), (b"test.x is= word a\n", 1, UNWANTED), (b"test.x is=3 must int 4 64\n", 1, UNWANTED),
     (b"test.x must is=1 int\n", 1, NO_SUCH_KIND + b"is=1"), (b"test.x since=2 bool\n", 1, NO_VERSION), (b"test.x since=2.1 until= bool\n", 1, NO_VERSION),
     (b"test.x until=2.1 since=2.0 bool\n", 1, NO_SUCH_KIND + b"since=2.0"), (b"test.x since=2.x\n", 1, NO_VERSION),
-    (b"test.x size\n", 1, NO_SUCH_KIND + b"size"), (b"test.x wrod a\n", 1, NO_SUCH_KIND + b"wrod; did you mean word?"), (b"test.x sort-key\n", 1, NO_WORDS), (b"test.x text-any-case\n", 1, NO_SUCH_KIND + b"text-any-case"), (b"test.x \\\\bool\n", 1, NO_SUCH_KIND + b"\\\\bool"), (b"test.x # bool\n", 1, NO_KIND), (b"test.x word #a\n", 1, NO_WORDS), (b"test.x word\n", 1, NO_WORDS),
+    (b"test.x size\n", 1, NO_SUCH_KIND + b"size"), (b"test.x wrod a\n", 1, NO_SUCH_KIND + b"wrod; did you mean word?"), (b"test.x sort-key\n", 1, NO_WORDS), (b"test.x text-any-case\n", 1, NO_SUCH_KIND + b"text-any-case"), (b"test.x \\\\bool\n", 1, NO_SUCH_KIND + b"\\\\bool; did you mean bool?"), (b"test.x # bool\n", 1, NO_KIND), (b"test.x word #a\n", 1, NO_WORDS), (b"test.x word\n", 1, NO_WORDS),
     (b"test.x word-any-case\n", 1, NO_WORDS), (b"test.x bool-or-word \n", 1, NO_WORDS),
     (b"test.x bool-or-word-any-case\n", 1, NO_WORDS), (b"test.x bool\nnodot bool", 2, NO_DOT),
     (b"# first\n\ntest.x bool\n\ntest.y bool\ttrue\ntest.z none\n", 5, WORDS + b"true"),
