@@ -404,7 +404,7 @@ class Reference:
 
     def settings(self):
         """The built-in rows of `config_check`."""
-        text, rows = (CRATES / "config_checks/src/git.rt").read_text("utf-8"), {}
+        text, rows = (CRATES / "config_checks/src/git.rt").read_text("utf-8").replace(r" \\#", " #"), {}
         text = re.sub(r"\\\n *", "", text.partition('SETTINGS: &str = "\\\n')[2].partition('\n";')[0])
         form = r"(?m)^([^#\s]\S*) +(?:since=(\S+) )?((?:(?:\w+=\S+|alone|needs-value|warn) )*)(\S+) ?(.*)"
         for key, since, marks, kind, words in re.findall(form, text):
